@@ -1,0 +1,227 @@
+-- The server's end as a record over lists, question 2, and its calls.
+use Prim.Native.Nat.{ℕ, zero, suc, _+_, _-_}
+use mathlib.Core.Bool.{Bool, true, false, not, _&&_, cond}
+use mathlib.Core.List.{List, [], _∷_, _++_, map}
+use lib.Dec.{leb, ltb, eqb}
+use lib.ListN.{length, getD, drop, replicate}
+use Rattle.ot.specs.declared.Edit.{Edit}
+use Rattle.ot.specs.declared.Edit.the-variants.{Nothing, Delete, Insert}
+use Rattle.ot.specs.Edit.{applied, fits}
+use Rattle.wire.specs.declared.Header.{Header}
+use Rattle.wire.specs.declared.Message.{Message}
+use Rattle.wire.specs.declared.Message.the-variants as message
+use Rattle.wire.specs.declared.Read.{Read}
+use Rattle.wire.specs.declared.Read.the-variants as read
+use Rattle.wire.specs.Message.{messageOf}
+use Rattle.wire.specs.Bytes.{bytesOf, parsed}
+use Rattle.model.specs.Limits.{maxLines, maxInserts, maxEdits, maxPending, maxItems, maxInitial}
+use Rattle.model.specs.Questions.{ask, asks, every, between, Answer, answer, Sent, sent}
+use Rattle.model.specs.Cross.{past, over, allPlaced, priority, priorities, insertsOf}
+use Rattle.model.specs.Client.{other, pendingAt}
+
+-- What the server keeps of one line. Made is how many edits it took on all other lines together.
+pub record Line : Type 0 where
+  pub made : ℕ
+  pub taken : ℕ
+  pub acked : ℕ
+  -- how many of those taken are inserts
+  pub inserts : ℕ
+  pub pending : List Edit
+
+pub record Server : Type 0 where
+  pub n : ℕ
+  -- how many items it was opened with
+  pub initial : ℕ
+  pub items : List ℕ
+  -- lines 1 to n
+  pub lines : List Line
+
+abbrev pub noLine : Line
+noLine = record { made = 0; taken = 0; acked = 0; inserts = 0; pending = [] }
+
+-- what a refused opening returns
+abbrev pub noServer : Server
+noServer = record { n = 0; initial = 0; items = []; lines = [] }
+
+-- line l of 1 to n
+abbrev pub lineOf : Server → ℕ → Line
+lineOf s l = getD (s .lines) (l - 1) noLine
+
+-- a number of each line, added up
+abbrev pub total : (Line → ℕ) → List Line → ℕ
+total f [] = 0
+total f (v ∷ vs) = f v + total f vs
+
+-- question 2 for line l, where all lines together took sum edits
+unfoldable pub soundLine : ℕ → ℕ → ℕ → Line → Bool
+soundLine n sum l v =
+    every
+    (leb (v .taken) maxEdits
+    ∷ eqb (v .made) (sum - v .taken)
+    ∷ leb (v .acked) (v .made)
+    ∷ leb (v .made - v .acked) maxPending
+    ∷ eqb (length (v .pending)) (v .made - v .acked)
+    ∷ allPlaced (v .pending)
+    ∷ priorities (other n l) (v .pending)
+    ∷ leb (v .inserts) maxInserts
+    ∷ leb (v .inserts) (v .taken)
+    ∷ [])
+
+-- the lines from l on
+unfoldable pub soundLines : ℕ → ℕ → ℕ → List Line → Bool
+soundLines n sum l [] = true
+soundLines n sum l (v ∷ vs) = soundLine n sum l v && soundLines n sum (suc l) vs
+
+-- question 2
+unfoldable pub soundServer : Server → Bool
+soundServer s =
+    every
+    (between 1 maxLines (s .n)
+    ∷ leb (s .initial) maxInitial
+    ∷ leb (length (s .items)) maxItems
+    ∷ eqb (length (s .lines)) (s .n)
+    ∷ soundLines (s .n) (total (λ v. v .taken) (s .lines)) 1 (s .lines)
+    ∷ leb (length (s .items)) (s .initial + total (λ v. v .inserts) (s .lines))
+    ∷ [])
+
+unfoldable pub openServer : ℕ → List ℕ → Answer Server
+openServer n items =
+    answer
+    (asks (ask 1 (every (between 1 maxLines n ∷ leb (length items) maxInitial ∷ [])) ∷ []))
+    noServer
+    (record { n = n; initial = length items; items = items; lines = replicate n noLine })
+    0
+
+abbrev pub serverMessage : Server → ℕ → ℕ → Message
+serverMessage s line k =
+    messageOf (record { line = line; direction = 1; number = k; seen = lineOf s line .taken })
+    (pendingAt (lineOf s line .acked) (lineOf s line .pending) k)
+
+unfoldable pub sendServer : Server → ℕ → ℕ → List ℕ → Sent
+sendServer s line k lent =
+    sent
+    (asks
+    (ask 2 (soundServer s)
+    ∷ ask 4 (between 1 (s .n) line)
+    ∷ ask 13 (between (lineOf s line .acked + 1) (lineOf s line .made) k)
+    ∷ ask 14 (leb (length (bytesOf (serverMessage s line k))) (length lent))
+    ∷ []))
+    (bytesOf (serverMessage s line k))
+    lent
+
+unfoldable pub tellServer : Server → ℕ → List ℕ → Sent
+tellServer s line lent =
+    sent
+    (asks (ask 2 (soundServer s) ∷ ask 4 (between 1 (s .n) line) ∷ ask 14 (leb 5 (length lent)) ∷ []))
+    (bytesOf (message.Ack line 1 (lineOf s line .taken)))
+    lent
+
+-- The pending edits of a line left once those up to seen are dropped.
+abbrev pub unackedOf : Line → ℕ → List Edit
+unackedOf v seen = drop (seen - v .acked) (v .pending)
+
+-- the line that an acknowledgement came on
+abbrev pub lineAcked : ℕ → Line → Line
+lineAcked seen v =
+    record { made = v .made; taken = v .taken; acked = seen; inserts = v .inserts; pending = unackedOf v seen }
+
+-- the line that the edit e came on
+abbrev pub lineTaken : ℕ → Edit → Line → Line
+lineTaken seen e v =
+    record {
+      made = v .made;
+      taken = v .taken + 1;
+      acked = seen;
+      inserts = v .inserts + insertsOf e;
+      pending = over e (unackedOf v seen);
+    }
+
+-- any other line: it keeps the result
+abbrev pub lineKeeps : Edit → Line → Line
+lineKeeps e v =
+    record { made = v .made + 1; taken = v .taken; acked = v .acked; inserts = v .inserts; pending = v .pending ++ (e ∷ []) }
+
+-- f at place i, counted from 0, and g at every other
+unfoldable pub atPlace : ℕ → (Line → Line) → (Line → Line) → List Line → List Line
+atPlace i f g [] = []
+atPlace zero f g (v ∷ vs) = f v ∷ map g vs
+atPlace (suc i) f g (v ∷ vs) = g v ∷ atPlace i f g vs
+
+abbrev pub serverAcked : Server → ℕ → ℕ → Server
+serverAcked s line seen =
+    record {
+      n = s .n;
+      initial = s .initial;
+      items = s .items;
+      lines = atPlace (line - 1) (lineAcked seen) (λ v. v) (s .lines);
+    }
+
+-- the form in which the edit is applied
+abbrev pub carried : Server → ℕ → ℕ → Edit → Edit
+carried s line seen e = past e (unackedOf (lineOf s line) seen)
+
+abbrev pub serverTaken : Server → ℕ → ℕ → Edit → Server
+serverTaken s line seen e =
+    record {
+      n = s .n;
+      initial = s .initial;
+      items = applied (carried s line seen e) (s .items);
+      lines = atPlace (line - 1) (lineTaken seen e) (lineKeeps (carried s line seen e)) (s .lines);
+    }
+
+abbrev pub roomy : Line → Bool
+roomy v = ltb (v .made - v .acked) maxPending
+
+-- every line but the one at place i, counted from 0, has room for one more pending edit
+unfoldable pub othersRoomy : ℕ → List Line → Bool
+othersRoomy i [] = true
+othersRoomy zero (v ∷ vs) = every (map roomy vs)
+othersRoomy (suc i) (v ∷ vs) = roomy v && othersRoomy i vs
+
+unfoldable pub serverTakesEdit : Server → Header → Edit → Answer Server
+serverTakesEdit s h e =
+    answer
+    (asks
+    (ask 2 (soundServer s)
+    ∷ ask 4 (eqb (h .direction) 0 && between 1 (s .n) (h .line) && priority (eqb (h .line)) e)
+    ∷ ask 5 (ltb (lineOf s (h .line) .taken) (h .number))
+    ∷ ask 6 (eqb (h .number) (lineOf s (h .line) .taken + 1))
+    ∷ ask 7 (leb (lineOf s (h .line) .acked) (h .seen))
+    ∷ ask 8 (leb (h .seen) (lineOf s (h .line) .made))
+    ∷ ask 9
+    (fits (carried s (h .line) (h .seen) e) (length (s .items))
+    && allPlaced (over e (unackedOf (lineOf s (h .line)) (h .seen)))
+    && leb (length (applied (carried s (h .line) (h .seen) e) (s .items))) maxItems)
+    ∷ ask 10 (leb (lineOf s (h .line) .inserts + insertsOf e) maxInserts)
+    ∷ ask 12 (othersRoomy (h .line - 1) (s .lines))
+    ∷ []))
+    s
+    (serverTaken s (h .line) (h .seen) e)
+    (lineOf s (h .line) .made - h .seen)
+
+unfoldable pub serverTakesAck : Server → ℕ → ℕ → ℕ → Answer Server
+serverTakesAck s line direction seen =
+    answer
+    (asks
+    (ask 2 (soundServer s)
+    ∷ ask 4 (eqb direction 0 && between 1 (s .n) line)
+    ∷ ask 7 (leb (lineOf s line .acked) seen)
+    ∷ ask 8 (leb seen (lineOf s line .made))
+    ∷ []))
+    s
+    (serverAcked s line seen)
+    0
+
+abbrev pub serverTakes : Server → Message → Answer Server
+serverTakes s (message.Insert h p x r) = serverTakesEdit s h (Insert p x r)
+serverTakes s (message.Delete h p) = serverTakesEdit s h (Delete p)
+serverTakes s (message.Nothing h) = serverTakesEdit s h Nothing
+serverTakes s (message.Ack l d seen) = serverTakesAck s l d seen
+
+-- bytes that are no message: questions 2 and 3
+abbrev pub serverReads : Server → Read → Answer Server
+serverReads s read.Refused = answer (asks (ask 2 (soundServer s) ∷ ask 3 false ∷ [])) s s 0
+serverReads s (read.Message m) = serverTakes s m
+
+unfoldable pub takeServer : Server → List ℕ → Answer Server
+takeServer s bytes = serverReads s (parsed bytes)
