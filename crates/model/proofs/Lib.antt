@@ -1,3 +1,4 @@
 pub mod Tests
 pub mod Cross
 pub mod SoundClient
+pub mod SoundServer
