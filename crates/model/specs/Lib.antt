@@ -3,3 +3,9 @@ pub mod Questions
 pub mod Cross
 pub mod Client
 pub mod Server
+pub mod Edits
+pub mod Sheet
+pub mod Log
+pub mod Run
+pub mod Claim
+pub mod Ours
