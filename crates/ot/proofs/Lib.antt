@@ -5,3 +5,4 @@ pub mod Square
 pub mod Sweep
 pub mod Array
 pub mod Laws
+pub mod Cases

@@ -1,3 +1,4 @@
 pub mod Edit
+pub mod Cases
 pub mod Items
 pub mod Laws
