@@ -2,3 +2,4 @@ pub mod Tests
 pub mod Cross
 pub mod SoundClient
 pub mod SoundServer
+pub mod Marked

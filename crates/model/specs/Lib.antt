@@ -9,3 +9,4 @@ pub mod Log
 pub mod Run
 pub mod Claim
 pub mod Ours
+pub mod Marked
