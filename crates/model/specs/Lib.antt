@@ -9,4 +9,5 @@ pub mod Log
 pub mod Run
 pub mod Claim
 pub mod Ours
+pub mod Sound
 pub mod Marked
