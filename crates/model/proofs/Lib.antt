@@ -3,4 +3,7 @@ pub mod Cross
 pub mod SoundClient
 pub mod SoundServer
 pub mod Sound
+pub mod Opens
+pub mod Wrong
+pub mod Computing
 pub mod Marked

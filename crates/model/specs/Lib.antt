@@ -10,4 +10,5 @@ pub mod Run
 pub mod Claim
 pub mod Ours
 pub mod Sound
+pub mod Wrong
 pub mod Marked
