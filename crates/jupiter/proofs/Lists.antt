@@ -245,3 +245,49 @@ module _ {A : Type 0} (p : A → Bool) (d : A) where
             less = rw e (ap {B = List A} (λ l. x ∷ l) (r .less));
             behind = r .behind;
           }
+
+  -- A test that the first i that pass p have, and the first j that do not, and no other, selects the point.
+  pub select-firsts : (r : A → Bool) (xs : List A) (i j : ℕ) → ((k : ℕ) → k < length (select p xs) → r (getD (select p xs) k d) ≡ ltb k i)
+      → ((k : ℕ) → k < length (reject p xs) → r (getD (reject p xs) k d) ≡ ltb k j) → select r xs ≡ firsts p xs i j
+  unfolding firsts select reject enter
+  select-firsts r [] i j f g = refl
+  select-firsts r (x ∷ xs) i j f g = go (p x) i j f g (λ i j f g. select-firsts r xs i j f g)
+    where
+      go : (b : Bool) (i j : ℕ) → ((k : ℕ) → k < length (cond b (x ∷ select p xs) (select p xs)) → r (getD (cond b (x ∷ select p xs) (select p xs)) k d) ≡ ltb k i)
+          → ((k : ℕ) → k < length (cond b (reject p xs) (x ∷ reject p xs)) → r (getD (cond b (reject p xs) (x ∷ reject p xs)) k d) ≡ ltb k j)
+          → ((i j : ℕ) → ((k : ℕ) → k < length (select p xs) → r (getD (select p xs) k d) ≡ ltb k i)
+          → ((k : ℕ) → k < length (reject p xs) → r (getD (reject p xs) k d) ≡ ltb k j) → select r xs ≡ firsts p xs i j)
+          → cond (r x) (x ∷ select r xs) (select r xs) ≡ enter x b i j (λ i′ j′. firsts p xs i′ j′)
+      go true zero j f g ih =
+          let no-one : r x ≡ false = f 0 (suc-le-suc zero-le) ∙ leb·suc-zero 0 in
+          rw no-one (ih 0 j (λ k lt. f (suc k) (suc-le-suc lt) ∙ leb·suc-zero (suc k) ∙ sym (leb·suc-zero k)) g)
+      go true (suc i) j f g ih =
+          let one : r x ≡ true = f 0 (suc-le-suc zero-le) ∙ leb·suc-suc 0 i ∙ leb·zero i in
+          rw one (ap {B = List A} (λ l. x ∷ l) (ih i j (λ k lt. f (suc k) (suc-le-suc lt) ∙ leb·suc-suc (suc k) i) g))
+      go false i zero f g ih =
+          let no-one : r x ≡ false = g 0 (suc-le-suc zero-le) ∙ leb·suc-zero 0 in
+          rw no-one (ih i 0 f (λ k lt. g (suc k) (suc-le-suc lt) ∙ leb·suc-zero (suc k) ∙ sym (leb·suc-zero k)))
+      go false i (suc j) f g ih =
+          let one : r x ≡ true = g 0 (suc-le-suc zero-le) ∙ leb·suc-suc 0 j ∙ leb·zero j in
+          rw one (ap {B = List A} (λ l. x ∷ l) (ih i j f (λ k lt. g (suc k) (suc-le-suc lt) ∙ leb·suc-suc (suc k) j)))
+
+  -- Of those that p rejects, a further test leaves what stands from number t on.
+  pub select-rest : (r : A → Bool) (xs : List A) (t : ℕ) → ((k : ℕ) → k < length (reject p xs) → r (getD (reject p xs) k d) ≡ ltb k t)
+      → select (λ x. not (p x) && not (r x)) xs ≡ drop t (reject p xs)
+  unfolding select reject
+  select-rest r [] zero g = refl
+  select-rest r [] (suc t) g = refl
+  select-rest r (x ∷ xs) t g = go (p x) t g (λ t g. select-rest r xs t g)
+    where
+      go : (b : Bool) (t : ℕ) → ((k : ℕ) → k < length (cond b (reject p xs) (x ∷ reject p xs)) → r (getD (cond b (reject p xs) (x ∷ reject p xs)) k d) ≡ ltb k t)
+          → ((t : ℕ) → ((k : ℕ) → k < length (reject p xs) → r (getD (reject p xs) k d) ≡ ltb k t)
+          → select (λ x. not (p x) && not (r x)) xs ≡ drop t (reject p xs))
+          → cond (not b && not (r x)) (x ∷ select (λ x. not (p x) && not (r x)) xs) (select (λ x. not (p x) && not (r x)) xs)
+          ≡ drop t (cond b (reject p xs) (x ∷ reject p xs))
+      go true t g ih = ih t g
+      go false zero g ih =
+          let no-one : r x ≡ false = g 0 (suc-le-suc zero-le) ∙ leb·suc-zero 0 in
+          rw no-one (ap {B = List A} (λ l. x ∷ l) (ih 0 (λ k lt. g (suc k) (suc-le-suc lt) ∙ leb·suc-zero (suc k) ∙ sym (leb·suc-zero k))))
+      go false (suc t) g ih =
+          let one : r x ≡ true = g 0 (suc-le-suc zero-le) ∙ leb·suc-suc 0 t ∙ leb·zero t in
+          rw one (ih t (λ k lt. g (suc k) (suc-le-suc lt) ∙ leb·suc-suc (suc k) t))
