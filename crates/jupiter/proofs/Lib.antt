@@ -1,3 +1,4 @@
 pub mod Lists
 pub mod Segment
 pub mod Forms
+pub mod Grid

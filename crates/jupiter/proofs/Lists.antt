@@ -291,3 +291,20 @@ module _ {A : Type 0} (p : A → Bool) (d : A) where
       go false (suc t) g ih =
           let one : r x ≡ true = g 0 (suc-le-suc zero-le) ∙ leb·suc-suc 0 t ∙ leb·zero t in
           rw one (ih t (λ k lt. g (suc k) (suc-le-suc lt) ∙ leb·suc-suc (suc k) t))
+
+  -- one element more in the middle
+  pub select-in : (xs : List A) (x : A) (ys : List A) → p x ≡ true → select p (xs ++ x ∷ ys) ≡ select p xs ++ x ∷ select p ys
+  unfolding select
+  select-in xs x ys e = select-append xs (x ∷ ys) ∙ rw e refl
+
+  pub select-out : (xs : List A) (x : A) (ys : List A) → p x ≡ false → select p (xs ++ x ∷ ys) ≡ select p (xs ++ ys)
+  unfolding select
+  select-out xs x ys e = select-append xs (x ∷ ys) ∙ rw e (sym (select-append xs ys))
+
+  pub reject-in : (xs : List A) (x : A) (ys : List A) → p x ≡ false → reject p (xs ++ x ∷ ys) ≡ reject p xs ++ x ∷ reject p ys
+  unfolding reject
+  reject-in xs x ys e = reject-append xs (x ∷ ys) ∙ rw e refl
+
+  pub reject-out : (xs : List A) (x : A) (ys : List A) → p x ≡ true → reject p (xs ++ x ∷ ys) ≡ reject p (xs ++ ys)
+  unfolding reject
+  reject-out xs x ys e = reject-append xs (x ∷ ys) ∙ rw e (sym (reject-append xs ys))
