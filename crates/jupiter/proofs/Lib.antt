@@ -2,3 +2,4 @@ pub mod Lists
 pub mod Segment
 pub mod Forms
 pub mod Grid
+pub mod Extend
