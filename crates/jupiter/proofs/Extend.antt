@@ -170,3 +170,216 @@ module _ {𝓐 : Algebra} where
           own-by = own-cases′ (λ i e. T (𝓐 .by l (e .edit))) (c .own-by);
           oth-by = oth-cases′ (λ j e. T (𝓐 .by (e .name .line) (e .edit))) (c .oth-by) (new .line);
         }
+
+-- ---- the edges
+
+module _ {𝓐 : Algebra} (laws : Laws 𝓐) (d : 𝓐 .Doc) where
+  own-edge-on : (l : ℕ) (w w′ : List (Made 𝓐)) → Grows l w w′ → (i j : ℕ) → i < length (mine l w) → j ≤ length (others l w) → OwnEdge d l w i j → OwnEdge d l w′ i j
+  own-edge-on l w w′ g i j a b e =
+      subst (λ C. Edge 𝓐 (form (own l w′ i) (point l w′ i j)) (listAt d (point l w′ i j)) (listAt d C)) (sym (g .point-same (suc i) j a b))
+      (subst (λ C. Edge 𝓐 (form (own l w′ i) C) (listAt d C) (docAt d l w (suc i) j)) (sym (g .point-same i j (omega arith) b))
+      (subst (λ x. Edge 𝓐 (form x (point l w i j)) (docAt d l w i j) (docAt d l w (suc i) j)) (sym (g .own-same i a)) e))
+
+  oth-edge-on : (l : ℕ) (w w′ : List (Made 𝓐)) → Grows l w w′ → (i j : ℕ) → i ≤ length (mine l w) → j < length (others l w) → OthEdge d l w i j → OthEdge d l w′ i j
+  oth-edge-on l w w′ g i j a b e =
+      subst (λ C. Edge 𝓐 (form (oth l w′ j) (point l w′ i j)) (listAt d (point l w′ i j)) (listAt d C)) (sym (g .point-same i (suc j) a b))
+      (subst (λ C. Edge 𝓐 (form (oth l w′ j) C) (listAt d C) (docAt d l w i (suc j))) (sym (g .point-same i j a (omega arith)))
+      (subst (λ x. Edge 𝓐 (form x (point l w i j)) (docAt d l w i j) (docAt d l w i (suc j))) (sym (g .oth-same j b)) e))
+
+  -- the list at a point whose last edit is line l's
+  last-own : (l : ℕ) (w : List (Made 𝓐)) (i j : ℕ) → i < length (mine l w) → ((k : ℕ) → k < j → lagOf l w k ≤ i)
+      → docAt d l w (suc i) j ≡ 𝓐 .apply (ownForm l w i j) (docAt d l w i j)
+  last-own l w i j h lags = ap (listAt d) (L.firsts-snoc (isBy l) blank w i j h lags) ∙ listAt-snoc d (point l w i j) (own l w i)
+
+  -- one cell: o is not known to g, nor g to o, and o is the last of the four sets
+  cell : (l : ℕ) (w : List (Made 𝓐)) → Contexts l w → (i j : ℕ) → i < length (mine l w) → j < length (others l w) → seenOf (own l w i) ≤ j
+      → ((k : ℕ) → k < suc j → lagOf l w k ≤ i) → OwnEdge d l w i j → OthEdge d l w i j → OwnEdge d l w i (suc j) × OthEdge d l w (suc i) j
+  cell l w c i j hi hj seen lags eo eg =
+      far-sides 𝓐 laws l (oth l w j .name .line) (oth-line l w j hj) (ownForm l w i j) (othForm l w i j) (ownForm l w i (suc j)) (othForm l w (suc i) j)
+      (docAt d l w i j) (docAt d l w (suc i) j) (docAt d l w i (suc j)) (docAt d l w (suc i) (suc j))
+      (form-by laws l (own l w i) (point l w i j) (c .own-by i hi)) (form-by laws _ (oth l w j) (point l w i j) (c .oth-by j hj)) eo eg
+      (own-cell l w i j hj (λ k lt _. c .ctx-own i k hi lt) (c .ctx-oth i j hi hj ∙ ltb-false _ _ seen))
+      (oth-cell l w i j hi (λ k lt. lags k (omega arith)) (oth-out l w c i j hi hj (lags j (le-refl _)))) (last-own l w i (suc j) hi lags)
+
+  -- a new row
+  module _ (l : ℕ) (w : List (Made 𝓐)) (t : ℕ) (o : Made 𝓐) (new : NewOwn l w t o) (grid : Grid d l w) (good : Good l w (length (mine l w)) t)
+      (ok : T (𝓐 .fits (o .edit) (docAt d l w (length (mine l w)) t))) where
+    abbrev m : ℕ
+    m = length (mine l w)
+
+    abbrev n : ℕ
+    n = length (others l w)
+
+    abbrev w′ : List (Made 𝓐)
+    w′ = w ++ (o ∷ [])
+
+    row-lag : (k : ℕ) → k < n → lagOf l w′ k ≤ m
+    row-lag k h = subst (λ x. x ≤ m) (sym (row-grows l w t o new .lag-same k h)) (L.lag-le (isBy l) blank w k)
+
+    row-last : m < length (mine l w′)
+    row-last = omega (arith, row-made l w t o new)
+
+    row-seen : seenOf (own l w′ m) ≡ t
+    row-seen = ap seenOf (row-new l w t o new) ∙ new .seen
+
+    row-base : OwnEdge d l w′ m t
+    row-base =
+        let inside : All (Inside (o .context)) (point l w m t) =
+            L.firsts-every (isBy l) blank (Inside (o .context)) w m t (λ k a b. new .knows-own k b) (λ k a b. new .knows-oth k b ∙ ltb-true k t a) in
+        let same-point = row-grows l w t o new .point-same m t (le-refl m) (new .seen-le) in
+        let e : ownForm l w′ m t ≡ o .edit =
+            ap (λ x. form x (point l w′ m t)) (row-new l w t o new) ∙ ap (form o) same-point ∙ form-made o (point l w m t) inside in
+        record {
+          fits = subst (λ C. T (𝓐 .fits (ownForm l w′ m t) (listAt d C))) (sym same-point) (subst (λ x. T (𝓐 .fits x (docAt d l w m t))) (sym e) ok);
+          gives = last-own l w′ m t row-last (λ k lt. row-lag k (le-trans lt (new .seen-le)));
+        }
+
+    row-good : (j : ℕ) → t ≤ j → j ≤ n → Good l w m j
+    row-good j a b = record { own-le = le-refl m; oth-le = b; lags = λ k lt. L.lag-le (isBy l) blank w k; seens = λ k lt. le-trans (good .seens k lt) a }
+
+    row-cell : (j : ℕ) → t ≤ j → j < n → OwnEdge d l w′ m j → OwnEdge d l w′ m (suc j) × OthEdge d l w′ (suc m) j
+    row-cell j a b e =
+        cell l w′ (row-contexts l w t o new (grid .contexts)) m j row-last (subst (λ x. j < x) (sym (row-others l w t o new)) b)
+        (subst (λ x. x ≤ j) (sym row-seen) a) (λ k lt. row-lag k (le-trans lt b)) e
+        (oth-edge-on l w w′ (row-grows l w t o new) m j (le-refl m) b (grid .oth-edge m j (row-good j a (omega arith)) b (L.lag-le (isBy l) blank w j)))
+
+    row-edge : (j : ℕ) → t ≤ j → j ≤ n → OwnEdge d l w′ m j
+    row-edge = climb (λ j. OwnEdge d l w′ m j) t n row-base (λ j a b e. row-cell j a b e .0)
+
+    pub row-grid : Grid d l (w ++ (o ∷ []))
+    row-grid =
+        record {
+          contexts = row-contexts l w t o new (grid .contexts);
+          own-edge = λ i j g h s. go i j g s (below-suc i m (subst (λ x. i < x) (row-made l w t o new) h));
+          oth-edge = λ i j g h la. go′ i j g (subst (λ x. j < x) (row-others l w t o new) h) la
+          (below-suc i (suc m) (suc-le-suc (subst (λ x. i ≤ x) (row-made l w t o new) (g .own-le))));
+        }
+      where
+        go : (i j : ℕ) → Good l w′ i j → seenOf (own l w′ i) ≤ j → (i < m) ⊎ (i ≡ m) → OwnEdge d l w′ i j
+        go i j g s (inl lt) =
+            let jn : j ≤ n = subst (λ x. j ≤ x) (row-others l w t o new) (g .oth-le) in
+            own-edge-on l w w′ (row-grows l w t o new) i j lt jn
+            (grid .own-edge i j (good-back l w w′ (row-grows l w t o new) i j (omega arith) jn g) lt
+            (subst (λ x. seenOf x ≤ j) (row-grows l w t o new .own-same i lt) s))
+        go i j g s (inr e) =
+            let jn : j ≤ n = subst (λ x. j ≤ x) (row-others l w t o new) (g .oth-le) in
+            let tj : t ≤ j = subst (λ x. x ≤ j) (ap (λ x. seenOf (own l w′ x)) e ∙ row-seen) s in
+            subst (λ x. OwnEdge d l w′ x j) (sym e) (row-edge j tj jn)
+        go′ : (i j : ℕ) → Good l w′ i j → j < n → lagOf l w′ j ≤ i → (i < suc m) ⊎ (i ≡ suc m) → OthEdge d l w′ i j
+        go′ i j g jn la (inl lt) =
+            oth-edge-on l w w′ (row-grows l w t o new) i j (le-of-suc-le-suc lt) jn
+            (grid .oth-edge i j (good-back l w w′ (row-grows l w t o new) i j (le-of-suc-le-suc lt) (omega arith) g) jn
+            (subst (λ x. x ≤ i) (row-grows l w t o new .lag-same j jn) la))
+        go′ i j g jn la (inr e) =
+            let tj : t ≤ j = subst (λ x. x ≤ j) row-seen (g .seens m (omega arith)) in
+            subst (λ x. OthEdge d l w′ x j) (sym e) (row-cell j tj jn (row-edge j tj (omega arith)) .1)
+
+  -- a new column
+  module _ (l : ℕ) (xs ys : List (Made 𝓐)) (g : Made 𝓐) (new : NewOth l xs ys g) (grid : Grid d l (xs ++ ys))
+      (ok : T (𝓐 .fits (form g xs) (listAt d xs))) where
+    abbrev cm : ℕ
+    cm = length (mine l (xs ++ ys))
+
+    abbrev cn : ℕ
+    cn = length (others l (xs ++ ys))
+
+    abbrev ca : ℕ
+    ca = length (mine l xs)
+
+    abbrev cw : List (Made 𝓐)
+    cw = xs ++ ys
+
+    abbrev cw′ : List (Made 𝓐)
+    cw′ = xs ++ g ∷ ys
+
+    col-lag-old : (k : ℕ) → k < cn → lagOf l cw k ≤ ca
+    col-lag-old k h =
+        let h′ : k < length (others l xs) = subst (λ x. k < x) (col-before l xs ys g new) h in
+        subst (λ x. x ≤ ca) (sym (L.lag-append (isBy l) blank xs ys k h′)) (L.lag-le (isBy l) blank xs k)
+
+    col-lags : (k : ℕ) → k < suc cn → lagOf l cw′ k ≤ ca
+    col-lags k h = go (below-suc k cn h)
+      where
+        go : (k < cn) ⊎ (k ≡ cn) → lagOf l cw′ k ≤ ca
+        go (inl lt) = subst (λ x. x ≤ ca) (sym (col-grows l xs ys g new .lag-same k lt)) (col-lag-old k lt)
+        go (inr e) = subst (λ x. lagOf l cw′ x ≤ ca) (sym e) (subst (λ x. x ≤ ca) (sym (col-lag l xs ys g new)) (le-refl ca))
+
+    ca-le : ca ≤ cm
+    ca-le = omega (arith, ap length (L.select-append (isBy l) blank xs ys) ∙ length-append (mine l xs) (mine l ys))
+
+    col-last : cn < length (others l cw′)
+    col-last = omega (arith, col-others l xs ys g new)
+
+    -- the server's own point
+    col-point : point l cw ca cn ≡ xs
+    col-point = ap (point l cw ca) (col-before l xs ys g new) ∙ L.firsts-prefix (isBy l) blank xs ys
+
+    col-next : point l cw′ ca (suc cn) ≡ xs ++ (g ∷ [])
+    unfolding reject
+    col-next =
+        let a : ca ≡ length (mine l (xs ++ (g ∷ []))) = ap length (sym (L.select-out (isBy l) blank xs g [] (new .other) ∙ ap (mine l) (append-nil xs))) in
+        let b : suc cn ≡ length (others l (xs ++ (g ∷ []))) =
+            omega (arith, col-before l xs ys g new, ap length (L.reject-in (isBy l) blank xs g [] (new .other)) ∙ length-append (others l xs) (g ∷ others l [])) in
+        ap (λ x. point l cw′ x (suc cn)) a ∙ ap (point l cw′ (length (mine l (xs ++ (g ∷ []))))) b
+        ∙ ap (λ x. point l x (length (mine l (xs ++ (g ∷ [])))) (length (others l (xs ++ (g ∷ []))))) (sym (append-assoc xs (g ∷ []) ys))
+        ∙ L.firsts-prefix (isBy l) blank (xs ++ (g ∷ [])) ys
+
+    pub col-form : othForm l cw′ ca cn ≡ form g xs
+    col-form =
+        ap (λ x. form x (point l cw′ ca cn)) (col-new l xs ys g new)
+        ∙ ap (form g) (col-grows l xs ys g new .point-same ca cn ca-le (le-refl cn) ∙ col-point)
+
+    col-base : OthEdge d l cw′ ca cn
+    col-base =
+        let here : point l cw′ ca cn ≡ xs = col-grows l xs ys g new .point-same ca cn ca-le (le-refl cn) ∙ col-point in
+        record {
+          fits = subst (λ C. T (𝓐 .fits (othForm l cw′ ca cn) (listAt d C))) (sym here) (subst (λ x. T (𝓐 .fits x (listAt d xs))) (sym col-form) ok);
+          gives = ap (listAt d) col-next ∙ listAt-snoc d xs g ∙ ap (λ x. 𝓐 .apply x (listAt d xs)) (sym col-form)
+          ∙ ap (λ C. 𝓐 .apply (othForm l cw′ ca cn) (listAt d C)) (sym here);
+        }
+
+    col-good : (i : ℕ) → ca ≤ i → i ≤ cm → Good l cw i cn
+    col-good i a b =
+        record {
+          own-le = b;
+          oth-le = le-refl cn;
+          lags = λ k lt. le-trans (col-lag-old k lt) a;
+          seens = λ k lt. grid .contexts .seen-le k (le-trans lt b);
+        }
+
+    col-cell : (i : ℕ) → ca ≤ i → i < cm → OthEdge d l cw′ i cn → OwnEdge d l cw′ i (suc cn) × OthEdge d l cw′ (suc i) cn
+    col-cell i a b e =
+        let seen : seenOf (own l cw i) ≤ cn = grid .contexts .seen-le i b in
+        cell l cw′ (col-contexts l xs ys g new (grid .contexts)) i cn (subst (λ x. i < x) (sym (col-made l xs ys g new)) b) col-last
+        (subst (λ x. seenOf x ≤ cn) (sym (col-grows l xs ys g new .own-same i b)) seen) (λ k lt. le-trans (col-lags k lt) a)
+        (own-edge-on l cw cw′ (col-grows l xs ys g new) i cn b (le-refl cn) (grid .own-edge i cn (col-good i a (omega arith)) b seen)) e
+
+    col-edge : (i : ℕ) → ca ≤ i → i ≤ cm → OthEdge d l cw′ i cn
+    col-edge = climb (λ i. OthEdge d l cw′ i cn) ca cm col-base (λ i a b e. col-cell i a b e .1)
+
+    pub col-grid : Grid d l (xs ++ g ∷ ys)
+    col-grid =
+        record {
+          contexts = col-contexts l xs ys g new (grid .contexts);
+          own-edge = λ i j good h s. go i j good (subst (λ x. i < x) (col-made l xs ys g new) h) s
+          (below-suc j (suc cn) (suc-le-suc (subst (λ x. j ≤ x) (col-others l xs ys g new) (good .oth-le))));
+          oth-edge = λ i j good h la. go′ i j good (subst (λ x. i ≤ x) (col-made l xs ys g new) (good .own-le)) la
+          (below-suc j cn (subst (λ x. j < x) (col-others l xs ys g new) h));
+        }
+      where
+        go : (i j : ℕ) → Good l cw′ i j → i < cm → seenOf (own l cw′ i) ≤ j → (j < suc cn) ⊎ (j ≡ suc cn) → OwnEdge d l cw′ i j
+        go i j good im s (inl lt) =
+            own-edge-on l cw cw′ (col-grows l xs ys g new) i j im (le-of-suc-le-suc lt)
+            (grid .own-edge i j (good-back l cw cw′ (col-grows l xs ys g new) i j (omega arith) (le-of-suc-le-suc lt) good) im
+            (subst (λ x. seenOf x ≤ j) (col-grows l xs ys g new .own-same i im) s))
+        go i j good im s (inr e) =
+            let la : ca ≤ i = subst (λ x. x ≤ i) (col-lag l xs ys g new) (good .lags cn (omega arith)) in
+            subst (λ x. OwnEdge d l cw′ i x) (sym e) (col-cell i la im (col-edge i la (omega arith)) .0)
+        go′ : (i j : ℕ) → Good l cw′ i j → i ≤ cm → lagOf l cw′ j ≤ i → (j < cn) ⊎ (j ≡ cn) → OthEdge d l cw′ i j
+        go′ i j good im la (inl lt) =
+            oth-edge-on l cw cw′ (col-grows l xs ys g new) i j im lt
+            (grid .oth-edge i j (good-back l cw cw′ (col-grows l xs ys g new) i j im (omega arith) good) lt
+            (subst (λ x. x ≤ i) (col-grows l xs ys g new .lag-same j lt) la))
+        go′ i j good im la (inr e) =
+            let la′ : ca ≤ i = subst (λ x. x ≤ i) (ap (lagOf l cw′) e ∙ col-lag l xs ys g new) la in
+            subst (λ x. OthEdge d l cw′ i x) (sym e) (col-edge i la′ im)

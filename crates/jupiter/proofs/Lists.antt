@@ -308,3 +308,31 @@ module _ {A : Type 0} (p : A → Bool) (d : A) where
   pub reject-out : (xs : List A) (x : A) (ys : List A) → p x ≡ true → reject p (xs ++ x ∷ ys) ≡ reject p (xs ++ ys)
   unfolding reject
   reject-out xs x ys e = reject-append xs (x ∷ ys) ∙ rw e (sym (reject-append xs ys))
+
+  -- the point of all of xs, whatever follows
+  pub firsts-prefix : (xs ys : List A) → firsts p (xs ++ ys) (length (select p xs)) (length (reject p xs)) ≡ xs
+  unfolding firsts select reject enter
+  firsts-prefix [] ys = firsts-none ys
+  firsts-prefix (x ∷ xs) ys = go (p x) (firsts-prefix xs ys)
+    where
+      go : (b : Bool) → firsts p (xs ++ ys) (length (select p xs)) (length (reject p xs)) ≡ xs
+          → enter x b (length (cond b (x ∷ select p xs) (select p xs))) (length (cond b (reject p xs) (x ∷ reject p xs))) (λ i′ j′. firsts p (xs ++ ys) i′ j′) ≡ x ∷ xs
+      go true e = ap {B = List A} (λ r. x ∷ r) e
+      go false e = ap {B = List A} (λ r. x ∷ r) e
+
+  -- a property of the first i that pass and the first j that do not
+  pub firsts-every : (Q : A → Type 0) (xs : List A) (i j : ℕ) → ((k : ℕ) → k < i → k < length (select p xs) → Q (getD (select p xs) k d))
+      → ((k : ℕ) → k < j → k < length (reject p xs) → Q (getD (reject p xs) k d)) → All Q (firsts p xs i j)
+  unfolding firsts select reject enter
+  firsts-every Q [] i j f g = tt
+  firsts-every Q (x ∷ xs) i j f g = go (p x) i j f g (λ i j f g. firsts-every Q xs i j f g)
+    where
+      go : (b : Bool) (i j : ℕ) → ((k : ℕ) → k < i → k < length (cond b (x ∷ select p xs) (select p xs)) → Q (getD (cond b (x ∷ select p xs) (select p xs)) k d))
+          → ((k : ℕ) → k < j → k < length (cond b (reject p xs) (x ∷ reject p xs)) → Q (getD (cond b (reject p xs) (x ∷ reject p xs)) k d))
+          → ((i j : ℕ) → ((k : ℕ) → k < i → k < length (select p xs) → Q (getD (select p xs) k d))
+          → ((k : ℕ) → k < j → k < length (reject p xs) → Q (getD (reject p xs) k d)) → All Q (firsts p xs i j))
+          → All Q (enter x b i j (λ i′ j′. firsts p xs i′ j′))
+      go true zero j f g ih = ih 0 j (λ k lt. absurd (not-suc-le-zero lt)) g
+      go true (suc i) j f g ih = (f 0 (suc-le-suc zero-le) (suc-le-suc zero-le), ih i j (λ k lt ln. f (suc k) (suc-le-suc lt) (suc-le-suc ln)) g)
+      go false i zero f g ih = ih i 0 f (λ k lt. absurd (not-suc-le-zero lt))
+      go false i (suc j) f g ih = (g 0 (suc-le-suc zero-le) (suc-le-suc zero-le), ih i j f (λ k lt ln. g (suc k) (suc-le-suc lt) (suc-le-suc ln)))
