@@ -3,3 +3,4 @@ pub mod Segment
 pub mod Forms
 pub mod Grid
 pub mod Extend
+pub mod Replay
