@@ -55,17 +55,29 @@ module _ {𝓐 : Algebra} where
     pub row-new : own l (w ++ (o ∷ [])) (length (mine l w)) ≡ o
     row-new = ap (λ r. getD r (length (mine l w)) blank) (mine-own l w o row-by) ∙ getD-append-seam (mine l w) o [] blank
 
-    own-cases : (P : ℕ → Made 𝓐 → Type 0) → ((i : ℕ) → i < length (mine l w) → P i (own l w i)) → P (length (mine l w)) o
+    -- at its own context it has the form as made
+    pub new-form : form o (point l w (length (mine l w)) t) ≡ o .edit
+    new-form =
+        form-made o _
+        (L.firsts-every (isBy l) blank (Inside (o .context)) w (length (mine l w)) t (λ k a b. new .knows-own k b)
+        (λ k a b. new .knows-oth k b ∙ ltb-true k t a))
+
+    pub row-form : ownForm l (w ++ (o ∷ [])) (length (mine l w)) t ≡ o .edit
+    row-form =
+        ap (λ x. form x (point l (w ++ (o ∷ [])) (length (mine l w)) t)) row-new
+        ∙ ap (form o) (row-grows .point-same (length (mine l w)) t (le-refl _) (new .seen-le)) ∙ new-form
+
+    pub row-own-cases : (P : ℕ → Made 𝓐 → Type 0) → ((i : ℕ) → i < length (mine l w) → P i (own l w i)) → P (length (mine l w)) o
         → (i : ℕ) → i < length (mine l (w ++ (o ∷ []))) → P i (own l (w ++ (o ∷ [])) i)
-    own-cases P old last i h = go (below-suc i (length (mine l w)) (subst (λ n. i < n) row-made h))
+    row-own-cases P old last i h = go (below-suc i (length (mine l w)) (subst (λ n. i < n) row-made h))
       where
         go : (i < length (mine l w)) ⊎ (i ≡ length (mine l w)) → P i (own l (w ++ (o ∷ [])) i)
         go (inl lt) = subst (P i) (sym (row-grows .own-same i lt)) (old i lt)
         go (inr e) = subst (λ x. P x (own l (w ++ (o ∷ [])) x)) (sym e) (subst (P (length (mine l w))) (sym row-new) last)
 
-    oth-cases : (P : ℕ → Made 𝓐 → Type 0) → ((j : ℕ) → j < length (others l w) → P j (oth l w j))
+    pub row-oth-cases : (P : ℕ → Made 𝓐 → Type 0) → ((j : ℕ) → j < length (others l w) → P j (oth l w j))
         → (j : ℕ) → j < length (others l (w ++ (o ∷ []))) → P j (oth l (w ++ (o ∷ [])) j)
-    oth-cases P old j h =
+    row-oth-cases P old j h =
         let h′ : j < length (others l w) = subst (λ n. j < n) row-others h in
         subst (P j) (sym (row-grows .oth-same j h′)) (old j h′)
 
@@ -75,24 +87,24 @@ module _ {𝓐 : Algebra} where
     pub row-contexts : Contexts l w → Contexts l (w ++ (o ∷ []))
     row-contexts c =
         record {
-          own-number = own-cases (λ i e. e .name .number ≡ suc i) (c .own-number) (ap (λ x. x .number) (new .name));
+          own-number = row-own-cases (λ i e. e .name .number ≡ suc i) (c .own-number) (ap (λ x. x .number) (new .name));
           oth-inj = λ j k hj hk.
-          oth-cases (λ j e. same (e .name) (oth l (w ++ (o ∷ [])) k .name) ≡ true → j ≡ k)
-          (λ j hj. oth-cases (λ k e. same (oth l w j .name) (e .name) ≡ true → j ≡ k) (λ k hk. c .oth-inj j k hj hk) k hk) j hj;
-          ctx-own = λ i k hi. own-cases (λ i e. k < i → holds (e .context) (own l (w ++ (o ∷ [])) k .name) ≡ true)
+          row-oth-cases (λ j e. same (e .name) (oth l (w ++ (o ∷ [])) k .name) ≡ true → j ≡ k)
+          (λ j hj. row-oth-cases (λ k e. same (oth l w j .name) (e .name) ≡ true → j ≡ k) (λ k hk. c .oth-inj j k hj hk) k hk) j hj;
+          ctx-own = λ i k hi. row-own-cases (λ i e. k < i → holds (e .context) (own l (w ++ (o ∷ [])) k .name) ≡ true)
           (λ i hi lt. rw (row-grows .own-same k (omega arith)) (c .ctx-own i k hi lt))
           (λ lt. rw (row-grows .own-same k lt) (new .knows-own k lt)) i hi;
-          ctx-oth = λ i j hi hj. own-cases (λ i e. holds (e .context) (oth l (w ++ (o ∷ [])) j .name) ≡ ltb j (seenOf e))
+          ctx-oth = λ i j hi hj. row-own-cases (λ i e. holds (e .context) (oth l (w ++ (o ∷ [])) j .name) ≡ ltb j (seenOf e))
           (λ i hi. rw (row-grows .oth-same j (back-oth hj)) (c .ctx-oth i j hi (back-oth hj)))
           (rw (row-grows .oth-same j (back-oth hj), new .seen) (new .knows-oth j (back-oth hj))) i hi;
-          oth-ctx = λ j x hj. oth-cases (λ j e. holds (e .context) (record { line = l; number = x }) ≡ true → x ≤ lagOf l (w ++ (o ∷ [])) j)
+          oth-ctx = λ j x hj. row-oth-cases (λ j e. holds (e .context) (record { line = l; number = x }) ≡ true → x ≤ lagOf l (w ++ (o ∷ [])) j)
           (λ j hj e. rw (row-grows .lag-same j hj) (c .oth-ctx j x hj e)) j hj;
-          seen-le = own-cases (λ i e. seenOf e ≤ length (others l (w ++ (o ∷ [])))) (λ i hi. rw row-others (c .seen-le i hi)) (rw (row-others, new .seen) (new .seen-le));
-          causal = λ i j hi hj. own-cases (λ i e. j < seenOf e → lagOf l (w ++ (o ∷ [])) j ≤ i)
+          seen-le = row-own-cases (λ i e. seenOf e ≤ length (others l (w ++ (o ∷ [])))) (λ i hi. rw row-others (c .seen-le i hi)) (rw (row-others, new .seen) (new .seen-le));
+          causal = λ i j hi hj. row-own-cases (λ i e. j < seenOf e → lagOf l (w ++ (o ∷ [])) j ≤ i)
           (λ i hi lt. rw (row-grows .lag-same j (back-oth hj)) (c .causal i j hi (back-oth hj) lt))
           (λ lt. rw (row-grows .lag-same j (back-oth hj)) (L.lag-le (isBy l) blank w j)) i hi;
-          own-by = own-cases (λ i e. T (𝓐 .by l (e .edit))) (c .own-by) (new .line);
-          oth-by = oth-cases (λ j e. T (𝓐 .by (e .name .line) (e .edit))) (c .oth-by);
+          own-by = row-own-cases (λ i e. T (𝓐 .by l (e .edit))) (c .own-by) (new .line);
+          oth-by = row-oth-cases (λ j e. T (𝓐 .by (e .name .line) (e .edit))) (c .oth-by);
         }
 
   -- what is known of an edit of another line that the server takes, behind xs
@@ -128,15 +140,15 @@ module _ {𝓐 : Algebra} where
     pub col-lag : lagOf l (xs ++ g ∷ ys) (length (others l (xs ++ ys))) ≡ length (mine l xs)
     col-lag = ap (lagOf l (xs ++ g ∷ ys)) col-before ∙ L.lag-at (isBy l) blank xs g ys (new .other)
 
-    own-cases′ : (P : ℕ → Made 𝓐 → Type 0) → ((i : ℕ) → i < length (mine l (xs ++ ys)) → P i (own l (xs ++ ys) i))
+    pub col-own-cases : (P : ℕ → Made 𝓐 → Type 0) → ((i : ℕ) → i < length (mine l (xs ++ ys)) → P i (own l (xs ++ ys) i))
         → (i : ℕ) → i < length (mine l (xs ++ g ∷ ys)) → P i (own l (xs ++ g ∷ ys) i)
-    own-cases′ P old i h =
+    col-own-cases P old i h =
         let h′ : i < length (mine l (xs ++ ys)) = subst (λ n. i < n) col-made h in
         subst (P i) (sym (col-grows .own-same i h′)) (old i h′)
 
-    oth-cases′ : (P : ℕ → Made 𝓐 → Type 0) → ((j : ℕ) → j < length (others l (xs ++ ys)) → P j (oth l (xs ++ ys) j)) → P (length (others l (xs ++ ys))) g
+    pub col-oth-cases : (P : ℕ → Made 𝓐 → Type 0) → ((j : ℕ) → j < length (others l (xs ++ ys)) → P j (oth l (xs ++ ys) j)) → P (length (others l (xs ++ ys))) g
         → (j : ℕ) → j < length (others l (xs ++ g ∷ ys)) → P j (oth l (xs ++ g ∷ ys) j)
-    oth-cases′ P old last j h = go (below-suc j (length (others l (xs ++ ys))) (subst (λ n. j < n) col-others h))
+    col-oth-cases P old last j h = go (below-suc j (length (others l (xs ++ ys))) (subst (λ n. j < n) col-others h))
       where
         go : (j < length (others l (xs ++ ys))) ⊎ (j ≡ length (others l (xs ++ ys))) → P j (oth l (xs ++ g ∷ ys) j)
         go (inl lt) = subst (P j) (sym (col-grows .oth-same j lt)) (old j lt)
@@ -148,27 +160,27 @@ module _ {𝓐 : Algebra} where
     pub col-contexts : Contexts l (xs ++ ys) → Contexts l (xs ++ g ∷ ys)
     col-contexts c =
         record {
-          own-number = own-cases′ (λ i e. e .name .number ≡ suc i) (c .own-number);
+          own-number = col-own-cases (λ i e. e .name .number ≡ suc i) (c .own-number);
           oth-inj = λ j k hj hk.
-          oth-cases′ (λ j e. same (e .name) (oth l (xs ++ g ∷ ys) k .name) ≡ true → j ≡ k)
-          (λ j hj. oth-cases′ (λ k e. same (oth l (xs ++ ys) j .name) (e .name) ≡ true → j ≡ k) (λ k hk. c .oth-inj j k hj hk)
+          col-oth-cases (λ j e. same (e .name) (oth l (xs ++ g ∷ ys) k .name) ≡ true → j ≡ k)
+          (λ j hj. col-oth-cases (λ k e. same (oth l (xs ++ ys) j .name) (e .name) ≡ true → j ≡ k) (λ k hk. c .oth-inj j k hj hk)
           (λ e. absurd (true≢false (sym e ∙ new .fresh j hj))) k hk)
-          (oth-cases′ (λ k e. same (g .name) (e .name) ≡ true → length (others l (xs ++ ys)) ≡ k)
+          (col-oth-cases (λ k e. same (g .name) (e .name) ≡ true → length (others l (xs ++ ys)) ≡ k)
           (λ k hk e. absurd (true≢false (sym e ∙ new .fresh′ k hk))) (λ e. refl) k hk) j hj;
-          ctx-own = λ i k hi. own-cases′ (λ i e. k < i → holds (e .context) (own l (xs ++ g ∷ ys) k .name) ≡ true)
+          ctx-own = λ i k hi. col-own-cases (λ i e. k < i → holds (e .context) (own l (xs ++ g ∷ ys) k .name) ≡ true)
           (λ i hi lt. rw (col-grows .own-same k (omega arith)) (c .ctx-own i k hi lt)) i hi;
-          ctx-oth = λ i j hi hj. own-cases′ (λ i e. holds (e .context) (oth l (xs ++ g ∷ ys) j .name) ≡ ltb j (seenOf e))
-          (λ i hi. oth-cases′ (λ j e. holds (own l (xs ++ ys) i .context) (e .name) ≡ ltb j (seenOf (own l (xs ++ ys) i)))
+          ctx-oth = λ i j hi hj. col-own-cases (λ i e. holds (e .context) (oth l (xs ++ g ∷ ys) j .name) ≡ ltb j (seenOf e))
+          (λ i hi. col-oth-cases (λ j e. holds (own l (xs ++ ys) i .context) (e .name) ≡ ltb j (seenOf (own l (xs ++ ys) i)))
           (λ j hj. c .ctx-oth i j hi hj) (new .unknown i hi ∙ sym (ltb-false _ _ (c .seen-le i hi))) j hj) i hi;
-          oth-ctx = λ j x hj. oth-cases′ (λ j e. holds (e .context) (record { line = l; number = x }) ≡ true → x ≤ lagOf l (xs ++ g ∷ ys) j)
+          oth-ctx = λ j x hj. col-oth-cases (λ j e. holds (e .context) (record { line = l; number = x }) ≡ true → x ≤ lagOf l (xs ++ g ∷ ys) j)
           (λ j hj e. rw (col-grows .lag-same j hj) (c .oth-ctx j x hj e)) (λ e. rw col-lag (new .knows x e)) j hj;
-          seen-le = own-cases′ (λ i e. seenOf e ≤ length (others l (xs ++ g ∷ ys)))
+          seen-le = col-own-cases (λ i e. seenOf e ≤ length (others l (xs ++ g ∷ ys)))
           (λ i hi. le-trans (c .seen-le i hi) (col-grows .more-oth));
-          causal = λ i j hi hj. own-cases′ (λ i e. j < seenOf e → lagOf l (xs ++ g ∷ ys) j ≤ i)
+          causal = λ i j hi hj. col-own-cases (λ i e. j < seenOf e → lagOf l (xs ++ g ∷ ys) j ≤ i)
           (λ i hi lt. let hj′ : j < length (others l (xs ++ ys)) = le-trans lt (c .seen-le i hi) in
           rw (col-grows .lag-same j hj′) (c .causal i j hi hj′ lt)) i hi;
-          own-by = own-cases′ (λ i e. T (𝓐 .by l (e .edit))) (c .own-by);
-          oth-by = oth-cases′ (λ j e. T (𝓐 .by (e .name .line) (e .edit))) (c .oth-by) (new .line);
+          own-by = col-own-cases (λ i e. T (𝓐 .by l (e .edit))) (c .own-by);
+          oth-by = col-oth-cases (λ j e. T (𝓐 .by (e .name .line) (e .edit))) (c .oth-by) (new .line);
         }
 
 -- ---- the edges
@@ -224,13 +236,10 @@ module _ {𝓐 : Algebra} (laws : Laws 𝓐) (d : 𝓐 .Doc) where
 
     row-base : OwnEdge d l w′ m t
     row-base =
-        let inside : All (Inside (o .context)) (point l w m t) =
-            L.firsts-every (isBy l) blank (Inside (o .context)) w m t (λ k a b. new .knows-own k b) (λ k a b. new .knows-oth k b ∙ ltb-true k t a) in
         let same-point = row-grows l w t o new .point-same m t (le-refl m) (new .seen-le) in
-        let e : ownForm l w′ m t ≡ o .edit =
-            ap (λ x. form x (point l w′ m t)) (row-new l w t o new) ∙ ap (form o) same-point ∙ form-made o (point l w m t) inside in
         record {
-          fits = subst (λ C. T (𝓐 .fits (ownForm l w′ m t) (listAt d C))) (sym same-point) (subst (λ x. T (𝓐 .fits x (docAt d l w m t))) (sym e) ok);
+          fits = subst (λ C. T (𝓐 .fits (ownForm l w′ m t) (listAt d C))) (sym same-point)
+          (subst (λ x. T (𝓐 .fits x (docAt d l w m t))) (sym (row-form l w t o new)) ok);
           gives = last-own l w′ m t row-last (λ k lt. row-lag k (le-trans lt (new .seen-le)));
         }
 

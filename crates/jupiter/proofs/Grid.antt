@@ -157,6 +157,12 @@ module _ {𝓐 : Algebra} where
           L.firsts-insert (isBy l) blank xs g ys i j (inr (e, b′));
         }
 
+  pub own-form-same : (l : ℕ) (w w′ : List (Made 𝓐)) → Grows l w w′ → (i j : ℕ) → i < length (mine l w) → j ≤ length (others l w) → ownForm l w′ i j ≡ ownForm l w i j
+  own-form-same l w w′ g i j a b = ap (λ x. form x (point l w′ i j)) (g .own-same i a) ∙ ap (form (own l w i)) (g .point-same i j (omega arith) b)
+
+  pub oth-form-same : (l : ℕ) (w w′ : List (Made 𝓐)) → Grows l w w′ → (i j : ℕ) → i ≤ length (mine l w) → j < length (others l w) → othForm l w′ i j ≡ othForm l w i j
+  oth-form-same l w w′ g i j a b = ap (λ x. form x (point l w′ i j)) (g .oth-same j b) ∙ ap (form (oth l w j)) (g .point-same i j a (omega arith))
+
   -- ---- cells
 
   pub own-cell : (l : ℕ) (w : List (Made 𝓐)) (i j : ℕ) → j < length (others l w)

@@ -4,3 +4,4 @@ pub mod Forms
 pub mod Grid
 pub mod Extend
 pub mod Replay
+pub mod Line
