@@ -89,20 +89,20 @@ module _ {𝓐 : Algebra} where
         record {
           own-number = row-own-cases (λ i e. e .name .number ≡ suc i) (c .own-number) (ap (λ x. x .number) (new .name));
           oth-inj = λ j k hj hk.
-          row-oth-cases (λ j e. same (e .name) (oth l (w ++ (o ∷ [])) k .name) ≡ true → j ≡ k)
-          (λ j hj. row-oth-cases (λ k e. same (oth l w j .name) (e .name) ≡ true → j ≡ k) (λ k hk. c .oth-inj j k hj hk) k hk) j hj;
+              row-oth-cases (λ j e. same (e .name) (oth l (w ++ (o ∷ [])) k .name) ≡ true → j ≡ k)
+              (λ j hj. row-oth-cases (λ k e. same (oth l w j .name) (e .name) ≡ true → j ≡ k) (λ k hk. c .oth-inj j k hj hk) k hk) j hj;
           ctx-own = λ i k hi. row-own-cases (λ i e. k < i → holds (e .context) (own l (w ++ (o ∷ [])) k .name) ≡ true)
-          (λ i hi lt. rw (row-grows .own-same k (omega arith)) (c .ctx-own i k hi lt))
-          (λ lt. rw (row-grows .own-same k lt) (new .knows-own k lt)) i hi;
+              (λ i hi lt. rw (row-grows .own-same k (omega arith)) (c .ctx-own i k hi lt))
+              (λ lt. rw (row-grows .own-same k lt) (new .knows-own k lt)) i hi;
           ctx-oth = λ i j hi hj. row-own-cases (λ i e. holds (e .context) (oth l (w ++ (o ∷ [])) j .name) ≡ ltb j (seenOf e))
-          (λ i hi. rw (row-grows .oth-same j (back-oth hj)) (c .ctx-oth i j hi (back-oth hj)))
-          (rw (row-grows .oth-same j (back-oth hj), new .seen) (new .knows-oth j (back-oth hj))) i hi;
+              (λ i hi. rw (row-grows .oth-same j (back-oth hj)) (c .ctx-oth i j hi (back-oth hj)))
+              (rw (row-grows .oth-same j (back-oth hj), new .seen) (new .knows-oth j (back-oth hj))) i hi;
           oth-ctx = λ j x hj. row-oth-cases (λ j e. holds (e .context) (record { line = l; number = x }) ≡ true → x ≤ lagOf l (w ++ (o ∷ [])) j)
-          (λ j hj e. rw (row-grows .lag-same j hj) (c .oth-ctx j x hj e)) j hj;
+              (λ j hj e. rw (row-grows .lag-same j hj) (c .oth-ctx j x hj e)) j hj;
           seen-le = row-own-cases (λ i e. seenOf e ≤ length (others l (w ++ (o ∷ [])))) (λ i hi. rw row-others (c .seen-le i hi)) (rw (row-others, new .seen) (new .seen-le));
           causal = λ i j hi hj. row-own-cases (λ i e. j < seenOf e → lagOf l (w ++ (o ∷ [])) j ≤ i)
-          (λ i hi lt. rw (row-grows .lag-same j (back-oth hj)) (c .causal i j hi (back-oth hj) lt))
-          (λ lt. rw (row-grows .lag-same j (back-oth hj)) (L.lag-le (isBy l) blank w j)) i hi;
+              (λ i hi lt. rw (row-grows .lag-same j (back-oth hj)) (c .causal i j hi (back-oth hj) lt))
+              (λ lt. rw (row-grows .lag-same j (back-oth hj)) (L.lag-le (isBy l) blank w j)) i hi;
           own-by = row-own-cases (λ i e. T (𝓐 .by l (e .edit))) (c .own-by) (new .line);
           oth-by = row-oth-cases (λ j e. T (𝓐 .by (e .name .line) (e .edit))) (c .oth-by);
         }
@@ -162,23 +162,23 @@ module _ {𝓐 : Algebra} where
         record {
           own-number = col-own-cases (λ i e. e .name .number ≡ suc i) (c .own-number);
           oth-inj = λ j k hj hk.
-          col-oth-cases (λ j e. same (e .name) (oth l (xs ++ g ∷ ys) k .name) ≡ true → j ≡ k)
-          (λ j hj. col-oth-cases (λ k e. same (oth l (xs ++ ys) j .name) (e .name) ≡ true → j ≡ k) (λ k hk. c .oth-inj j k hj hk)
-          (λ e. absurd (true≢false (sym e ∙ new .fresh j hj))) k hk)
-          (col-oth-cases (λ k e. same (g .name) (e .name) ≡ true → length (others l (xs ++ ys)) ≡ k)
-          (λ k hk e. absurd (true≢false (sym e ∙ new .fresh′ k hk))) (λ e. refl) k hk) j hj;
+              col-oth-cases (λ j e. same (e .name) (oth l (xs ++ g ∷ ys) k .name) ≡ true → j ≡ k)
+              (λ j hj. col-oth-cases (λ k e. same (oth l (xs ++ ys) j .name) (e .name) ≡ true → j ≡ k) (λ k hk. c .oth-inj j k hj hk)
+              (λ e. absurd (true≢false (sym e ∙ new .fresh j hj))) k hk)
+              (col-oth-cases (λ k e. same (g .name) (e .name) ≡ true → length (others l (xs ++ ys)) ≡ k)
+              (λ k hk e. absurd (true≢false (sym e ∙ new .fresh′ k hk))) (λ e. refl) k hk) j hj;
           ctx-own = λ i k hi. col-own-cases (λ i e. k < i → holds (e .context) (own l (xs ++ g ∷ ys) k .name) ≡ true)
-          (λ i hi lt. rw (col-grows .own-same k (omega arith)) (c .ctx-own i k hi lt)) i hi;
+              (λ i hi lt. rw (col-grows .own-same k (omega arith)) (c .ctx-own i k hi lt)) i hi;
           ctx-oth = λ i j hi hj. col-own-cases (λ i e. holds (e .context) (oth l (xs ++ g ∷ ys) j .name) ≡ ltb j (seenOf e))
-          (λ i hi. col-oth-cases (λ j e. holds (own l (xs ++ ys) i .context) (e .name) ≡ ltb j (seenOf (own l (xs ++ ys) i)))
-          (λ j hj. c .ctx-oth i j hi hj) (new .unknown i hi ∙ sym (ltb-false _ _ (c .seen-le i hi))) j hj) i hi;
+              (λ i hi. col-oth-cases (λ j e. holds (own l (xs ++ ys) i .context) (e .name) ≡ ltb j (seenOf (own l (xs ++ ys) i)))
+              (λ j hj. c .ctx-oth i j hi hj) (new .unknown i hi ∙ sym (ltb-false _ _ (c .seen-le i hi))) j hj) i hi;
           oth-ctx = λ j x hj. col-oth-cases (λ j e. holds (e .context) (record { line = l; number = x }) ≡ true → x ≤ lagOf l (xs ++ g ∷ ys) j)
-          (λ j hj e. rw (col-grows .lag-same j hj) (c .oth-ctx j x hj e)) (λ e. rw col-lag (new .knows x e)) j hj;
+              (λ j hj e. rw (col-grows .lag-same j hj) (c .oth-ctx j x hj e)) (λ e. rw col-lag (new .knows x e)) j hj;
           seen-le = col-own-cases (λ i e. seenOf e ≤ length (others l (xs ++ g ∷ ys)))
-          (λ i hi. le-trans (c .seen-le i hi) (col-grows .more-oth));
+              (λ i hi. le-trans (c .seen-le i hi) (col-grows .more-oth));
           causal = λ i j hi hj. col-own-cases (λ i e. j < seenOf e → lagOf l (xs ++ g ∷ ys) j ≤ i)
-          (λ i hi lt. let hj′ : j < length (others l (xs ++ ys)) = le-trans lt (c .seen-le i hi) in
-          rw (col-grows .lag-same j hj′) (c .causal i j hi hj′ lt)) i hi;
+              (λ i hi lt. let hj′ : j < length (others l (xs ++ ys)) = le-trans lt (c .seen-le i hi) in
+              rw (col-grows .lag-same j hj′) (c .causal i j hi hj′ lt)) i hi;
           own-by = col-own-cases (λ i e. T (𝓐 .by l (e .edit))) (c .own-by);
           oth-by = col-oth-cases (λ j e. T (𝓐 .by (e .name .line) (e .edit))) (c .oth-by) (new .line);
         }
@@ -239,7 +239,7 @@ module _ {𝓐 : Algebra} (laws : Laws 𝓐) (d : 𝓐 .Doc) where
         let same-point = row-grows l w t o new .point-same m t (le-refl m) (new .seen-le) in
         record {
           fits = subst (λ C. T (𝓐 .fits (ownForm l w′ m t) (listAt d C))) (sym same-point)
-          (subst (λ x. T (𝓐 .fits x (docAt d l w m t))) (sym (row-form l w t o new)) ok);
+              (subst (λ x. T (𝓐 .fits x (docAt d l w m t))) (sym (row-form l w t o new)) ok);
           gives = last-own l w′ m t row-last (λ k lt. row-lag k (le-trans lt (new .seen-le)));
         }
 
@@ -261,7 +261,7 @@ module _ {𝓐 : Algebra} (laws : Laws 𝓐) (d : 𝓐 .Doc) where
           contexts = row-contexts l w t o new (grid .contexts);
           own-edge = λ i j g h s. go i j g s (below-suc i m (subst (λ x. i < x) (row-made l w t o new) h));
           oth-edge = λ i j g h la. go′ i j g (subst (λ x. j < x) (row-others l w t o new) h) la
-          (below-suc i (suc m) (suc-le-suc (subst (λ x. i ≤ x) (row-made l w t o new) (g .own-le))));
+              (below-suc i (suc m) (suc-le-suc (subst (λ x. i ≤ x) (row-made l w t o new) (g .own-le))));
         }
       where
         go : (i j : ℕ) → Good l w′ i j → seenOf (own l w′ i) ≤ j → (i < m) ⊎ (i ≡ m) → OwnEdge d l w′ i j
@@ -274,6 +274,7 @@ module _ {𝓐 : Algebra} (laws : Laws 𝓐) (d : 𝓐 .Doc) where
             let jn : j ≤ n = subst (λ x. j ≤ x) (row-others l w t o new) (g .oth-le) in
             let tj : t ≤ j = subst (λ x. x ≤ j) (ap (λ x. seenOf (own l w′ x)) e ∙ row-seen) s in
             subst (λ x. OwnEdge d l w′ x j) (sym e) (row-edge j tj jn)
+
         go′ : (i j : ℕ) → Good l w′ i j → j < n → lagOf l w′ j ≤ i → (i < suc m) ⊎ (i ≡ suc m) → OthEdge d l w′ i j
         go′ i j g jn la (inl lt) =
             oth-edge-on l w w′ (row-grows l w t o new) i j (le-of-suc-le-suc lt) jn
@@ -306,7 +307,7 @@ module _ {𝓐 : Algebra} (laws : Laws 𝓐) (d : 𝓐 .Doc) where
         let h′ : k < length (others l xs) = subst (λ x. k < x) (col-before l xs ys g new) h in
         subst (λ x. x ≤ ca) (sym (L.lag-append (isBy l) blank xs ys k h′)) (L.lag-le (isBy l) blank xs k)
 
-    col-lags : (k : ℕ) → k < suc cn → lagOf l cw′ k ≤ ca
+    pub col-lags : (k : ℕ) → k < suc cn → lagOf l cw′ k ≤ ca
     col-lags k h = go (below-suc k cn h)
       where
         go : (k < cn) ⊎ (k ≡ cn) → lagOf l cw′ k ≤ ca
@@ -323,12 +324,12 @@ module _ {𝓐 : Algebra} (laws : Laws 𝓐) (d : 𝓐 .Doc) where
     col-point : point l cw ca cn ≡ xs
     col-point = ap (point l cw ca) (col-before l xs ys g new) ∙ L.firsts-prefix (isBy l) blank xs ys
 
-    col-next : point l cw′ ca (suc cn) ≡ xs ++ (g ∷ [])
+    pub col-next : point l cw′ ca (suc cn) ≡ xs ++ (g ∷ [])
     unfolding reject
     col-next =
         let a : ca ≡ length (mine l (xs ++ (g ∷ []))) = ap length (sym (L.select-out (isBy l) blank xs g [] (new .other) ∙ ap (mine l) (append-nil xs))) in
         let b : suc cn ≡ length (others l (xs ++ (g ∷ []))) =
-            omega (arith, col-before l xs ys g new, ap length (L.reject-in (isBy l) blank xs g [] (new .other)) ∙ length-append (others l xs) (g ∷ others l [])) in
+        omega (arith, col-before l xs ys g new, ap length (L.reject-in (isBy l) blank xs g [] (new .other)) ∙ length-append (others l xs) (g ∷ others l [])) in
         ap (λ x. point l cw′ x (suc cn)) a ∙ ap (point l cw′ (length (mine l (xs ++ (g ∷ []))))) b
         ∙ ap (λ x. point l x (length (mine l (xs ++ (g ∷ [])))) (length (others l (xs ++ (g ∷ []))))) (sym (append-assoc xs (g ∷ []) ys))
         ∙ L.firsts-prefix (isBy l) blank (xs ++ (g ∷ [])) ys
@@ -344,7 +345,7 @@ module _ {𝓐 : Algebra} (laws : Laws 𝓐) (d : 𝓐 .Doc) where
         record {
           fits = subst (λ C. T (𝓐 .fits (othForm l cw′ ca cn) (listAt d C))) (sym here) (subst (λ x. T (𝓐 .fits x (listAt d xs))) (sym col-form) ok);
           gives = ap (listAt d) col-next ∙ listAt-snoc d xs g ∙ ap (λ x. 𝓐 .apply x (listAt d xs)) (sym col-form)
-          ∙ ap (λ C. 𝓐 .apply (othForm l cw′ ca cn) (listAt d C)) (sym here);
+              ∙ ap (λ C. 𝓐 .apply (othForm l cw′ ca cn) (listAt d C)) (sym here);
         }
 
     col-good : (i : ℕ) → ca ≤ i → i ≤ cm → Good l cw i cn
@@ -371,9 +372,9 @@ module _ {𝓐 : Algebra} (laws : Laws 𝓐) (d : 𝓐 .Doc) where
         record {
           contexts = col-contexts l xs ys g new (grid .contexts);
           own-edge = λ i j good h s. go i j good (subst (λ x. i < x) (col-made l xs ys g new) h) s
-          (below-suc j (suc cn) (suc-le-suc (subst (λ x. j ≤ x) (col-others l xs ys g new) (good .oth-le))));
+              (below-suc j (suc cn) (suc-le-suc (subst (λ x. j ≤ x) (col-others l xs ys g new) (good .oth-le))));
           oth-edge = λ i j good h la. go′ i j good (subst (λ x. i ≤ x) (col-made l xs ys g new) (good .own-le)) la
-          (below-suc j cn (subst (λ x. j < x) (col-others l xs ys g new) h));
+              (below-suc j cn (subst (λ x. j < x) (col-others l xs ys g new) h));
         }
       where
         go : (i j : ℕ) → Good l cw′ i j → i < cm → seenOf (own l cw′ i) ≤ j → (j < suc cn) ⊎ (j ≡ suc cn) → OwnEdge d l cw′ i j
@@ -384,6 +385,7 @@ module _ {𝓐 : Algebra} (laws : Laws 𝓐) (d : 𝓐 .Doc) where
         go i j good im s (inr e) =
             let la : ca ≤ i = subst (λ x. x ≤ i) (col-lag l xs ys g new) (good .lags cn (omega arith)) in
             subst (λ x. OwnEdge d l cw′ i x) (sym e) (col-cell i la im (col-edge i la (omega arith)) .0)
+
         go′ : (i j : ℕ) → Good l cw′ i j → i ≤ cm → lagOf l cw′ j ≤ i → (j < cn) ⊎ (j ≡ cn) → OthEdge d l cw′ i j
         go′ i j good im la (inl lt) =
             oth-edge-on l cw cw′ (col-grows l xs ys g new) i j im lt

@@ -44,7 +44,7 @@ module _ {𝓐 : Algebra} where
   unfolding form formIn formBy
   form-last e before z after o h =
       let n : length (before ++ z ∷ after) ≡ suc (length (before ++ after)) =
-          length-append before (z ∷ after) ∙ omega (arith, length-append before after) in
+      length-append before (z ∷ after) ∙ omega (arith, length-append before after) in
       ap (λ k. formIn k e (before ++ z ∷ after)) n ∙ ap (formBy (λ e′ C′. formIn (length (before ++ after)) e′ C′) e) (last-one (e .context) before z after o h)
 
   -- an edit keeps its line in all its forms

@@ -66,11 +66,13 @@ pub record Edge (𝓐 : Algebra) (e : 𝓐 .Edit) (d d′ : 𝓐 .Doc) : Type 0 
 -- The one use of the square law: from the near sides of a cell of the grid to its far sides.
 pub far-sides : (𝓐 : Algebra) → Laws 𝓐 → (l k : ℕ) → l ≢ k → (a b a′ b′ : 𝓐 .Edit) (x y z u : 𝓐 .Doc) → T (𝓐 .by l a) → T (𝓐 .by k b)
     → Edge 𝓐 a x y → Edge 𝓐 b x z → a′ ≡ 𝓐 .transform a b → b′ ≡ 𝓐 .transform b a → u ≡ 𝓐 .apply a′ z → Edge 𝓐 a′ z u × Edge 𝓐 b′ y u
-far-sides 𝓐 laws l k l≢k a b a′ b′ x y z u la kb ea eb pa pb pu =
-    (record { fits = rw (pa, eb .gives) (laws .square-fits l k a b x l≢k la kb (ea .fits) (eb .fits)); gives = pu }, record {
-      fits = rw (pb, ea .gives) (laws .square-fits k l b a x (λ e. l≢k (sym e)) kb la (eb .fits) (ea .fits));
-      gives = rw (pu, pa, pb, ea .gives, eb .gives) (sym (laws .square l k a b x l≢k la kb (ea .fits) (eb .fits)));
-    })
+far-sides 𝓐 laws l k l≢k a b a′ b′ x y z u la kb ea eb pa pb pu = (
+  record { fits = rw (pa, eb .gives) (laws .square-fits l k a b x l≢k la kb (ea .fits) (eb .fits)); gives = pu },
+  record {
+    fits = rw (pb, ea .gives) (laws .square-fits k l b a x (λ e. l≢k (sym e)) kb la (eb .fits) (ea .fits));
+    gives = rw (pu, pa, pb, ea .gives, eb .gives) (sym (laws .square l k a b x l≢k la kb (ea .fits) (eb .fits)));
+  },
+)
 
 module _ {𝓐 : Algebra} where
   -- how many edits of other lines the maker had taken: its context has them, and its own earlier ones
@@ -149,12 +151,12 @@ module _ {𝓐 : Algebra} where
           more-oth = omega (arith, ap length others-oth ∙ length-append (others l xs) (g ∷ []), ap length others-before);
           own-same = λ i lt. ap (λ r. getD r i blank) mine-oth;
           oth-same = λ j lt. let lt′ : j < length (others l xs) = omega (arith, ap length others-before) in
-          ap (λ r. getD r j blank) others-oth ∙ List·getD-append (others l xs) (g ∷ []) blank j lt′
-          ∙ ap (λ r. getD r j blank) (sym others-before);
+              ap (λ r. getD r j blank) others-oth ∙ List·getD-append (others l xs) (g ∷ []) blank j lt′
+              ∙ ap (λ r. getD r j blank) (sym others-before);
           lag-same = λ j lt. let lt′ : j < length (others l xs) = omega (arith, ap length others-before) in
-          L.lag-append (isBy l) blank xs (g ∷ ys) j lt′ ∙ sym (L.lag-append (isBy l) blank xs ys j lt′);
+              L.lag-append (isBy l) blank xs (g ∷ ys) j lt′ ∙ sym (L.lag-append (isBy l) blank xs ys j lt′);
           point-same = λ i j a b. let b′ : j ≤ length (others l xs) = omega (arith, ap length others-before) in
-          L.firsts-insert (isBy l) blank xs g ys i j (inr (e, b′));
+              L.firsts-insert (isBy l) blank xs g ys i j (inr (e, b′));
         }
 
   pub own-form-same : (l : ℕ) (w w′ : List (Made 𝓐)) → Grows l w w′ → (i j : ℕ) → i < length (mine l w) → j ≤ length (others l w) → ownForm l w′ i j ≡ ownForm l w i j
