@@ -18,7 +18,7 @@ use Rattle.jupiter.proofs.Lists.{All}
 use Rattle.jupiter.proofs.Segment.{segment, segment-cong, segment-snoc, segment-length, segment-get, segment-drop, past-segment, over-segment}
 use Rattle.jupiter.proofs.Grid.{ltb-true, ltb-false, ltb-lt, below-suc, Edge, seenOf, lagOf, Grows, own-form-same, oth-form-same, own-cell, oth-cell, Contexts, own-line, oth-line, own-name, oth-out, Good, docAt, OwnEdge, OthEdge, Grid}
 use Rattle.jupiter.proofs.Extend.{NewOwn, row-made, row-others, row-grows, row-new, new-form, row-form, row-own-cases, row-oth-cases, row-grid, NewOth, col-grows, col-made, col-others, col-new, col-own-cases, col-oth-cases, col-form, col-grid, col-lags, col-next}
-use Rattle.jupiter.proofs.Replay.{or-false, or-true, same-refl, same-eq, same-differ, is-false, holds-snoc, holds-more, holds-last, holds-split, inOrder-insert, replay-insert, replay-snoc}
+use Rattle.jupiter.proofs.Replay.{or-false, or-true, same-refl, same-eq, same-differ, is-false, holds-snoc, holds-more, holds-last, holds-split, held-next, inOrder-insert, replay-insert, replay-snoc}
 
 module _ {𝓐 : Algebra} where
   -- An up message holds the form that the definition gives at the edits that its seen tells, and so does a down message: (k - 1, seen) and
@@ -118,7 +118,7 @@ module _ {𝓐 : Algebra} (d : 𝓐 .Doc) where
       abbrev o : Made 𝓐
       o = record { name = record { line = l; number = N }; edit = e; context = names applied }
 
-      made-new : NewOwn l w (c .taken) o
+      pub made-new : NewOwn l w (c .taken) o
       made-new =
           record {
             name = λ i. record { line = l; number = number i };
@@ -404,7 +404,7 @@ module _ {𝓐 : Algebra} (d : 𝓐 .Doc) where
             lag-le = at .lag-le;
             seen-le = λ i h. le-trans (at .seen-le i h) (omega arith);
             applied-own = λ i h. holds-more applied (oth l w (c .taken)) (own l w i .name) (at .applied-own i h);
-            applied-oth = applied-oth′;
+            applied-oth = held-next (oth l w) (length (others l w)) (at .grid .contexts .oth-inj) applied (c .taken) down-made (at .applied-oth);
             applied-mine = λ y h. mine-bound y (holds-split applied (oth l w (c .taken)) (record { line = l; number = y }) h);
             applied-count = omega (arith, length-append applied (oth l w (c .taken) ∷ []), at .applied-count);
             c-pending = ap (λ e. over 𝓐 e (unacked c (x .seen))) down-edit ∙ ap (over 𝓐 (othForm l w (x .seen) (c .taken))) (unacked-c (x .seen) cur down-le)
@@ -419,28 +419,6 @@ module _ {𝓐 : Algebra} (d : 𝓐 .Doc) where
               → y ≤ length (mine l w)
           mine-bound y (inl h) = at .applied-mine y h
           mine-bound y (inr q) = absurd (oth-line l w (c .taken) down-made (ap (λ z. z .line) q))
-
-          applied-oth′ : (j : ℕ) → j < length (others l w) → holds (names (applied ++ (oth l w (c .taken) ∷ []))) (oth l w j .name) ≡ ltb j (suc (c .taken))
-          applied-oth′ j h = go (below j)
-            where
-              below : (j : ℕ) → (j < suc (c .taken)) ⊎ (c .taken < j)
-              below j = pick (ltb j (suc (c .taken))) refl
-                where
-                  pick : (b : Bool) → ltb j (suc (c .taken)) ≡ b → (j < suc (c .taken)) ⊎ (c .taken < j)
-                  pick true e = inl (ltb-lt j _ e)
-                  pick false e = inr (let k : ¬ (j < suc (c .taken)) = λ lt. true≢false (sym (ltb-true j _ lt) ∙ e) in omega arith)
-
-              here : (j < c .taken) ⊎ (j ≡ c .taken) → holds (names (applied ++ (oth l w (c .taken) ∷ []))) (oth l w j .name) ≡ true
-              here (inl lt) = holds-more applied (oth l w (c .taken)) (oth l w j .name) (at .applied-oth j h ∙ ltb-true j _ lt)
-              here (inr e) = subst (λ k. holds (names (applied ++ (oth l w (c .taken) ∷ []))) (oth l w k .name) ≡ true) (sym e) (holds-last applied (oth l w (c .taken)))
-
-              go : (j < suc (c .taken)) ⊎ (c .taken < j) → holds (names (applied ++ (oth l w (c .taken) ∷ []))) (oth l w j .name) ≡ ltb j (suc (c .taken))
-              go (inl lt) = here (below-suc j (c .taken) lt) ∙ sym (ltb-true j _ lt)
-              go (inr lt) =
-                  holds-snoc applied (oth l w (c .taken)) (oth l w j .name)
-                  ∙ ap (λ b. b || same (oth l w j .name) (oth l w (c .taken) .name)) (at .applied-oth j h ∙ ltb-false j _ (omega arith))
-                  ∙ is-false _ (λ q. let e : j ≡ c .taken = at .grid .contexts .oth-inj j (c .taken) h down-made q in absurd (omega arith))
-                  ∙ sym (ltb-false j _ lt)
 
   -- ---- the server takes another line's edit
   module _ (laws : Laws 𝓐) (l : ℕ) (xs ys applied : List (Made 𝓐)) (c v : End 𝓐) (doc : 𝓐 .Doc) (at : LineAt l (xs ++ ys) xs applied c v doc)

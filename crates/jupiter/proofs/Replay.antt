@@ -5,12 +5,12 @@ use mathlib.Core.Path.{_≡_, refl, sym, ap, _∙_, subst}
 use mathlib.Core.Logic.{_≢_, _⊎_, inl, inr}
 use mathlib.Core.Bool.{Bool, true, false, not, cond, true≢false, _&&_, _||_}
 use mathlib.Core.List.{List, [], _∷_, _++_, append-assoc, append-nil}
-use lib.Dec.{T, eqb}
+use lib.Dec.{T, eqb, ltb}
 use lib.ListN.{length}
 use Rattle.jupiter.specs.Algebra.{Algebra}
 use Rattle.jupiter.specs.Made.{Name, Made, same, holds, select, names}
 use Rattle.jupiter.specs.Form.{form, inOrder, replay}
-use Rattle.jupiter.proofs.Grid.{eqb-eq, eqb-same}
+use Rattle.jupiter.proofs.Grid.{eqb-eq, eqb-same, ltb-true, ltb-false, ltb-lt, below-suc}
 
 pub or-false : (b : Bool) → b || false ≡ b
 or-false true = refl
@@ -77,6 +77,21 @@ module _ {𝓐 : Algebra} where
       go : (b : Bool) → holds (names es) x ≡ b → (holds (names es) x ≡ true) ⊎ (x ≡ e .name)
       go true q = inl q
       go false q = inr (same-eq x (e .name) (ap (λ b. b || same x (e .name)) (sym q) ∙ sym (holds-snoc es e x) ∙ h))
+
+  -- Of edits with names of their own, those below t are held; with number t, those below t + 1.
+  pub held-next : (f : ℕ → Made 𝓐) (n : ℕ) → ((j k : ℕ) → j < n → k < n → same (f j .name) (f k .name) ≡ true → j ≡ k) → (done : List (Made 𝓐)) (t : ℕ) → t < n
+      → ((j : ℕ) → j < n → holds (names done) (f j .name) ≡ ltb j t) → (j : ℕ) → j < n → holds (names (done ++ (f t ∷ []))) (f j .name) ≡ ltb j (suc t)
+  held-next f n inj done t tn held j h = go (ltb j (suc t)) refl
+    where
+      here : (j < t) ⊎ (j ≡ t) → holds (names (done ++ (f t ∷ []))) (f j .name) ≡ true
+      here (inl lt) = holds-more done (f t) (f j .name) (held j h ∙ ltb-true j _ lt)
+      here (inr e) = subst (λ k. holds (names (done ++ (f t ∷ []))) (f k .name) ≡ true) (sym e) (holds-last done (f t))
+      go : (b : Bool) → ltb j (suc t) ≡ b → holds (names (done ++ (f t ∷ []))) (f j .name) ≡ ltb j (suc t)
+      go true e = here (below-suc j t (ltb-lt j _ e)) ∙ sym e
+      go false e =
+          let k : ¬ (j < suc t) = λ lt. true≢false (sym (ltb-true j _ lt) ∙ e) in
+          holds-snoc done (f t) (f j .name) ∙ ap (λ b. b || same (f j .name) (f t .name)) (held j h ∙ ltb-false j t (omega arith))
+          ∙ is-false _ (λ q. let r : j ≡ t = inj j t h tn q in absurd (omega arith)) ∙ sym e
 
   -- an edit that is not in the set is not in its ordered list
   pub inOrder-insert : (xs : List (Made 𝓐)) (x : Made 𝓐) (ys done : List (Made 𝓐)) → holds (names done) (x .name) ≡ false
