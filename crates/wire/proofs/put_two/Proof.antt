@@ -2,35 +2,25 @@ use native.Mathlib.Numerals.{add-one}
 use borrow.Author.Needs.{needs}
 use Rattle.wire.proofs.put_two.Statement.{statement}
 use Rattle.wire.proofs.put_two.Tie as tie
-use Rattle.wire.proofs.put_two.Reads as reads
-use Rattle.wire.proofs.put_two.Lts as lts
-use Rattle.wire.proofs.put.Reads as put-reads
 
--- src/lib.rt:184:17
 cast-put : tie.Need-cast-put
 cast-put c = search needs
 
--- src/lib.rt:184:5
 put-requires : tie.Need-put-requires
 put-requires c κs = search needs
 
--- src/lib.rt:185:14
 add-put : tie.Need-add-put
 add-put c = search needs
 
--- src/lib.rt:185:21
 cast-put-2 : tie.Need-cast-put-2
 cast-put-2 c = search needs
 
--- src/lib.rt:185:5
 put-requires-2 : tie.Need-put-requires-2
 put-requires-2 c κs = search needs
 
--- src/lib.rt:180:1
 same-length : tie.Need-same-length
 same-length c = search needs
 
--- src/lib.rt:180:1
 returns : tie.Need-returns
 returns c = cc (add-one (c .before .before .before .before .before .before .before .before .before .args .i))
 

@@ -3,28 +3,19 @@ use Rattle.wire.proofs.Buffer.{fitting, too-long}
 use borrow.Author.Needs.{needs}
 use Rattle.wire.proofs.write.Statement.{statement}
 use Rattle.wire.proofs.write.Tie as tie
-use Rattle.wire.proofs.write.Reads as reads
-use Rattle.wire.proofs.write.Lts as lts
-use Rattle.wire.proofs.put_message.Reads as put-message-reads
-use Rattle.wire.proofs.size.Reads as size-reads
 
--- src/lib.rt:235:9
 size-requires : tie.Need-size-requires
 size-requires c κs = search needs
 
--- src/lib.rt:237:9
 returns : tie.Need-returns
 returns c = too-long (c .before .before .before .args .m) (now (c .before .before .before .args .out)) (c .before .size .result) (c .before .size .ensures) (c .if1 .taken)
 
--- src/lib.rt:239:5
 put-message-requires : tie.Need-put-message-requires
 put-message-requires c κs = search needs
 
--- src/lib.rt:232:1
 same-length : tie.Need-same-length
 same-length c = search needs
 
--- src/lib.rt:232:1
 returns-2 : tie.Need-returns-2
 returns-2 c = fitting (c .before .before .before .before .before .before .before .args .m) (now (c .before .before .before .before .before .before .before .args .out)) (c .before .before .before .before .before .size .result) (c .before .before .before .before .before .size .ensures) (c .before .before .put-message .last .0) (c .before .before .before .before .if1 .left) (c .before .before .put-message .ensures)
 
