@@ -36,11 +36,10 @@ pub record Client : Type 0 where
 abbrev pub noClient : Client
 noClient = record { n = 0; line = 0; made = 0; taken = 0; acked = 0; inserts = 0; items = []; pending = [] }
 
--- question 2
-unfoldable pub soundClient : Client → Bool
-soundClient c =
-    every
-    (between 1 maxLines (c .n)
+-- question 2, test by test
+abbrev pub clientTests : Client → List Bool
+clientTests c =
+    between 1 maxLines (c .n)
     ∷ between 1 (c .n) (c .line)
     ∷ leb (length (c .items)) maxItems
     ∷ leb (c .made) maxEdits
@@ -52,7 +51,10 @@ soundClient c =
     ∷ priorities (eqb (c .line)) (c .pending)
     ∷ leb (c .inserts) maxInserts
     ∷ leb (c .inserts) (c .made)
-    ∷ [])
+    ∷ []
+
+unfoldable pub soundClient : Client → Bool
+soundClient c = every (clientTests c)
 
 unfoldable pub openClient : ℕ → ℕ → List ℕ → Answer Client
 openClient n line items =

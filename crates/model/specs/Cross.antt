@@ -5,8 +5,8 @@ use mathlib.Core.List.{List, [], _∷_}
 use Rattle.ot.specs.declared.Edit.{Edit}
 use Rattle.ot.specs.declared.Edit.the-variants.{Nothing, Delete, Insert}
 use Rattle.ot.specs.Edit.{transformed}
+use Rattle.ot.specs.Laws.{within}
 use Rattle.model.specs.Limits.{maxItems}
-use Rattle.model.specs.Questions.{between}
 
 -- the arriving edit past the pending ones, in order
 unfoldable pub past : Edit → List Edit → Edit
@@ -20,9 +20,7 @@ over e (p ∷ ps) = transformed p e ∷ over (transformed e p) ps
 
 -- a pending edit's position is 1 to 512, if it has one
 abbrev pub placed : Edit → Bool
-placed Nothing = true
-placed (Delete p) = between 1 maxItems p
-placed (Insert p x r) = between 1 maxItems p
+placed e = within maxItems e
 
 unfoldable pub allPlaced : List Edit → Bool
 allPlaced [] = true

@@ -29,12 +29,12 @@ between low high n = leb low n && leb n high
 -- transformed past.
 pub record Answer (E : Type 0) : Type 0 where
   pub refusal : ℕ
-  pub «end» : E
+  pub end : E
   pub passed : ℕ
 
 -- A refusal hands back the end as it came, and its count is 0.
 unfoldable pub answer : {E : Type 0} → ℕ → E → E → ℕ → Answer E
-answer r old new k = cond (eqb r 0) (record { refusal = 0; «end» = new; passed = k }) (record { refusal = r; «end» = old; passed = 0 })
+answer r old new k = cond (eqb r 0) (record { refusal = 0; end = new; passed = k }) (record { refusal = r; end = old; passed = 0 })
 
 -- What a sending answers: the refusal's number or 0, the bytes written, and the lent buffer.
 pub record Sent : Type 0 where

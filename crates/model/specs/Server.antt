@@ -52,11 +52,10 @@ abbrev pub total : (Line → ℕ) → List Line → ℕ
 total f [] = 0
 total f (v ∷ vs) = f v + total f vs
 
--- question 2 for line l, where all lines together took sum edits
-unfoldable pub soundLine : ℕ → ℕ → ℕ → Line → Bool
-soundLine n sum l v =
-    every
-    (leb (v .taken) maxEdits
+-- question 2 for line l, where all lines together took sum edits, test by test
+abbrev pub lineTests : ℕ → ℕ → ℕ → Line → List Bool
+lineTests n sum l v =
+    leb (v .taken) maxEdits
     ∷ eqb (v .made) (sum - v .taken)
     ∷ leb (v .acked) (v .made)
     ∷ leb (v .made - v .acked) maxPending
@@ -65,24 +64,29 @@ soundLine n sum l v =
     ∷ priorities (other n l) (v .pending)
     ∷ leb (v .inserts) maxInserts
     ∷ leb (v .inserts) (v .taken)
-    ∷ [])
+    ∷ []
+
+unfoldable pub soundLine : ℕ → ℕ → ℕ → Line → Bool
+soundLine n sum l v = every (lineTests n sum l v)
 
 -- the lines from l on
 unfoldable pub soundLines : ℕ → ℕ → ℕ → List Line → Bool
 soundLines n sum l [] = true
 soundLines n sum l (v ∷ vs) = soundLine n sum l v && soundLines n sum (suc l) vs
 
--- question 2
-unfoldable pub soundServer : Server → Bool
-soundServer s =
-    every
-    (between 1 maxLines (s .n)
+-- question 2, test by test
+abbrev pub serverTests : Server → List Bool
+serverTests s =
+    between 1 maxLines (s .n)
     ∷ leb (s .initial) maxInitial
     ∷ leb (length (s .items)) maxItems
     ∷ eqb (length (s .lines)) (s .n)
     ∷ soundLines (s .n) (total (λ v. v .taken) (s .lines)) 1 (s .lines)
     ∷ leb (length (s .items)) (s .initial + total (λ v. v .inserts) (s .lines))
-    ∷ [])
+    ∷ []
+
+unfoldable pub soundServer : Server → Bool
+soundServer s = every (serverTests s)
 
 unfoldable pub openServer : ℕ → List ℕ → Answer Server
 openServer n items =

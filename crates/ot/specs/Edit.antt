@@ -33,9 +33,7 @@ fits (Insert p x r) n = leb 1 p && leb p (n + 1)
 
 -- 01's word: A carried past B. At equal positions the smaller priority stays; equal priorities leave A.
 unfoldable pub transformed : Edit → Edit → Edit
-transformed Nothing Nothing = Nothing
-transformed Nothing (Delete q) = Nothing
-transformed Nothing (Insert q y s) = Nothing
+transformed Nothing b = Nothing
 transformed (Delete p) Nothing = Delete p
 transformed (Delete p) (Delete q) = cond (ltb p q) (Delete p) (cond (ltb q p) (Delete (p - 1)) Nothing)
 transformed (Delete p) (Insert q y s) = cond (ltb p q) (Delete p) (Delete (p + 1))

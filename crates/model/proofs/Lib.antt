@@ -1,0 +1,4 @@
+pub mod Tests
+pub mod Cross
+pub mod SoundClient
+pub mod SoundServer

@@ -1,0 +1,74 @@
+-- Lists of tests and questions as facts, and back.
+use mathlib.Core.Path.{_≡_, refl, ap, sym, _∙_, subst}
+use mathlib.Core.Bool.{Bool, true, false, not, _&&_, cond}
+use mathlib.Core.List.{List, [], _∷_}
+use Prim.Native.Nat.{ℕ, _≤_}
+use native.Mathlib.Omega.{arith}
+use lib.Dec.{leb, eqb}
+use borrow.Author.Tests.{leb-true, le-leb, eq-eqb, eqb-true}
+use Rattle.model.specs.Questions.{Question, ask, asks, every, between, Answer, answer, Sent, sent}
+
+false-true : {A : Type 0} → false ≡ true → A
+false-true e = absurd (let z : _≡_ {A = ℕ} 0 1 = cc in omega arith)
+
+pub both : (s t : Bool) → s ≡ true → t ≡ true → (s && t) ≡ true
+both true t e f = f
+both false t e f = e
+
+pub and-left : (s t : Bool) → (s && t) ≡ true → s ≡ true
+and-left true t e = refl
+and-left false t e = e
+
+pub and-right : (s t : Bool) → (s && t) ≡ true → t ≡ true
+and-right true t e = e
+and-right false t e = false-true e
+
+-- each test of a list holds
+abbrev pub Hold : List Bool → Type 0
+Hold [] = Unit {0}
+Hold (b ∷ bs) = (b ≡ true) × Hold bs
+
+pub hold : (bs : List Bool) → every bs ≡ true → Hold bs
+hold [] e = tt
+hold (b ∷ bs) e = (and-left b (every bs) e, hold bs (and-right b (every bs) e))
+
+pub held : (bs : List Bool) → Hold bs → every bs ≡ true
+held [] h = refl
+held (b ∷ bs) h = both b (every bs) (h .0) (held bs (h .1))
+
+-- each question of a list is answered yes
+abbrev pub Yes : List Question → Type 0
+Yes [] = Unit {0}
+Yes (q ∷ qs) = (q .yes ≡ true) × Yes qs
+
+-- no question has the number 0
+abbrev pub Numbered : List Question → Type 0
+Numbered [] = Unit {0}
+Numbered (q ∷ qs) = (q .number ≡ 0 → ⊥) × Numbered qs
+
+pub yes-all : (qs : List Question) → Numbered qs → asks qs ≡ 0 → Yes qs
+yes-all [] n e = tt
+yes-all (q ∷ qs) n e = go (q .yes) refl (yes-all qs (n .1)) e
+  where
+    go : (b : Bool) → q .yes ≡ b → (asks qs ≡ 0 → Yes qs) → cond b (asks qs) (q .number) ≡ 0 → (q .yes ≡ true) × Yes qs
+    go true y rest e′ = (y, rest e′)
+    go false y rest e′ = absurd (n .0 e′)
+
+pub all-yes : (qs : List Question) → Yes qs → asks qs ≡ 0
+all-yes [] y = refl
+all-yes (q ∷ qs) y = rw (y .0) (all-yes qs (y .1))
+
+-- What holds of the end as it came, and of the new end where nothing was refused, holds of the end that is answered.
+pub answer-keeps : {E : Type 0} (P : E → Type 0) (r : ℕ) (old new : E) (k : ℕ) → P old → (r ≡ 0 → P new) → P ((answer r old new k) .end)
+unfolding answer
+answer-keeps {E} P r old new k o n = go (eqb r 0) refl
+  where
+    go : (b : Bool) → eqb r 0 ≡ b → P ((cond {A = Answer E} b (record { refusal = 0; end = new; passed = k }) (record { refusal = r; end = old; passed = 0 })) .end)
+    go true e = n (eqb-true r 0 e)
+    go false e = o
+
+pub between-true : (a b p : ℕ) → between a b p ≡ true → (a ≤ p) × (p ≤ b)
+between-true a b p e = (leb-true a p (and-left (leb a p) (leb p b) e), leb-true p b (and-right (leb a p) (leb p b) e))
+
+pub true-between : (a b p : ℕ) → a ≤ p → p ≤ b → between a b p ≡ true
+true-between a b p h k = both (leb a p) (leb p b) (le-leb a p h) (le-leb p b k)

@@ -1,0 +1,68 @@
+-- Tests of edits as facts about numbers and back; lengths after an edit.
+use mathlib.Core.Path.{_≡_, refl, ap, sym, _∙_, subst}
+use mathlib.Core.Logic.{_⊎_, inl, inr}
+use mathlib.Core.Bool.{Bool, true, false, not, _&&_}
+use Prim.Native.Nat.{ℕ, zero, suc, _+_, _-_, _≤_, _<_}
+use native.Mathlib.Omega.{arith}
+use mathlib.Core.List.{List, [], _∷_, _++_}
+use lib.Dec.{leb, ltb, eqb}
+use lib.ListN.{length, take, drop, length-append, length-take, length-drop}
+use borrow.Author.Tests.{ltb-true, ltb-false, leb-true, le-leb, eqb-false}
+use Rattle.ot.specs.declared.Edit.{Edit}
+use Rattle.ot.specs.declared.Edit.the-variants.{Nothing, Delete, Insert}
+use Rattle.ot.specs.Edit.{positionOf, insertedAt, deletedAt, applied, fits, transformed}
+use Rattle.ot.specs.Laws.{stamp, distinct, within, sizeAfter}
+
+-- ---- tests
+
+pub and-left : (s t : Bool) → (s && t) ≡ true → s ≡ true
+and-left true t e = refl
+and-left false t e = e
+
+pub and-right : (s t : Bool) → (s && t) ≡ true → t ≡ true
+and-right true t e = e
+and-right false t e = absurd (let z : _≡_ {A = ℕ} 0 1 = cc in omega arith)
+
+-- `leb a p && leb p b`: p lies from a to b
+pub between-true : (a p b : ℕ) → (leb a p && leb p b) ≡ true → (a ≤ p) × (p ≤ b)
+between-true a p b e = (leb-true a p (and-left (leb a p) (leb p b) e), leb-true p b (and-right (leb a p) (leb p b) e))
+
+pub true-between : (a p b : ℕ) → a ≤ p → p ≤ b → (leb a p && leb p b) ≡ true
+true-between a p b h k = rw (le-leb a p h) (le-leb p b k)
+
+-- the three ways in which two positions can stand
+pub data Order (p q : ℕ) : Type 0 where
+  below : p < q → Order p q
+  level : p ≡ q → Order p q
+  above : q < p → Order p q
+
+pub order : (p q : ℕ) → Order p q
+order p q = go (ltb p q) (ltb q p) refl refl
+  where
+    go : (s t : Bool) → ltb p q ≡ s → ltb q p ≡ t → Order p q
+    go true t d e = below (ltb-true p q d)
+    go false true d e = above (ltb-true q p e)
+    go false false d e = level (omega (arith, ltb-false p q d, ltb-false q p e))
+
+-- ---- lengths
+
+pub length-inserted : {A : Type 0} (i : ℕ) (x : A) (l : List A) → length (insertedAt i x l) ≡ length l + 1
+length-inserted i x l = simp (length-append, length-take, length-drop) (omega arith)
+
+pub length-deleted : {A : Type 0} (i : ℕ) (l : List A) → i < length l → length (deletedAt i l) ≡ length l - 1
+length-deleted i l h = simp (length-append, length-take, length-drop) (omega arith)
+
+pub length-deleted-le : {A : Type 0} (i : ℕ) (l : List A) → length (deletedAt i l) ≤ length l
+length-deleted-le i l = simp (length-append, length-take, length-drop) (omega arith)
+
+pub size : (e : Edit) (l : List ℕ) → fits e (length l) ≡ true → length (applied e l) ≡ sizeAfter e (length l)
+unfolding applied fits sizeAfter
+size Nothing l f = refl
+size (Delete p) l f = length-deleted (p - 1) l (omega (arith, between-true 1 p (length l) f))
+size (Insert p x r) l f = length-inserted (p - 1) x l
+
+pub grows : (e : Edit) (l : List ℕ) → length (applied e l) ≤ length l + 1
+unfolding applied
+grows Nothing l = omega arith
+grows (Delete p) l = omega (arith, length-deleted-le (p - 1) l)
+grows (Insert p x r) l = omega (arith, length-inserted (p - 1) x l)

@@ -1,0 +1,16 @@
+-- The laws of specs/Laws.antt, proved.
+use Rattle.ot.specs.Laws.{Laws}
+use Rattle.ot.proofs.Fits as fits
+use Rattle.ot.proofs.Keeps as keeps
+use Rattle.ot.proofs.Square as square
+
+pub laws : Laws
+laws =
+    record {
+      square = square.square;
+      keeps = keeps.keeps;
+      moves = keeps.moves;
+      stays = keeps.stays;
+      size = fits.size;
+      grows = fits.grows;
+    }
