@@ -3,7 +3,7 @@ use native.Mathlib.Omega.{arith}
 use mathlib.Core.Path.{_≡_, refl, ap, _∙_, sym}
 use mathlib.Core.List.{List}
 use mathlib.Core.Logic.{⊎-elim}
-use lib.ListN.{length, getD, drop, set}
+use lib.ListN.{length, getD, drop, set, length-drop}
 use borrow.Author.Needs.{needs}
 use Rattle.ot.specs.declared.Edit.the-variants.{Nothing}
 use Rattle.pending.specs.declared.Slot.{Slot}
@@ -63,11 +63,14 @@ loop-less c = omega (arith, c .before .before .before .pre .1 .few, c .before .b
 
 -- src/lib.rt:41:5
 loop-again : tie.Need-loop-again Inv-loop μ-loop
-loop-again c = (omega (arith, c .before .before .loop .inv .0), ?)
+loop-again c = let turn = rest-turn (c .before .before .before .args .count) (c .before .before .before .args .t1) (c .before .before .before .pre .1) (c .before .before .before .args .gone) (c .before .before .loop .i) (c .before .before .loop .slots) (omega (arith, c .before .before .before .pre .1 .few)) (c .before .before .loop .inv .1) in
+    let none = rest-none (c .before .before .before .args .count) (c .before .before .before .args .t1) (c .before .before .before .pre .1) (c .before .before .before .args .gone) (c .before .before .loop .i) (c .before .before .loop .slots) (omega (arith, c .before .before .before .pre .1 .few)) (c .before .before .loop .inv .1) in
+    (omega (arith, c .before .before .loop .inv .0), ⊎-elim (λ w. w .2 ∙ turn) (λ w. w .1 ∙ ap (set (c .before .before .loop .slots) (c .before .before .loop .i)) (none (w .0 .left)) ∙ turn) (c .if1 .came))
 
 -- src/lib.rt:37:1
 returns : tie.Need-returns Inv-loop μ-loop
-returns c = ?
+returns c = let i : c .before .loop .i ≡ c .before .before .args .count = omega (arith, c .before .loop .inv .0) in
+    c .before .loop .inv .1 ∙ ap (λ (k : ℕ). sweep k (rest (c .before .before .args .gone) (c .before .before .args .count) (c .before .before .args .t1)) (c .before .before .args .t1)) i ∙ kept-end (c .before .before .args .count) (c .before .before .args .t1) (c .before .before .pre .1) (drop (c .before .before .args .gone) (usedEdits (c .before .before .args .count) (c .before .before .args .t1))) (simp length-drop (omega (arith, used-length (c .before .before .args .count) (c .before .before .args .t1) (c .before .before .pre .1))))
 
 pub acked-spec : {M : Type 1} → statement M
 acked-spec =

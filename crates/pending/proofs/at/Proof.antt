@@ -1,6 +1,6 @@
-use Prim.Native.Nat.{ℕ}
+use native.Mathlib.Omega.{arith}
 use mathlib.Core.Path.{_≡_, refl, ap, _∙_, sym}
-use lib.ListN.{length, List·getD-map, List·getD-eq-default}
+use lib.ListN.{length, length-map, List·getD-map, List·getD-eq-default}
 use Rattle.ot.specs.declared.Edit.the-variants.{Nothing}
 use Rattle.pending.specs.declared.Slot.{Slot}
 use Rattle.pending.specs.Slots.{slot, edits}
@@ -25,7 +25,7 @@ returns c = sym (List·getD-map (λ (s : Slot). s .edit) (c .before .before .arg
 
 -- src/lib.rt:17:1
 returns-2 : tie.Need-returns-2
-returns-2 c = let h : ℕ = c .before .good .0 in ?
+returns-2 c = sym (List·getD-eq-default (edits (c .before .args .t1)) Nothing (omega (arith, length-map (c .before .args .t1) (λ (s : Slot). s .edit), c .before .good .0 .1 .0 .1)))
 
 pub at-spec : {M : Type 1} → statement M
 at-spec = tie.close (tie.spec mul-s array-copy-out-s returns returns-2)
