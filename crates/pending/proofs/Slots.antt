@@ -109,10 +109,10 @@ module _ (count : ℕ) (slots : List Slot) (kept : Kept count slots) where
       let n : length t ≡ maxPending = rest-length k in
       let m : length slots ≡ maxPending = kept-length in
       let v : getD a (i + k) (slot Nothing) ≡ getD t i (slot Nothing) =
-          ap (λ (l : List Slot). getD l (i + k) (slot Nothing)) e
-          ∙ sweep-read i t slots (slot Nothing) (i + k) (omega arith) (omega arith)
-          ∙ ap (λ (j : ℕ). getD slots j (slot Nothing)) (add-comm i k)
-          ∙ sym (kept-shift k i) in
+      ap (λ (l : List Slot). getD l (i + k) (slot Nothing)) e
+      ∙ sweep-read i t slots (slot Nothing) (i + k) (omega arith) (omega arith)
+      ∙ ap (λ (j : ℕ). getD slots j (slot Nothing)) (add-comm i k)
+      ∙ sym (kept-shift k i) in
       ap (λ (l : List Slot). set l i (getD a (i + k) (slot Nothing))) e ∙ ap (set (sweep i t slots) i) v
       ∙ sweep-store i t slots (slot Nothing) (omega arith) (omega arith)
 

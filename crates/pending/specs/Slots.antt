@@ -9,7 +9,7 @@ use Rattle.ot.specs.declared.Edit.{Edit}
 use Rattle.ot.specs.declared.Edit.the-variants.{Nothing, Delete, Insert}
 use Rattle.model.specs.Limits.{maxPending}
 use Rattle.model.specs.Questions.{every}
-use Rattle.model.specs.Cross.{past, over, allPlaced, priorities}
+use Rattle.model.specs.Cross.{past, over, placed, allPlaced, priority, priorities}
 use Rattle.model.specs.Client.{other}
 use Rattle.pending.specs.declared.Slot.{Slot}
 use Rattle.pending.specs.Pad.{padTo}
@@ -43,17 +43,23 @@ abbrev pub rightPriority : ℕ → ℕ → Bool → ℕ → Bool
 rightPriority n line true = eqb line
 rightPriority n line false = other n line
 
+-- one pending edit: position and priority
+abbrev pub rightEdit : (ℕ → Bool) → Edit → Bool
+rightEdit good e = placed e && priority good e
+
 -- Question 2 about the pending edits: kept are exactly count edits, at most 64, their positions and priorities right; unused
 -- places are zero.
-unfoldable pub soundSlots : (ℕ → Bool) → ℕ → List Slot → Bool
-soundSlots good count slots =
-    every
-    (leb count maxPending
+abbrev pub soundTests : (ℕ → Bool) → ℕ → List Slot → List Bool
+soundTests good count slots =
+    leb count maxPending
     ∷ eqb (length (usedEdits count slots)) count
     ∷ allPlaced (usedEdits count slots)
     ∷ priorities good (usedEdits count slots)
     ∷ allNothing (drop count (edits slots))
-    ∷ [])
+    ∷ []
+
+unfoldable pub soundSlots : (ℕ → Bool) → ℕ → List Slot → Bool
+soundSlots good count slots = every (soundTests good count slots)
 
 -- What the other functions may assume of the array that they are handed.
 pub record Kept (count : ℕ) (slots : List Slot) : Type 0 where

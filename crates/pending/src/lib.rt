@@ -5,7 +5,9 @@ ghost use mathlib.Core.List.{[], _∷_, _++_};
 ghost use Prim.Native.Nat.{_<_, _≤_};
 ghost use lib.ListN.{length, getD, drop};
 ghost use Rattle.ot.specs.declared.Edit.the-variants as edit;
-ghost use Rattle.pending.specs.Slots.{edits, usedEdits, filled, soundSlots, rightPriority, Kept};
+ghost use Rattle.model.specs.Limits.{maxItems};
+ghost use Rattle.model.specs.Questions.{between};
+ghost use Rattle.pending.specs.Slots.{edits, usedEdits, filled, isNothing, rightPriority, rightEdit, soundSlots, Kept};
 use ot::Edit;
 
 // One place of the buffer. An unused one holds Nothing.
@@ -49,4 +51,56 @@ pub fn acked(mut slots: [Slot; 64], count: usize, gone: usize) -> [Slot; 64]
         }
     }
     slots
+}
+
+// A position of 1 to 512.
+fn in_list(p: u16) -> bool
+    ensures { λ r. ⌜ r ≡ between 1 maxItems p ⌝ }
+{
+    (1 <= p) & (p <= 512)
+}
+
+// The priority of a client's own insert (own) or of another's, kept by the server for a line.
+fn right_priority(n: u8, line: u8, own: bool, priority: u8) -> bool
+    ensures { λ r. ⌜ r ≡ rightPriority n line own priority ⌝ }
+{
+    if own {
+        return line == priority;
+    }
+    (1 <= priority) & (priority <= n) & !(priority == line)
+}
+
+fn right(e: Edit, n: u8, line: u8, own: bool) -> bool
+    ensures { λ r. ⌜ r ≡ rightEdit (rightPriority n line own) e ⌝ }
+{
+    match e {
+        Edit::Nothing => true,
+        Edit::Delete(p) => in_list(p),
+        Edit::Insert(p, _, priority) => in_list(p) & right_priority(n, line, own, priority),
+    }
+}
+
+fn is_nothing(e: Edit) -> bool
+    ensures { λ r. ⌜ r ≡ isNothing e ⌝ }
+{
+    match e {
+        Edit::Nothing => true,
+        Edit::Delete(_) => false,
+        Edit::Insert(_, _, _) => false,
+    }
+}
+
+// Question 2 about the pending edits, for a client of its own (own) and for the server of a line. It looks at every slot
+// whatever it finds, so that the loop has no branch.
+pub fn sound(slots: [Slot; 64], count: usize, n: u8, line: u8, own: bool) -> bool
+    ensures answer { λ r. ⌜ r ≡ soundSlots (rightPriority n line own) count slots ⌝ }
+    ensures kept { λ r. ⌜ (r ≡ true → Kept count slots) ⌝ }
+{
+    let mut well = count <= 64;
+    for i in 0..64 {
+        let s = slots[i];
+        let e = s.edit;
+        well = well & (right(e, n, line, own) & ((i < count) | is_nothing(e)));
+    }
+    well
 }
