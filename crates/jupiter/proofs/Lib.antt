@@ -5,3 +5,4 @@ pub mod Grid
 pub mod Extend
 pub mod Replay
 pub mod Line
+pub mod World
