@@ -6,3 +6,4 @@ pub mod Extend
 pub mod Replay
 pub mod Line
 pub mod World
+pub mod Step

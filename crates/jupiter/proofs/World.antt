@@ -203,7 +203,7 @@ module _ {𝓐 : Algebra} (d : 𝓐 .Doc) where
     made : E .clients l .taken < length (others l dw)
     made = down-made d l dw (h .served) (h .applied l) (E .clients l) (E .lines l) (E .docs l) dwas x ok next cur
 
-    first-missing : missing h l ≡ g ∷ drop (suc (E .clients l .taken)) (others l (h .served))
+    pub first-missing : missing h l ≡ g ∷ drop (suc (E .clients l .taken)) (others l (h .served))
     first-missing =
         let e = others-served l (h .served) (h .untaken l) (inv .lines l .untaken-own) in
         missing-is E h inv l
@@ -369,7 +369,7 @@ module _ {𝓐 : Algebra} (d : 𝓐 .Doc) where
             (subst (λ n. n .number ≤ taken E′ (n .line)) (sym o-name) (omega (arith, up-bound-l))));
           }
 
-    up-inv : Inv E′ (serves l (o ∷ us) h)
+    pub up-inv : Inv E′ (serves l (o ∷ us) h)
     unfolding serves
     up-inv =
         record {
@@ -388,7 +388,7 @@ module _ {𝓐 : Algebra} (d : 𝓐 .Doc) where
             subst (λ r. LineInv r (h .served ++ (o ∷ [])) us (h .applied r) (taken E′) (E .clients r) (takes x (E .lines l)) (E .docs r)) (eqb-eq l k q) up-line
         go k false q = other-line k (λ e. true≢false (sym (eqb-same l) ∙ ap (eqb l) e ∙ q))
 
-    up-grows : (k : ℕ) → Grows k (order h k) (order (serves l (o ∷ us) h) k)
+    pub up-grows : (k : ℕ) → Grows k (order h k) (order (serves l (o ∷ us) h) k)
     unfolding serves
     up-grows k = go (eqb l k) refl
       where
@@ -400,3 +400,23 @@ module _ {𝓐 : Algebra} (d : 𝓐 .Doc) where
         go false q =
             subst (Grows k (h .served ++ h .untaken k)) (sym (append-assoc (h .served) (o ∷ []) (h .untaken k)))
             (col-grows k (h .served) (h .untaken k) o (other-new k (λ e. true≢false (sym (eqb-same l) ∙ ap (eqb l) e ∙ q))))
+
+    pub o-new : holds (names (h .served)) (o .name) ≡ false
+    o-new = is-false _ (λ t. let y : suc a ≤ a = inv .served-bound l (suc a) (ap (holds (names (h .served))) (sym o-name) ∙ t) in absurd (omega arith))
+
+    pub o-new-to : (k : ℕ) → l ≢ k → holds (names (h .applied k)) (o .name) ≡ false
+    o-new-to k lk = new-to (names (h .applied k)) k lk (inv .lines k .applied-bound)
+
+  -- the client has an edit that the server has not taken
+  module _ (laws : Laws 𝓐) (E : Ends 𝓐) (h : History 𝓐) (inv : Inv E h) (l : ℕ) (x : Message 𝓐) (ok : UpOk l (order h l) (E .clients l .taken) x)
+      (next : x .number ≡ suc (E .lines l .taken)) (cur : E .lines l .acked ≤ x .seen) where
+    pub first-untaken : (r : List (Made 𝓐)) → h .untaken l ≡ r → (P : List (Made 𝓐) → Type 0) → ((o : Made 𝓐) (us : List (Made 𝓐)) → h .untaken l ≡ o ∷ us → P (o ∷ us)) → P r
+    first-untaken [] q P f =
+        let m = up-made d l (order h l) (h .served) (h .applied l) (E .clients l) (E .lines l) (E .docs l) (inv .lines l .line) x ok next cur in
+        let n : length (mine l (order h l)) ≡ length (mine l (h .served)) = ap (λ r. length (mine l (h .served ++ r))) q ∙ ap (λ r. length (mine l r)) (append-nil (h .served)) in
+        absurd (omega (arith, inv .lines l .v-count))
+    first-untaken (o ∷ us) q P f = f o us q
+
+    pub inv-up : Inv (takingUp l x E) (afterUp l h)
+    inv-up =
+        first-untaken (h .untaken l) refl (λ r. Inv (takingUp l x E) (serves l r h)) (λ o us q. up-inv laws E h inv l x ok next cur o us q)
