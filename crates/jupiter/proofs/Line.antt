@@ -158,8 +158,8 @@ module _ {𝓐 : Algebra} (d : 𝓐 .Doc) where
           }) (omega (arith, row-made l w (c .taken) o made-new))
           (subst (λ x. x ≤ c .taken) (sym (ap seenOf (row-new l w (c .taken) o made-new) ∙ made-new .seen)) (le-refl _))
 
-      fresh : holds (names applied) (o .name) ≡ false
-      fresh =
+      pub made-fresh : holds (names applied) (o .name) ≡ false
+      made-fresh =
           is-false _ (λ h. let x : N ≤ length (mine l w) = at .applied-mine N h in absurd (omega arith))
 
       differs : (j : ℕ) → j < length (others l w) → same (oth l w j .name) (o .name) ≡ false
@@ -219,9 +219,9 @@ module _ {𝓐 : Algebra} (d : 𝓐 .Doc) where
           shown′ : replay (w ++ (o ∷ [])) [] (applied ++ (o ∷ [])) d ≡ 𝓐 .apply e doc
           shown′ =
               replay-snoc (w ++ (o ∷ [])) [] applied o d
-              ∙ ap (λ C. 𝓐 .apply (form o C) (replay (w ++ (o ∷ [])) [] applied d)) (inOrder-insert w o [] applied fresh ∙ ap (λ r. inOrder r applied) (append-nil w) ∙ set-is)
+              ∙ ap (λ C. 𝓐 .apply (form o C) (replay (w ++ (o ∷ [])) [] applied d)) (inOrder-insert w o [] applied made-fresh ∙ ap (λ r. inOrder r applied) (append-nil w) ∙ set-is)
               ∙ ap (λ x. 𝓐 .apply x (replay (w ++ (o ∷ [])) [] applied d)) (new-form l w (c .taken) o made-new)
-              ∙ ap (𝓐 .apply e) (replay-insert w o [] [] applied d fresh ∙ ap (λ r. replay r [] applied d) (append-nil w) ∙ at .shown)
+              ∙ ap (𝓐 .apply e) (replay-insert w o [] [] applied d made-fresh ∙ ap (λ r. replay r [] applied d) (append-nil w) ∙ at .shown)
 
     -- ---- sending
     pub send-up : (k : ℕ) → c .acked < k → k ≤ c .made → UpOk l w (c .taken) (record { number = k; seen = c .taken; edit = getD (c .pending) (k - suc (c .acked)) (𝓐 .nothing) })

@@ -20,7 +20,7 @@ use Rattle.jupiter.proofs.Lists.{All, all-append}
 use Rattle.jupiter.proofs.Forms.{listAt-snoc}
 use Rattle.jupiter.proofs.Grid.{eqb-eq, eqb-same, eqb-differ, ltb-true, ltb-false, ltb-lt, Edge, seenOf, lagOf, Grows, grows-refl, grows-trans, Contexts, own-line, oth-line, own-name, docAt, Grid}
 use Rattle.jupiter.proofs.Extend.{NewOwn, row-own-cases, row-oth-cases, NewOth, col-grows, col-own-cases, col-oth-cases}
-use Rattle.jupiter.proofs.Line.{UpOk, DownOk, LineAt, made-new, made-grows, line-edit, line-ack-up, line-ack-down, up-made, up-form, up-edge, line-up, down-made, line-down, line-other}
+use Rattle.jupiter.proofs.Line.{UpOk, DownOk, LineAt, made-new, made-grows, made-fresh, line-edit, line-ack-up, line-ack-down, up-made, up-form, up-edge, line-up, down-made, line-down, line-other}
 use Rattle.jupiter.proofs.Replay.{is-false, holds-split, holds-more, same-differ, inOrder-insert}
 
 -- Names of another line k in a list have numbers up to `bound k`: what an end has applied of line k, the server has taken.
@@ -34,6 +34,10 @@ weaken : (l : ℕ) (bound bound′ : ℕ → ℕ) → ((k : ℕ) → bound k ≤
 weaken l bound bound′ le ns b k x h e = le-trans (b k x h e) (le k)
 
 module _ {𝓐 : Algebra} where
+  -- how many edits of line k the server has taken
+  abbrev pub taken : Ends 𝓐 → ℕ → ℕ
+  taken E k = E .lines k .taken
+
   pub others-served : (l : ℕ) (xs ys : List (Made 𝓐)) → All (λ y. isBy l y ≡ true) ys → others l (xs ++ ys) ≡ others l xs
   others-served l xs ys h = L.reject-append (isBy l) blank xs ys ∙ ap (λ r. others l xs ++ r) (L.reject-all (isBy l) blank ys h) ∙ append-nil (others l xs)
 
@@ -48,9 +52,6 @@ module _ {𝓐 : Algebra} (d : 𝓐 .Doc) where
     pub applied-bound : Bounded l bound (names applied)
     pub context-bound : (i : ℕ) → i < length (mine l (served ++ untaken)) → Bounded l bound (own l (served ++ untaken) i .context)
     pub oth-bound : (j : ℕ) → j < length (others l (served ++ untaken)) → oth l (served ++ untaken) j .name .number ≤ bound (oth l (served ++ untaken) j .name .line)
-
-  abbrev pub taken : Ends 𝓐 → ℕ → ℕ
-  taken E k = E .lines k .taken
 
   pub record Inv (E : Ends 𝓐) (h : History 𝓐) : Type 0 where
     pub doc-is : E .doc ≡ listAt d (h .served)
@@ -115,6 +116,9 @@ module _ {𝓐 : Algebra} (d : 𝓐 .Doc) where
         go k true q =
             subst (λ r. LineInv r (h .served) (us ++ (o ∷ [])) (h .applied l ++ (o ∷ [])) (taken E) (keeps e (E .clients l)) (E .lines r) (𝓐 .apply e (E .docs l))) (eqb-eq l k q) edit-line
         go k false q = inv .lines k
+
+    pub edit-new : holds (names (h .applied l)) (o .name) ≡ false
+    edit-new = made-fresh d l w (h .served) (h .applied l) (E .clients l) (E .lines l) (E .docs l) was laws e (suc (madeBy h l)) number by-l ok
 
     pub grows-edit : (k : ℕ) → Grows k (order h k) (order (afterEdit l e h) k)
     unfolding afterEdit
@@ -298,7 +302,7 @@ module _ {𝓐 : Algebra} (d : 𝓐 .Doc) where
     abbrev E′ : Ends 𝓐
     E′ = takingUp l x E
 
-    up-bound : (k : ℕ) → taken E k ≤ taken E′ k
+    pub up-bound : (k : ℕ) → taken E k ≤ taken E′ k
     up-bound k = go (eqb l k) refl
       where
         go : (b : Bool) → eqb l k ≡ b → taken E k ≤ cond b (takes x (E .lines l)) (keeps (arrived x (E .lines l)) (E .lines k)) .taken
