@@ -7,3 +7,4 @@ pub mod Replay
 pub mod Line
 pub mod World
 pub mod Step
+pub mod Meeting
