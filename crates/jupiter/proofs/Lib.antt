@@ -8,3 +8,5 @@ pub mod Line
 pub mod World
 pub mod Step
 pub mod Meeting
+pub mod Size
+pub mod Theorem

@@ -285,3 +285,22 @@ module _ {𝓐 : Algebra} (d : 𝓐 .Doc) where
 
   pub down-later : (E : Ends 𝓐) (h : History 𝓐) (E′ : Ends 𝓐) (h′ : History 𝓐) → Inv d E h → Later E h E′ h′ → (l : ℕ) (x : Message 𝓐) → DownMessage E h l x → DownMessage E′ h′ l x
   down-later E h E′ h′ inv f l x ok = down-on l (order h l) (order h′ l) (f .grows l) _ _ (inv .lines l .line .v-taken) (f .v-later l) x ok
+
+  -- ---- what arrives fits, and is the form at what the taker has applied
+  pub down-fits : (E : Ends 𝓐) (h : History 𝓐) → Inv d E h → (l : ℕ) (x : Message 𝓐) → DownMessage E h l x
+      → x .number ≡ suc (E .clients l .taken) → E .clients l .acked ≤ x .seen → T (𝓐 .fits (arrived x (E .clients l)) (E .docs l))
+  down-fits E h inv l x ok next cur =
+      let line = inv .lines l .line in
+      let edge = down-edge d l (order h l) (h .served) (h .applied l) (E .clients l) (E .lines l) (E .docs l) line x ok next cur in
+      let is = down-arrives d l (order h l) (h .served) (h .applied l) (E .clients l) (E .lines l) (E .docs l) line x ok next cur in
+      subst (λ e. T (𝓐 .fits e (E .docs l))) (sym is)
+      (subst (λ r. T (𝓐 .fits (othForm l (order h l) (length (mine l (order h l))) (E .clients l .taken)) r)) (sym (line .c-doc)) (edge .fits))
+
+  pub up-fits : (E : Ends 𝓐) (h : History 𝓐) → Inv d E h → (l : ℕ) (x : Message 𝓐) → UpMessage E h l x
+      → x .number ≡ suc (E .lines l .taken) → E .lines l .acked ≤ x .seen → T (𝓐 .fits (arrived x (E .lines l)) (E .doc))
+  up-fits E h inv l x ok next cur =
+      let line = inv .lines l .line in
+      let edge = up-edge d l (order h l) (h .served) (h .applied l) (E .clients l) (E .lines l) (E .docs l) line x ok next cur in
+      let is = up-arrives d l (order h l) (h .served) (h .applied l) (E .clients l) (E .lines l) (E .docs l) line x ok next cur in
+      subst (λ e. T (𝓐 .fits e (E .doc))) (sym is)
+      (subst (λ r. T (𝓐 .fits (ownForm l (order h l) (E .lines l .taken) (length (others l (order h l)))) r)) (sym (inv .doc-is ∙ ap (listAt d) (sym (line .served-at)))) (edge .fits))
