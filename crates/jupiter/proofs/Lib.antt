@@ -10,3 +10,4 @@ pub mod Step
 pub mod Meeting
 pub mod Size
 pub mod Theorem
+pub mod Consistency

@@ -68,7 +68,7 @@ module _ {𝓐 : Algebra} (d : 𝓐 .Doc) (l : ℕ) (w served applied : List (Ma
   own-inj : (j k : ℕ) → j < m → k < m → same (own l w j .name) (own l w k .name) ≡ true → j ≡ k
   own-inj j k hj hk e =
       let q : suc j ≡ suc k =
-          sym (line .grid .contexts .own-number j hj) ∙ ap (λ x. x .number) (same-eq (own l w j .name) (own l w k .name) e) ∙ line .grid .contexts .own-number k hk in
+      sym (line .grid .contexts .own-number j hj) ∙ ap (λ x. x .number) (same-eq (own l w j .name) (own l w k .name) e) ∙ line .grid .contexts .own-number k hk in
       omega arith
 
   -- the missing edits past the unaccepted ones
@@ -81,7 +81,7 @@ module _ {𝓐 : Algebra} (d : 𝓐 .Doc) (l : ℕ) (w served applied : List (Ma
   walk-oth (suc r) j e a done f g =
       let jn : j < n = omega arith in
       let set : inOrder w done ≡ point l w m j =
-          L.select-firsts (isBy l) blank (λ x. holds (names done) (x .name)) w m j (λ k h. f k h ∙ sym (ltb-true k m h)) g in
+      L.select-firsts (isBy l) blank (λ x. holds (names done) (x .name)) w m j (λ k h. f k h ∙ sym (ltb-true k m h)) g in
       let good = between-good d l w served applied c v doc line m j (line .v-taken) (le-refl m) a (omega arith) in
       let edge = line .grid .oth-edge m j good jn (L.lag-le (isBy l) blank w j) in
       ap (λ r. replay w done r (docAt d l w m j)) (drop-cons (others l w) j blank jn)
@@ -100,7 +100,7 @@ module _ {𝓐 : Algebra} (d : 𝓐 .Doc) (l : ℕ) (w served applied : List (Ma
   walk-own (suc r) i e a done f g =
       let im : i < m = omega arith in
       let set : inOrder w done ≡ point l w i n =
-          L.select-firsts (isBy l) blank (λ x. holds (names done) (x .name)) w i n f (λ k h. g k h ∙ sym (ltb-true k n h)) in
+      L.select-firsts (isBy l) blank (λ x. holds (names done) (x .name)) w i n f (λ k h. g k h ∙ sym (ltb-true k n h)) in
       let good = between-good d l w served applied c v doc line i n a (omega arith) (line .c-taken) (le-refl n) in
       let edge = line .grid .own-edge i n good im (line .grid .contexts .seen-le i im) in
       ap (λ r. replay w done r (docAt d l w i n)) (drop-cons (mine l w) i blank im)
@@ -130,7 +130,7 @@ module _ {𝓐 : Algebra} (d : 𝓐 .Doc) (E : Ends 𝓐) (h : History 𝓐) (in
       go true e =
           let ka : k < length (mine l (h .served)) = subst (λ n. k < n) (inv .lines l .v-count) (ltb-lt k _ e) in
           let same-one : own l w k ≡ getD (mine l (h .served)) k blank =
-              ap (λ r. getD r k blank) (mine-served l (h .served) (h .untaken l) (inv .lines l .untaken-own)) ∙ List·getD-append (mine l (h .served)) (h .untaken l) blank k ka in
+          ap (λ r. getD r k blank) (mine-served l (h .served) (h .untaken l) (inv .lines l .untaken-own)) ∙ List·getD-append (mine l (h .served)) (h .untaken l) blank k ka in
           ap (λ x. holds (names (h .served)) (x .name)) same-one ∙ holds-select (isBy l) (h .served) _ (holds-in (mine l (h .served)) k ka) ∙ sym e
       go false e =
           is-false _ (λ t. let y : suc k ≤ E .lines l .taken = inv .served-bound l (suc k) (ap (holds (names (h .served))) (sym (own-name l w (line .grid .contexts) k lt)) ∙ t) in

@@ -107,7 +107,12 @@ module _ {𝓐 : Algebra} (d : 𝓐 .Doc) where
               own-edge = λ i j g h. absurd (not-suc-le-zero h);
               oth-edge = λ i j g h. absurd (not-suc-le-zero h);
             };
-            c-made = refl; v-made = refl; v-taken = zero-le; c-taken = zero-le; c-acked = zero-le; v-acked = zero-le;
+            c-made = refl;
+            v-made = refl;
+            v-taken = zero-le;
+            c-taken = zero-le;
+            c-acked = zero-le;
+            v-acked = zero-le;
             served-at = L.firsts-none (isBy {𝓐 = 𝓐} l) blank [];
             lag-le = λ k h. absurd (not-suc-le-zero h);
             seen-le = λ i h. absurd (not-suc-le-zero h);
@@ -132,8 +137,10 @@ module _ {𝓐 : Algebra} (d : 𝓐 .Doc) where
     where
       none-held : (x : Name) → holds [] x ≡ true → ⊥
       none-held x t = true≢false (sym t)
+
       refl′ : d ≡ listAt {𝓐 = 𝓐} d []
       refl′ = refl
+
       shown′ : replay {𝓐 = 𝓐} [] [] [] d ≡ d
       shown′ = refl
 
@@ -157,10 +164,12 @@ module _ {𝓐 : Algebra} (d : 𝓐 .Doc) where
       c-le : (k : ℕ) (b : Bool) → eqb l k ≡ b → E .clients k .taken ≤ cond b (keeps e (E .clients l)) (E .clients k) .taken
       c-le k true q = subst (λ r. E .clients r .taken ≤ E .clients l .taken) (eqb-eq l k q) (le-refl _)
       c-le k false q = le-refl _
+
       kept′ : (k : ℕ) (x : Name) (b : Bool) → eqb l k ≡ b → holds (names (h .applied k)) x ≡ true
           → holds (names (cond b (h .applied l ++ (newEdit h l e ∷ [])) (h .applied k))) x ≡ true
       kept′ k x true q t = holds-more (h .applied l) (newEdit h l e) x (subst (λ r. holds (names (h .applied r)) x ≡ true) (sym (eqb-eq l k q)) t)
       kept′ k x false q t = t
+
       set-same′ : (k : ℕ) (b : Bool) → eqb l k ≡ b
           → inOrder (h .served ++ cond b (h .untaken l ++ (newEdit h l e ∷ [])) (h .untaken k)) (h .applied k) ≡ inOrder (h .served ++ h .untaken k) (h .applied k)
       set-same′ k true q =
@@ -221,6 +230,7 @@ module _ {𝓐 : Algebra} (d : 𝓐 .Doc) where
       c-le : (k : ℕ) (b : Bool) → eqb l k ≡ b → E .clients k .taken ≤ cond b (takes x (E .clients l)) (E .clients k) .taken
       c-le k true q = subst (λ r. E .clients r .taken ≤ suc (E .clients l .taken)) (eqb-eq l k q) (omega arith)
       c-le k false q = le-refl _
+
       kept′ : (k : ℕ) (y : Name) (b : Bool) → eqb l k ≡ b → holds (names (h .applied k)) y ≡ true
           → holds (names (cond b (h .applied l ++ (oth l (order h l) (E .clients l .taken) ∷ [])) (h .applied k))) y ≡ true
       kept′ k y true q t =

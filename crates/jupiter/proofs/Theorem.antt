@@ -58,7 +58,7 @@ module _ {𝓐 : Algebra} (d : 𝓐 .Doc) (E : Ends 𝓐) (h : History 𝓐) (in
       record {
         sends = and-true _ _ (ltb-true (v .acked) (suc (c .taken)) a) (leb-true (suc (c .taken)) (v .made) lt);
         takes = and-true _ _ (eqb-same (suc (c .taken)))
-        (and-true _ _ (leb-true (c .acked) (v .taken) (line .c-acked)) (leb-true (v .taken) (c .made) (subst (λ n. v .taken ≤ n) (sym (line .c-made)) (line .v-taken))));
+            (and-true _ _ (leb-true (c .acked) (v .taken) (line .c-acked)) (leb-true (v .taken) (c .made) (subst (λ n. v .taken ≤ n) (sym (line .c-made)) (line .v-taken))));
         fits = down-fits d E h inv l (message (suc (c .taken)) v) ok refl (line .c-acked);
       }
 
@@ -69,7 +69,7 @@ module _ {𝓐 : Algebra} (d : 𝓐 .Doc) (E : Ends 𝓐) (h : History 𝓐) (in
       record {
         sends = and-true _ _ (ltb-true (c .acked) (suc (v .taken)) a) (leb-true (suc (v .taken)) (c .made) lt);
         takes = and-true _ _ (eqb-same (suc (v .taken)))
-        (and-true _ _ (leb-true (v .acked) (c .taken) (line .v-acked)) (leb-true (c .taken) (v .made) (subst (λ n. c .taken ≤ n) (sym (line .v-made)) (line .c-taken))));
+            (and-true _ _ (leb-true (v .acked) (c .taken) (line .v-acked)) (leb-true (c .taken) (v .made) (subst (λ n. c .taken ≤ n) (sym (line .v-made)) (line .c-taken))));
         fits = up-fits d E h inv l (message (suc (v .taken)) c) ok refl (line .v-acked);
       }
 
@@ -85,27 +85,27 @@ module _ {𝓐 : Algebra} (d : 𝓐 .Doc) (E : Ends 𝓐) (h : History 𝓐) (in
         server-taken = inv .lines l .v-count;
         server-made = line .v-made ∙ ap length (others-served l (h .served) (h .untaken l) (inv .lines l .untaken-own));
         count-missing = ap length (missing-is d E h inv l) ∙ length-drop (c .taken) (others l (h .served))
-        ∙ ap (λ n. n - c .taken) (sym (line .v-made ∙ ap length (others-served l (h .served) (h .untaken l) (inv .lines l .untaken-own))));
+            ∙ ap (λ n. n - c .taken) (sym (line .v-made ∙ ap length (others-served l (h .served) (h .untaken l) (inv .lines l .untaken-own))));
         count-untaken = ap length (untaken-is d E h inv l) ∙ length-drop (v .taken) (mine l w) ∙ ap (λ n. n - v .taken) (sym (line .c-made));
         list = sym (line .shown);
         client-pending = ap length (line .c-pending) ∙ segment-length (λ i. ownForm l w i (c .taken)) (c .acked) (length (mine l w)) ∙ ap (λ n. n - c .acked) (sym (line .c-made));
         client-forms = λ i a b. ap (λ r. getD r (i - c .acked) (𝓐 .nothing)) (line .c-pending)
-        ∙ segment-get (λ i. ownForm l w i (c .taken)) (𝓐 .nothing) (c .acked) (length (mine l w)) i a (subst (λ n. i < n) (line .c-made) b);
+            ∙ segment-get (λ i. ownForm l w i (c .taken)) (𝓐 .nothing) (c .acked) (length (mine l w)) i a (subst (λ n. i < n) (line .c-made) b);
         client-fits = λ i a b. let im : i < length (mine l w) = subst (λ n. i < n) (line .c-made) b in
-        line .grid .own-edge i (c .taken) (pending-good-c d l w (h .served) (h .applied l) c v (E .docs l) line i a (omega arith)) im (line .seen-le i im) .fits;
+            line .grid .own-edge i (c .taken) (pending-good-c d l w (h .served) (h .applied l) c v (E .docs l) line i a (omega arith)) im (line .seen-le i im) .fits;
         server-pending = ap length (line .v-pending) ∙ segment-length (λ j. othForm l w (v .taken) j) (v .acked) (length (others l w)) ∙ ap (λ n. n - v .acked) (sym (line .v-made));
         server-forms = λ j a b. ap (λ r. getD r (j - v .acked) (𝓐 .nothing)) (line .v-pending)
-        ∙ segment-get (λ j. othForm l w (v .taken) j) (𝓐 .nothing) (v .acked) (length (others l w)) j a (subst (λ n. j < n) (line .v-made) b);
+            ∙ segment-get (λ j. othForm l w (v .taken) j) (𝓐 .nothing) (v .acked) (length (others l w)) j a (subst (λ n. j < n) (line .v-made) b);
         server-fits = λ j a b. let jn : j < length (others l w) = subst (λ n. j < n) (line .v-made) b in
-        line .grid .oth-edge (v .taken) j (pending-good-v d l w (h .served) (h .applied l) c v (E .docs l) line j a (omega arith)) jn (line .lag-le j jn) .fits;
+            line .grid .oth-edge (v .taken) j (pending-good-v d l w (h .served) (h .applied l) c v (E .docs l) line j a (omega arith)) jn (line .lag-le j jn) .fits;
         meets = meet d E h inv l;
         equal = equal-lists;
         next-down = next-down;
         next-up = next-up;
         passed-client = λ s a b. ap length (unacked-c d l w (h .served) (h .applied l) c v (E .docs l) line s a (subst (λ n. s ≤ n) (line .c-made) b))
-        ∙ segment-length (λ i. ownForm l w i (c .taken)) s (length (mine l w)) ∙ ap (λ n. n - s) (sym (line .c-made));
+            ∙ segment-length (λ i. ownForm l w i (c .taken)) s (length (mine l w)) ∙ ap (λ n. n - s) (sym (line .c-made));
         passed-server = λ s a b. ap length (unacked-v d l w (h .served) (h .applied l) c v (E .docs l) line s a (subst (λ n. s ≤ n) (line .v-made) b))
-        ∙ segment-length (λ j. othForm l w (v .taken) j) s (length (others l w)) ∙ ap (λ n. n - s) (sym (line .v-made));
+            ∙ segment-length (λ j. othForm l w (v .taken) j) s (length (others l w)) ∙ ap (λ n. n - s) (sym (line .v-made));
       }
 
 -- ---- lists of calls
@@ -141,7 +141,7 @@ module _ {𝓐 : Algebra} (d : 𝓐 .Doc) where
         reached = record {
           inv = t .inv;
           fine = all-map (Fine (s .ends) (s .history)) (Fine (f (s .ends)) (g (s .history))) (s .letters)
-          (fine-later (s .ends) (s .history) (f (s .ends)) (g (s .history)) (r .inv) (t .later)) (r .fine);
+              (fine-later (s .ends) (s .history) (f (s .ends)) (g (s .history)) (r .inv) (t .later)) (r .fine);
         };
         later = t .later;
       }
