@@ -5,3 +5,9 @@ pub mod Grid
 pub mod Extend
 pub mod Replay
 pub mod Line
+pub mod World
+pub mod Step
+pub mod Meeting
+pub mod Size
+pub mod Theorem
+pub mod Consistency
