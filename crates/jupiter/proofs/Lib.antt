@@ -5,3 +5,5 @@ pub mod Grid
 pub mod Extend
 pub mod Replay
 pub mod Line
+pub mod World
+pub mod Step

@@ -77,6 +77,9 @@ module _ {𝓐 : Algebra} (d : 𝓐 .Doc) where
     pub served-at : point l w (v .taken) (length (others l w)) ≡ served
     pub lag-le : (k : ℕ) → k < length (others l w) → lagOf l w k ≤ v .taken
     pub seen-le : (i : ℕ) → i < length (mine l w) → seenOf (own l w i) ≤ c .taken
+    -- what an end has taken, the other end knew to be taken when it wrote the last message taken here
+    pub c-lag : (k : ℕ) → k < c .taken → lagOf l w k ≤ c .acked
+    pub v-seen : (k : ℕ) → k < v .taken → seenOf (own l w k) ≤ v .acked
     pub applied-own : (i : ℕ) → i < length (mine l w) → holds (names applied) (own l w i .name) ≡ true
     pub applied-oth : (j : ℕ) → j < length (others l w) → holds (names applied) (oth l w j .name) ≡ ltb j (c .taken)
     pub applied-mine : (x : ℕ) → holds (names applied) (record { line = l; number = x }) ≡ true → x ≤ length (mine l w)
@@ -113,6 +116,15 @@ module _ {𝓐 : Algebra} (d : 𝓐 .Doc) where
           seens = λ k lt. le-trans (at .seen-le k (le-trans lt b)) x;
         }
 
+    -- the points at which the pending edits stand
+    pub pending-good-c : (i : ℕ) → c .acked ≤ i → i ≤ length (mine l w) → Good l w i (c .taken)
+    pending-good-c i a b =
+        record { own-le = b; oth-le = at .c-taken; lags = λ k lt. le-trans (at .c-lag k lt) a; seens = λ k lt. at .seen-le k (le-trans lt b) }
+
+    pub pending-good-v : (j : ℕ) → v .acked ≤ j → j ≤ length (others l w) → Good l w (v .taken) j
+    pending-good-v j a b =
+        record { own-le = at .v-taken; oth-le = b; lags = λ k lt. at .lag-le k (le-trans lt b); seens = λ k lt. le-trans (at .v-seen k lt) a }
+
     -- ---- the client makes an edit
     module _ (laws : Laws 𝓐) (e : 𝓐 .Edit) (N : ℕ) (number : N ≡ suc (length (mine l w))) (line : T (𝓐 .by l e)) (ok : T (𝓐 .fits e doc)) where
       abbrev o : Made 𝓐
@@ -146,8 +158,8 @@ module _ {𝓐 : Algebra} (d : 𝓐 .Doc) where
           }) (omega (arith, row-made l w (c .taken) o made-new))
           (subst (λ x. x ≤ c .taken) (sym (ap seenOf (row-new l w (c .taken) o made-new) ∙ made-new .seen)) (le-refl _))
 
-      fresh : holds (names applied) (o .name) ≡ false
-      fresh =
+      pub made-fresh : holds (names applied) (o .name) ≡ false
+      made-fresh =
           is-false _ (λ h. let x : N ≤ length (mine l w) = at .applied-mine N h in absurd (omega arith))
 
       differs : (j : ℕ) → j < length (others l w) → same (oth l w j .name) (o .name) ≡ false
@@ -167,6 +179,8 @@ module _ {𝓐 : Algebra} (d : 𝓐 .Doc) where
             lag-le = λ k h. let h′ : k < length (others l w) = subst (λ n. k < n) (row-others l w (c .taken) o made-new) h in
                 subst (λ x. x ≤ v .taken) (sym (made-grows .lag-same k h′)) (at .lag-le k h′);
             seen-le = row-own-cases l w (c .taken) o made-new (λ i x. seenOf x ≤ c .taken) (at .seen-le) (subst (λ x. x ≤ c .taken) (sym (made-new .seen)) (le-refl _));
+            c-lag = λ k lt. subst (λ x. x ≤ c .acked) (sym (made-grows .lag-same k (le-trans lt (at .c-taken)))) (at .c-lag k lt);
+            v-seen = λ k lt. subst (λ x. seenOf x ≤ v .acked) (sym (made-grows .own-same k (le-trans lt (at .v-taken)))) (at .v-seen k lt);
             applied-own = row-own-cases l w (c .taken) o made-new (λ i x. holds (names (applied ++ (o ∷ []))) (x .name) ≡ true)
                 (λ i h. holds-more applied o (own l w i .name) (at .applied-own i h)) (holds-last applied o);
             applied-oth = row-oth-cases l w (c .taken) o made-new (λ j x. holds (names (applied ++ (o ∷ []))) (x .name) ≡ ltb j (c .taken))
@@ -205,9 +219,9 @@ module _ {𝓐 : Algebra} (d : 𝓐 .Doc) where
           shown′ : replay (w ++ (o ∷ [])) [] (applied ++ (o ∷ [])) d ≡ 𝓐 .apply e doc
           shown′ =
               replay-snoc (w ++ (o ∷ [])) [] applied o d
-              ∙ ap (λ C. 𝓐 .apply (form o C) (replay (w ++ (o ∷ [])) [] applied d)) (inOrder-insert w o [] applied fresh ∙ ap (λ r. inOrder r applied) (append-nil w) ∙ set-is)
+              ∙ ap (λ C. 𝓐 .apply (form o C) (replay (w ++ (o ∷ [])) [] applied d)) (inOrder-insert w o [] applied made-fresh ∙ ap (λ r. inOrder r applied) (append-nil w) ∙ set-is)
               ∙ ap (λ x. 𝓐 .apply x (replay (w ++ (o ∷ [])) [] applied d)) (new-form l w (c .taken) o made-new)
-              ∙ ap (𝓐 .apply e) (replay-insert w o [] [] applied d fresh ∙ ap (λ r. replay r [] applied d) (append-nil w) ∙ at .shown)
+              ∙ ap (𝓐 .apply e) (replay-insert w o [] [] applied d made-fresh ∙ ap (λ r. replay r [] applied d) (append-nil w) ∙ at .shown)
 
     -- ---- sending
     pub send-up : (k : ℕ) → c .acked < k → k ≤ c .made → UpOk l w (c .taken) (record { number = k; seen = c .taken; edit = getD (c .pending) (k - suc (c .acked)) (𝓐 .nothing) })
@@ -260,6 +274,8 @@ module _ {𝓐 : Algebra} (d : 𝓐 .Doc) where
           served-at = at .served-at;
           lag-le = at .lag-le;
           seen-le = at .seen-le;
+          c-lag = at .c-lag;
+          v-seen = λ k lt. le-trans (at .v-seen k lt) a;
           applied-own = at .applied-own;
           applied-oth = at .applied-oth;
           applied-mine = at .applied-mine;
@@ -283,6 +299,8 @@ module _ {𝓐 : Algebra} (d : 𝓐 .Doc) where
           served-at = at .served-at;
           lag-le = at .lag-le;
           seen-le = at .seen-le;
+          c-lag = λ k lt. le-trans (at .c-lag k lt) a;
+          v-seen = at .v-seen;
           applied-own = at .applied-own;
           applied-oth = at .applied-oth;
           applied-mine = at .applied-mine;
@@ -344,6 +362,8 @@ module _ {𝓐 : Algebra} (d : 𝓐 .Doc) where
             served-at = L.firsts-snoc (isBy l) blank w (v .taken) (length (others l w)) up-made (at .lag-le) ∙ ap (λ r. r ++ (own l w (v .taken) ∷ [])) (at .served-at);
             lag-le = λ k h. le-trans (at .lag-le k h) (omega arith);
             seen-le = at .seen-le;
+            c-lag = at .c-lag;
+            v-seen = λ k lt. seen-case k (below-suc k (v .taken) lt);
             applied-own = at .applied-own;
             applied-oth = at .applied-oth;
             applied-mine = at .applied-mine;
@@ -354,6 +374,10 @@ module _ {𝓐 : Algebra} (d : 𝓐 .Doc) where
             c-doc = at .c-doc;
             shown = at .shown;
           }
+        where
+          seen-case : (k : ℕ) → (k < v .taken) ⊎ (k ≡ v .taken) → seenOf (own l w k) ≤ x .seen
+          seen-case k (inl lt) = le-trans (at .v-seen k lt) cur
+          seen-case k (inr e) = subst (λ n. seenOf (own l w n) ≤ x .seen) (sym e) up-seen
 
     -- ---- the client takes its next edit
     module _ (x : Message 𝓐) (ok : DownOk l w (v .taken) x) (next : x .number ≡ suc (c .taken)) (cur : c .acked ≤ x .seen) where
@@ -403,6 +427,8 @@ module _ {𝓐 : Algebra} (d : 𝓐 .Doc) where
             served-at = at .served-at;
             lag-le = at .lag-le;
             seen-le = λ i h. le-trans (at .seen-le i h) (omega arith);
+            c-lag = down-lags;
+            v-seen = at .v-seen;
             applied-own = λ i h. holds-more applied (oth l w (c .taken)) (own l w i .name) (at .applied-own i h);
             applied-oth = held-next (oth l w) (length (others l w)) (at .grid .contexts .oth-inj) applied (c .taken) down-made (at .applied-oth);
             applied-mine = λ y h. mine-bound y (holds-split applied (oth l w (c .taken)) (record { line = l; number = y }) h);
@@ -441,6 +467,8 @@ module _ {𝓐 : Algebra} (d : 𝓐 .Doc) where
               ∙ ap (point l (xs ++ g ∷ ys) (length (mine l xs))) (col-others l xs ys g new) ∙ col-next laws d l xs ys g new (at .grid) ok;
           lag-le = λ k h. subst (λ n. lagOf l (xs ++ g ∷ ys) k ≤ n) (sym va) (col-lags laws d l xs ys g new (at .grid) ok k (subst (λ n. k < n) (col-others l xs ys g new) h));
           seen-le = col-own-cases l xs ys g new (λ i e. seenOf e ≤ c .taken) (at .seen-le);
+          c-lag = λ k lt. subst (λ n. n ≤ c .acked) (sym (grew .lag-same k (le-trans lt (at .c-taken)))) (at .c-lag k lt);
+          v-seen = λ k lt. subst (λ e. seenOf e ≤ v .acked) (sym (grew .own-same k (le-trans lt (at .v-taken)))) (at .v-seen k lt);
           applied-own = col-own-cases l xs ys g new (λ i e. holds (names applied) (e .name) ≡ true) (at .applied-own);
           applied-oth = col-oth-cases l xs ys g new (λ j e. holds (names applied) (e .name) ≡ ltb j (c .taken)) (at .applied-oth)
               (unapplied ∙ sym (ltb-false _ _ (at .c-taken)));
