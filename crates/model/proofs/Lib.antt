@@ -5,6 +5,7 @@ pub mod SoundServer
 pub mod Sound
 pub mod Opens
 pub mod Table
+pub mod Instance
 pub mod Wrong
 pub mod Computing
 pub mod Marked
