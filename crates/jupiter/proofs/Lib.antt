@@ -7,3 +7,7 @@ pub mod Replay
 pub mod Line
 pub mod World
 pub mod Step
+pub mod Meeting
+pub mod Size
+pub mod Theorem
+pub mod Consistency

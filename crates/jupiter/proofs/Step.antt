@@ -107,7 +107,12 @@ module _ {𝓐 : Algebra} (d : 𝓐 .Doc) where
               own-edge = λ i j g h. absurd (not-suc-le-zero h);
               oth-edge = λ i j g h. absurd (not-suc-le-zero h);
             };
-            c-made = refl; v-made = refl; v-taken = zero-le; c-taken = zero-le; c-acked = zero-le; v-acked = zero-le;
+            c-made = refl;
+            v-made = refl;
+            v-taken = zero-le;
+            c-taken = zero-le;
+            c-acked = zero-le;
+            v-acked = zero-le;
             served-at = L.firsts-none (isBy {𝓐 = 𝓐} l) blank [];
             lag-le = λ k h. absurd (not-suc-le-zero h);
             seen-le = λ i h. absurd (not-suc-le-zero h);
@@ -132,8 +137,10 @@ module _ {𝓐 : Algebra} (d : 𝓐 .Doc) where
     where
       none-held : (x : Name) → holds [] x ≡ true → ⊥
       none-held x t = true≢false (sym t)
+
       refl′ : d ≡ listAt {𝓐 = 𝓐} d []
       refl′ = refl
+
       shown′ : replay {𝓐 = 𝓐} [] [] [] d ≡ d
       shown′ = refl
 
@@ -157,10 +164,12 @@ module _ {𝓐 : Algebra} (d : 𝓐 .Doc) where
       c-le : (k : ℕ) (b : Bool) → eqb l k ≡ b → E .clients k .taken ≤ cond b (keeps e (E .clients l)) (E .clients k) .taken
       c-le k true q = subst (λ r. E .clients r .taken ≤ E .clients l .taken) (eqb-eq l k q) (le-refl _)
       c-le k false q = le-refl _
+
       kept′ : (k : ℕ) (x : Name) (b : Bool) → eqb l k ≡ b → holds (names (h .applied k)) x ≡ true
           → holds (names (cond b (h .applied l ++ (newEdit h l e ∷ [])) (h .applied k))) x ≡ true
       kept′ k x true q t = holds-more (h .applied l) (newEdit h l e) x (subst (λ r. holds (names (h .applied r)) x ≡ true) (sym (eqb-eq l k q)) t)
       kept′ k x false q t = t
+
       set-same′ : (k : ℕ) (b : Bool) → eqb l k ≡ b
           → inOrder (h .served ++ cond b (h .untaken l ++ (newEdit h l e ∷ [])) (h .untaken k)) (h .applied k) ≡ inOrder (h .served ++ h .untaken k) (h .applied k)
       set-same′ k true q =
@@ -221,6 +230,7 @@ module _ {𝓐 : Algebra} (d : 𝓐 .Doc) where
       c-le : (k : ℕ) (b : Bool) → eqb l k ≡ b → E .clients k .taken ≤ cond b (takes x (E .clients l)) (E .clients k) .taken
       c-le k true q = subst (λ r. E .clients r .taken ≤ suc (E .clients l .taken)) (eqb-eq l k q) (omega arith)
       c-le k false q = le-refl _
+
       kept′ : (k : ℕ) (y : Name) (b : Bool) → eqb l k ≡ b → holds (names (h .applied k)) y ≡ true
           → holds (names (cond b (h .applied l ++ (oth l (order h l) (E .clients l .taken) ∷ [])) (h .applied k))) y ≡ true
       kept′ k y true q t =
@@ -285,3 +295,22 @@ module _ {𝓐 : Algebra} (d : 𝓐 .Doc) where
 
   pub down-later : (E : Ends 𝓐) (h : History 𝓐) (E′ : Ends 𝓐) (h′ : History 𝓐) → Inv d E h → Later E h E′ h′ → (l : ℕ) (x : Message 𝓐) → DownMessage E h l x → DownMessage E′ h′ l x
   down-later E h E′ h′ inv f l x ok = down-on l (order h l) (order h′ l) (f .grows l) _ _ (inv .lines l .line .v-taken) (f .v-later l) x ok
+
+  -- ---- what arrives fits, and is the form at what the taker has applied
+  pub down-fits : (E : Ends 𝓐) (h : History 𝓐) → Inv d E h → (l : ℕ) (x : Message 𝓐) → DownMessage E h l x
+      → x .number ≡ suc (E .clients l .taken) → E .clients l .acked ≤ x .seen → T (𝓐 .fits (arrived x (E .clients l)) (E .docs l))
+  down-fits E h inv l x ok next cur =
+      let line = inv .lines l .line in
+      let edge = down-edge d l (order h l) (h .served) (h .applied l) (E .clients l) (E .lines l) (E .docs l) line x ok next cur in
+      let is = down-arrives d l (order h l) (h .served) (h .applied l) (E .clients l) (E .lines l) (E .docs l) line x ok next cur in
+      subst (λ e. T (𝓐 .fits e (E .docs l))) (sym is)
+      (subst (λ r. T (𝓐 .fits (othForm l (order h l) (length (mine l (order h l))) (E .clients l .taken)) r)) (sym (line .c-doc)) (edge .fits))
+
+  pub up-fits : (E : Ends 𝓐) (h : History 𝓐) → Inv d E h → (l : ℕ) (x : Message 𝓐) → UpMessage E h l x
+      → x .number ≡ suc (E .lines l .taken) → E .lines l .acked ≤ x .seen → T (𝓐 .fits (arrived x (E .lines l)) (E .doc))
+  up-fits E h inv l x ok next cur =
+      let line = inv .lines l .line in
+      let edge = up-edge d l (order h l) (h .served) (h .applied l) (E .clients l) (E .lines l) (E .docs l) line x ok next cur in
+      let is = up-arrives d l (order h l) (h .served) (h .applied l) (E .clients l) (E .lines l) (E .docs l) line x ok next cur in
+      subst (λ e. T (𝓐 .fits e (E .doc))) (sym is)
+      (subst (λ r. T (𝓐 .fits (ownForm l (order h l) (E .lines l .taken) (length (others l (order h l)))) r)) (sym (inv .doc-is ∙ ap (listAt d) (sym (line .served-at)))) (edge .fits))

@@ -63,8 +63,6 @@ module _ {𝓐 : Algebra} (d : 𝓐 .Doc) where
     abbrev us : List (Made 𝓐)
     us = h .untaken l
 
-
-
     abbrev w : List (Made 𝓐)
     w = h .served ++ us
 
@@ -87,14 +85,14 @@ module _ {𝓐 : Algebra} (d : 𝓐 .Doc) where
     edit-line =
         record {
           line = subst (λ r. LineAt d l r (h .served) (h .applied l ++ (o ∷ [])) (keeps e (E .clients l)) (E .lines l) (𝓐 .apply e (E .docs l))) assoc
-          (line-edit d l w (h .served) (h .applied l) (E .clients l) (E .lines l) (E .docs l) was laws e (suc (madeBy h l)) number by-l ok);
+              (line-edit d l w (h .served) (h .applied l) (E .clients l) (E .lines l) (E .docs l) was laws e (suc (madeBy h l)) number by-l ok);
           untaken-own = all-append (λ y. isBy l y ≡ true) us (o ∷ []) (inv .lines l .untaken-own) (eqb-same l, tt);
           v-count = inv .lines l .v-count;
           applied-bound = λ k x kl t. go k x kl (holds-split (h .applied l) o (named k x) t);
           context-bound = subst (λ r. (i : ℕ) → i < length (mine l r) → Bounded l (taken E) (own l r i .context)) assoc
-          (row-own-cases l w (E .clients l .taken) o new (λ i y. Bounded l (taken E) (y .context)) (inv .lines l .context-bound) (inv .lines l .applied-bound));
+              (row-own-cases l w (E .clients l .taken) o new (λ i y. Bounded l (taken E) (y .context)) (inv .lines l .context-bound) (inv .lines l .applied-bound));
           oth-bound = subst (λ r. (j : ℕ) → j < length (others l r) → oth l r j .name .number ≤ taken E (oth l r j .name .line)) assoc
-          (row-oth-cases l w (E .clients l .taken) o new (λ j y. y .name .number ≤ taken E (y .name .line)) (inv .lines l .oth-bound));
+              (row-oth-cases l w (E .clients l .taken) o new (λ j y. y .name .number ≤ taken E (y .name .line)) (inv .lines l .oth-bound));
         }
       where
         go : (k x : ℕ) → k ≢ l → (holds (names (h .applied l)) (named k x) ≡ true) ⊎ (named k x ≡ o .name) → x ≤ taken E k
@@ -146,8 +144,10 @@ module _ {𝓐 : Algebra} (d : 𝓐 .Doc) where
       where
         bound : ℕ → ℕ
         bound k = at l (acks s (E .lines l)) (E .lines) k .taken
+
         le : (k : ℕ) → taken E k ≤ bound k
         le k = same-taken (eqb l k) k refl
+
         old : (k : ℕ) (v : End 𝓐) → v .taken ≡ E .lines k .taken → LineAt d k (h .served ++ h .untaken k) (h .served) (h .applied k) (E .clients k) v (E .docs k)
             → LineInv k (h .served) (h .untaken k) (h .applied k) bound (E .clients k) v (E .docs k)
         old k v q line =
@@ -159,6 +159,7 @@ module _ {𝓐 : Algebra} (d : 𝓐 .Doc) where
               context-bound = λ i hi. weaken k (taken E) bound le _ (inv .lines k .context-bound i hi);
               oth-bound = λ j hj. le-trans (inv .lines k .oth-bound j hj) (le _);
             }
+
         go : (k : ℕ) (b : Bool) → eqb l k ≡ b
             → LineInv k (h .served) (h .untaken k) (h .applied k) bound (E .clients k) (cond b (acks s (E .lines l)) (E .lines k)) (E .docs k)
         go k true q =
@@ -321,16 +322,16 @@ module _ {𝓐 : Algebra} (d : 𝓐 .Doc) where
         let assoc : uw ≡ (h .served ++ (o ∷ [])) ++ us = sym (append-assoc (h .served) (o ∷ []) us) in
         record {
           line = subst (λ r. LineAt d l r (h .served ++ (o ∷ [])) (h .applied l) (E .clients l) (takes x (E .lines l)) (E .docs l)) assoc
-          (subst (λ e. LineAt d l uw (h .served ++ (e ∷ [])) (h .applied l) (E .clients l) (takes x (E .lines l)) (E .docs l)) o-is
-          (line-up d l uw (h .served) (h .applied l) (E .clients l) (E .lines l) (E .docs l) (uinv .line) x uok next cur));
+              (subst (λ e. LineAt d l uw (h .served ++ (e ∷ [])) (h .applied l) (E .clients l) (takes x (E .lines l)) (E .docs l)) o-is
+              (line-up d l uw (h .served) (h .applied l) (E .clients l) (E .lines l) (E .docs l) (uinv .line) x uok next cur));
           untaken-own = uinv .untaken-own .1;
           v-count = ap suc (uinv .v-count)
-          ∙ sym (ap length (mine-served l (h .served) (o ∷ []) (o-by, tt)) ∙ length-append (mine l (h .served)) (o ∷ []) ∙ omega arith);
+              ∙ sym (ap length (mine-served l (h .served) (o ∷ []) (o-by, tt)) ∙ length-append (mine l (h .served)) (o ∷ []) ∙ omega arith);
           applied-bound = weaken l (taken E) (taken E′) up-bound _ (uinv .applied-bound);
           context-bound = subst (λ r. (i : ℕ) → i < length (mine l r) → Bounded l (taken E′) (own l r i .context)) assoc
-          (λ i hi. weaken l (taken E) (taken E′) up-bound _ (uinv .context-bound i hi));
+              (λ i hi. weaken l (taken E) (taken E′) up-bound _ (uinv .context-bound i hi));
           oth-bound = subst (λ r. (j : ℕ) → j < length (others l r) → oth l r j .name .number ≤ taken E′ (oth l r j .name .line)) assoc
-          (λ j hj. le-trans (uinv .oth-bound j hj) (up-bound _));
+              (λ j hj. le-trans (uinv .oth-bound j hj) (up-bound _));
         }
 
     module _ (k : ℕ) (lk : l ≢ k) where
@@ -357,20 +358,20 @@ module _ {𝓐 : Algebra} (d : 𝓐 .Doc) where
           let assoc : h .served ++ o ∷ ks ≡ (h .served ++ (o ∷ [])) ++ ks = sym (append-assoc (h .served) (o ∷ []) ks) in
           record {
             line = subst (λ r. LineAt d k r (h .served ++ (o ∷ [])) (h .applied k) (E .clients k) (keeps (arrived x (E .lines l)) (E .lines k)) (E .docs k)) assoc
-            (subst (λ e. LineAt d k (h .served ++ o ∷ ks) (h .served ++ (o ∷ [])) (h .applied k) (E .clients k) (keeps e (E .lines k)) (E .docs k)) (sym arrives)
-            (line-other d laws k (h .served) ks (h .applied k) (E .clients k) (E .lines k) (E .docs k) (inv .lines k .line) o other-new (inv .lines k .v-count) arrives-fits
-            (new-to (names (h .applied k)) k lk (inv .lines k .applied-bound))));
+                (subst (λ e. LineAt d k (h .served ++ o ∷ ks) (h .served ++ (o ∷ [])) (h .applied k) (E .clients k) (keeps e (E .lines k)) (E .docs k)) (sym arrives)
+                (line-other d laws k (h .served) ks (h .applied k) (E .clients k) (E .lines k) (E .docs k) (inv .lines k .line) o other-new (inv .lines k .v-count) arrives-fits
+                (new-to (names (h .applied k)) k lk (inv .lines k .applied-bound))));
             untaken-own = inv .lines k .untaken-own;
             v-count = inv .lines k .v-count
-            ∙ sym (ap length (L.select-out (isBy k) blank (h .served) o [] (other-new .other) ∙ ap (mine k) (append-nil (h .served))));
+                ∙ sym (ap length (L.select-out (isBy k) blank (h .served) o [] (other-new .other) ∙ ap (mine k) (append-nil (h .served))));
             applied-bound = weaken k (taken E) (taken E′) up-bound _ (inv .lines k .applied-bound);
             context-bound = subst (λ r. (i : ℕ) → i < length (mine k r) → Bounded k (taken E′) (own k r i .context)) assoc
-            (col-own-cases k (h .served) ks o other-new (λ i e. Bounded k (taken E′) (e .context))
-            (λ i hi. weaken k (taken E) (taken E′) up-bound _ (inv .lines k .context-bound i hi)));
+                (col-own-cases k (h .served) ks o other-new (λ i e. Bounded k (taken E′) (e .context))
+                (λ i hi. weaken k (taken E) (taken E′) up-bound _ (inv .lines k .context-bound i hi)));
             oth-bound = subst (λ r. (j : ℕ) → j < length (others k r) → oth k r j .name .number ≤ taken E′ (oth k r j .name .line)) assoc
-            (col-oth-cases k (h .served) ks o other-new (λ j e. e .name .number ≤ taken E′ (e .name .line))
-            (λ j hj. le-trans (inv .lines k .oth-bound j hj) (up-bound _))
-            (subst (λ n. n .number ≤ taken E′ (n .line)) (sym o-name) (omega (arith, up-bound-l))));
+                (col-oth-cases k (h .served) ks o other-new (λ j e. e .name .number ≤ taken E′ (e .name .line))
+                (λ j hj. le-trans (inv .lines k .oth-bound j hj) (up-bound _))
+                (subst (λ n. n .number ≤ taken E′ (n .line)) (sym o-name) (omega (arith, up-bound-l))));
           }
 
     pub up-inv : Inv E′ (serves l (o ∷ us) h)
@@ -385,6 +386,7 @@ module _ {𝓐 : Algebra} (d : 𝓐 .Doc) where
         bound : (k y : ℕ) → (holds (names (h .served)) (named k y) ≡ true) ⊎ (named k y ≡ o .name) → y ≤ taken E′ k
         bound k y (inl t) = le-trans (inv .served-bound k y t) (up-bound k)
         bound k y (inr q) = subst (λ n. n .number ≤ taken E′ (n .line)) (sym (q ∙ o-name)) (omega (arith, up-bound-l))
+
         go : (k : ℕ) (b : Bool) → eqb l k ≡ b
             → LineInv k (h .served ++ (o ∷ [])) (cond b us (h .untaken k)) (h .applied k) (taken E′) (E .clients k)
             (cond b (takes x (E .lines l)) (keeps (arrived x (E .lines l)) (E .lines k))) (E .docs k)
