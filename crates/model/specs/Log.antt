@@ -1,19 +1,20 @@
 -- What a list of calls leaves by the definitions (01: "What an edit becomes", "Meeting"). It is computed from the calls and from which of
 -- them were refused, and from nothing else that a sheet answers.
 use Prim.Native.Nat.{ℕ, zero, suc, _+_, _-_}
-use mathlib.Core.Bool.{Bool, true, false, not, _&&_, _||_, cond}
+use mathlib.Core.Bool.{Bool, true, false, _&&_, cond}
 use mathlib.Core.Option.{Option, none, some}
 use mathlib.Core.List.{List, [], _∷_, _++_}
 use lib.Dec.{leb, ltb, eqb}
-use lib.ListN.{length, getD, take, getElem?}
+use lib.ListN.{length, getD, getElem?}
 use Rattle.ot.specs.declared.Edit.{Edit}
 use Rattle.ot.specs.declared.Edit.the-variants as edit
 use Rattle.ot.specs.Edit.{applied}
 use Rattle.wire.specs.declared.Message.the-variants as message
 use Rattle.wire.specs.Message.{messageOf}
 use Rattle.wire.specs.Bytes.{bytesOf}
-use Rattle.jupiter.specs.Made.{Name, Made, holds, select, names, isBy, mine, others}
+use Rattle.jupiter.specs.Made.{Made, mine, others}
 use Rattle.jupiter.specs.Form.{form, inOrder}
+use Rattle.jupiter.specs.Point.{blank, ownForm, othForm}
 use Rattle.jupiter.specs.History.{History, noHistory, at, order, madeBy, missing, afterEdit, afterUp, afterDown, newEdit}
 use Rattle.model.specs.Edits.{edits}
 use Rattle.model.specs.Sheet.{Call, insert, delete, send, tell, receive, junk}
@@ -65,21 +66,11 @@ unfoldable pub takenAt : History edits → ℕ → ℕ → ℕ
 takenAt h zero l = length (mine l (h .served))
 takenAt h (suc a) l = length (others (suc a) (h .applied (suc a)))
 
--- an entry past a list's end
-abbrev pub noEdit : Made edits
-noEdit = record { name = record { line = 0; number = 0 }; edit = edit.Nothing; context = [] }
-
--- The edits that an end sends on line l, in number order: the client's own, or those that the server took on other lines.
-unfoldable pub outgoing : History edits → ℕ → ℕ → List (Made edits)
-outgoing h zero l = others l (h .served)
-outgoing h (suc a) l = mine (suc a) (order h (suc a))
-
--- Number k goes out in its form at what its sender has applied, less those of the outgoing edits from number k on.
+-- An edit goes out in its form at what its sender has applied, less the edits of its own line's outgoing ones from its number on: at the
+-- client the first k - 1 of its own and all that it took; at the server all that it took on the line and the first k - 1 of the others.
 unfoldable pub sentForm : History edits → ℕ → ℕ → ℕ → Edit
-sentForm h a l k =
-    let out = outgoing h a l in
-    form (getD out (k - 1) noEdit)
-    (select (λ e. not (holds (names out) (e .name)) || holds (names (take (k - 1) out)) (e .name)) (setOf h a))
+sentForm h zero l k = othForm l (h .served) (takenAt h zero l) (k - 1)
+sentForm h (suc a) l k = ownForm (suc a) (order h (suc a)) (k - 1) (takenAt h (suc a) (suc a))
 
 abbrev pub letterOf : History edits → ℕ → ℕ → Content → Letter
 letterOf h zero l c = record { line = l; direction = 1; seen = takenAt h zero l; content = c }
@@ -110,7 +101,7 @@ edited w l e =
 
 -- the first edit of a list, where there is one
 abbrev pub first : List (Made edits) → Made edits
-first es = getD es 0 noEdit
+first es = getD es 0 blank
 
 -- the server takes client l's next edit; client l takes its next one
 abbrev pub tookUp : Log → ℕ → ℕ → Log
