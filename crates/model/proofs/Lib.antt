@@ -6,6 +6,7 @@ pub mod Sound
 pub mod Opens
 pub mod Table
 pub mod Instance
+pub mod Small
 pub mod Wrong
 pub mod Computing
 pub mod Marked
