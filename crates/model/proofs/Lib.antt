@@ -7,6 +7,7 @@ pub mod Opens
 pub mod Table
 pub mod Instance
 pub mod Small
+pub mod Sim
 pub mod Wrong
 pub mod Computing
 pub mod Marked
