@@ -8,6 +8,7 @@ pub mod Table
 pub mod Instance
 pub mod Small
 pub mod Sim
+pub mod Follow
 pub mod Wrong
 pub mod Computing
 pub mod Marked

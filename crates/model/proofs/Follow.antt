@@ -1,0 +1,268 @@
+-- Each call of the sheet is a step of the theory, or was refused and is none.
+use mathlib.Core.Path.{_≡_, refl, ap, ap₂, sym, _∙_, subst}
+use mathlib.Core.Bool.{Bool, true, false, _&&_, cond}
+use mathlib.Core.List.{List, [], _∷_, _++_, map, append-nil, append-assoc}
+use Prim.Native.Nat.{ℕ, zero, suc, _+_, _-_, _≤_, _<_}
+use native.Mathlib.Numerals.{add-one}
+use native.Mathlib.Omega.{arith}
+use lib.Dec.{T, eqb, leb, ltb}
+use lib.ListN.{length, getD, drop, length-append}
+use borrow.Author.Tests.{eqb-true, ne-eqb, eq-eqb, leb-true, ltb-true}
+use Rattle.ot.specs.declared.Edit.{Edit}
+use Rattle.ot.specs.Edit.{applied, fits}
+use Rattle.wire.specs.declared.Header.{Header}
+use Rattle.wire.specs.Message.{inRange}
+use Rattle.jupiter.specs.Made.{Made, holds, select, reject, isBy, mine, others}
+use Rattle.jupiter.specs.Form.{form, inOrder}
+use Rattle.jupiter.specs.Point.{blank, own, oth, ownForm, othForm, point}
+use Rattle.jupiter.specs.History.{History, at, order, madeBy, missing, newEdit, makes, afterEdit, serves, afterUp, applies, afterDown}
+use Rattle.jupiter.specs.Ends as ends
+use Rattle.jupiter.specs.Ends.{Ends, Message, keeps, acks, takes, arrived, message, editing, takingUp, takingDown, ackingUp, ackingDown}
+use Rattle.jupiter.specs.Run.{Letter, up, down, upAck, downAck}
+use Rattle.jupiter.specs.Claims.{inserts}
+use Rattle.jupiter.proofs.Lists as L
+use Rattle.jupiter.proofs.Lists.{All, all-append, all-map}
+use Rattle.jupiter.proofs.Forms.{Inside, form-made}
+use Rattle.jupiter.proofs.Line.{LineAt, set-is, down-made, down-arrives}
+use Rattle.jupiter.proofs.Extend.{new-form}
+use Rattle.jupiter.proofs.World.{Inv, arrives, first-missing, mine-served, others-served}
+use Rattle.jupiter.proofs.Step.{Later, Step, step-edit, step-up, step-down, step-ack-up, step-ack-down, UpMessage, DownMessage}
+use Rattle.jupiter.proofs.Size.{inserts-append}
+use Rattle.jupiter.proofs.Theorem.{Fine, fine-later}
+use Rattle.model.specs.Questions.{Answer, answer}
+use Rattle.model.specs.Cross.{past, over, priority, insertsOf}
+use Rattle.model.specs.Client.{Client, soundClient, edited, unacked, clientTaken, clientAcked}
+use Rattle.model.specs.Server.{Line, Server, lineOf, soundServer, unackedOf, serverTaken, serverAcked}
+use Rattle.model.specs.Edits.{edits}
+use Rattle.model.specs.Sheet.{Call}
+use Rattle.model.specs.Log as logs
+use Rattle.model.specs.Log.{Log, letterMessage, letterBytes, setOf, madeAt, takenAt, editLetter, ackLetter, hears, tookUp, tookDown, writes, refusedLog, log}
+use Rattle.model.specs.Run.{State, answered}
+use Rattle.model.specs.Ours.{End, client, server, ours}
+use Rattle.model.proofs.Instance.{to-T, from-T, edit-laws, past-same, over-same}
+use Rattle.model.proofs.Small.{Small, small-past, small-over, all-drop}
+use Rattle.model.proofs.Sim.{clientFrom, serverFrom, lineFrom, LetterOk, OfLines, Sim, at-line, at-other, edited-from, taken-from, server-taken-from, server-acked-from}
+
+-- what passes a test, passes it
+selected : (p : Made edits → Bool) (xs : List (Made edits)) → All (λ x. p x ≡ true) (select p xs)
+unfolding select
+selected p [] = tt
+selected p (x ∷ xs) = go (p x) refl (selected p xs)
+  where
+    go : (b : Bool) → p x ≡ b → All (λ y. p y ≡ true) (select p xs) → All (λ y. p y ≡ true) (cond b (x ∷ select p xs) (select p xs))
+    go true e ih = (e, ih)
+    go false e ih = ih
+
+-- the set of a client: what it has applied, in order
+client-set : (h : History edits) (k : ℕ) (e : Made edits) (x : Edit) → 1 ≤ k → form e (inOrder (order h k) (h .applied k)) ≡ x → form e (setOf h k) ≡ x
+unfolding setOf
+client-set h zero e x a q = absurd (omega arith)
+client-set h (suc k) e x a q = q
+
+-- one edit more of line l
+inserts-one-more : (l : ℕ) (xs : List (Made edits)) (o : Made edits) → isBy l o ≡ true → inserts (mine l (xs ++ (o ∷ []))) ≡ inserts (mine l xs) + insertsOf (o .edit)
+unfolding inserts select
+inserts-one-more l xs o by =
+    ap inserts (L.select-in (isBy l) blank xs o [] by) ∙ inserts-append (mine l xs) (o ∷ []) ∙ omega arith
+
+inserts-more : (l : ℕ) (xs ys : List (Made edits)) (o : Made edits) → isBy l o ≡ true
+    → inserts (mine l (xs ++ (ys ++ (o ∷ [])))) ≡ inserts (mine l (xs ++ ys)) + insertsOf (o .edit)
+inserts-more l xs ys o by = ap (λ (zs : List (Made edits)). inserts (mine l zs)) (sym (append-assoc xs ys (o ∷ []))) ∙ inserts-one-more l (xs ++ ys) o by
+
+-- an edit of another line more
+others-snoc : (l : ℕ) (xs : List (Made edits)) (g : Made edits) → isBy l g ≡ false → others l (xs ++ (g ∷ [])) ≡ others l xs ++ (g ∷ [])
+unfolding reject
+others-snoc l xs g by = L.reject-in (isBy l) blank xs g [] by
+
+-- the history's count of a client's edits
+client-count : (h : History edits) (l made : ℕ) → 1 ≤ l → made ≡ madeBy h l → made ≡ madeAt h l l
+unfolding madeAt
+client-count h zero made a e = absurd (omega arith)
+client-count h (suc l) made a e = e
+
+-- the pending edits of an end that takes an edit
+small-taken : (x : Message edits) (v : ends.End edits) → All Small (v .pending) → All Small (takes x v .pending)
+small-taken x v a =
+    subst (All Small) (over-same (x .edit) (drop (x .seen - v .acked) (v .pending))) (small-over (x .edit) (drop (x .seen - v .acked) (v .pending)) (all-drop Small (x .seen - v .acked) (v .pending) a))
+
+-- every message stays one that can be taken
+letters-later : (items : List ℕ) (E E′ : Ends edits) (h h′ : History edits) → Inv items E h → Later E h E′ h′ → (xs : List (Letter edits))
+    → All (LetterOk items E h) xs → All (LetterOk items E′ h′) xs
+letters-later items E E′ h h′ inv f xs ok =
+    all-map (LetterOk items E h) (LetterOk items E′ h′) xs (λ x o. (fine-later items E h E′ h′ inv f x (o .0), o .1)) ok
+
+module _ (n : ℕ) (items : List ℕ) (s : State ours) (sim : Sim n items s) where
+  abbrev w : Log
+  w = s .recorded
+
+  abbrev h : History edits
+  h = s .recorded .history
+
+  -- ---- refused
+
+  -- the end comes back as it was, and the count owed is 0
+  pub refused : (a : ℕ) → Sim n items (record { ends = at a (s .ends a) (s .ends); messages = s .messages; passed = s .passed ++ (0 ∷ []); recorded = hears w (w .heard) })
+  refused a =
+      record {
+        E = sim .E;
+        ci = sim .ci;
+        si = sim .si;
+        inv = sim .inv;
+        server-is = same 0 ∙ sim .server-is;
+        client-is = λ l p q. same l ∙ sim .client-is l p q;
+        server-sound = sim .server-sound;
+        client-sound = sim .client-sound;
+        server-shown = sim .server-shown;
+        client-shown = sim .client-shown;
+        heard = sim .heard;
+        messages = sim .messages;
+        letters = sim .letters;
+        passed = ap (λ (ks : List ℕ). ks ++ (0 ∷ [])) (sim .passed);
+        taken = sim .taken;
+        served-lines = sim .served-lines;
+        ci-is = sim .ci-is;
+        si-is = sim .si-is;
+        client-small = sim .client-small;
+        server-small = sim .server-small;
+      }
+    where
+      same : (j : ℕ) → at a (s .ends a) (s .ends) j ≡ s .ends j
+      same j = go (eqb a j) refl
+        where
+          go : (b : Bool) → eqb a j ≡ b → cond b (s .ends a) (s .ends j) ≡ s .ends j
+          go true e = ap (s .ends) (eqb-true a j e)
+          go false e = refl
+
+  -- ---- a client edits
+
+  module _ (l : ℕ) (lo : 1 ≤ l) (hi : l ≤ n) where
+    abbrev E : Ends edits
+    E = sim .E
+
+    abbrev C : Client
+    C = clientFrom n l (E .clients l) (E .docs l) (sim .ci l)
+
+    module _ (e : Edit) (pr : priority (eqb l) e ≡ true) (sm : Small e) (ok : fits e (length (E .docs l)) ≡ true) (sound : soundClient (edited C e) ≡ true) where
+      step : Step items E h (editing l e E) (afterEdit l e h)
+      step = step-edit items edit-laws E h (sim .inv) l e (to-T (priority (eqb l) e) pr) (to-T (fits e (length (E .docs l))) ok)
+
+      abbrev o : Made edits
+      o = newEdit h l e
+
+      -- an edit is made in its form at what its client has applied: all of that is in its context
+      made-form : form o (inOrder (order h l) (h .applied l)) ≡ e
+      unfolding inOrder
+      made-form = form-made o (inOrder (order h l) (h .applied l)) (selected (λ x. holds (o .context) (x .name)) (order h l))
+
+      pub edits-on : Sim n items (record { ends = at l (client (edited C e)) (s .ends); messages = s .messages; passed = s .passed ++ (0 ∷ []); recorded = logs.edited w l e })
+      unfolding afterEdit
+      edits-on =
+          record {
+            E = editing l e E;
+            ci = at l (sim .ci l + insertsOf e) (sim .ci);
+            si = sim .si;
+            inv = step .inv;
+            server-is = at-other l (client (edited C e)) (s .ends) 0 (λ z. omega arith) ∙ sim .server-is;
+            client-is = λ j a b.
+                at-line (λ i x v d k. x ≡ client (clientFrom n i v d k)) l (client (edited C e)) (keeps e (E .clients l)) (applied e (E .docs l)) (sim .ci l + insertsOf e)
+                (s .ends) (E .clients) (E .docs) (sim .ci) j (ap client (edited-from n l (E .clients l) (E .docs l) (sim .ci l) e)) (sim .client-is j a b);
+            server-sound = sim .server-sound;
+            client-sound = λ j a b.
+                at-line (λ i (x : Unit {0}) v d k. soundClient (clientFrom n i v d k) ≡ true) l tt (keeps e (E .clients l)) (applied e (E .docs l)) (sim .ci l + insertsOf e)
+                (λ i. tt) (E .clients) (E .docs) (sim .ci) j (ap soundClient (sym (edited-from n l (E .clients l) (E .docs l) (sim .ci l) e)) ∙ sound) (sim .client-sound j a b);
+            server-shown = at-other l (applied (form o (setOf h l)) (w .shown l)) (w .shown) 0 (λ z. omega arith) ∙ sim .server-shown;
+            client-shown = λ j a b.
+                at-line (λ i x d (y : Unit {0}) (z : Unit {0}). x ≡ d) l (applied (form o (setOf h l)) (w .shown l)) (applied e (E .docs l)) tt tt
+                (w .shown) (E .docs) (λ i. tt) (λ i. tt) j
+                (ap₂ applied (client-set h l o e lo made-form) (sim .client-shown l lo hi)) (sim .client-shown j a b);
+            heard = sim .heard;
+            messages = sim .messages;
+            letters = letters-later items E (editing l e E) h (afterEdit l e h) (sim .inv) (step .later) (w .letters) (sim .letters);
+            passed = ap (λ (ks : List ℕ). ks ++ (0 ∷ [])) (sim .passed);
+            taken = λ j.
+                at-line (λ i xs v (y : Unit {0}) (z : Unit {0}). length (others i xs) ≡ v .taken) l (h .applied l ++ (o ∷ [])) (keeps e (E .clients l)) tt tt
+                (h .applied) (E .clients) (λ i. tt) (λ i. tt) j
+                (ap length (L.reject-out (isBy l) blank (h .applied l) o [] (eq-eqb l l refl) ∙ ap (others l) (append-nil (h .applied l))) ∙ sim .taken l) (sim .taken j);
+            served-lines = sim .served-lines;
+            ci-is = λ j.
+                at-line (λ i k us (y : Unit {0}) (z : Unit {0}). k ≡ inserts (mine i (h .served ++ us))) l (sim .ci l + insertsOf e) (h .untaken l ++ (o ∷ [])) tt tt
+                (sim .ci) (h .untaken) (λ i. tt) (λ i. tt) j
+                (omega (arith, sim .ci-is l, inserts-more l (h .served) (h .untaken l) o (eq-eqb l l refl))) (sim .ci-is j);
+            si-is = sim .si-is;
+            client-small = λ j.
+                at-line (λ i v (x : Unit {0}) (y : Unit {0}) (z : Unit {0}). All Small (v .pending)) l (keeps e (E .clients l)) tt tt tt
+                (E .clients) (λ i. tt) (λ i. tt) (λ i. tt) j (all-append Small (E .clients l .pending) (e ∷ []) (sim .client-small l) (sm, tt)) (sim .client-small j);
+            server-small = sim .server-small;
+          }
+
+    -- ---- a client takes its next edit
+
+    module _ (x : Message edits) (ok : DownMessage items E h l x) (next : x .number ≡ suc (E .clients l .taken)) (cur : E .clients l .acked ≤ x .seen) (sm : Small (x .edit))
+        (sound : soundClient (clientTaken C (x .seen) (x .edit)) ≡ true) where
+      down-step : Step items E h (takingDown l x E) (afterDown l h)
+      down-step = step-down items E h (sim .inv) l x ok next cur
+
+      abbrev g : Made edits
+      g = oth l (order h l) (E .clients l .taken)
+
+      abbrev line : LineAt items l (order h l) (h .served) (h .applied l) (E .clients l) (E .lines l) (E .docs l)
+      line = sim .inv .lines l .line
+
+      missing-first : missing h l ≡ g ∷ drop (suc (E .clients l .taken)) (others l (h .served))
+      missing-first = first-missing items E h (sim .inv) l x ok next cur
+
+      -- it is applied in its form at what the client has applied
+      down-form : form g (inOrder (order h l) (h .applied l)) ≡ arrived x (E .clients l)
+      down-form =
+          ap (form g) (set-is items l (order h l) (h .served) (h .applied l) (E .clients l) (E .lines l) (E .docs l) line)
+          ∙ sym (down-arrives items l (order h l) (h .served) (h .applied l) (E .clients l) (E .lines l) (E .docs l) line x ok next cur)
+
+      g-other : isBy l g ≡ false
+      g-other = L.reject-fails (isBy l) blank (order h l) (E .clients l .taken) (down-made items l (order h l) (h .served) (h .applied l) (E .clients l) (E .lines l) (E .docs l) line x ok next cur)
+
+      pub takes-down : Sim n items (record {
+        ends = at l (client (clientTaken C (x .seen) (x .edit))) (s .ends);
+        messages = s .messages;
+        passed = s .passed ++ ((E .clients l .made - x .seen) ∷ []);
+        recorded = tookDown w l (x .seen);
+      })
+      unfolding applies
+      takes-down =
+          record {
+            E = takingDown l x E;
+            ci = sim .ci;
+            si = sim .si;
+            inv = down-step .inv;
+            server-is = at-other l (client (clientTaken C (x .seen) (x .edit))) (s .ends) 0 (λ z. omega arith) ∙ sim .server-is;
+            client-is = λ j a b.
+                at-line (λ i y v d (k : Unit {0}). y ≡ client (clientFrom n i v d (sim .ci i))) l (client (clientTaken C (x .seen) (x .edit))) (takes x (E .clients l))
+                (applied (arrived x (E .clients l)) (E .docs l)) tt (s .ends) (E .clients) (E .docs) (λ i. tt) j
+                (ap client (taken-from n l (E .clients l) (E .docs l) (sim .ci l) x)) (sim .client-is j a b);
+            server-sound = sim .server-sound;
+            client-sound = λ j a b.
+                at-line (λ i (y : Unit {0}) v d (k : Unit {0}). soundClient (clientFrom n i v d (sim .ci i)) ≡ true) l tt (takes x (E .clients l))
+                (applied (arrived x (E .clients l)) (E .docs l)) tt (λ i. tt) (E .clients) (E .docs) (λ i. tt) j
+                (ap soundClient (sym (taken-from n l (E .clients l) (E .docs l) (sim .ci l) x)) ∙ sound) (sim .client-sound j a b);
+            server-shown = at-other l (applied (form (logs.first (missing h l)) (setOf h l)) (w .shown l)) (w .shown) 0 (λ z. omega arith) ∙ sim .server-shown;
+            client-shown = λ j a b.
+                at-line (λ i y d (u : Unit {0}) (z : Unit {0}). y ≡ d) l (applied (form (logs.first (missing h l)) (setOf h l)) (w .shown l))
+                (applied (arrived x (E .clients l)) (E .docs l)) tt tt (w .shown) (E .docs) (λ i. tt) (λ i. tt) j
+                (ap₂ applied (ap (λ (es : List (Made edits)). form (logs.first es) (setOf h l)) missing-first ∙ client-set h l g (arrived x (E .clients l)) lo down-form) (sim .client-shown l lo hi))
+                (sim .client-shown j a b);
+            heard = sim .heard;
+            messages = sim .messages;
+            letters = letters-later items E (takingDown l x E) h (afterDown l h) (sim .inv) (down-step .later) (w .letters) (sim .letters);
+            passed = ap₂ (λ (ks : List ℕ) (k : ℕ). ks ++ ((k - x .seen) ∷ [])) (sim .passed) (client-count h l (E .clients l .made) lo (line .c-made ∙ ap length (mine-served l (h .served) (h .untaken l) (sim .inv .lines l .untaken-own)) ∙ length-append (mine l (h .served)) (h .untaken l)));
+            taken = λ j.
+                subst (λ (es : List (Made edits)). length (others j (applies l es h .applied j)) ≡ at l (takes x (E .clients l)) (E .clients) j .taken) (sym missing-first)
+                (at-line (λ i xs v (y : Unit {0}) (z : Unit {0}). length (others i xs) ≡ v .taken) l (h .applied l ++ (g ∷ [])) (takes x (E .clients l)) tt tt
+                (h .applied) (E .clients) (λ i. tt) (λ i. tt) j
+                (ap length (others-snoc l (h .applied l) g g-other) ∙ length-append (others l (h .applied l)) (g ∷ []) ∙ omega (arith, sim .taken l)) (sim .taken j));
+            served-lines = subst (λ (es : List (Made edits)). All (OfLines n) (applies l es h .served)) (sym missing-first) (sim .served-lines);
+            ci-is = λ j. subst (λ (es : List (Made edits)). sim .ci j ≡ inserts (mine j (order (applies l es h) j))) (sym missing-first) (sim .ci-is j);
+            si-is = λ j. subst (λ (es : List (Made edits)). sim .si j ≡ inserts (mine j (applies l es h .served))) (sym missing-first) (sim .si-is j);
+            client-small = λ j.
+                at-line (λ i v (y : Unit {0}) (z : Unit {0}) (k : Unit {0}). All Small (v .pending)) l (takes x (E .clients l)) tt tt tt
+                (E .clients) (λ i. tt) (λ i. tt) (λ i. tt) j (small-taken x (E .clients l) (sim .client-small l)) (sim .client-small j);
+            server-small = sim .server-small;
+          }
