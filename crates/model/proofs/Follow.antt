@@ -1,19 +1,20 @@
 -- Each call of the sheet is a step of the theory, or was refused and is none.
 use mathlib.Core.Path.{_≡_, refl, ap, ap₂, sym, _∙_, subst}
 use mathlib.Core.Bool.{Bool, true, false, _&&_, cond}
-use mathlib.Core.List.{List, [], _∷_, _++_, map, append-nil, append-assoc}
+use mathlib.Core.List.{List, [], _∷_, _++_, map, append-nil, append-assoc, map-append}
 use Prim.Native.Nat.{ℕ, zero, suc, _+_, _-_, _≤_, _<_}
 use native.Mathlib.Numerals.{add-one}
 use native.Mathlib.Omega.{arith}
 use lib.Dec.{T, eqb, leb, ltb}
 use lib.ListN.{length, getD, drop, length-append}
+use lib.Seq.{getD-append-seam}
 use borrow.Author.Tests.{eqb-true, ne-eqb, eq-eqb, leb-true, ltb-true}
 use Rattle.ot.specs.declared.Edit.{Edit}
 use Rattle.ot.specs.Edit.{applied, fits}
 use Rattle.wire.specs.declared.Header.{Header}
 use Rattle.wire.specs.Message.{inRange}
 use Rattle.jupiter.specs.Made.{Made, holds, select, reject, isBy, mine, others}
-use Rattle.jupiter.specs.Form.{form, inOrder}
+use Rattle.jupiter.specs.Form.{Last, allInside, outside, lastOutside, formBy, formIn, form, inOrder}
 use Rattle.jupiter.specs.Point.{blank, own, oth, ownForm, othForm, point}
 use Rattle.jupiter.specs.History.{History, at, order, madeBy, missing, newEdit, makes, afterEdit, serves, afterUp, applies, afterDown}
 use Rattle.jupiter.specs.Ends as ends
@@ -25,7 +26,7 @@ use Rattle.jupiter.proofs.Lists.{All, all-append, all-map}
 use Rattle.jupiter.proofs.Forms.{Inside, form-made}
 use Rattle.jupiter.proofs.Line.{LineAt, set-is, down-made, down-arrives}
 use Rattle.jupiter.proofs.Extend.{new-form}
-use Rattle.jupiter.proofs.World.{Inv, arrives, first-missing, mine-served, others-served}
+use Rattle.jupiter.proofs.World.{Inv, arrives, first-missing, first-untaken, mine-served, others-served}
 use Rattle.jupiter.proofs.Step.{Later, Step, step-edit, step-up, step-down, step-ack-up, step-ack-down, UpMessage, DownMessage}
 use Rattle.jupiter.proofs.Size.{inserts-append}
 use Rattle.jupiter.proofs.Theorem.{Fine, fine-later}
@@ -39,6 +40,7 @@ use Rattle.model.specs.Log as logs
 use Rattle.model.specs.Log.{Log, letterMessage, letterBytes, setOf, madeAt, takenAt, editLetter, ackLetter, hears, tookUp, tookDown, writes, refusedLog, log}
 use Rattle.model.specs.Run.{State, answered}
 use Rattle.model.specs.Ours.{End, client, server, ours}
+use Rattle.model.proofs.Cross.{inserts-transformed}
 use Rattle.model.proofs.Instance.{to-T, from-T, edit-laws, past-same, over-same}
 use Rattle.model.proofs.Small.{Small, small-past, small-over, all-drop}
 use Rattle.model.proofs.Sim.{clientFrom, serverFrom, lineFrom, LetterOk, OfLines, Sim, at-line, at-other, edited-from, taken-from, server-taken-from, server-acked-from}
@@ -84,6 +86,20 @@ client-count h (suc l) made a e = e
 small-taken : (x : Message edits) (v : ends.End edits) → All Small (v .pending) → All Small (takes x v .pending)
 small-taken x v a =
     subst (All Small) (over-same (x .edit) (drop (x .seen - v .acked) (v .pending))) (small-over (x .edit) (drop (x .seen - v .acked) (v .pending)) (all-drop Small (x .seen - v .acked) (v .pending) a))
+
+-- an edit is an insert in all its forms or in none
+formIn-inserts : (k : ℕ) (e : Made edits) (D : List (Made edits)) → insertsOf (formIn k e D) ≡ insertsOf (e .edit)
+unfolding formIn formBy
+formIn-inserts zero e D = refl
+formIn-inserts (suc k) e D = go (lastOutside (e .context) D) (λ D′. formIn-inserts k e D′)
+  where
+    go : (x : Last edits) → ((D′ : List (Made edits)) → insertsOf (formIn k e D′) ≡ insertsOf (e .edit)) → insertsOf (formBy (λ e′ D′. formIn k e′ D′) e x) ≡ insertsOf (e .edit)
+    go allInside ih = refl
+    go (outside before z after) ih = inserts-transformed (formIn k e (before ++ after)) (formIn k z (before ++ after)) ∙ ih (before ++ after)
+
+pub form-inserts : (e : Made edits) (D : List (Made edits)) → insertsOf (form e D) ≡ insertsOf (e .edit)
+unfolding form
+form-inserts e D = formIn-inserts (length D) e D
 
 -- every message stays one that can be taken
 letters-later : (items : List ℕ) (E E′ : Ends edits) (h h′ : History edits) → Inv items E h → Later E h E′ h′ → (xs : List (Letter edits))
@@ -266,3 +282,239 @@ module _ (n : ℕ) (items : List ℕ) (s : State ours) (sim : Sim n items s) whe
                 (E .clients) (λ i. tt) (λ i. tt) (λ i. tt) j (small-taken x (E .clients l) (sim .client-small l)) (sim .client-small j);
             server-small = sim .server-small;
           }
+
+    -- ---- the server takes a client's next edit
+
+    abbrev S : Server
+    S = serverFrom n (length items) (E .doc) (E .lines) (sim .si)
+
+    module _ (x : Message edits) (ok : UpMessage items E h l x) (next : x .number ≡ suc (E .lines l .taken)) (cur : E .lines l .acked ≤ x .seen) (sm : Small (x .edit))
+        (sound : soundServer (serverTaken S l (x .seen) (x .edit)) ≡ true) where
+      abbrev up-line : LineAt items l (order h l) (h .served) (h .applied l) (E .clients l) (E .lines l) (E .docs l)
+      up-line = sim .inv .lines l .line
+
+      abbrev a : Edit
+      a = arrived x (E .lines l)
+
+      abbrev lines′ : ℕ → ends.End edits
+      lines′ = at l (takes x (E .lines l)) (λ k. keeps a (E .lines k))
+
+      a-small : Small a
+      a-small =
+          subst Small (past-same (x .edit) (drop (x .seen - E .lines l .acked) (E .lines l .pending)))
+          (small-past (x .edit) (drop (x .seen - E .lines l .acked) (E .lines l .pending)) sm)
+
+      module _ (o : Made edits) (us : List (Made edits)) (split : h .untaken l ≡ o ∷ us) where
+        up-step : Step items E h (takingUp l x E) (serves l (o ∷ us) h)
+        up-step = subst (λ (r : List (Made edits)). Step items E h (takingUp l x E) (serves l r h)) split (step-up items edit-laws E h (sim .inv) l x ok next cur)
+
+        o-by : isBy l o ≡ true
+        o-by = subst (λ (r : List (Made edits)). All (λ y. isBy l y ≡ true) r) split (sim .inv .lines l .untaken-own) .0
+
+        o-not : (j : ℕ) → eqb l j ≡ false → isBy j o ≡ false
+        o-not j e = ne-eqb j (o .name .line) (λ z. differ (sym e ∙ eq-eqb l j (eqb-true l (o .name .line) o-by ∙ sym z)))
+          where
+            differ : false ≡ true → ⊥
+            differ q = let z : _≡_ {A = ℕ} 0 1 = cc in omega arith
+
+        -- the message's edit is the first that the server lacks
+        x-inserts : insertsOf (x .edit) ≡ insertsOf (o .edit)
+        x-inserts =
+            ap insertsOf (ok .edit) ∙ form-inserts (own l (order h l) (ok .index)) (point l (order h l) (ok .index) (x .seen))
+            ∙ ap (λ (y : Made edits). insertsOf (y .edit))
+            (ap (λ (i : ℕ). getD (mine l (order h l)) i blank) (omega (arith, ok .number, sim .inv .lines l .v-count))
+            ∙ ap (λ (r : List (Made edits)). getD (mine l (h .served ++ r)) (length (mine l (h .served))) blank) split
+            ∙ ap (λ (r : List (Made edits)). getD r (length (mine l (h .served))) blank) (L.select-in (isBy l) blank (h .served) o us o-by)
+            ∙ getD-append-seam (mine l (h .served)) o (mine l us) blank)
+
+        takes-split : Sim n items (record {
+          ends = at 0 (server (serverTaken S l (x .seen) (x .edit))) (s .ends);
+          messages = s .messages;
+          passed = s .passed ++ ((E .lines l .made - x .seen) ∷ []);
+          recorded = record {
+            history = serves l (o ∷ us) h;
+            shown = logs.shows w 0 (logs.first (o ∷ us));
+            heard = at l (x .seen) (w .heard);
+            letters = w .letters;
+            passed = w .passed ++ ((madeAt h 0 l - x .seen) ∷ []);
+          };
+        })
+        unfolding serves setOf madeAt
+        takes-split =
+            record {
+              E = takingUp l x E;
+              ci = sim .ci;
+              si = at l (sim .si l + insertsOf (x .edit)) (sim .si);
+              inv = up-step .inv;
+              server-is = ap server (server-taken-from n (length items) (E .doc) (E .lines) (sim .si) l lo hi x);
+              client-is = λ j b c. at-other 0 (server (serverTaken S l (x .seen) (x .edit))) (s .ends) j (λ z. omega arith) ∙ sim .client-is j b c;
+              server-sound = ap soundServer (sym (server-taken-from n (length items) (E .doc) (E .lines) (sim .si) l lo hi x)) ∙ sound;
+              client-sound = sim .client-sound;
+              server-shown = ap₂ applied (sym (arrives items edit-laws E h (sim .inv) l x ok next cur o us split)) (sim .server-shown);
+              client-shown = λ j b c. at-other 0 (applied (form o (h .served)) (w .shown 0)) (w .shown) j (λ z. omega arith) ∙ sim .client-shown j b c;
+              heard = λ j.
+                  at-line (λ i k v (y : Unit {0}) (z : Unit {0}). k ≡ v .acked) l (x .seen) (takes x (E .lines l)) tt tt (w .heard) (λ k. keeps a (E .lines k)) (λ i. tt) (λ i. tt) j
+                  refl (sim .heard j);
+              messages = sim .messages;
+              letters = letters-later items E (takingUp l x E) h (serves l (o ∷ us) h) (sim .inv) (up-step .later) (w .letters) (sim .letters);
+              passed =
+                  ap₂ (λ (ks : List ℕ) (k : ℕ). ks ++ ((k - x .seen) ∷ [])) (sim .passed)
+                  (up-line .v-made ∙ ap length (others-served l (h .served) (h .untaken l) (sim .inv .lines l .untaken-own)));
+              taken = sim .taken;
+              served-lines =
+                  all-append (OfLines n) (h .served) (o ∷ []) (sim .served-lines)
+                  (let z : l ≡ o .name .line = eqb-true l (o .name .line) o-by in (omega arith, omega arith), tt);
+              ci-is = λ j. client-inserts j (eqb l j) refl;
+              si-is = λ j. server-inserts j (eqb l j) refl;
+              client-small = sim .client-small;
+              server-small = λ j.
+                  at-line (λ i v (y : Unit {0}) (z : Unit {0}) (k : Unit {0}). All Small (v .pending)) l (takes x (E .lines l)) tt tt tt
+                  (λ k. keeps a (E .lines k)) (λ i. tt) (λ i. tt) (λ i. tt) j (small-taken x (E .lines l) (sim .server-small l))
+                  (all-append Small (E .lines j .pending) (a ∷ []) (sim .server-small j) (a-small, tt));
+            }
+          where
+            client-inserts : (j : ℕ) (b : Bool) → eqb l j ≡ b → sim .ci j ≡ inserts (mine j ((h .served ++ (o ∷ [])) ++ cond b us (h .untaken j)))
+            client-inserts j true e =
+                sim .ci-is j
+                ∙ ap (λ (r : List (Made edits)). inserts (mine j (h .served ++ r))) (ap (h .untaken) (sym (eqb-true l j e)) ∙ split)
+                ∙ ap (λ (r : List (Made edits)). inserts (mine j r)) (sym (append-assoc (h .served) (o ∷ []) us))
+            client-inserts j false e =
+                sim .ci-is j
+                ∙ ap inserts (sym (L.select-out (isBy j) blank (h .served) o (h .untaken j) (o-not j e)))
+                ∙ ap (λ (r : List (Made edits)). inserts (mine j r)) (sym (append-assoc (h .served) (o ∷ []) (h .untaken j)))
+            server-inserts : (j : ℕ) (b : Bool) → eqb l j ≡ b → cond b (sim .si l + insertsOf (x .edit)) (sim .si j) ≡ inserts (mine j (h .served ++ (o ∷ [])))
+            server-inserts j true e =
+                subst (λ (i : ℕ). sim .si l + insertsOf (x .edit) ≡ inserts (mine i (h .served ++ (o ∷ [])))) (eqb-true l j e)
+                (omega (arith, sim .si-is l, x-inserts, inserts-one-more l (h .served) o o-by))
+            server-inserts j false e =
+                sim .si-is j ∙ ap (λ (r : List (Made edits)). inserts (mine j r)) (sym (append-nil (h .served))) ∙ ap inserts (sym (L.select-out (isBy j) blank (h .served) o [] (o-not j e)))
+
+      pub takes-up : Sim n items (record {
+        ends = at 0 (server (serverTaken S l (x .seen) (x .edit))) (s .ends);
+        messages = s .messages;
+        passed = s .passed ++ ((E .lines l .made - x .seen) ∷ []);
+        recorded = tookUp w l (x .seen);
+      })
+      takes-up =
+          first-untaken items edit-laws E h (sim .inv) l x ok next cur (h .untaken l) refl
+          (λ r. Sim n items (record {
+            ends = at 0 (server (serverTaken S l (x .seen) (x .edit))) (s .ends);
+            messages = s .messages;
+            passed = s .passed ++ ((E .lines l .made - x .seen) ∷ []);
+            recorded = record {
+              history = serves l r h;
+              shown = logs.shows w 0 (logs.first r);
+              heard = at l (x .seen) (w .heard);
+              letters = w .letters;
+              passed = w .passed ++ ((madeAt h 0 l - x .seen) ∷ []);
+            };
+          }))
+          takes-split
+
+    -- ---- acknowledgements
+
+    module _ (seen : ℕ) (low : E .clients l .acked ≤ seen) (made : seen ≤ E .lines l .taken) (sound : soundClient (clientAcked C seen) ≡ true) where
+      acked-down : Step items E h (ackingDown l seen E) h
+      acked-down = step-ack-down items E h (sim .inv) l seen low made
+
+      pub acks-down : Sim n items (record {
+        ends = at l (client (clientAcked C seen)) (s .ends);
+        messages = s .messages;
+        passed = s .passed ++ (0 ∷ []);
+        recorded = hears w (w .heard);
+      })
+      acks-down =
+          record {
+            E = ackingDown l seen E;
+            ci = sim .ci;
+            si = sim .si;
+            inv = acked-down .inv;
+            server-is = at-other l (client (clientAcked C seen)) (s .ends) 0 (λ z. omega arith) ∙ sim .server-is;
+            client-is = λ j b c.
+                at-line (λ i y v (d : Unit {0}) (k : Unit {0}). y ≡ client (clientFrom n i v (E .docs i) (sim .ci i))) l (client (clientAcked C seen)) (acks seen (E .clients l)) tt tt
+                (s .ends) (E .clients) (λ i. tt) (λ i. tt) j refl (sim .client-is j b c);
+            server-sound = sim .server-sound;
+            client-sound = λ j b c.
+                at-line (λ i v (y : Unit {0}) (d : Unit {0}) (k : Unit {0}). soundClient (clientFrom n i v (E .docs i) (sim .ci i)) ≡ true) l (acks seen (E .clients l)) tt tt tt
+                (E .clients) (λ i. tt) (λ i. tt) (λ i. tt) j sound (sim .client-sound j b c);
+            server-shown = sim .server-shown;
+            client-shown = sim .client-shown;
+            heard = sim .heard;
+            messages = sim .messages;
+            letters = letters-later items E (ackingDown l seen E) h h (sim .inv) (acked-down .later) (w .letters) (sim .letters);
+            passed = ap (λ (ks : List ℕ). ks ++ (0 ∷ [])) (sim .passed);
+            taken = λ j.
+                at-line (λ i v (y : Unit {0}) (d : Unit {0}) (k : Unit {0}). length (others i (h .applied i)) ≡ v .taken) l (acks seen (E .clients l)) tt tt tt
+                (E .clients) (λ i. tt) (λ i. tt) (λ i. tt) j (sim .taken l) (sim .taken j);
+            served-lines = sim .served-lines;
+            ci-is = sim .ci-is;
+            si-is = sim .si-is;
+            client-small = λ j.
+                at-line (λ i v (y : Unit {0}) (d : Unit {0}) (k : Unit {0}). All Small (v .pending)) l (acks seen (E .clients l)) tt tt tt
+                (E .clients) (λ i. tt) (λ i. tt) (λ i. tt) j (all-drop Small (seen - E .clients l .acked) (E .clients l .pending) (sim .client-small l)) (sim .client-small j);
+            server-small = sim .server-small;
+          }
+
+    module _ (seen : ℕ) (low : E .lines l .acked ≤ seen) (made : seen ≤ E .clients l .taken) (sound : soundServer (serverAcked S l seen) ≡ true) where
+      acked-up : Step items E h (ackingUp l seen E) h
+      acked-up = step-ack-up items E h (sim .inv) l seen low made
+
+      pub acks-up : Sim n items (record {
+        ends = at 0 (server (serverAcked S l seen)) (s .ends);
+        messages = s .messages;
+        passed = s .passed ++ (0 ∷ []);
+        recorded = hears w (at l seen (w .heard));
+      })
+      acks-up =
+          record {
+            E = ackingUp l seen E;
+            ci = sim .ci;
+            si = sim .si;
+            inv = acked-up .inv;
+            server-is = ap server (server-acked-from n (length items) (E .doc) (E .lines) (sim .si) l lo hi seen);
+            client-is = λ j b c. at-other 0 (server (serverAcked S l seen)) (s .ends) j (λ z. omega arith) ∙ sim .client-is j b c;
+            server-sound = ap soundServer (sym (server-acked-from n (length items) (E .doc) (E .lines) (sim .si) l lo hi seen)) ∙ sound;
+            client-sound = sim .client-sound;
+            server-shown = sim .server-shown;
+            client-shown = sim .client-shown;
+            heard = λ j.
+                at-line (λ i k v (y : Unit {0}) (z : Unit {0}). k ≡ v .acked) l seen (acks seen (E .lines l)) tt tt (w .heard) (E .lines) (λ i. tt) (λ i. tt) j refl (sim .heard j);
+            messages = sim .messages;
+            letters = letters-later items E (ackingUp l seen E) h h (sim .inv) (acked-up .later) (w .letters) (sim .letters);
+            passed = ap (λ (ks : List ℕ). ks ++ (0 ∷ [])) (sim .passed);
+            taken = sim .taken;
+            served-lines = sim .served-lines;
+            ci-is = sim .ci-is;
+            si-is = sim .si-is;
+            client-small = sim .client-small;
+            server-small = λ j.
+                at-line (λ i v (y : Unit {0}) (d : Unit {0}) (k : Unit {0}). All Small (v .pending)) l (acks seen (E .lines l)) tt tt tt
+                (E .lines) (λ i. tt) (λ i. tt) (λ i. tt) j (all-drop Small (seen - E .lines l .acked) (E .lines l .pending) (sim .server-small l)) (sim .server-small j);
+          }
+
+  -- ---- a message is written
+  pub writes-on : (x : Letter edits) → LetterOk items (sim .E) h x
+      → Sim n items (record { ends = s .ends; messages = s .messages ++ (letterBytes x ∷ []); passed = s .passed; recorded = writes w x })
+  writes-on x ok =
+      record {
+        E = sim .E;
+        ci = sim .ci;
+        si = sim .si;
+        inv = sim .inv;
+        server-is = sim .server-is;
+        client-is = sim .client-is;
+        server-sound = sim .server-sound;
+        client-sound = sim .client-sound;
+        server-shown = sim .server-shown;
+        client-shown = sim .client-shown;
+        heard = sim .heard;
+        messages = ap (λ (ms : List (List ℕ)). ms ++ (letterBytes x ∷ [])) (sim .messages) ∙ sym (map-append letterBytes (w .letters) (x ∷ []));
+        letters = all-append (LetterOk items (sim .E) h) (w .letters) (x ∷ []) (sim .letters) (ok, tt);
+        passed = sim .passed;
+        taken = sim .taken;
+        served-lines = sim .served-lines;
+        ci-is = sim .ci-is;
+        si-is = sim .si-is;
+        client-small = sim .client-small;
+        server-small = sim .server-small;
+      }
