@@ -9,6 +9,9 @@ pub mod Instance
 pub mod Small
 pub mod Sim
 pub mod Follow
+pub mod Outcome
+pub mod Ranges
+pub mod Calls
 pub mod Wrong
 pub mod Computing
 pub mod Marked

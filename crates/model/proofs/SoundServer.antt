@@ -319,3 +319,14 @@ server-acked-sound s line seen f l1 ln q7 q8 =
           (acked-lines (s .n) (takenSum vs) 1 (line - 1) seen vs (f .lines) q7 q8);
       inserted = omega (arith, more, f .inserted);
     }
+
+-- the facts of one line
+pub lines-get : (n sum l : ℕ) (vs : List Line) → LinesFacts n sum l vs → (i : ℕ) → i < length vs → LineFacts n sum (l + i) (getD vs i noLine)
+lines-get n sum l [] f i lt = absurd (omega arith)
+lines-get n sum l (v ∷ vs) f zero lt = subst (λ (k : ℕ). LineFacts n sum k v) (omega arith) (f .0)
+lines-get n sum l (v ∷ vs) f (suc i) lt = subst (λ (k : ℕ). LineFacts n sum k (getD vs i noLine)) (omega arith) (lines-get n sum (suc l) vs (f .1) i (omega arith))
+
+pub line-fact : (s : Server) → ServerFacts s → (l : ℕ) → 1 ≤ l → l ≤ s .n → LineFacts (s .n) (takenSum (s .lines)) l (lineOf s l)
+line-fact s f l a b =
+    subst (λ (k : ℕ). LineFacts (s .n) (takenSum (s .lines)) k (lineOf s l)) (omega arith)
+    (lines-get (s .n) (takenSum (s .lines)) 1 (s .lines) (f .lines) (l - 1) (omega (arith, f .count)))
