@@ -184,3 +184,91 @@ module _ (n : ℕ) (items : List ℕ) (s : State ours) (sim : Sim n items s) whe
         → Sim n items (answered ours s l c (answerAs client a))
     take-junk c a (outcomes.Outcome.no r) quiet = turned-down l c (asks (ask 2 (soundClient C) ∷ ask 3 false ∷ [])) (client C) r (sim .client-is l lo hi) quiet
     take-junk c a (outcomes.Outcome.yes r) quiet = never (yes-all (ask 2 (soundClient C) ∷ ask 3 false ∷ []) (omega arith) r .1 .0)
+
+  -- ---- at the server
+  abbrev S : Server
+  S = serverFrom n (length items) (E .doc) (E .lines) (sim .si)
+
+  -- what the server asks of line k is what it keeps of it
+  line-of : (k : ℕ) → 1 ≤ k → k ≤ n → lineOf S k ≡ lineFrom (E .lines k) (sim .si k)
+  line-of k a b = line-from n (length items) (E .doc) (E .lines) (sim .si) k a b
+
+  serve-edit : (c : Call) (m : ends.Message edits) (k : ℕ) (direction : ℕ) → inRange (messageOf (record { line = k; direction = direction; number = m .number; seen = m .seen }) (m .edit)) ≡ true
+      → (direction ≡ 0 → UpMessage items E h k m) → (direction ≡ 0 → logged w c ≡ tookUp w k (m .seen))
+      → refusedLog w c ≡ hears w (w .heard)
+      → (a : Answer Server)
+      → Outcome (asks (serverEditQuestions S (record { line = k; direction = direction; number = m .number; seen = m .seen }) (m .edit))) S (serverTaken S k (m .seen) (m .edit)) (lineOf S k .made - m .seen) a
+      → soundServer (a .end) ≡ true → Sim n items (answered ours s 0 c (answerAs server a))
+  unfolding log
+  serve-edit c m k direction range fine made quiet a (outcomes.Outcome.no r) ok =
+      turned-down 0 c (asks (serverEditQuestions S (record { line = k; direction = direction; number = m .number; seen = m .seen }) (m .edit))) (server S) r (sim .server-is) quiet
+  serve-edit c m k direction range fine made quiet a (outcomes.Outcome.yes r) ok =
+      let hd : Header = record { line = k; direction = direction; number = m .number; seen = m .seen } in
+      let y = yes-all (serverEditQuestions S hd (m .edit)) (omega arith) r in
+      let q4 = three (eqb direction 0) (between 1 n k) (priority (eqb k) (m .edit)) (y .1 .0) in
+      let up-way : direction ≡ 0 = eqb-true direction 0 (q4 .0) in
+      let there = between-true 1 n k (q4 .1) in
+      let same = line-of k (there .0) (there .1) in
+      let number : m .number ≡ suc (E .lines k .taken) =
+            eqb-true (m .number) (lineOf S k .taken + 1) (y .1 .1 .1 .0) ∙ add-one (lineOf S k .taken) ∙ ap (λ (v : Line). suc (v .taken)) same in
+      let low : E .lines k .acked ≤ m .seen = subst (λ (v : Line). v .acked ≤ m .seen) same (leb-true (lineOf S k .acked) (m .seen) (y .1 .1 .1 .1 .0)) in
+      subst (λ (v : Line). Sim n items (record { ends = at 0 (server (serverTaken S k (m .seen) (m .edit))) (s .ends); messages = s .messages; passed = s .passed ++ ((v .made - m .seen) ∷ []); recorded = logged w c }))
+      (sym same)
+      (subst (λ (z : Log). Sim n items (record { ends = at 0 (server (serverTaken S k (m .seen) (m .edit))) (s .ends); messages = s .messages; passed = s .passed ++ ((E .lines k .made - m .seen) ∷ []); recorded = z }))
+      (sym (made up-way))
+      (takes-up n items s sim k (there .0) (there .1) m (fine up-way) number low (small-range hd (m .edit) range) ok))
+
+  serve-ack : (c : Call) (k direction seen : ℕ) → (direction ≡ 0 → seen ≤ E .clients k .taken) → (direction ≡ 0 → logged w c ≡ hears w (at k seen (w .heard))) → refusedLog w c ≡ hears w (w .heard)
+      → (a : Answer Server) → Outcome (asks (serverAckQuestions S k direction seen)) S (serverAcked S k seen) 0 a → soundServer (a .end) ≡ true
+      → Sim n items (answered ours s 0 c (answerAs server a))
+  unfolding log
+  serve-ack c k direction seen fine made quiet a (outcomes.Outcome.no r) ok = turned-down 0 c (asks (serverAckQuestions S k direction seen)) (server S) r (sim .server-is) quiet
+  serve-ack c k direction seen fine made quiet a (outcomes.Outcome.yes r) ok =
+      let y = yes-all (serverAckQuestions S k direction seen) (omega arith) r in
+      let up-way : direction ≡ 0 = eqb-true direction 0 (and-left (eqb direction 0) (between 1 n k) (y .1 .0)) in
+      let there = between-true 1 n k (and-right (eqb direction 0) (between 1 n k) (y .1 .0)) in
+      let low : E .lines k .acked ≤ seen = subst (λ (v : Line). v .acked ≤ seen) (line-of k (there .0) (there .1)) (leb-true (lineOf S k .acked) seen (y .1 .1 .0)) in
+      subst (λ (z : Log). Sim n items (record { ends = at 0 (server (serverAcked S k seen)) (s .ends); messages = s .messages; passed = s .passed ++ (0 ∷ []); recorded = z })) (sym (made up-way))
+      (acks-up n items s sim k (there .0) (there .1) seen low (fine up-way) ok)
+
+  serve-letter : (c : Call) (x : Letter edits) → LetterOk items E h x → logged w c ≡ took w 0 (some x) → refusedLog w c ≡ hears w (w .heard)
+      → Sim n items (answered ours s 0 c (answerAs server (serverTakes S (letterMessage x))))
+  unfolding took serverTakesEdit serverTakesAck
+  serve-letter c (up k m) ok made quiet =
+      let hd : Header = record { line = k; direction = 0; number = m .number; seen = m .seen } in
+      subst (λ (a : Answer Server). Sim n items (answered ours s 0 c (answerAs server a))) (sym (server-message S hd (m .edit)))
+      (serve-edit c m k 0 (ok .1) (λ e. ok .0) (λ e. made) quiet (serverTakesEdit S hd (m .edit))
+      (outcome (asks (serverEditQuestions S hd (m .edit))) S (serverTaken S k (m .seen) (m .edit)) (lineOf S k .made - m .seen))
+      (server-takes-edit S hd (m .edit) (header-range hd (m .edit) (ok .1)) (sim .server-sound)))
+  serve-letter c (down k m) ok made quiet =
+      let hd : Header = record { line = k; direction = 1; number = m .number; seen = m .seen } in
+      subst (λ (a : Answer Server). Sim n items (answered ours s 0 c (answerAs server a))) (sym (server-message S hd (m .edit)))
+      (serve-edit c m k 1 (ok .1) (λ e. absurd (omega arith)) (λ e. absurd (omega arith)) quiet (serverTakesEdit S hd (m .edit))
+      (outcome (asks (serverEditQuestions S hd (m .edit))) S (serverTaken S k (m .seen) (m .edit)) (lineOf S k .made - m .seen))
+      (server-takes-edit S hd (m .edit) (header-range hd (m .edit) (ok .1)) (sim .server-sound)))
+  serve-letter c (upAck k seen) ok made quiet =
+      serve-ack c k 0 seen (λ e. ok .0) (λ e. made) quiet (serverTakesAck S k 0 seen) (outcome (asks (serverAckQuestions S k 0 seen)) S (serverAcked S k seen) 0) (server-takes-ack S k 0 seen (sim .server-sound))
+  serve-letter c (downAck k seen) ok made quiet =
+      serve-ack c k 1 seen (λ e. absurd (omega arith)) (λ e. absurd (omega arith)) quiet (serverTakesAck S k 1 seen) (outcome (asks (serverAckQuestions S k 1 seen)) S (serverAcked S k seen) 0) (server-takes-ack S k 1 seen (sim .server-sound))
+
+  serve-junk : (c : Call) (a : Answer Server) → Outcome (asks (ask 2 (soundServer S) ∷ ask 3 false ∷ [])) S S 0 a → refusedLog w c ≡ hears w (w .heard)
+      → Sim n items (answered ours s 0 c (answerAs server a))
+  serve-junk c a (outcomes.Outcome.no r) quiet = turned-down 0 c (asks (ask 2 (soundServer S) ∷ ask 3 false ∷ [])) (server S) r (sim .server-is) quiet
+  serve-junk c a (outcomes.Outcome.yes r) quiet = never (yes-all (ask 2 (soundServer S) ∷ ask 3 false ∷ []) (omega arith) r .1 .0)
+
+  -- ---- sending
+
+  -- a sending writes the letter of the definitions, or nothing
+  post : (c : Call) (r : ℕ) (bytes lent : List ℕ) (x : Letter edits) → logged w c ≡ writes w x → refusedLog w c ≡ w → (r ≡ 0 → LetterOk items E h x × (bytes ≡ letterBytes x))
+      → (a : Sent) → Posted r bytes lent a → Sim n items (written ours s c a)
+  unfolding log
+  post c r bytes lent x made quiet ok a (outcomes.Posted.no d) =
+      subst (λ (z : Log). Sim n items (record { ends = s .ends; messages = cond (eqb r 0) (s .messages ++ (take 0 lent ∷ [])) (s .messages); passed = s .passed; recorded = z }))
+      (sym (log-no w c r d ∙ quiet))
+      (subst (λ (b : Bool). Sim n items (record { ends = s .ends; messages = cond b (s .messages ++ (take 0 lent ∷ [])) (s .messages); passed = s .passed; recorded = w }))
+      (sym (ne-eqb r 0 d)) sim)
+  post c r bytes lent x made quiet ok a (outcomes.Posted.yes z) =
+      subst (λ (y : Log). Sim n items (record { ends = s .ends; messages = s .messages ++ (take (length bytes) (bytes ++ drop (length bytes) lent) ∷ []); passed = s .passed; recorded = y }))
+      (sym made)
+      (subst (λ (b : List ℕ). Sim n items (record { ends = s .ends; messages = s .messages ++ (b ∷ []); passed = s .passed; recorded = writes w x }))
+      (sym (take-append-seam bytes (drop (length bytes) lent) ∙ ok z .1)) (writes-on n items s sim x (ok z .0)))
