@@ -1,11 +1,12 @@
 -- Every call of a list of calls keeps the sheet with the theory.
 use mathlib.Core.Path.{_≡_, refl, ap, ap₂, sym, _∙_, subst}
 use mathlib.Core.Bool.{Bool, true, false, not, _&&_, cond}
-use mathlib.Core.Option.{Option, none, some, Option·some-injective}
+use mathlib.Core.Option.{Option, none, some}
 use mathlib.Core.List.{List, [], _∷_, _++_, map}
 use Prim.Native.Nat.{ℕ, zero, suc, _+_, _-_, _≤_, _<_}
 use native.Mathlib.Numerals.{add-one}
 use native.Mathlib.Omega.{arith}
+use native.Mathlib.Nat.{le-refl}
 use lib.Dec.{T, eqb, leb, ltb}
 use lib.ListN.{length, getD, take, drop, getElem?}
 use lib.Seq.{take-append-seam}
@@ -45,7 +46,7 @@ use Rattle.model.specs.Run.{State, answered, written, handed, call, call
 use Rattle.model.specs.Ours.{End, client, server, answerAs, insertAt, deleteAt, sendAt, tellAt, takeAt, ours}
 use Rattle.model.proofs.Tests.{both, and-left, and-right, Yes, yes-all, between-true, true-between}
 use Rattle.model.proofs.SoundClient.{ClientFacts, client-facts}
-use Rattle.model.proofs.SoundServer.{ServerFacts, server-facts, LineFacts, line-fact, takenSum}
+use Rattle.model.proofs.SoundServer.{ServerFacts, server-facts, LineFacts, line-fact, made-most, takenSum}
 use Rattle.model.proofs.Sound.{three, new-end, edits-sound, client-takes-edit, client-takes-ack, server-takes-edit, server-takes-ack}
 use Rattle.model.proofs.Small.{Small, all-get}
 use Rattle.model.proofs.Outcome as outcomes
@@ -83,6 +84,27 @@ small-range : (h : Header) (e : Edit) → inRange (messageOf h e) ≡ true → S
 small-range h Nothing r = refl
 small-range h (Delete p) r = refl
 small-range h (Insert p x q) r = le-leb x 4294967295 (insert-bounds h p x q r .item-high)
+
+-- the letters of a client's and of the server's sending
+client-edit-letter : (h : History edits) (l line k t : ℕ) → 1 ≤ l → length (others l (h .applied l)) ≡ t
+    → editLetter h l line k ≡ up l (record { number = k; seen = t; edit = ownForm l (order h l) (k - 1) t })
+unfolding editLetter takenAt
+client-edit-letter h zero line k t a e = absurd (omega arith)
+client-edit-letter h (suc l) line k t a e = ap (λ (i : ℕ). up (suc l) (record { number = k; seen = i; edit = ownForm (suc l) (order h (suc l)) (k - 1) i })) e
+
+client-ack-letter : (h : History edits) (l line t : ℕ) → 1 ≤ l → length (others l (h .applied l)) ≡ t → ackLetter h l line ≡ upAck l t
+unfolding ackLetter takenAt
+client-ack-letter h zero line t a e = absurd (omega arith)
+client-ack-letter h (suc l) line t a e = ap (upAck (suc l)) e
+
+server-edit-letter : (h : History edits) (line k t : ℕ) → length (mine line (h .served)) ≡ t
+    → editLetter h 0 line k ≡ down line (record { number = k; seen = t; edit = othForm line (order h line) t (k - 1) })
+unfolding editLetter takenAt
+server-edit-letter h line k t e = ap (λ (i : ℕ). down line (record { number = k; seen = i; edit = othForm line (order h line) i (k - 1) })) e
+
+server-ack-letter : (h : History edits) (line t : ℕ) → length (mine line (h .served)) ≡ t → ackLetter h 0 line ≡ downAck line t
+unfolding ackLetter takenAt
+server-ack-letter h line t e = ap (downAck line) e
 
 module _ (n : ℕ) (items : List ℕ) (s : State ours) (sim : Sim n items s) where
   abbrev w : Log
@@ -272,3 +294,212 @@ module _ (n : ℕ) (items : List ℕ) (s : State ours) (sim : Sim n items s) whe
       (sym made)
       (subst (λ (b : List ℕ). Sim n items (record { ends = s .ends; messages = s .messages ++ (b ∷ []); passed = s .passed; recorded = writes w x }))
       (sym (take-append-seam bytes (drop (length bytes) lent) ∙ ok z .1)) (writes-on n items s sim x (ok z .0)))
+
+  -- client l sends edit number k
+  module _ (l : ℕ) (lo : 1 ≤ l) (hi : l ≤ n) where
+    abbrev F : ClientFacts (clientFrom n l (E .clients l) (E .docs l) (sim .ci l))
+    F = client-facts (clientFrom n l (E .clients l) (E .docs l) (sim .ci l)) (sim .client-sound l lo hi)
+
+    module _ (k : ℕ) (low : E .clients l .acked < k) (high : k ≤ E .clients l .made) where
+      pub up-is : (line : ℕ) → editLetter h l line k ≡ up l (ends.message k (E .clients l))
+      up-is line =
+          let ok = up-message items E h (sim .inv) l k low high in
+          client-edit-letter h l line k (E .clients l .taken) lo (sim .taken l)
+          ∙ ap (λ (e : Edit). up l (record { number = k; seen = E .clients l .taken; edit = e }))
+          (ap (λ (i : ℕ). ownForm l (order h l) i (E .clients l .taken)) (omega (arith, ok .number)) ∙ sym (ok .edit))
+
+      pub up-bytes : bytesOf (clientMessage (clientFrom n l (E .clients l) (E .docs l) (sim .ci l)) k) ≡ letterBytes (up l (ends.message k (E .clients l)))
+      up-bytes =
+          ap (λ (i : ℕ). bytesOf (messageOf (record { line = l; direction = 0; number = k; seen = E .clients l .taken }) (getD (E .clients l .pending) (k - i) Nothing))) (add-one (E .clients l .acked))
+
+      pub up-ok : LetterOk items E h (up l (ends.message k (E .clients l)))
+      up-ok =
+          let place : k - suc (E .clients l .acked) < length (E .clients l .pending) = omega (arith, F .count) in
+          (up-message items E h (sim .inv) l k low high,
+          fits-range (record { line = l; direction = 0; number = k; seen = E .clients l .taken }) (getD (E .clients l .pending) (k - suc (E .clients l .acked)) Nothing) (eqb l)
+          (up-range l k (E .clients l .taken) lo (omega (arith, F .lines .1)) (omega arith) (omega (arith, F .made)) (F .taken))
+          (placed-get (E .clients l .pending) (k - suc (E .clients l .acked)) place (F .placed))
+          (priority-get (eqb l) (E .clients l .pending) (k - suc (E .clients l .acked)) place (F .priorities))
+          (λ r e. let z : l ≡ r = eqb-true l r e in (omega arith, omega (arith, F .lines .1)))
+          (all-get Small (E .clients l .pending) (k - suc (E .clients l .acked)) Nothing place (sim .client-small l)))
+
+    client-sends : (line k : ℕ) (lent : List ℕ) → Sim n items (written ours s (send l line k lent) (sendClient (clientFrom n l (E .clients l) (E .docs l) (sim .ci l)) line k lent))
+    unfolding sendClient logged refusedLog
+    client-sends line k lent =
+        let C = clientFrom n l (E .clients l) (E .docs l) (sim .ci l) in
+        post (send l line k lent) (asks (sendClientQuestions C line k lent)) (bytesOf (clientMessage C k)) lent (editLetter h l line k) refl refl
+        (λ z.
+          let y = yes-all (sendClientQuestions C line k lent) (omega arith) z in
+          let q13 = between-true (E .clients l .acked + 1) (E .clients l .made) k (y .1 .1 .0) in
+          let low : E .clients l .acked < k = omega arith in
+          (subst (LetterOk items E h) (sym (up-is k low (q13 .1) line)) (up-ok k low (q13 .1)), up-bytes k low (q13 .1) ∙ ap letterBytes (sym (up-is k low (q13 .1) line))))
+        (sendClient C line k lent) (posted (asks (sendClientQuestions C line k lent)) (bytesOf (clientMessage C k)) lent)
+
+    client-tells : (line : ℕ) (lent : List ℕ) → Sim n items (written ours s (tell l line lent) (tellClient (clientFrom n l (E .clients l) (E .docs l) (sim .ci l)) line lent))
+    unfolding tellClient logged refusedLog
+    client-tells line lent =
+        let C = clientFrom n l (E .clients l) (E .docs l) (sim .ci l) in
+        let is = client-ack-letter h l line (E .clients l .taken) lo (sim .taken l) in
+        post (tell l line lent) (asks (tellClientQuestions C line lent)) (bytesOf (message.Ack l 0 (E .clients l .taken))) lent (ackLetter h l line) refl refl
+        (λ z.
+          (subst (LetterOk items E h) (sym is) (le-refl (E .clients l .taken), up-ack-range l (E .clients l .taken) lo (omega (arith, F .lines .1)) (F .taken)),
+          ap letterBytes (sym is)))
+        (tellClient C line lent) (posted (asks (tellClientQuestions C line lent)) (bytesOf (message.Ack l 0 (E .clients l .taken))) lent)
+
+  -- the server sends edit number k to client l
+  module _ (l : ℕ) (lo : 1 ≤ l) (hi : l ≤ n) where
+    abbrev G : ServerFacts S
+    G = server-facts S (sim .server-sound)
+
+    abbrev K : LineFacts n (takenSum (S .lines)) l (lineFrom (E .lines l) (sim .si l))
+    K = subst (λ (v : Line). LineFacts n (takenSum (S .lines)) l v) (line-of l lo hi) (line-fact S G l lo hi)
+
+    module _ (k : ℕ) (low : E .lines l .acked < k) (high : k ≤ E .lines l .made) where
+      pub down-is : editLetter h 0 l k ≡ down l (ends.message k (E .lines l))
+      down-is =
+          let ok = down-message items E h (sim .inv) l k low high in
+          server-edit-letter h l k (E .lines l .taken) (sym (sim .inv .lines l .v-count))
+          ∙ ap (λ (e : Edit). down l (record { number = k; seen = E .lines l .taken; edit = e }))
+          (ap (othForm l (order h l) (E .lines l .taken)) (omega (arith, ok .number)) ∙ sym (ok .edit))
+
+      pub down-bytes : bytesOf (serverMessage S l k) ≡ letterBytes (down l (ends.message k (E .lines l)))
+      down-bytes =
+          ap (λ (v : Line). bytesOf (messageOf (record { line = l; direction = 1; number = k; seen = v .taken }) (pendingAt (v .acked) (v .pending) k))) (line-of l lo hi)
+          ∙ ap (λ (i : ℕ). bytesOf (messageOf (record { line = l; direction = 1; number = k; seen = E .lines l .taken }) (getD (E .lines l .pending) (k - i) Nothing))) (add-one (E .lines l .acked))
+
+      pub down-ok : LetterOk items E h (down l (ends.message k (E .lines l)))
+      down-ok =
+          let place : k - suc (E .lines l .acked) < length (E .lines l .pending) = omega (arith, K .count) in
+          (down-message items E h (sim .inv) l k low high,
+          fits-range (record { line = l; direction = 1; number = k; seen = E .lines l .taken }) (getD (E .lines l .pending) (k - suc (E .lines l .acked)) Nothing) (other n l)
+          (down-range l k (E .lines l .taken) lo (omega (arith, G .n .1)) (omega arith) (omega (arith, subst (λ (v : Line). v .made ≤ 2800) (line-of l lo hi) (made-most S G l lo hi))) (K .taken))
+          (placed-get (E .lines l .pending) (k - suc (E .lines l .acked)) place (K .placed))
+          (priority-get (other n l) (E .lines l .pending) (k - suc (E .lines l .acked)) place (K .priorities))
+          (λ r e. let z = between-true 1 n r (and-left (between 1 n r) (not (eqb r l)) e) in (z .0, omega (arith, G .n .1)))
+          (all-get Small (E .lines l .pending) (k - suc (E .lines l .acked)) Nothing place (sim .server-small l)))
+
+    server-sends : (k : ℕ) (lent : List ℕ) → asks (sendServerQuestions S l k lent) ≡ 0 → LetterOk items E h (editLetter h 0 l k) × (bytesOf (serverMessage S l k) ≡ letterBytes (editLetter h 0 l k))
+    server-sends k lent z =
+        let y = yes-all (sendServerQuestions S l k lent) (omega arith) z in
+        let q13 = between-true (lineOf S l .acked + 1) (lineOf S l .made) k (y .1 .1 .0) in
+        let low : E .lines l .acked < k = subst (λ (v : Line). v .acked < k) (line-of l lo hi) (omega arith) in
+        let high : k ≤ E .lines l .made = subst (λ (v : Line). k ≤ v .made) (line-of l lo hi) (q13 .1) in
+        (subst (LetterOk items E h) (sym (down-is k low high)) (down-ok k low high), down-bytes k low high ∙ ap letterBytes (sym (down-is k low high)))
+
+    server-tells : LetterOk items E h (ackLetter h 0 l) × (bytesOf (message.Ack l 1 (lineOf S l .taken)) ≡ letterBytes (ackLetter h 0 l))
+    server-tells =
+        let is = server-ack-letter h l (E .lines l .taken) (sym (sim .inv .lines l .v-count)) in
+        (subst (LetterOk items E h) (sym is) (le-refl (E .lines l .taken), down-ack-range l (E .lines l .taken) lo (omega (arith, G .n .1)) (K .taken)),
+        ap (λ (v : Line). bytesOf (message.Ack l 1 (v .taken))) (line-of l lo hi) ∙ ap letterBytes (sym is))
+
+  server-posts : (line k : ℕ) (lent : List ℕ) → Sim n items (written ours s (send 0 line k lent) (sendServer S line k lent))
+  unfolding sendServer logged refusedLog
+  server-posts line k lent =
+      post (send 0 line k lent) (asks (sendServerQuestions S line k lent)) (bytesOf (serverMessage S line k)) lent (editLetter h 0 line k) refl refl
+      (λ z.
+        let there = between-true 1 n line (yes-all (sendServerQuestions S line k lent) (omega arith) z .1 .0) in
+        server-sends line (there .0) (there .1) k lent z)
+      (sendServer S line k lent) (posted (asks (sendServerQuestions S line k lent)) (bytesOf (serverMessage S line k)) lent)
+
+  server-acks : (line : ℕ) (lent : List ℕ) → Sim n items (written ours s (tell 0 line lent) (tellServer S line lent))
+  unfolding tellServer logged refusedLog
+  server-acks line lent =
+      post (tell 0 line lent) (asks (tellServerQuestions S line lent)) (bytesOf (message.Ack line 1 (lineOf S line .taken))) lent (ackLetter h 0 line) refl refl
+      (λ z.
+        let there = between-true 1 n line (yes-all (tellServerQuestions S line lent) (omega arith) z .1 .0) in
+        server-tells line (there .0) (there .1))
+      (tellServer S line lent) (posted (asks (tellServerQuestions S line lent)) (bytesOf (message.Ack line 1 (lineOf S line .taken))) lent)
+
+-- ---- any call
+
+-- a message of the list of messages is that of a letter
+some-eq : (x y : List ℕ) → some x ≡ some y → x ≡ y
+some-eq x y e = cc
+
+lettered : (xs : List (Letter edits)) (i : ℕ) (b : List ℕ) → getElem? (map letterBytes xs) i ≡ some b → (P : Letter edits → Type 0) → All P xs
+    → (x : Letter edits) × (getElem? xs i ≡ some x) × (b ≡ letterBytes x) × P x
+lettered [] i b e P a = absurd (let z : _≡_ {A = ℕ} 0 1 = cc in omega arith)
+lettered (x ∷ xs) zero b e P a = (x, refl, some-eq b (letterBytes x) (sym e), a .0)
+lettered (x ∷ xs) (suc i) b e P a = lettered xs i b e P (a .1)
+
+module _ (n : ℕ) (items : List ℕ) (s : State ours) (sim : Sim n items s) where
+  -- a message taken at end a
+  takes-at : (a i : ℕ) → a ≤ n → (b : List ℕ) → getElem? (s .messages) i ≡ some b → Sim n items (answered ours s a (receive a i) (takeAt (s .ends a) b))
+  unfolding takeClient takeServer logged refusedLog
+  takes-at a i hi b e =
+      let m = lettered (s .recorded .letters) i b (ap (λ (ms : List (List ℕ)). getElem? ms i) (sym (sim .messages)) ∙ e) (LetterOk items (sim .E) (s .recorded .history)) (sim .letters) in
+      go a hi (m .0) (m .1) (m .2) (m .3)
+    where
+      go : (a : ℕ) → a ≤ n → (x : Letter edits) → getElem? (s .recorded .letters) i ≡ some x → b ≡ letterBytes x → LetterOk items (sim .E) (s .recorded .history) x
+          → Sim n items (answered ours s a (receive a i) (takeAt (s .ends a) b))
+      go zero hi x is same ok =
+          let S = serverFrom n (length items) (sim .E .doc) (sim .E .lines) (sim .si) in
+          subst (λ (e : End). Sim n items (answered ours s 0 (receive 0 i) (takeAt e b))) (sym (sim .server-is))
+          (subst (λ (r : Read). Sim n items (answered ours s 0 (receive 0 i) (answerAs server (serverReads S r)))) (sym (ap parsed same ∙ codec .written-read (letterMessage x) (ok .1)))
+          (serve-letter n items s sim (receive 0 i) x ok (ap (took (s .recorded) 0) is) refl))
+      go (suc a) hi x is same ok =
+          let C = clientFrom n (suc a) (sim .E .clients (suc a)) (sim .E .docs (suc a)) (sim .ci (suc a)) in
+          subst (λ (e : End). Sim n items (answered ours s (suc a) (receive (suc a) i) (takeAt e b))) (sym (sim .client-is (suc a) (omega arith) hi))
+          (subst (λ (r : Read). Sim n items (answered ours s (suc a) (receive (suc a) i) (answerAs client (clientReads C r)))) (sym (ap parsed same ∙ codec .written-read (letterMessage x) (ok .1)))
+          (take-letter n items s sim (suc a) (omega arith) hi (receive (suc a) i) x ok (ap (took (s .recorded) (suc a)) is) refl))
+
+  unread : (r : Read) → unreadable r ≡ true → r ≡ read.Refused
+  unread read.Refused e = refl
+  unread (read.Message m) e = never e
+
+  junks-at : (a : ℕ) (bytes : List ℕ) → a ≤ n → parsed bytes ≡ read.Refused → Sim n items (answered ours s a (junk a bytes) (takeAt (s .ends a) bytes))
+  unfolding takeClient takeServer refusedLog
+  junks-at zero bytes hi e =
+      let S = serverFrom n (length items) (sim .E .doc) (sim .E .lines) (sim .si) in
+      subst (λ (d : End). Sim n items (answered ours s 0 (junk 0 bytes) (takeAt d bytes))) (sym (sim .server-is))
+      (subst (λ (r : Read). Sim n items (answered ours s 0 (junk 0 bytes) (answerAs server (serverReads S r)))) (sym e)
+      (serve-junk n items s sim (junk 0 bytes) (answer (asks (ask 2 (soundServer S) ∷ ask 3 false ∷ [])) S S 0) (outcome (asks (ask 2 (soundServer S) ∷ ask 3 false ∷ [])) S S 0) refl))
+  junks-at (suc a) bytes hi e =
+      let C = clientFrom n (suc a) (sim .E .clients (suc a)) (sim .E .docs (suc a)) (sim .ci (suc a)) in
+      subst (λ (d : End). Sim n items (answered ours s (suc a) (junk (suc a) bytes) (takeAt d bytes))) (sym (sim .client-is (suc a) (omega arith) hi))
+      (subst (λ (r : Read). Sim n items (answered ours s (suc a) (junk (suc a) bytes) (answerAs client (clientReads C r)))) (sym e)
+      (take-junk n items s sim (suc a) (omega arith) hi (junk (suc a) bytes) (answer (asks (ask 2 (soundClient C) ∷ ask 3 false ∷ [])) C C 0)
+      (outcome (asks (ask 2 (soundClient C) ∷ ask 3 false ∷ [])) C C 0) refl))
+
+  sends-at : (a l k : ℕ) (lent : List ℕ) → a ≤ n → Sim n items (written ours s (send a l k lent) (sendAt (s .ends a) l k lent))
+  sends-at zero l k lent hi = subst (λ (e : End). Sim n items (written ours s (send 0 l k lent) (sendAt e l k lent))) (sym (sim .server-is)) (server-posts n items s sim l k lent)
+  sends-at (suc a) l k lent hi =
+      subst (λ (e : End). Sim n items (written ours s (send (suc a) l k lent) (sendAt e l k lent))) (sym (sim .client-is (suc a) (omega arith) hi))
+      (client-sends n items s sim (suc a) (omega arith) hi l k lent)
+
+  tells-at : (a l : ℕ) (lent : List ℕ) → a ≤ n → Sim n items (written ours s (tell a l lent) (tellAt (s .ends a) l lent))
+  tells-at zero l lent hi = subst (λ (e : End). Sim n items (written ours s (tell 0 l lent) (tellAt e l lent))) (sym (sim .server-is)) (server-acks n items s sim l lent)
+  tells-at (suc a) l lent hi =
+      subst (λ (e : End). Sim n items (written ours s (tell (suc a) l lent) (tellAt e l lent))) (sym (sim .client-is (suc a) (omega arith) hi))
+      (client-tells n items s sim (suc a) (omega arith) hi l lent)
+
+  edits-at : (c : Call) (l : ℕ) (e : Edit) → 1 ≤ l → l ≤ n → priority (eqb l) e ≡ true → Small e → logged (s .recorded) c ≡ logs.edited (s .recorded) l e
+      → refusedLog (s .recorded) c ≡ hears (s .recorded) (s .recorded .heard)
+      → Sim n items (answered ours s l c (answerAs client (editClient (clientFrom n l (sim .E .clients l) (sim .E .docs l) (sim .ci l)) e)))
+  unfolding editClient
+  edits-at c l e lo hi pr sm made quiet =
+      let C = clientFrom n l (sim .E .clients l) (sim .E .docs l) (sim .ci l) in
+      edit-call n items s sim l lo hi c e pr sm made quiet (editClient C e) (outcome (asks (editQuestions C e)) C (edited C e) 0) (edits-sound C e pr (sim .client-sound l lo hi))
+
+  pub called : (c : Call) → callable n c ≡ true → Sim n items (call ours s c)
+  unfolding call callable handed logged refusedLog
+  called (insert l p x) ok =
+      let t = three (between 1 n l) (ltb p 65536) (ltb x 4294967296) ok in
+      let at-l = between-true 1 n l (t .0) in
+      subst (λ (e : End). Sim n items (answered ours s l (insert l p x) (insertAt e p x))) (sym (sim .client-is l (at-l .0) (at-l .1)))
+      (edits-at (insert l p x) l (Insert p x l) (at-l .0) (at-l .1) (eq-eqb l l refl) (le-leb x 4294967295 (omega (arith, ltb-true x 4294967296 (t .2)))) refl refl)
+  called (delete l p) ok =
+      let at-l = between-true 1 n l (and-left (between 1 n l) (ltb p 65536) ok) in
+      subst (λ (e : End). Sim n items (answered ours s l (delete l p) (deleteAt e p))) (sym (sim .client-is l (at-l .0) (at-l .1)))
+      (edits-at (delete l p) l (Delete p) (at-l .0) (at-l .1) refl refl refl refl)
+  called (send a l k lent) ok =
+      sends-at a l k lent (leb-true a n (three (leb a n) (ltb l 256) (ltb k 65536) (and-left (leb a n && ltb l 256 && ltb k 65536) (areBytes lent) ok) .0))
+  called (tell a l lent) ok = tells-at a l lent (leb-true a n (three (leb a n) (ltb l 256) (areBytes lent) ok .0))
+  called (receive a i) ok = go (getElem? (s .messages) i) refl
+    where
+      go : (m : Option (List ℕ)) → getElem? (s .messages) i ≡ m → Sim n items (handed ours s a (receive a i) m)
+      go none e = sim
+      go (some b) e = takes-at a i (leb-true a n ok) b e
+  called (junk a bytes) ok =
+      let t = three (leb a n) (areBytes bytes) (unreadable (parsed bytes)) ok in
+      junks-at a bytes (leb-true a n (t .0)) (unread (parsed bytes) (t .2))

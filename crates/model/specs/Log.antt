@@ -64,7 +64,7 @@ takenAt h (suc a) l = length (others (suc a) (h .applied (suc a)))
 unfoldable pub editLetter : History edits → ℕ → ℕ → ℕ → Letter edits
 editLetter h zero l k =
     let seen = takenAt h zero l in
-    down l (record { number = k; seen = seen; edit = othForm l (h .served) seen (k - 1) })
+    down l (record { number = k; seen = seen; edit = othForm l (order h l) seen (k - 1) })
 editLetter h (suc a) l k =
     let seen = takenAt h (suc a) (suc a) in
     up (suc a) (record { number = k; seen = seen; edit = ownForm (suc a) (order h (suc a)) (k - 1) seen })
