@@ -12,6 +12,7 @@ pub mod Follow
 pub mod Outcome
 pub mod Ranges
 pub mod Calls
+pub mod Bounds
 pub mod Wrong
 pub mod Computing
 pub mod Marked
