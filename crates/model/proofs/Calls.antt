@@ -64,12 +64,12 @@ unfolding log
 log-no w c r h = rw (ne-eqb r 0 h)
 
 -- an edit message is what it says
-client-message : (c : Client) (h : Header) (e : Edit) → clientTakes c (messageOf h e) ≡ clientTakesEdit c h e
+pub client-message : (c : Client) (h : Header) (e : Edit) → clientTakes c (messageOf h e) ≡ clientTakesEdit c h e
 client-message c h Nothing = refl
 client-message c h (Delete p) = refl
 client-message c h (Insert p x r) = refl
 
-server-message : (s : Server) (h : Header) (e : Edit) → serverTakes s (messageOf h e) ≡ serverTakesEdit s h e
+pub server-message : (s : Server) (h : Header) (e : Edit) → serverTakes s (messageOf h e) ≡ serverTakesEdit s h e
 server-message s h Nothing = refl
 server-message s h (Delete p) = refl
 server-message s h (Insert p x r) = refl

@@ -67,6 +67,10 @@ unfolding inserts select
 inserts-one-more l xs o by =
     ap inserts (L.select-in (isBy l) blank xs o [] by) ∙ inserts-append (mine l xs) (o ∷ []) ∙ omega arith
 
+pub inserts-cons : (o : Made edits) (us : List (Made edits)) → inserts (o ∷ us) ≡ insertsOf (o .edit) + inserts us
+unfolding inserts
+inserts-cons o us = refl
+
 inserts-more : (l : ℕ) (xs ys : List (Made edits)) (o : Made edits) → isBy l o ≡ true
     → inserts (mine l (xs ++ (ys ++ (o ∷ [])))) ≡ inserts (mine l (xs ++ ys)) + insertsOf (o .edit)
 inserts-more l xs ys o by = ap (λ (zs : List (Made edits)). inserts (mine l zs)) (sym (append-assoc xs ys (o ∷ []))) ∙ inserts-one-more l (xs ++ ys) o by
@@ -288,6 +292,18 @@ module _ (n : ℕ) (items : List ℕ) (s : State ours) (sim : Sim n items s) whe
     abbrev S : Server
     S = serverFrom n (length items) (E .doc) (E .lines) (sim .si)
 
+    -- the message's edit is the first that the server lacks
+    pub first-inserts : (x : Message edits) → UpMessage items E h l x → x .number ≡ suc (E .lines l .taken) → (o : Made edits) (us : List (Made edits)) → h .untaken l ≡ o ∷ us
+        → insertsOf (x .edit) ≡ insertsOf (o .edit)
+    first-inserts x ok next o us split =
+        let o-by : isBy l o ≡ true = subst (λ (r : List (Made edits)). All (λ y. isBy l y ≡ true) r) split (sim .inv .lines l .untaken-own) .0 in
+        ap insertsOf (ok .edit) ∙ form-inserts (own l (order h l) (ok .index)) (point l (order h l) (ok .index) (x .seen))
+        ∙ ap (λ (y : Made edits). insertsOf (y .edit))
+        (ap (λ (i : ℕ). getD (mine l (order h l)) i blank) (omega (arith, ok .number, sim .inv .lines l .v-count))
+        ∙ ap (λ (r : List (Made edits)). getD (mine l (h .served ++ r)) (length (mine l (h .served))) blank) split
+        ∙ ap (λ (r : List (Made edits)). getD r (length (mine l (h .served))) blank) (L.select-in (isBy l) blank (h .served) o us o-by)
+        ∙ getD-append-seam (mine l (h .served)) o (mine l us) blank)
+
     module _ (x : Message edits) (ok : UpMessage items E h l x) (next : x .number ≡ suc (E .lines l .taken)) (cur : E .lines l .acked ≤ x .seen) (sm : Small (x .edit))
         (sound : soundServer (serverTaken S l (x .seen) (x .edit)) ≡ true) where
       abbrev up-line : LineAt items l (order h l) (h .served) (h .applied l) (E .clients l) (E .lines l) (E .docs l)
@@ -316,16 +332,6 @@ module _ (n : ℕ) (items : List ℕ) (s : State ours) (sim : Sim n items s) whe
           where
             differ : false ≡ true → ⊥
             differ q = let z : _≡_ {A = ℕ} 0 1 = cc in omega arith
-
-        -- the message's edit is the first that the server lacks
-        x-inserts : insertsOf (x .edit) ≡ insertsOf (o .edit)
-        x-inserts =
-            ap insertsOf (ok .edit) ∙ form-inserts (own l (order h l) (ok .index)) (point l (order h l) (ok .index) (x .seen))
-            ∙ ap (λ (y : Made edits). insertsOf (y .edit))
-            (ap (λ (i : ℕ). getD (mine l (order h l)) i blank) (omega (arith, ok .number, sim .inv .lines l .v-count))
-            ∙ ap (λ (r : List (Made edits)). getD (mine l (h .served ++ r)) (length (mine l (h .served))) blank) split
-            ∙ ap (λ (r : List (Made edits)). getD r (length (mine l (h .served))) blank) (L.select-in (isBy l) blank (h .served) o us o-by)
-            ∙ getD-append-seam (mine l (h .served)) o (mine l us) blank)
 
         takes-split : Sim n items (record {
           ends = at 0 (server (serverTaken S l (x .seen) (x .edit))) (s .ends);
@@ -385,7 +391,7 @@ module _ (n : ℕ) (items : List ℕ) (s : State ours) (sim : Sim n items s) whe
             server-inserts : (j : ℕ) (b : Bool) → eqb l j ≡ b → cond b (sim .si l + insertsOf (x .edit)) (sim .si j) ≡ inserts (mine j (h .served ++ (o ∷ [])))
             server-inserts j true e =
                 subst (λ (i : ℕ). sim .si l + insertsOf (x .edit) ≡ inserts (mine i (h .served ++ (o ∷ [])))) (eqb-true l j e)
-                (omega (arith, sim .si-is l, x-inserts, inserts-one-more l (h .served) o o-by))
+                (omega (arith, sim .si-is l, first-inserts x ok next o us split, inserts-one-more l (h .served) o o-by))
             server-inserts j false e =
                 sim .si-is j ∙ ap (λ (r : List (Made edits)). inserts (mine j r)) (sym (append-nil (h .served))) ∙ ap inserts (sym (L.select-out (isBy j) blank (h .served) o [] (o-not j e)))
 

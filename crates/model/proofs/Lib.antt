@@ -13,6 +13,7 @@ pub mod Outcome
 pub mod Ranges
 pub mod Calls
 pub mod Bounds
+pub mod Next
 pub mod Wrong
 pub mod Computing
 pub mod Marked
