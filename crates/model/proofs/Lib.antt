@@ -14,6 +14,7 @@ pub mod Ranges
 pub mod Calls
 pub mod Bounds
 pub mod Next
+pub mod Converges
 pub mod Wrong
 pub mod Computing
 pub mod Marked
