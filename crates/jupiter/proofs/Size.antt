@@ -13,17 +13,17 @@ use Rattle.jupiter.specs.Point.{enter, firsts, point}
 use Rattle.jupiter.specs.Claims.{inserts}
 
 module _ {𝓐 : Algebra} where
-  formIn-grows : Laws 𝓐 → (n : ℕ) (e : Made 𝓐) (C : List (Made 𝓐)) → 𝓐 .grows (formIn n e C) ≤ 𝓐 .grows (e .edit)
+  formIn-grows : Laws 𝓐 → (n : ℕ) (e : Made 𝓐) (C : List (Made 𝓐)) → 𝓐 .grows (formIn n e C) ≡ 𝓐 .grows (e .edit)
   unfolding formIn formBy
-  formIn-grows laws zero e C = le-refl _
+  formIn-grows laws zero e C = refl
   formIn-grows laws (suc n) e C = go (lastOutside (e .context) C) (λ C′. formIn-grows laws n e C′)
     where
-      go : (x : Last 𝓐) → ((C′ : List (Made 𝓐)) → 𝓐 .grows (formIn n e C′) ≤ 𝓐 .grows (e .edit))
-          → 𝓐 .grows (formBy (λ e′ C′. formIn n e′ C′) e x) ≤ 𝓐 .grows (e .edit)
-      go allInside ih = le-refl _
-      go (outside before z after) ih = le-trans (laws .grows-less _ _) (ih (before ++ after))
+      go : (x : Last 𝓐) → ((C′ : List (Made 𝓐)) → 𝓐 .grows (formIn n e C′) ≡ 𝓐 .grows (e .edit))
+          → 𝓐 .grows (formBy (λ e′ C′. formIn n e′ C′) e x) ≡ 𝓐 .grows (e .edit)
+      go allInside ih = refl
+      go (outside before z after) ih = laws .keeps-growth _ _ ∙ ih (before ++ after)
 
-  pub form-grows : Laws 𝓐 → (e : Made 𝓐) (C : List (Made 𝓐)) → 𝓐 .grows (form e C) ≤ 𝓐 .grows (e .edit)
+  pub form-grows : Laws 𝓐 → (e : Made 𝓐) (C : List (Made 𝓐)) → 𝓐 .grows (form e C) ≡ 𝓐 .grows (e .edit)
   unfolding form
   form-grows laws e C = formIn-grows laws (length C) e C
 
