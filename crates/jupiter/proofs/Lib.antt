@@ -11,3 +11,5 @@ pub mod Meeting
 pub mod Size
 pub mod Theorem
 pub mod Consistency
+pub mod Walk
+pub mod Reading
