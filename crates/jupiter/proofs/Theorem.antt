@@ -24,7 +24,7 @@ use Rattle.jupiter.proofs.Grid.{is-true, to-T, eqb-eq, eqb-same, ltb-tr
 use Rattle.jupiter.proofs.Line.{UpOk, DownOk, LineAt, set-is, pending-good-c, pending-good-v, unacked-c, unacked-v}
 use Rattle.jupiter.proofs.World.{named, mine-served, others-served, LineInv, Inv, missing-is}
 use Rattle.jupiter.proofs.Step.{Later, later-refl, later-trans, Step, opens, step-edit, step-up, step-down, step-ack-up, step-ack-down, UpMessage, DownMessage, up-message, down-message, up-later, down-later, down-fits, up-fits}
-use Rattle.jupiter.proofs.Meeting.{meet, server-doc, untaken-is}
+use Rattle.jupiter.proofs.Meeting.{client-less, server-less, meet, server-doc, untaken-is}
 use Rattle.jupiter.proofs.Replay.{and-left, and-right}
 
 pub leb-true : (m n : ℕ) → m ≤ n → leb m n ≡ true
@@ -77,6 +77,16 @@ module _ {𝓐 : Algebra} (d : 𝓐 .Doc) (E : Ends 𝓐) (h : History 𝓐) (in
   equal-lists a b =
       line .c-doc ∙ ap (λ n. docAt d l w n (c .taken)) (sym (line .c-made) ∙ a) ∙ ap (docAt d l w (v .taken)) (b ∙ line .v-made) ∙ sym (server-doc d E h inv l)
 
+  client-at : (i : ℕ) → c .acked ≤ i → i < c .made → getD (c .pending) (i - c .acked) (𝓐 .nothing) ≡ ownForm l w i (c .taken)
+  client-at i a b =
+      ap (λ r. getD r (i - c .acked) (𝓐 .nothing)) (line .c-pending)
+      ∙ segment-get (λ i. ownForm l w i (c .taken)) (𝓐 .nothing) (c .acked) (length (mine l w)) i a (subst (λ n. i < n) (line .c-made) b)
+
+  server-at : (j : ℕ) → v .acked ≤ j → j < v .made → getD (v .pending) (j - v .acked) (𝓐 .nothing) ≡ othForm l w (v .taken) j
+  server-at j a b =
+      ap (λ r. getD r (j - v .acked) (𝓐 .nothing)) (line .v-pending)
+      ∙ segment-get (λ j. othForm l w (v .taken) j) (𝓐 .nothing) (v .acked) (length (others l w)) j a (subst (λ n. j < n) (line .v-made) b)
+
   pub line-claim : LineClaim d h l c v (E .docs l) (E .doc)
   line-claim =
       record {
@@ -88,14 +98,14 @@ module _ {𝓐 : Algebra} (d : 𝓐 .Doc) (E : Ends 𝓐) (h : History 𝓐) (in
             ∙ ap (λ n. n - c .taken) (sym (line .v-made ∙ ap length (others-served l (h .served) (h .untaken l) (inv .lines l .untaken-own))));
         count-untaken = ap length (untaken-is d E h inv l) ∙ length-drop (v .taken) (mine l w) ∙ ap (λ n. n - v .taken) (sym (line .c-made));
         list = sym (line .shown);
+        client-owes = λ i a b. client-at i a b ∙ ap (form (own l w i)) (sym (client-less d l w (h .served) (h .applied l) c v (E .docs l) line i));
         client-pending = ap length (line .c-pending) ∙ segment-length (λ i. ownForm l w i (c .taken)) (c .acked) (length (mine l w)) ∙ ap (λ n. n - c .acked) (sym (line .c-made));
-        client-forms = λ i a b. ap (λ r. getD r (i - c .acked) (𝓐 .nothing)) (line .c-pending)
-            ∙ segment-get (λ i. ownForm l w i (c .taken)) (𝓐 .nothing) (c .acked) (length (mine l w)) i a (subst (λ n. i < n) (line .c-made) b);
+        client-forms = client-at;
         client-fits = λ i a b. let im : i < length (mine l w) = subst (λ n. i < n) (line .c-made) b in
             line .grid .own-edge i (c .taken) (pending-good-c d l w (h .served) (h .applied l) c v (E .docs l) line i a (omega arith)) im (line .seen-le i im) .fits;
+        server-owes = λ j a b. server-at j a b ∙ ap (form (oth l w j)) (sym (server-less d E h inv l j));
         server-pending = ap length (line .v-pending) ∙ segment-length (λ j. othForm l w (v .taken) j) (v .acked) (length (others l w)) ∙ ap (λ n. n - v .acked) (sym (line .v-made));
-        server-forms = λ j a b. ap (λ r. getD r (j - v .acked) (𝓐 .nothing)) (line .v-pending)
-            ∙ segment-get (λ j. othForm l w (v .taken) j) (𝓐 .nothing) (v .acked) (length (others l w)) j a (subst (λ n. j < n) (line .v-made) b);
+        server-forms = server-at;
         server-fits = λ j a b. let jn : j < length (others l w) = subst (λ n. j < n) (line .v-made) b in
             line .grid .oth-edge (v .taken) j (pending-good-v d l w (h .served) (h .applied l) c v (E .docs l) line j a (omega arith)) jn (line .lag-le j jn) .fits;
         meets = meet d E h inv l;

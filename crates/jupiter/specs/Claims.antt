@@ -5,11 +5,11 @@ use mathlib.Core.Bool.{Bool, true, false}
 use mathlib.Core.Option.{Option, none, some}
 use mathlib.Core.List.{List, [], _∷_, _++_}
 use lib.Dec.{T}
-use lib.ListN.{length, getD, getElem?}
+use lib.ListN.{length, getD, drop, getElem?}
 use Rattle.jupiter.specs.Algebra.{Algebra}
 use Rattle.jupiter.specs.Made.{Name, Made, holds, names, mine, others}
-use Rattle.jupiter.specs.Form.{form, listAt, inOrder, replay}
-use Rattle.jupiter.specs.Point.{point, ownForm, othForm}
+use Rattle.jupiter.specs.Form.{form, listAt, inOrder, without, replay}
+use Rattle.jupiter.specs.Point.{point, own, oth, ownForm, othForm}
 use Rattle.jupiter.specs.History.{History, order, missing}
 use Rattle.jupiter.specs.Ends.{End, Message, Ends, unacked, canSend, message, canTake, arrived}
 use Rattle.jupiter.specs.Run.{Letter, up, down, upAck, downAck, Call, State, initial, run}
@@ -52,10 +52,15 @@ module _ {𝓐 : Algebra} where
     pub count-untaken : length (h .untaken l) ≡ c .made - v .taken
     -- the client shows its opening list with every edit applied in its form at what the client had applied
     pub list : doc ≡ replay (order h l) [] (h .applied l) initially
-    -- the pending edits, number i + 1 at place i - acked, are the forms that the definition gives, and each fits where it stands
+    -- The pending edits, number i + 1 at place i - acked: each is in its form at what the end has applied, less the line's edits from that number
+    -- on. That set is a point of the grid, and the form fits the list there.
+    pub client-owes : (i : ℕ) → c .acked ≤ i → i < c .made
+        → getD (c .pending) (i - c .acked) (𝓐 .nothing) ≡ form (own l (order h l) i) (inOrder (order h l) (without (h .applied l) (drop i (mine l (order h l)))))
     pub client-pending : length (c .pending) ≡ c .made - c .acked
     pub client-forms : (i : ℕ) → c .acked ≤ i → i < c .made → getD (c .pending) (i - c .acked) (𝓐 .nothing) ≡ ownForm l (order h l) i (c .taken)
     pub client-fits : (i : ℕ) → c .acked ≤ i → i < c .made → T (𝓐 .fits (ownForm l (order h l) i (c .taken)) (listAt initially (point l (order h l) i (c .taken))))
+    pub server-owes : (j : ℕ) → v .acked ≤ j → j < v .made
+        → getD (v .pending) (j - v .acked) (𝓐 .nothing) ≡ form (oth l (order h l) j) (inOrder (order h l) (without (h .served) (drop j (others l (order h l)))))
     pub server-pending : length (v .pending) ≡ v .made - v .acked
     pub server-forms : (j : ℕ) → v .acked ≤ j → j < v .made → getD (v .pending) (j - v .acked) (𝓐 .nothing) ≡ othForm l (order h l) (v .taken) j
     pub server-fits : (j : ℕ) → v .acked ≤ j → j < v .made → T (𝓐 .fits (othForm l (order h l) (v .taken) j) (listAt initially (point l (order h l) (v .taken) j)))
