@@ -5,6 +5,7 @@ pub mod Grid
 pub mod Extend
 pub mod Replay
 pub mod Line
+pub mod Closure
 pub mod World
 pub mod Step
 pub mod Meeting

@@ -35,6 +35,7 @@ module _ {𝓐 : Algebra} where
       here : (b : Bool) → holds context (x .name) ≡ b → All (Inside context) xs → Found context (x ∷ xs) (cond b allInside (outside [] x xs))
       here true e h = (e, h)
       here false e h = (refl, e, h)
+
       go : (r : Last 𝓐) → Found context xs r → Found context (x ∷ xs) (further context x xs r)
       go allInside h = here (holds context (x .name)) refl h
       go (outside before z after) h = (ap {B = List (Made 𝓐)} (λ r. x ∷ r) (h .0), h .1, h .2)

@@ -16,12 +16,13 @@ use Rattle.jupiter.specs.Point.{point, blank, own, oth, ownForm, othForm
 use Rattle.jupiter.specs.History.{at, History, noHistory, order, missing, afterEdit, afterUp, afterDown}
 use Rattle.jupiter.specs.Ends.{End, Message, Ends, opened, unacked, arrived, canSend, message, current, canTake, editing, takingUp, takingDown, ackingUp, ackingDown}
 use Rattle.jupiter.specs.Run.{Letter, up, down, upAck, downAck, Call, edit, sendUp, sendDown, tellUp, tellDown, deliver, State, initial, writes, goes, receive, step, run}
-use Rattle.jupiter.specs.Claims.{Carries, Written, Delivers, LineClaim, Claim, Quiet, Who, server, client, setOf, docOf, SameSet, Converges, QuiescentConsistency, StrongConsistency}
+use Rattle.jupiter.specs.Claims.{ClosedSet, Carries, Written, Delivers, LineClaim, Claim, Quiet, Who, server, client, setOf, docOf, SameSet, Converges, QuiescentConsistency, StrongConsistency}
 use Rattle.jupiter.proofs.Lists as L
 use Rattle.jupiter.proofs.Lists.{All, all-append, all-map}
 use Rattle.jupiter.proofs.Segment.{segment-length, segment-get}
 use Rattle.jupiter.proofs.Grid.{is-true, to-T, eqb-eq, eqb-same, ltb-true, ltb-lt, Edge, docAt, Grid}
 use Rattle.jupiter.proofs.Line.{UpOk, DownOk, LineAt, set-is, pending-good-c, pending-good-v, unacked-c, unacked-v}
+use Rattle.jupiter.proofs.Closure.{Within, served-closed}
 use Rattle.jupiter.proofs.World.{named, mine-served, others-served, LineInv, Inv, missing-is}
 use Rattle.jupiter.proofs.Step.{Later, later-refl, later-trans, Step, opens, step-edit, step-up, step-down, step-ack-up, step-ack-down, UpMessage, DownMessage, up-message, down-message, up-later, down-later, down-fits, up-fits}
 use Rattle.jupiter.proofs.Meeting.{client-less, server-less, meet, server-doc, untaken-is}
@@ -32,6 +33,11 @@ leb-true m n h = is-true (leb m n) (le→leb m n h)
 
 pub leb-le : (m n : ℕ) → leb m n ≡ true → m ≤ n
 leb-le m n e = leb→le m n (to-T _ e)
+
+all-index : {𝓐 : Algebra} (Q : Made 𝓐 → Type 0) (xs : List (Made 𝓐)) → All Q xs → (i : ℕ) → i < length xs → Q (getD xs i blank)
+all-index Q [] h i lt = absurd (not-suc-le-zero lt)
+all-index Q (x ∷ xs) h zero lt = h .0
+all-index Q (x ∷ xs) h (suc i) lt = all-index Q xs (h .1) i (le-of-suc-le-suc lt)
 
 and-true : (a b : Bool) → a ≡ true → b ≡ true → a && b ≡ true
 and-true a b e f = rw (e, f) refl
@@ -255,10 +261,15 @@ module _ {𝓐 : Algebra} (d : 𝓐 .Doc) where
     written h E (upAck l s) ok = tt
     written h E (downAck l s) ok = tt
 
+    sets-closed : (s : State 𝓐) → Reached s → (x : Who) → ClosedSet (setOf x s)
+    sets-closed s r server i lt n t = served-closed (s .history) (r .inv .closed) i lt n t
+    sets-closed s r (client l) i lt n t = all-index _ (s .history .applied l) (r .inv .closed .applied-closed l) i lt n t
+
     pub claim : (s : State 𝓐) → Reached s → Claim d s
     claim s r =
         record {
           hub = r .inv .doc-is;
+          closed = sets-closed s r;
           letters = λ i x e. written (s .history) (s .ends) x (all-get (Fine (s .ends) (s .history)) (s .letters) i x (r .fine) e);
           lines = λ l. line-claim d (s .ends) (s .history) (r .inv) l;
         }

@@ -49,9 +49,11 @@ module _ {𝓐 : Algebra} (l : ℕ) (w : List (Made 𝓐)) (contexts : Contexts 
         by-oth la lt =
             let jn : j < length (others l w) = le-trans lt (g′ .oth-le) in
             rec-oth lt (good-oth i j g jn la) (fg i j g jn la p)
+
         behind : (i < i′) ⊎ (j < j′) → i′ ≤ i → j < j′
         behind (inl lt) le = absurd (omega arith)
         behind (inr lt) le = lt
+
         choose : (i < i′) ⊎ (i′ ≤ i) → (j < seenOf (own l w i)) ⊎ (seenOf (own l w i) ≤ j) → P i′ j′
         choose (inl lt) (inr s) =
             let im : i < length (mine l w) = le-trans lt (g′ .own-le) in

@@ -9,12 +9,33 @@ use lib.ListN.{length, getD, drop, getElem?}
 use Rattle.jupiter.specs.Algebra.{Algebra}
 use Rattle.jupiter.specs.Made.{Name, Made, holds, names, mine, others}
 use Rattle.jupiter.specs.Form.{form, listAt, inOrder, without, replay}
-use Rattle.jupiter.specs.Point.{point, own, oth, ownForm, othForm}
+use Rattle.jupiter.specs.Point.{point, blank, own, oth, ownForm, othForm}
 use Rattle.jupiter.specs.History.{History, order, missing}
 use Rattle.jupiter.specs.Ends.{End, Message, Ends, unacked, canSend, message, canTake, arrived}
 use Rattle.jupiter.specs.Run.{Letter, up, down, upAck, downAck, Call, State, initial, run}
 
+-- an end of the sheet
+pub data Who : Type 0 where
+  server : Who
+  client : ℕ → Who
+
 module _ {𝓐 : Algebra} where
+  -- what it has applied, and what it shows
+  abbrev pub setOf : Who → State 𝓐 → List (Made 𝓐)
+  setOf server s = s .history .served
+  setOf (client l) s = s .history .applied l
+
+  abbrev pub docOf : Who → State 𝓐 → 𝓐 .Doc
+  docOf server s = s .ends .doc
+  docOf (client l) s = s .ends .docs l
+
+  abbrev pub SameSet : List (Made 𝓐) → List (Made 𝓐) → Type 0
+  SameSet A B = (x : Name) → holds (names A) x ≡ holds (names B) x
+
+  -- with each edit its context
+  abbrev pub ClosedSet : List (Made 𝓐) → Type 0
+  ClosedSet A = (i : ℕ) → i < length A → (x : Name) → holds (getD A i blank .context) x ≡ true → holds (names A) x ≡ true
+
   -- how many of the edits, as made, are inserts
   unfoldable pub inserts : List (Made 𝓐) → ℕ
   inserts [] = 0
@@ -79,6 +100,8 @@ module _ {𝓐 : Algebra} where
   pub record Claim (initially : 𝓐 .Doc) (s : State 𝓐) : Type 0 where
     -- the server shows the opening list with every edit applied in its form at those it had taken before
     pub hub : s .ends .doc ≡ listAt initially (s .history .served)
+    -- what an end has applied is closed: 01's C holds the context of each of its edits
+    pub closed : (x : Who) → ClosedSet (setOf x s)
     pub letters : (i : ℕ) (x : Letter 𝓐) → getElem? (s .letters) i ≡ some x → Written (s .history) x
     pub lines : (l : ℕ) → LineClaim initially (s .history) l (s .ends .clients l) (s .ends .lines l) (s .ends .docs l) (s .ends .doc)
 
@@ -86,24 +109,6 @@ module _ {𝓐 : Algebra} where
   -- one.
   abbrev pub Quiet : State 𝓐 → Type 0
   Quiet s = (l : ℕ) → (s .ends .clients l .made ≡ s .ends .lines l .taken) × (s .ends .clients l .taken ≡ s .ends .lines l .made)
-
--- an end of the sheet
-pub data Who : Type 0 where
-  server : Who
-  client : ℕ → Who
-
-module _ {𝓐 : Algebra} where
-  -- what it has applied, and what it shows
-  abbrev pub setOf : Who → State 𝓐 → List (Made 𝓐)
-  setOf server s = s .history .served
-  setOf (client l) s = s .history .applied l
-
-  abbrev pub docOf : Who → State 𝓐 → 𝓐 .Doc
-  docOf server s = s .ends .doc
-  docOf (client l) s = s .ends .docs l
-
-  abbrev pub SameSet : List (Made 𝓐) → List (Made 𝓐) → Type 0
-  SameSet A B = (x : Name) → holds (names A) x ≡ holds (names B) x
 
 -- The three theorems, for every algebra of edits that has the laws.
 abbrev pub Converges : Algebra → Type 0
