@@ -25,7 +25,7 @@ use Rattle.jupiter.proofs.World.{named, Inv, taken}
 use Rattle.jupiter.proofs.Step.{Later}
 use Rattle.jupiter.proofs.Meeting.{holds-in, untaken-is}
 use Rattle.jupiter.proofs.Replay.{is-false}
-use Rattle.jupiter.proofs.Theorem.{Reached, Onward, run-ok, starts}
+use Rattle.jupiter.proofs.Runs.{Reached, Onward, run-ok, starts}
 
 pub all-from : {A : Type 0} (Q : A → Type 0) (d : A) (xs : List A) → ((i : ℕ) → i < length xs → Q (getD xs i d)) → All Q xs
 all-from Q d [] f = tt

@@ -10,6 +10,7 @@ pub mod World
 pub mod Step
 pub mod Meeting
 pub mod Size
+pub mod Runs
 pub mod Theorem
 pub mod Consistency
 pub mod Walk

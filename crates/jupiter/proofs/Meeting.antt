@@ -100,23 +100,25 @@ module _ {𝓐 : Algebra} where
       go false e false f ih = rw e ih
 
   -- of edits with names of their own: which are among those from number i on
-  holds-drop : (xs : List (Made 𝓐)) → ((j k : ℕ) → j < length xs → k < length xs → same (getD xs j blank .name) (getD xs k blank .name) ≡ true → j ≡ k)
-      → (i k : ℕ) → k < length xs → not (holds (names (drop i xs)) (getD xs k blank .name)) ≡ ltb k i
-  holds-drop xs inj i k h = go (ltb k i) refl
-    where
-      go : (b : Bool) → ltb k i ≡ b → not (holds (names (drop i xs)) (getD xs k blank .name)) ≡ ltb k i
-      go false e =
-          let le : ¬ (k < i) = λ lt. true≢false (sym (ltb-true k i lt) ∙ e) in
-          let lt : k - i < length (drop i xs) = omega (arith, length-drop i xs) in
-          let is : getD (drop i xs) (k - i) blank ≡ getD xs k blank = getD-drop i xs (k - i) blank ∙ ap (λ n. getD xs n blank) (omega arith) in
-          ap not (subst (λ x. holds (names (drop i xs)) (x .name) ≡ true) is (holds-in (drop i xs) (k - i) lt)) ∙ sym e
-      go true e =
-          let lt : k < i = ltb-lt k i e in
-          ap not (is-false (holds (names (drop i xs)) (getD xs k blank .name)) (λ t. let r = held-at (drop i xs) (getD xs k blank .name) t in
-          let b : r .place < length xs - i = subst (λ n. r .place < n) (length-drop i xs) (r .below) in
-          let q : getD xs (i + r .place) blank .name ≡ getD xs k blank .name = ap (λ x. x .name) (sym (getD-drop i xs (r .place) blank)) ∙ r .named-so in
-          let z : i + r .place ≡ k = inj (i + r .place) k (omega arith) h (ap (λ n. same n (getD xs k blank .name)) q ∙ same-refl (getD xs k blank .name)) in
-          absurd (omega arith))) ∙ sym e
+  module _ (xs : List (Made 𝓐)) (inj : (j k : ℕ) → j < length xs → k < length xs → same (getD xs j blank .name) (getD xs k blank .name) ≡ true → j ≡ k) where
+    not-behind : (i k : ℕ) → k < i → k < length xs → holds (names (drop i xs)) (getD xs k blank .name) ≡ true → ⊥
+    not-behind i k lt h t =
+        let r = held-at (drop i xs) (getD xs k blank .name) t in
+        let b : r .place < length xs - i = subst (λ n. r .place < n) (length-drop i xs) (r .below) in
+        let q : getD xs (i + r .place) blank .name ≡ getD xs k blank .name = ap (λ x. x .name) (sym (getD-drop i xs (r .place) blank)) ∙ r .named-so in
+        let z : i + r .place ≡ k = inj (i + r .place) k (omega arith) h (ap (λ n. same n (getD xs k blank .name)) q ∙ same-refl (getD xs k blank .name)) in
+        omega arith
+
+    holds-drop : (i k : ℕ) → k < length xs → not (holds (names (drop i xs)) (getD xs k blank .name)) ≡ ltb k i
+    holds-drop i k h = go (ltb k i) refl
+      where
+        go : (b : Bool) → ltb k i ≡ b → not (holds (names (drop i xs)) (getD xs k blank .name)) ≡ ltb k i
+        go false e =
+            let le : ¬ (k < i) = λ lt. true≢false (sym (ltb-true k i lt) ∙ e) in
+            let lt : k - i < length (drop i xs) = omega (arith, length-drop i xs) in
+            let is : getD (drop i xs) (k - i) blank ≡ getD xs k blank = getD-drop i xs (k - i) blank ∙ ap (λ n. getD xs n blank) (omega arith) in
+            ap not (subst (λ x. holds (names (drop i xs)) (x .name) ≡ true) is (holds-in (drop i xs) (k - i) lt)) ∙ sym e
+        go true e = ap not (is-false (holds (names (drop i xs)) (getD xs k blank .name)) (not-behind i k (ltb-lt k i e) h)) ∙ sym e
 
 module _ {𝓐 : Algebra} (d : 𝓐 .Doc) (l : ℕ) (w served applied : List (Made 𝓐)) (c v : End 𝓐) (doc : 𝓐 .Doc) (line : LineAt d l w served applied c v doc) where
   abbrev m : ℕ

@@ -19,7 +19,7 @@ use Rattle.jupiter.proofs.Forms.{Inside, form-by}
 use Rattle.jupiter.proofs.Grid.{own-form-same, oth-form-same, Contexts, oth-line}
 use Rattle.jupiter.proofs.Line.{UpOk, DownOk}
 use Rattle.jupiter.proofs.Size.{form-grows}
-use Rattle.jupiter.proofs.Theorem.{Reached, run-ok}
+use Rattle.jupiter.proofs.Runs.{Reached, run-ok}
 
 module _ {𝓐 : Algebra} where
   -- what the search for z finds: nothing is outside; or z is, everything behind it is not, and the parts put the set back together

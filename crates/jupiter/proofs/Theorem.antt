@@ -25,14 +25,9 @@ use Rattle.jupiter.proofs.Line.{UpOk, DownOk, LineAt, set-is, pending-g
 use Rattle.jupiter.proofs.Closure.{Within, served-closed}
 use Rattle.jupiter.proofs.World.{named, mine-served, others-served, LineInv, Inv, missing-is}
 use Rattle.jupiter.proofs.Step.{Later, later-refl, later-trans, Step, opens, step-edit, step-up, step-down, step-ack-up, step-ack-down, UpMessage, DownMessage, up-message, down-message, up-later, down-later, down-fits, up-fits}
+use Rattle.jupiter.proofs.Runs.{leb-true, Fine, Reached, all-get, run-ok, starts}
 use Rattle.jupiter.proofs.Meeting.{client-less, server-less, meet, server-doc, untaken-is}
 use Rattle.jupiter.proofs.Replay.{and-left, and-right}
-
-pub leb-true : (m n : ℕ) → m ≤ n → leb m n ≡ true
-leb-true m n h = is-true (leb m n) (le→leb m n h)
-
-pub leb-le : (m n : ℕ) → leb m n ≡ true → m ≤ n
-leb-le m n e = leb→le m n (to-T _ e)
 
 all-index : {𝓐 : Algebra} (Q : Made 𝓐 → Type 0) (xs : List (Made 𝓐)) → All Q xs → (i : ℕ) → i < length xs → Q (getD xs i blank)
 all-index Q [] h i lt = absurd (not-suc-le-zero lt)
@@ -124,159 +119,30 @@ module _ {𝓐 : Algebra} (d : 𝓐 .Doc) (E : Ends 𝓐) (h : History 𝓐) (in
             ∙ segment-length (λ j. othForm l w (v .taken) j) s (length (others l w)) ∙ ap (λ n. n - s) (sym (line .v-made));
       }
 
--- ---- lists of calls
+-- ---- every moment of every run
 module _ {𝓐 : Algebra} (d : 𝓐 .Doc) where
-  -- a letter may be taken at any time
-  abbrev pub Fine : Ends 𝓐 → History 𝓐 → Letter 𝓐 → Type 0
-  Fine E h (up l m) = UpMessage d E h l m
-  Fine E h (down l m) = DownMessage d E h l m
-  Fine E h (upAck l s) = s ≤ E .clients l .taken
-  Fine E h (downAck l s) = s ≤ E .lines l .taken
+  written : (h : History 𝓐) (E : Ends 𝓐) (x : Letter 𝓐) → Fine d E h x → Written h x
+  written h E (up l m) ok = record { index = ok .index; number = ok .number; known = ok .made; edit = ok .edit }
+  written h E (down l m) ok = record { index = ok .index; number = ok .number; known = ok .made; edit = ok .edit }
+  written h E (upAck l s) ok = tt
+  written h E (downAck l s) ok = tt
 
-  pub fine-later : (E : Ends 𝓐) (h : History 𝓐) (E′ : Ends 𝓐) (h′ : History 𝓐) → Inv d E h → Later E h E′ h′ → (x : Letter 𝓐) → Fine E h x → Fine E′ h′ x
-  fine-later E h E′ h′ inv f (up l m) ok = up-later d E h E′ h′ inv f l m ok
-  fine-later E h E′ h′ inv f (down l m) ok = down-later d E h E′ h′ inv f l m ok
-  fine-later E h E′ h′ inv f (upAck l s) ok = le-trans ok (f .c-later l)
-  fine-later E h E′ h′ inv f (downAck l s) ok = le-trans ok (f .v-later l)
+  sets-closed : (s : State 𝓐) → Reached d s → (x : Who) → ClosedSet (setOf x s)
+  sets-closed s r server i lt n t = served-closed (s .history) (r .inv .closed) i lt n t
+  sets-closed s r (client l) i lt n t = all-index _ (s .history .applied l) (r .inv .closed .applied-closed l) i lt n t
 
-  pub record Reached (s : State 𝓐) : Type 0 where
-    pub inv : Inv d (s .ends) (s .history)
-    pub fine : All (Fine (s .ends) (s .history)) (s .letters)
-
-  pub record Onward (s s′ : State 𝓐) : Type 0 where
-    pub reached : Reached s′
-    pub later : Later (s .ends) (s .history) (s′ .ends) (s′ .history)
-
-  stays : (s : State 𝓐) → Reached s → Onward s s
-  stays s r = record { reached = r; later = later-refl (s .ends) (s .history) }
-
-  -- a step of the ends
-  moves : (s : State 𝓐) → Reached s → (f : Ends 𝓐 → Ends 𝓐) (g : History 𝓐 → History 𝓐) → Step d (s .ends) (s .history) (f (s .ends)) (g (s .history)) → Onward s (goes f g s)
-  moves s r f g t =
+  pub claim : (s : State 𝓐) → Reached d s → Claim d s
+  claim s r =
       record {
-        reached = record {
-          inv = t .inv;
-          fine = all-map (Fine (s .ends) (s .history)) (Fine (f (s .ends)) (g (s .history))) (s .letters)
-              (fine-later (s .ends) (s .history) (f (s .ends)) (g (s .history)) (r .inv) (t .later)) (r .fine);
-        };
-        later = t .later;
+        hub = r .inv .doc-is;
+        closed = sets-closed s r;
+        letters = λ i x e. written (s .history) (s .ends) x (all-get d (Fine d (s .ends) (s .history)) (s .letters) i x (r .fine) e);
+        lines = λ l. line-claim d (s .ends) (s .history) (r .inv) l;
       }
-
-  -- a letter more
-  wrote : (s : State 𝓐) → Reached s → (x : Letter 𝓐) → Fine (s .ends) (s .history) x → Onward s (writes x s)
-  wrote s r x ok =
-      record {
-        reached = record { inv = r .inv; fine = all-append (Fine (s .ends) (s .history)) (s .letters) (x ∷ []) (r .fine) (ok, tt) };
-        later = later-refl (s .ends) (s .history);
-      }
-
-  all-get : (Q : Letter 𝓐 → Type 0) (xs : List (Letter 𝓐)) (i : ℕ) (x : Letter 𝓐) → All Q xs → getElem? xs i ≡ some x → Q x
-  all-get Q [] i x h e = absurd (Option·none-ne-some x e)
-  all-get Q (y ∷ ys) zero x h e = subst Q (Option·some-injective y x e) (h .0)
-  all-get Q (y ∷ ys) (suc i) x h e = all-get Q ys i x (h .1) e
-
-  module _ (laws : Laws 𝓐) where
-    receive-ok : (s : State 𝓐) → Reached s → (x : Letter 𝓐) → Fine (s .ends) (s .history) x → Onward s (receive (some x) s)
-    unfolding receive
-    receive-ok s r (up l m) ok = go (canTake m (s .ends .lines l)) refl
-      where
-        go : (b : Bool) → canTake m (s .ends .lines l) ≡ b → Onward s (cond b (goes (takingUp l m) (afterUp l) s) s)
-        go false e = stays s r
-        go true e =
-            let cur = and-right (eqb (m .number) (suc (s .ends .lines l .taken))) _ e in
-            moves s r (takingUp l m) (afterUp l)
-            (step-up d laws (s .ends) (s .history) (r .inv) l m ok (eqb-eq (m .number) (suc (s .ends .lines l .taken)) (and-left _ (current (m .seen) (s .ends .lines l)) e))
-            (leb-le _ _ (and-left (leb (s .ends .lines l .acked) (m .seen)) (leb (m .seen) (s .ends .lines l .made)) cur)))
-    receive-ok s r (down l m) ok = go (canTake m (s .ends .clients l)) refl
-      where
-        go : (b : Bool) → canTake m (s .ends .clients l) ≡ b → Onward s (cond b (goes (takingDown l m) (afterDown l) s) s)
-        go false e = stays s r
-        go true e =
-            let cur = and-right (eqb (m .number) (suc (s .ends .clients l .taken))) _ e in
-            moves s r (takingDown l m) (afterDown l)
-            (step-down d (s .ends) (s .history) (r .inv) l m ok (eqb-eq (m .number) (suc (s .ends .clients l .taken)) (and-left _ (current (m .seen) (s .ends .clients l)) e))
-            (leb-le _ _ (and-left (leb (s .ends .clients l .acked) (m .seen)) (leb (m .seen) (s .ends .clients l .made)) cur)))
-    receive-ok s r (upAck l n) ok = go (current n (s .ends .lines l)) refl
-      where
-        go : (b : Bool) → current n (s .ends .lines l) ≡ b → Onward s (cond b (goes (ackingUp l n) (λ h. h) s) s)
-        go false e = stays s r
-        go true e =
-            moves s r (ackingUp l n) (λ h. h)
-            (step-ack-up d (s .ends) (s .history) (r .inv) l n (leb-le _ _ (and-left (leb (s .ends .lines l .acked) n) (leb n (s .ends .lines l .made)) e)) ok)
-    receive-ok s r (downAck l n) ok = go (current n (s .ends .clients l)) refl
-      where
-        go : (b : Bool) → current n (s .ends .clients l) ≡ b → Onward s (cond b (goes (ackingDown l n) (λ h. h) s) s)
-        go false e = stays s r
-        go true e =
-            moves s r (ackingDown l n) (λ h. h)
-            (step-ack-down d (s .ends) (s .history) (r .inv) l n (leb-le _ _ (and-left (leb (s .ends .clients l .acked) n) (leb n (s .ends .clients l .made)) e)) ok)
-
-    pub step-ok : (s : State 𝓐) → Reached s → (call : Call 𝓐) → Onward s (step s call)
-    unfolding step receive
-    step-ok s r (edit l e) = go (𝓐 .by l e && 𝓐 .fits e (s .ends .docs l)) refl
-      where
-        go : (b : Bool) → 𝓐 .by l e && 𝓐 .fits e (s .ends .docs l) ≡ b → Onward s (cond b (goes (editing l e) (afterEdit l e) s) s)
-        go false q = stays s r
-        go true q =
-            moves s r (editing l e) (afterEdit l e)
-            (step-edit d laws (s .ends) (s .history) (r .inv) l e (to-T _ (and-left (𝓐 .by l e) (𝓐 .fits e (s .ends .docs l)) q)) (to-T _ (and-right (𝓐 .by l e) (𝓐 .fits e (s .ends .docs l)) q)))
-    step-ok s r (sendUp l k) = go (canSend k (s .ends .clients l)) refl
-      where
-        go : (b : Bool) → canSend k (s .ends .clients l) ≡ b → Onward s (cond b (writes (up l (message k (s .ends .clients l))) s) s)
-        go false q = stays s r
-        go true q =
-            wrote s r (up l (message k (s .ends .clients l)))
-            (up-message d (s .ends) (s .history) (r .inv) l k (ltb-lt (s .ends .clients l .acked) k (and-left _ (leb k (s .ends .clients l .made)) q))
-            (leb-le k (s .ends .clients l .made) (and-right (ltb (s .ends .clients l .acked) k) _ q)))
-    step-ok s r (sendDown l k) = go (canSend k (s .ends .lines l)) refl
-      where
-        go : (b : Bool) → canSend k (s .ends .lines l) ≡ b → Onward s (cond b (writes (down l (message k (s .ends .lines l))) s) s)
-        go false q = stays s r
-        go true q =
-            wrote s r (down l (message k (s .ends .lines l)))
-            (down-message d (s .ends) (s .history) (r .inv) l k (ltb-lt (s .ends .lines l .acked) k (and-left _ (leb k (s .ends .lines l .made)) q))
-            (leb-le k (s .ends .lines l .made) (and-right (ltb (s .ends .lines l .acked) k) _ q)))
-    step-ok s r (tellUp l) = wrote s r (upAck l (s .ends .clients l .taken)) (le-refl _)
-    step-ok s r (tellDown l) = wrote s r (downAck l (s .ends .lines l .taken)) (le-refl _)
-    step-ok s r (deliver i) = go (getElem? (s .letters) i) refl
-      where
-        go : (x : Option (Letter 𝓐)) → getElem? (s .letters) i ≡ x → Onward s (receive x s)
-        go none e = stays s r
-        go (some x) e = receive-ok s r x (all-get (Fine (s .ends) (s .history)) (s .letters) i x (r .fine) e)
-
-    pub run-ok : (cs : List (Call 𝓐)) (s : State 𝓐) → Reached s → Onward s (run s cs)
-    unfolding run
-    run-ok [] s r = stays s r
-    run-ok (c ∷ cs) s r =
-        let a = step-ok s r c in
-        let b = run-ok cs (step s c) (a .reached) in
-        record { reached = b .reached; later = later-trans _ _ _ _ _ _ (a .later) (b .later) }
-
-    pub starts : Reached (initial d)
-    starts = record { inv = opens d; fine = tt }
-
-    written : (h : History 𝓐) (E : Ends 𝓐) (x : Letter 𝓐) → Fine E h x → Written h x
-    written h E (up l m) ok = record { index = ok .index; number = ok .number; known = ok .made; edit = ok .edit }
-    written h E (down l m) ok = record { index = ok .index; number = ok .number; known = ok .made; edit = ok .edit }
-    written h E (upAck l s) ok = tt
-    written h E (downAck l s) ok = tt
-
-    sets-closed : (s : State 𝓐) → Reached s → (x : Who) → ClosedSet (setOf x s)
-    sets-closed s r server i lt n t = served-closed (s .history) (r .inv .closed) i lt n t
-    sets-closed s r (client l) i lt n t = all-index _ (s .history .applied l) (r .inv .closed .applied-closed l) i lt n t
-
-    pub claim : (s : State 𝓐) → Reached s → Claim d s
-    claim s r =
-        record {
-          hub = r .inv .doc-is;
-          closed = sets-closed s r;
-          letters = λ i x e. written (s .history) (s .ends) x (all-get (Fine (s .ends) (s .history)) (s .letters) i x (r .fine) e);
-          lines = λ l. line-claim d (s .ends) (s .history) (r .inv) l;
-        }
 
 -- Demands 2 and 3, with no limit on any count.
 pub converges : (𝓐 : Algebra) → Laws 𝓐 → Converges 𝓐
-converges 𝓐 laws d cs = claim d laws (run (initial d) cs) (run-ok d laws cs (initial d) (starts d laws) .reached)
+converges 𝓐 laws d cs = claim d (run (initial d) cs) (run-ok d laws cs (initial d) (starts d laws) .reached)
 
 pub quiescent-consistency : (𝓐 : Algebra) → Laws 𝓐 → QuiescentConsistency 𝓐
 quiescent-consistency 𝓐 laws d cs quiet l = converges 𝓐 laws d cs .lines l .equal (quiet l .0) (quiet l .1)
