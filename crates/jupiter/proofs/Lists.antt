@@ -24,6 +24,10 @@ pub all-map : {A : Type 0} (Q R : A → Type 0) (xs : List A) → ((x : A) → Q
 all-map Q R [] f h = tt
 all-map Q R (x ∷ xs) f h = (f x (h .0), all-map Q R xs f (h .1))
 
+pub all-from : {A : Type 0} (Q : A → Type 0) (d : A) (xs : List A) → ((i : ℕ) → i < length xs → Q (getD xs i d)) → All Q xs
+all-from Q d [] f = tt
+all-from Q d (x ∷ xs) f = (f 0 (suc-le-suc zero-le), all-from Q d xs (λ i h. f (suc i) (suc-le-suc h)))
+
 module _ {A : Type 0} (p : A → Bool) (d : A) where
   pub select-append : (xs ys : List A) → select p (xs ++ ys) ≡ select p xs ++ select p ys
   unfolding select

@@ -20,7 +20,7 @@ use Rattle.jupiter.proofs.Lists.{All}
 use Rattle.jupiter.proofs.Grid.{ltb-true, ltb-false, ltb-lt, Contexts, own-line, own-name, oth-line, Good, docAt, Grid}
 use Rattle.jupiter.proofs.Line.{LineAt, between-good}
 use Rattle.jupiter.proofs.World.{named, mine-served, others-served, LineInv, Inv, taken, missing-is}
-use Rattle.jupiter.proofs.Replay.{or-true, or-false, same-refl, same-eq, same-differ, is-false, holds-more, held-next}
+use Rattle.jupiter.proofs.Replay.{or-true, or-false, same-refl, same-eq, same-differ, is-false, holds-more, held-next, holds-in}
 
 and-false : (b : Bool) → b && false ≡ false
 and-false true = refl
@@ -31,13 +31,7 @@ and-true′ true = refl
 and-true′ false = refl
 
 module _ {𝓐 : Algebra} where
-  -- an element of a list is held, and what is held of a part is held of the whole
-  pub holds-in : (xs : List (Made 𝓐)) (i : ℕ) → i < length xs → holds (names xs) (getD xs i blank .name) ≡ true
-  unfolding holds
-  holds-in [] i h = absurd (not-suc-le-zero h)
-  holds-in (x ∷ xs) zero h = ap (λ b. b || holds (names xs) (x .name)) (same-refl (x .name))
-  holds-in (x ∷ xs) (suc i) h = ap (λ b. same (getD xs i blank .name) (x .name) || b) (holds-in xs i (le-of-suc-le-suc h)) ∙ or-true (same (getD xs i blank .name) (x .name))
-
+  -- what is held of a part is held of the whole
   pub holds-select : (p : Made 𝓐 → Bool) (xs : List (Made 𝓐)) (n : Name) → holds (names (select p xs)) n ≡ true → holds (names xs) n ≡ true
   unfolding holds select
   holds-select p [] n h = h
@@ -109,15 +103,17 @@ module _ {𝓐 : Algebra} where
         let z : i + r .place ≡ k = inj (i + r .place) k (omega arith) h (ap (λ n. same n (getD xs k blank .name)) q ∙ same-refl (getD xs k blank .name)) in
         omega arith
 
+    behind : (i k : ℕ) → ¬ (k < i) → k < length xs → holds (names (drop i xs)) (getD xs k blank .name) ≡ true
+    behind i k le h =
+        let lt : k - i < length (drop i xs) = omega (arith, length-drop i xs) in
+        let n : i + (k - i) ≡ k = omega arith in
+        subst (λ x. holds (names (drop i xs)) (x .name) ≡ true) (getD-drop i xs (k - i) blank ∙ ap (λ j. getD xs j blank) n) (holds-in (drop i xs) (k - i) lt)
+
     holds-drop : (i k : ℕ) → k < length xs → not (holds (names (drop i xs)) (getD xs k blank .name)) ≡ ltb k i
     holds-drop i k h = go (ltb k i) refl
       where
         go : (b : Bool) → ltb k i ≡ b → not (holds (names (drop i xs)) (getD xs k blank .name)) ≡ ltb k i
-        go false e =
-            let le : ¬ (k < i) = λ lt. true≢false (sym (ltb-true k i lt) ∙ e) in
-            let lt : k - i < length (drop i xs) = omega (arith, length-drop i xs) in
-            let is : getD (drop i xs) (k - i) blank ≡ getD xs k blank = getD-drop i xs (k - i) blank ∙ ap (λ n. getD xs n blank) (omega arith) in
-            ap not (subst (λ x. holds (names (drop i xs)) (x .name) ≡ true) is (holds-in (drop i xs) (k - i) lt)) ∙ sym e
+        go false e = ap not (behind i k (λ lt. true≢false (sym (ltb-true k i lt) ∙ e)) h) ∙ sym e
         go true e = ap not (is-false (holds (names (drop i xs)) (getD xs k blank .name)) (not-behind i k (ltb-lt k i e) h)) ∙ sym e
 
 module _ {𝓐 : Algebra} (d : 𝓐 .Doc) (l : ℕ) (w served applied : List (Made 𝓐)) (c v : End 𝓐) (doc : 𝓐 .Doc) (line : LineAt d l w served applied c v doc) where

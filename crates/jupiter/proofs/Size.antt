@@ -10,7 +10,7 @@ use Rattle.jupiter.specs.Algebra.{Algebra, Laws}
 use Rattle.jupiter.specs.Made.{Made, select, reject, isBy, mine, others}
 use Rattle.jupiter.specs.Form.{Last, allInside, outside, lastOutside, formBy, formIn, form, grown, listAt}
 use Rattle.jupiter.specs.Point.{enter, firsts, point}
-use Rattle.jupiter.specs.Claims.{inserts}
+use Rattle.jupiter.specs.Claims.{inserts, SizeBound}
 
 module _ {𝓐 : Algebra} where
   formIn-grows : Laws 𝓐 → (n : ℕ) (e : Made 𝓐) (C : List (Made 𝓐)) → 𝓐 .grows (formIn n e C) ≡ 𝓐 .grows (e .edit)
@@ -36,7 +36,7 @@ module _ {𝓐 : Algebra} where
       let rest = grown-size laws (before ++ (e ∷ [])) es (𝓐 .apply (form e before) d) in
       omega arith
 
-  pub size-bound : Laws 𝓐 → (d : 𝓐 .Doc) (C : List (Made 𝓐)) → 𝓐 .size (listAt d C) ≤ 𝓐 .size d + inserts C
+  pub size-bound : Laws 𝓐 → SizeBound 𝓐
   unfolding listAt
   size-bound laws d C = grown-size laws [] C d
 

@@ -8,6 +8,7 @@ use mathlib.Core.Bool.{Bool, true, false, not, cond, true≢false, _&&_, _||_}
 use mathlib.Core.Option.{Option, none, some, Option·none-ne-some, Option·some-injective}
 use mathlib.Core.List.{List, [], _∷_, _++_, append-assoc, append-nil}
 use lib.Dec.{T, ltb, leb, eqb, leb→le, le→leb}
+use lib.Seq.{drop-cons}
 use lib.ListN.{length, getD, drop, length-append, length-drop, getElem?}
 use Rattle.jupiter.specs.Algebra.{Algebra, Laws}
 use Rattle.jupiter.specs.Made.{Name, Made, holds, select, reject, names, isBy, mine, others}
@@ -21,9 +22,9 @@ use Rattle.jupiter.proofs.Lists as L
 use Rattle.jupiter.proofs.Lists.{All, all-append, all-map}
 use Rattle.jupiter.proofs.Segment.{segment-length, segment-get}
 use Rattle.jupiter.proofs.Grid.{is-true, to-T, eqb-eq, eqb-same, ltb-true, ltb-lt, Edge, docAt, Grid}
-use Rattle.jupiter.proofs.Line.{UpOk, DownOk, LineAt, set-is, pending-good-c, pending-good-v, unacked-c, unacked-v}
+use Rattle.jupiter.proofs.Line.{UpOk, DownOk, LineAt, set-is, down-arrives, up-form, pending-good-c, pending-good-v, unacked-c, unacked-v}
 use Rattle.jupiter.proofs.Closure.{Within, served-closed}
-use Rattle.jupiter.proofs.World.{named, mine-served, others-served, LineInv, Inv, missing-is}
+use Rattle.jupiter.proofs.World.{named, mine-served, others-served, LineInv, Inv, missing-is, first-missing}
 use Rattle.jupiter.proofs.Step.{Later, later-refl, later-trans, Step, opens, step-edit, step-up, step-down, step-ack-up, step-ack-down, UpMessage, DownMessage, up-message, down-message, up-later, down-later, down-fits, up-fits}
 use Rattle.jupiter.proofs.Runs.{leb-true, Fine, Reached, all-get, run-ok, starts}
 use Rattle.jupiter.proofs.Meeting.{client-less, server-less, meet, server-doc, untaken-is}
@@ -78,6 +79,26 @@ module _ {𝓐 : Algebra} (d : 𝓐 .Doc) (E : Ends 𝓐) (h : History 𝓐) (in
   equal-lists a b =
       line .c-doc ∙ ap (λ n. docAt d l w n (c .taken)) (sym (line .c-made) ∙ a) ∙ ap (docAt d l w (v .taken)) (b ∙ line .v-made) ∙ sym (server-doc d E h inv l)
 
+  pub arrives-down : (e : Made 𝓐) (es : List (Made 𝓐)) → missing h l ≡ e ∷ es → arrived (message (suc (c .taken)) v) c ≡ form e (inOrder w (h .applied l))
+  arrives-down e es q =
+      let n : length (missing h l) ≡ length (others l w) - c .taken =
+      ap length (missing-is d E h inv l) ∙ length-drop (c .taken) (others l (h .served)) ∙ ap (λ r. length r - c .taken) (sym (others-served l (h .served) (h .untaken l) (inv .lines l .untaken-own))) in
+      let lt : suc (c .taken) ≤ v .made = omega (arith, ap length q, line .v-made) in
+      let ok = down-message d E h inv l (suc (c .taken)) (suc-le-suc (line .v-acked)) lt in
+      let is : oth l w (c .taken) ≡ e = ap (λ r. getD r 0 blank) (sym (first-missing d E h inv l (message (suc (c .taken)) v) ok refl (line .c-acked)) ∙ q) in
+      down-arrives d l w (h .served) (h .applied l) c v (E .docs l) line (message (suc (c .taken)) v) ok refl (line .c-acked)
+      ∙ ap (λ x. form x (point l w (length (mine l w)) (c .taken))) is ∙ ap (form e) (sym (set-is d l w (h .served) (h .applied l) c v (E .docs l) line))
+
+  pub arrives-up : (e : Made 𝓐) (es : List (Made 𝓐)) → h .untaken l ≡ e ∷ es → arrived (message (suc (v .taken)) c) v ≡ form e (h .served)
+  arrives-up e es q =
+      let n : length (h .untaken l) ≡ length (mine l w) - v .taken = ap length (untaken-is d E h inv l) ∙ length-drop (v .taken) (mine l w) in
+      let lt : suc (v .taken) ≤ c .made = omega (arith, ap length q, line .c-made) in
+      let ok = up-message d E h inv l (suc (v .taken)) (suc-le-suc (line .c-acked)) lt in
+      let im : v .taken < length (mine l w) = omega (arith, line .c-made) in
+      let is : own l w (v .taken) ≡ e =
+      ap (λ r. getD r 0 blank) (sym (untaken-is d E h inv l ∙ drop-cons (mine l w) (v .taken) blank im) ∙ q) in
+      up-form d l w (h .served) (h .applied l) c v (E .docs l) line (message (suc (v .taken)) c) ok refl (line .v-acked) ∙ ap (λ x. form x (h .served)) is
+
   client-at : (i : ℕ) → c .acked ≤ i → i < c .made → getD (c .pending) (i - c .acked) (𝓐 .nothing) ≡ ownForm l w i (c .taken)
   client-at i a b =
       ap (λ r. getD r (i - c .acked) (𝓐 .nothing)) (line .c-pending)
@@ -113,6 +134,8 @@ module _ {𝓐 : Algebra} (d : 𝓐 .Doc) (E : Ends 𝓐) (h : History 𝓐) (in
         equal = equal-lists;
         next-down = next-down;
         next-up = next-up;
+        arrives-down = arrives-down;
+        arrives-up = arrives-up;
         passed-client = λ s a b. ap length (unacked-c d l w (h .served) (h .applied l) c v (E .docs l) line s a (subst (λ n. s ≤ n) (line .c-made) b))
             ∙ segment-length (λ i. ownForm l w i (c .taken)) s (length (mine l w)) ∙ ap (λ n. n - s) (sym (line .c-made));
         passed-server = λ s a b. ap length (unacked-v d l w (h .served) (h .applied l) c v (E .docs l) line s a (subst (λ n. s ≤ n) (line .v-made) b))
@@ -135,6 +158,7 @@ module _ {𝓐 : Algebra} (d : 𝓐 .Doc) where
   claim s r =
       record {
         hub = r .inv .doc-is;
+        hub-list = sym (r .inv .hub-shown);
         closed = sets-closed s r;
         letters = λ i x e. written (s .history) (s .ends) x (all-get d (Fine d (s .ends) (s .history)) (s .letters) i x (r .fine) e);
         lines = λ l. line-claim d (s .ends) (s .history) (r .inv) l;

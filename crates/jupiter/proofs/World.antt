@@ -22,7 +22,7 @@ use Rattle.jupiter.proofs.Grid.{eqb-eq, eqb-same, eqb-differ, ltb-true,
 use Rattle.jupiter.proofs.Extend.{NewOwn, row-own-cases, row-oth-cases, NewOth, col-grows, col-own-cases, col-oth-cases}
 use Rattle.jupiter.proofs.Closure.{Within, ClosedFrom, ClosedSet, Closed, closed-edit, within-snoc, closed-other, within-insert, context-of, closed-set-snoc, all-within, within-append}
 use Rattle.jupiter.proofs.Line.{UpOk, DownOk, LineAt, made-new, made-grows, made-fresh, line-edit, line-ack-up, line-ack-down, up-made, up-form, up-edge, line-up, down-made, line-down, line-other}
-use Rattle.jupiter.proofs.Replay.{is-false, holds-split, holds-more, holds-last, same-differ, inOrder-insert}
+use Rattle.jupiter.proofs.Replay.{is-false, holds-split, holds-more, holds-last, same-differ, in-itself, inOrder-insert, replay-insert, replay-snoc}
 
 -- Names of another line k in a list have numbers up to `bound k`: what an end has applied of line k, the server has taken.
 abbrev pub Bounded : ℕ → (ℕ → ℕ) → List Name → Type 0
@@ -56,6 +56,7 @@ module _ {𝓐 : Algebra} (d : 𝓐 .Doc) where
 
   pub record Inv (E : Ends 𝓐) (h : History 𝓐) : Type 0 where
     pub doc-is : E .doc ≡ listAt d (h .served)
+    pub hub-shown : replay (h .served) [] (h .served) d ≡ E .doc
     pub closed : Closed h
     pub served-bound : (k x : ℕ) → holds (names (h .served)) (named k x) ≡ true → x ≤ taken E k
     pub lines : (l : ℕ) → LineInv l (h .served) (h .untaken l) (h .applied l) (taken E) (E .clients l) (E .lines l) (E .docs l)
@@ -126,6 +127,7 @@ module _ {𝓐 : Algebra} (d : 𝓐 .Doc) where
     inv-edit =
         record {
           doc-is = inv .doc-is;
+          hub-shown = inv .hub-shown;
           closed = edit-closed;
           served-bound = inv .served-bound;
           lines = λ k. go k (eqb l k) refl;
@@ -161,6 +163,7 @@ module _ {𝓐 : Algebra} (d : 𝓐 .Doc) where
     inv-ack-up a b =
         record {
           doc-is = inv .doc-is;
+          hub-shown = inv .hub-shown;
           closed = inv .closed;
           served-bound = λ k x t. le-trans (inv .served-bound k x t) (same-taken (eqb l k) k refl);
           lines = λ k. go k (eqb l k) refl;
@@ -192,7 +195,7 @@ module _ {𝓐 : Algebra} (d : 𝓐 .Doc) where
         go k false q = old k (E .lines k) refl (inv .lines k .line)
 
     pub inv-ack-down : E .clients l .acked ≤ s → s ≤ E .lines l .taken → Inv (ackingDown l s E) h
-    inv-ack-down a b = record { doc-is = inv .doc-is; closed = inv .closed; served-bound = inv .served-bound; lines = λ k. go k (eqb l k) refl }
+    inv-ack-down a b = record { doc-is = inv .doc-is; hub-shown = inv .hub-shown; closed = inv .closed; served-bound = inv .served-bound; lines = λ k. go k (eqb l k) refl }
       where
         go : (k : ℕ) (b : Bool) → eqb l k ≡ b
             → LineInv k (h .served) (h .untaken k) (h .applied k) (taken E) (cond b (acks s (E .clients l)) (E .clients k)) (E .lines k) (E .docs k)
@@ -295,6 +298,7 @@ module _ {𝓐 : Algebra} (d : 𝓐 .Doc) where
     inv-down =
         subst (λ M. Inv (takingDown l x E) (applies l M h)) (sym first-missing) (record {
           doc-is = inv .doc-is;
+          hub-shown = inv .hub-shown;
           closed = down-closed;
           served-bound = inv .served-bound;
           lines = λ k. go k (eqb l k) refl;
@@ -334,7 +338,7 @@ module _ {𝓐 : Algebra} (d : 𝓐 .Doc) where
     o-by : isBy l o ≡ true
     o-by = uinv .untaken-own .0
 
-    o-is : own l uw a ≡ o
+    pub o-is : own l uw a ≡ o
     o-is =
         ap (own l uw) (uinv .v-count) ∙ ap (λ r. getD r (length (mine l (h .served))) blank) (L.select-in (isBy l) blank (h .served) o us o-by)
         ∙ getD-append-seam (mine l (h .served)) o (mine l us) blank
@@ -435,6 +439,17 @@ module _ {𝓐 : Algebra} (d : 𝓐 .Doc) where
                 (subst (λ n. n .number ≤ taken E′ (n .line)) (sym o-name) (omega (arith, up-bound-l))));
           }
 
+    pub o-new : holds (names (h .served)) (o .name) ≡ false
+    o-new = is-false _ (λ t. let y : suc a ≤ a = inv .served-bound l (suc a) (ap (holds (names (h .served))) (sym o-name) ∙ t) in absurd (omega arith))
+
+    up-shown : replay (h .served ++ (o ∷ [])) [] (h .served ++ (o ∷ [])) d ≡ 𝓐 .apply (arrived x (E .lines l)) (E .doc)
+    up-shown =
+        replay-snoc (h .served ++ (o ∷ [])) [] (h .served) o d
+        ∙ ap (λ C. 𝓐 .apply (form o C) (replay (h .served ++ (o ∷ [])) [] (h .served) d))
+        (inOrder-insert (h .served) o [] (h .served) o-new ∙ ap (λ r. inOrder r (h .served)) (append-nil (h .served)) ∙ in-itself (h .served))
+        ∙ ap (𝓐 .apply (form o (h .served))) (replay-insert (h .served) o [] [] (h .served) d o-new ∙ ap (λ r. replay r [] (h .served) d) (append-nil (h .served)) ∙ inv .hub-shown)
+        ∙ ap (λ e. 𝓐 .apply e (E .doc)) (sym arrives)
+
     up-closed : Closed (serves l (o ∷ us) h)
     unfolding serves
     up-closed =
@@ -465,6 +480,7 @@ module _ {𝓐 : Algebra} (d : 𝓐 .Doc) where
     up-inv =
         record {
           doc-is = ap (λ e. 𝓐 .apply e (E .doc)) arrives ∙ ap (𝓐 .apply (form o (h .served))) (inv .doc-is) ∙ sym (listAt-snoc d (h .served) o);
+          hub-shown = up-shown;
           closed = up-closed;
           served-bound = λ k y t. bound k y (holds-split (h .served) o (named k y) t);
           lines = λ k. go k (eqb l k) refl;
@@ -493,9 +509,6 @@ module _ {𝓐 : Algebra} (d : 𝓐 .Doc) where
         go false q =
             subst (Grows k (h .served ++ h .untaken k)) (sym (append-assoc (h .served) (o ∷ []) (h .untaken k)))
             (col-grows k (h .served) (h .untaken k) o (other-new k (λ e. true≢false (sym (eqb-same l) ∙ ap (eqb l) e ∙ q))))
-
-    pub o-new : holds (names (h .served)) (o .name) ≡ false
-    o-new = is-false _ (λ t. let y : suc a ≤ a = inv .served-bound l (suc a) (ap (holds (names (h .served))) (sym o-name) ∙ t) in absurd (omega arith))
 
     pub o-new-to : (k : ℕ) → l ≢ k → holds (names (h .applied k)) (o .name) ≡ false
     o-new-to k lk = new-to (names (h .applied k)) k lk (inv .lines k .applied-bound)

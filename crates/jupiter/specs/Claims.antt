@@ -93,6 +93,9 @@ module _ {𝓐 : Algebra} where
     -- the next message is taken
     pub next-down : c .taken < v .made → Delivers v c doc
     pub next-up : v .taken < c .made → Delivers c v hub
+    -- and is the next edit: it arrives in that edit's form at what the taking end has applied
+    pub arrives-down : (e : Made 𝓐) (es : List (Made 𝓐)) → missing h l ≡ e ∷ es → arrived (message (suc (c .taken)) v) c ≡ form e (inOrder (order h l) (h .applied l))
+    pub arrives-up : (e : Made 𝓐) (es : List (Made 𝓐)) → h .untaken l ≡ e ∷ es → arrived (message (suc (v .taken)) c) v ≡ form e (h .served)
     -- the count in the answer: the pending edits that an arriving edit is carried past
     pub passed-client : (seen : ℕ) → c .acked ≤ seen → seen ≤ c .made → length (unacked c seen) ≡ c .made - seen
     pub passed-server : (seen : ℕ) → v .acked ≤ seen → seen ≤ v .made → length (unacked v seen) ≡ v .made - seen
@@ -100,6 +103,7 @@ module _ {𝓐 : Algebra} where
   pub record Claim (initially : 𝓐 .Doc) (s : State 𝓐) : Type 0 where
     -- the server shows the opening list with every edit applied in its form at those it had taken before
     pub hub : s .ends .doc ≡ listAt initially (s .history .served)
+    pub hub-list : s .ends .doc ≡ replay (s .history .served) [] (s .history .served) initially
     -- what an end has applied is closed: 01's C holds the context of each of its edits
     pub closed : (x : Who) → ClosedSet (setOf x s)
     pub letters : (i : ℕ) (x : Letter 𝓐) → getElem? (s .letters) i ≡ some x → Written (s .history) x
@@ -110,7 +114,7 @@ module _ {𝓐 : Algebra} where
   abbrev pub Quiet : State 𝓐 → Type 0
   Quiet s = (l : ℕ) → (s .ends .clients l .made ≡ s .ends .lines l .taken) × (s .ends .clients l .taken ≡ s .ends .lines l .made)
 
--- The three theorems, for every algebra of edits that has the laws.
+-- The theorems, for every algebra of edits that has the laws. The first three are of every list of calls; the last is of the definitions.
 abbrev pub Converges : Algebra → Type 0
 Converges 𝓐 = (d : 𝓐 .Doc) (cs : List (Call 𝓐)) → Claim d (run (initial d) cs)
 
@@ -122,3 +126,7 @@ abbrev pub StrongConsistency : Algebra → Type 0
 StrongConsistency 𝓐 =
     (d : 𝓐 .Doc) (cs cs′ : List (Call 𝓐)) (x y : Who) → SameSet (setOf x (run (initial d) cs)) (setOf y (run (run (initial d) cs) cs′))
     → docOf x (run (initial d) cs) ≡ docOf y (run (run (initial d) cs) cs′)
+
+-- the list at a set has at most as many items as the opening list and the set's inserts
+abbrev pub SizeBound : Algebra → Type 0
+SizeBound 𝓐 = (d : 𝓐 .Doc) (C : List (Made 𝓐)) → 𝓐 .size (listAt d C) ≤ 𝓐 .size d + inserts C
