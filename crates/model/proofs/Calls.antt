@@ -32,7 +32,7 @@ use Rattle.jupiter.specs.Run.{Letter, up, down, upAck, downAck}
 use Rattle.jupiter.proofs.Lists.{All}
 use Rattle.jupiter.proofs.World.{Inv, mine-served, others-served}
 use Rattle.jupiter.proofs.Step.{UpMessage, DownMessage, up-message, down-message}
-use Rattle.jupiter.proofs.Theorem.{Fine}
+use Rattle.jupiter.proofs.Runs.{Fine}
 use Rattle.model.specs.Limits.{maxLines, maxInserts, maxEdits, maxOthers, maxPending, maxItems}
 use Rattle.model.specs.Questions.{Question, ask, asks, Answer, answer, Sent, sent}
 use Rattle.model.specs.Cross.{past, over, allPlaced, priority, insertsOf}

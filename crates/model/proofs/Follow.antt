@@ -29,7 +29,7 @@ use Rattle.jupiter.proofs.Extend.{new-form}
 use Rattle.jupiter.proofs.World.{Inv, arrives, first-missing, first-untaken, mine-served, others-served}
 use Rattle.jupiter.proofs.Step.{Later, Step, step-edit, step-up, step-down, step-ack-up, step-ack-down, UpMessage, DownMessage}
 use Rattle.jupiter.proofs.Size.{inserts-append}
-use Rattle.jupiter.proofs.Theorem.{Fine, fine-later}
+use Rattle.jupiter.proofs.Runs.{Fine, fine-later}
 use Rattle.model.specs.Questions.{Answer, answer}
 use Rattle.model.specs.Cross.{past, over, priority, insertsOf}
 use Rattle.model.specs.Client.{Client, soundClient, edited, unacked, clientTaken, clientAcked}

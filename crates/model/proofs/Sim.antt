@@ -20,7 +20,7 @@ use Rattle.jupiter.specs.Claims.{inserts}
 use Rattle.jupiter.proofs.Lists.{All, all-append, all-map}
 use Rattle.jupiter.proofs.World.{Inv}
 use Rattle.jupiter.proofs.Step.{Later, Step}
-use Rattle.jupiter.proofs.Theorem.{Fine, fine-later}
+use Rattle.jupiter.proofs.Runs.{Fine, fine-later}
 use Rattle.model.specs.Questions.{Answer, answer}
 use Rattle.model.specs.Cross.{past, over, insertsOf}
 use Rattle.model.specs.Client.{Client, soundClient, edited, unacked, clientTaken, clientAcked}
