@@ -1,7 +1,7 @@
 -- No list of a sheet is longer than 512 items, and no pending edit stands past it: 128 at opening and 48 inserts of each of 8 clients.
 use mathlib.Core.Path.{_≡_, refl, ap, ap₂, sym, _∙_, subst}
 use mathlib.Core.Bool.{Bool, true, false, _&&_, cond}
-use mathlib.Core.List.{List, [], _∷_, _++_}
+use mathlib.Core.List.{List, [], _∷_, _++_, append-nil}
 use Prim.Native.Nat.{ℕ, zero, suc, _+_, _-_, _*_, _≤_, _<_}
 use native.Mathlib.Omega.{arith}
 use lib.Dec.{eqb}
@@ -11,17 +11,17 @@ use Rattle.ot.specs.declared.Edit.{Edit}
 use Rattle.ot.specs.declared.Edit.the-variants.{Nothing}
 use Rattle.ot.specs.Edit.{applied, fits}
 use Rattle.jupiter.specs.Made.{Made, select, isBy, mine, others}
-use Rattle.jupiter.specs.Point.{point, ownForm, othForm}
+use Rattle.jupiter.specs.Point.{blank, point, ownForm, othForm}
 use Rattle.jupiter.specs.History.{History, order}
 use Rattle.jupiter.specs.Ends as ends
 use Rattle.jupiter.specs.Claims.{inserts}
 use Rattle.jupiter.proofs.Lists as L
-use Rattle.jupiter.proofs.Lists.{All}
+use Rattle.jupiter.proofs.Lists.{All, all-append, all-map}
 use Rattle.jupiter.proofs.Segment.{segment-length, segment-get}
 use Rattle.jupiter.proofs.Grid.{Edge, docAt}
 use Rattle.jupiter.proofs.Line.{LineAt, pending-good-c, pending-good-v}
 use Rattle.jupiter.proofs.World.{Inv, mine-served}
-use Rattle.jupiter.proofs.Size.{size-bound, inserts-append, inserts-point}
+use Rattle.jupiter.proofs.Size.{size-bound, inserts-append, inserts-point, inserts-total, sumTo-bound}
 use Rattle.model.specs.Limits.{maxItems, maxInserts, maxLines}
 use Rattle.model.specs.Cross.{placed, allPlaced, insertsOf}
 use Rattle.model.specs.Edits.{edits}
@@ -35,70 +35,11 @@ use Rattle.model.proofs.SoundClient.{client-facts}
 use Rattle.model.proofs.SoundServer.{server-facts, line-fact}
 use Rattle.model.proofs.Sim.{clientFrom, serverFrom, line-from, OfLines, Sim}
 
--- ---- sums over lines
-
-sum : (ℕ → ℕ) → ℕ → ℕ → ℕ
-sum f l zero = 0
-sum f l (suc k) = f l + sum f (suc l) k
-
-sum-cong : (f g : ℕ → ℕ) (l k : ℕ) → ((j : ℕ) → f j ≡ g j) → sum f l k ≡ sum g l k
-unfolding sum
-sum-cong f g l zero e = refl
-sum-cong f g l (suc k) e = omega (arith, e l, sum-cong f g (suc l) k e)
-
-sum-most : (f : ℕ → ℕ) (l k most : ℕ) → ((j : ℕ) → l ≤ j → j < l + k → f j ≤ most) → sum f l k ≤ k * most
-unfolding sum
-sum-most f l zero most b = omega arith
-sum-most f l (suc k) most b = omega (arith, b l (omega arith) (omega arith), sum-most f (suc l) k most (λ j a c. b j (omega arith) (omega arith)))
-
--- a term more at one place
-abbrev bump : (ℕ → ℕ) → ℕ → ℕ → ℕ → ℕ
-bump f m u j = f j + cond (eqb m j) u 0
-
-sum-past : (f : ℕ → ℕ) (m u l k : ℕ) → m < l → sum (bump f m u) l k ≡ sum f l k
-unfolding sum
-sum-past f m u l zero h = refl
-sum-past f m u l (suc k) h =
-    let here : bump f m u l ≡ f l = rw (ne-eqb m l (λ e. omega arith)) (omega arith) in
-    omega (arith, here, sum-past f m u (suc l) k (omega arith))
-
-sum-bump : (f : ℕ → ℕ) (m u l k : ℕ) → l ≤ m → m < l + k → sum (bump f m u) l k ≡ sum f l k + u
-unfolding sum
-sum-bump f m u l zero a b = absurd (omega arith)
-sum-bump f m u l (suc k) a b = go (eqb m l) refl (λ far. sum-bump f m u (suc l) k far (omega arith))
-  where
-    go : (t : Bool) → eqb m l ≡ t → (suc l ≤ m → sum (bump f m u) (suc l) k ≡ sum f (suc l) k + u) → (f l + cond (eqb m l) u 0) + sum (bump f m u) (suc l) k ≡ (f l + sum f (suc l) k) + u
-    go true e rest =
-        let same : m ≡ l = eqb-true m l e in
-        let here : cond (eqb m l) u 0 ≡ u = rw e in
-        omega (arith, sum-past f m u (suc l) k (omega arith))
-    go false e rest =
-        let here : cond (eqb m l) u 0 ≡ 0 = rw e in
-        let differ = eqb-false m l e in
-        omega (arith, rest (omega arith))
-
--- the inserts of a list of edits, line by line
-one-line : (x : Made edits) (xs : List (Made edits)) (j : ℕ) → inserts (mine j (x ∷ xs)) ≡ bump (λ i. inserts (mine i xs)) (x .name .line) (insertsOf (x .edit)) j
-unfolding inserts select
-one-line x xs j = go (eqb j (x .name .line)) (eqb (x .name .line) j) refl refl
-  where
-    go : (a b : Bool) → eqb j (x .name .line) ≡ a → eqb (x .name .line) j ≡ b → inserts (cond a (x ∷ mine j xs) (mine j xs)) ≡ inserts (mine j xs) + cond b (insertsOf (x .edit)) 0
-    go true true e f = omega arith
-    go true false e f = absurd (eqb-false (x .name .line) j f (sym (eqb-true j (x .name .line) e)))
-    go false true e f = absurd (eqb-false j (x .name .line) e (sym (eqb-true (x .name .line) j f)))
-    go false false e f = omega arith
-
-by-lines : (n : ℕ) (xs : List (Made edits)) → All (OfLines n) xs → inserts xs ≡ sum (λ j. inserts (mine j xs)) 1 n
-unfolding inserts select
-by-lines n [] a = sym (zeros 1 n)
-  where
-    zeros : (l k : ℕ) → sum (λ j. 0) l k ≡ 0
-    zeros l k = omega (arith, sum-most (λ j. 0) l k 0 (λ j b c. omega arith))
-by-lines n (x ∷ xs) a =
-    omega (arith,
-    by-lines n xs (a .1),
-    sum-bump (λ j. inserts (mine j xs)) (x .name .line) (insertsOf (x .edit)) 1 n (a .0 .0) (omega (arith, a .0 .1)),
-    sum-cong (λ j. inserts (mine j (x ∷ xs))) (bump (λ i. inserts (mine i xs)) (x .name .line) (insertsOf (x .edit))) 1 n (one-line x xs))
+-- of edits that are all line l's, none is another line's
+mine-none : (l k : ℕ) → eqb l k ≡ false → (ys : List (Made edits)) → All (λ y. isBy l y ≡ true) ys → mine k ys ≡ []
+unfolding select
+mine-none l k d [] a = refl
+mine-none l k d (y ∷ ys) a = rw (ne-eqb k (y .name .line) (λ e. eqb-false l k d (eqb-true l (y .name .line) (a .0) ∙ sym e))) (mine-none l k d ys (a .1))
 
 module _ (n : ℕ) (items : List ℕ) (s : State ours) (sim : Sim n items s) (few : length items ≤ 128) where
   abbrev h : History edits
@@ -120,26 +61,23 @@ module _ (n : ℕ) (items : List ℕ) (s : State ours) (sim : Sim n items s) (fe
   client-more l =
       omega (arith, sim .ci-is l, sim .si-is l, ap inserts (mine-served l (h .served) (h .untaken l) (sim .inv .lines l .untaken-own)), inserts-append (mine l (h .served)) (h .untaken l))
 
-  -- all inserts that line l can know of
+  -- all inserts that line l can know of: at most 48 of each line
   pub inserts-most : (l : ℕ) → 1 ≤ l → l ≤ n → inserts (order h l) ≤ 384
   inserts-most l a b =
-      let u = inserts (h .untaken l) in
-      let f : ℕ → ℕ = λ j. inserts (mine j (h .served)) in
-      let total : inserts (order h l) ≡ inserts (h .served) + u = inserts-append (h .served) (h .untaken l) in
-      let split : inserts (h .served) ≡ sum f 1 n = by-lines n (h .served) (sim .served-lines) in
-      let bumped : sum (bump f l u) 1 n ≡ sum f 1 n + u = sum-bump f l u 1 n a (omega arith) in
-      let most : sum (bump f l u) 1 n ≤ n * 48 = sum-most (bump f l u) 1 n 48 (λ j c d. each j c (omega arith) (eqb l j) refl) in
-      omega (arith, lines-most)
+      let own = sim .inv .lines l .untaken-own in
+      let of-lines : All (OfLines n) (order h l) =
+            all-append (OfLines n) (h .served) (h .untaken l) (sim .served-lines)
+            (all-map (λ y. isBy l y ≡ true) (OfLines n) (h .untaken l) (λ y e. let z : l ≡ y .name .line = eqb-true l (y .name .line) e in (omega arith, omega arith)) own) in
+      omega (arith, lines-most, inserts-total n (order h l) of-lines, sumTo-bound (λ k. inserts (mine k (order h l))) 48 n (λ k c d. each k c d (eqb l k) refl))
     where
-      each : (j : ℕ) → 1 ≤ j → j ≤ n → (t : Bool) → eqb l j ≡ t → inserts (mine j (h .served)) + cond (eqb l j) (inserts (h .untaken l)) 0 ≤ 48
-      each j c d true e =
-          let same : l ≡ j = eqb-true l j e in
-          let here : cond (eqb l j) (inserts (h .untaken l)) 0 ≡ inserts (h .untaken l) = rw e in
-          let mine-same : inserts (mine l (h .served)) ≡ inserts (mine j (h .served)) = ap (λ (i : ℕ). inserts (mine i (h .served))) same in
-          omega (arith, client-more l, client-most l a b, sim .si-is l)
-      each j c d false e =
-          let here : cond (eqb l j) (inserts (h .untaken l)) 0 ≡ 0 = rw e in
-          omega (arith, server-most j c d, sim .si-is j)
+      each : (k : ℕ) → 1 ≤ k → k ≤ n → (t : Bool) → eqb l k ≡ t → inserts (mine k (order h l)) ≤ 48
+      each k c d true e =
+          subst (λ (i : ℕ). inserts (mine i (order h l)) ≤ 48) (eqb-true l k e) (omega (arith, client-most l a b, sim .ci-is l))
+      each k c d false e =
+          let same : mine k (order h l) ≡ mine k (h .served) =
+                L.select-append (isBy k) blank (h .served) (h .untaken l) ∙ ap (λ (r : List (Made edits)). mine k (h .served) ++ r) (mine-none l k e (h .untaken l) (sim .inv .lines l .untaken-own))
+                ∙ append-nil (mine k (h .served)) in
+          omega (arith, ap inserts same, server-most k c d, sim .si-is k)
 
 -- ---- lists at points, and the pending edits there
 pub doc-most : (items : List ℕ) (w : List (Made edits)) → length items + inserts w ≤ 512 → (l i j : ℕ) → length (docAt items l w i j) ≤ 512

@@ -14,7 +14,7 @@ use Rattle.ot.specs.Edit.{applied, fits}
 use Rattle.wire.specs.declared.Header.{Header}
 use Rattle.wire.specs.Message.{inRange}
 use Rattle.jupiter.specs.Made.{Made, holds, select, reject, isBy, mine, others}
-use Rattle.jupiter.specs.Form.{Last, allInside, outside, lastOutside, formBy, formIn, form, inOrder}
+use Rattle.jupiter.specs.Form.{form, inOrder}
 use Rattle.jupiter.specs.Point.{blank, own, oth, ownForm, othForm, point}
 use Rattle.jupiter.specs.History.{History, at, order, madeBy, missing, newEdit, makes, afterEdit, serves, afterUp, applies, afterDown}
 use Rattle.jupiter.specs.Ends as ends
@@ -28,7 +28,7 @@ use Rattle.jupiter.proofs.Line.{LineAt, set-is, down-made, down-arrives}
 use Rattle.jupiter.proofs.Extend.{new-form}
 use Rattle.jupiter.proofs.World.{Inv, arrives, first-missing, first-untaken, mine-served, others-served}
 use Rattle.jupiter.proofs.Step.{Later, Step, step-edit, step-up, step-down, step-ack-up, step-ack-down, UpMessage, DownMessage}
-use Rattle.jupiter.proofs.Size.{inserts-append}
+use Rattle.jupiter.proofs.Size.{inserts-append, form-grows}
 use Rattle.jupiter.proofs.Runs.{Fine, fine-later}
 use Rattle.model.specs.Questions.{Answer, answer}
 use Rattle.model.specs.Cross.{past, over, priority, insertsOf}
@@ -40,7 +40,6 @@ use Rattle.model.specs.Log as logs
 use Rattle.model.specs.Log.{Log, letterMessage, letterBytes, setOf, madeAt, takenAt, editLetter, ackLetter, hears, tookUp, tookDown, writes, refusedLog, log}
 use Rattle.model.specs.Run.{State, answered}
 use Rattle.model.specs.Ours.{End, client, server, ours}
-use Rattle.model.proofs.Cross.{inserts-transformed}
 use Rattle.model.proofs.Instance.{to-T, from-T, edit-laws, past-same, over-same}
 use Rattle.model.proofs.Small.{Small, small-past, small-over, all-drop}
 use Rattle.model.proofs.Sim.{clientFrom, serverFrom, lineFrom, LetterOk, OfLines, Sim, at-line, at-other, edited-from, taken-from, server-taken-from, server-acked-from}
@@ -90,20 +89,6 @@ client-count h (suc l) made a e = e
 small-taken : (x : Message edits) (v : ends.End edits) → All Small (v .pending) → All Small (takes x v .pending)
 small-taken x v a =
     subst (All Small) (over-same (x .edit) (drop (x .seen - v .acked) (v .pending))) (small-over (x .edit) (drop (x .seen - v .acked) (v .pending)) (all-drop Small (x .seen - v .acked) (v .pending) a))
-
--- an edit is an insert in all its forms or in none
-formIn-inserts : (k : ℕ) (e : Made edits) (D : List (Made edits)) → insertsOf (formIn k e D) ≡ insertsOf (e .edit)
-unfolding formIn formBy
-formIn-inserts zero e D = refl
-formIn-inserts (suc k) e D = go (lastOutside (e .context) D) (λ D′. formIn-inserts k e D′)
-  where
-    go : (x : Last edits) → ((D′ : List (Made edits)) → insertsOf (formIn k e D′) ≡ insertsOf (e .edit)) → insertsOf (formBy (λ e′ D′. formIn k e′ D′) e x) ≡ insertsOf (e .edit)
-    go allInside ih = refl
-    go (outside before z after) ih = inserts-transformed (formIn k e (before ++ after)) (formIn k z (before ++ after)) ∙ ih (before ++ after)
-
-pub form-inserts : (e : Made edits) (D : List (Made edits)) → insertsOf (form e D) ≡ insertsOf (e .edit)
-unfolding form
-form-inserts e D = formIn-inserts (length D) e D
 
 -- every message stays one that can be taken
 letters-later : (items : List ℕ) (E E′ : Ends edits) (h h′ : History edits) → Inv items E h → Later E h E′ h′ → (xs : List (Letter edits))
@@ -297,7 +282,7 @@ module _ (n : ℕ) (items : List ℕ) (s : State ours) (sim : Sim n items s) whe
         → insertsOf (x .edit) ≡ insertsOf (o .edit)
     first-inserts x ok next o us split =
         let o-by : isBy l o ≡ true = subst (λ (r : List (Made edits)). All (λ y. isBy l y ≡ true) r) split (sim .inv .lines l .untaken-own) .0 in
-        ap insertsOf (ok .edit) ∙ form-inserts (own l (order h l) (ok .index)) (point l (order h l) (ok .index) (x .seen))
+        ap insertsOf (ok .edit) ∙ form-grows edit-laws (own l (order h l) (ok .index)) (point l (order h l) (ok .index) (x .seen))
         ∙ ap (λ (y : Made edits). insertsOf (y .edit))
         (ap (λ (i : ℕ). getD (mine l (order h l)) i blank) (omega (arith, ok .number, sim .inv .lines l .v-count))
         ∙ ap (λ (r : List (Made edits)). getD (mine l (h .served ++ r)) (length (mine l (h .served))) blank) split
