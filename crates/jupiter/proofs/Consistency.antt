@@ -18,18 +18,14 @@ use Rattle.jupiter.specs.Ends.{Ends}
 use Rattle.jupiter.specs.Run.{Call, State, initial, run}
 use Rattle.jupiter.specs.Claims.{Who, server, client, setOf, docOf, SameSet, StrongConsistency}
 use Rattle.jupiter.proofs.Lists as L
-use Rattle.jupiter.proofs.Lists.{All}
+use Rattle.jupiter.proofs.Lists.{All, all-from}
 use Rattle.jupiter.proofs.Grid.{eqb-eq, eqb-same, own-name}
 use Rattle.jupiter.proofs.Line.{LineAt, set-is}
 use Rattle.jupiter.proofs.World.{named, Inv, taken}
 use Rattle.jupiter.proofs.Step.{Later}
-use Rattle.jupiter.proofs.Meeting.{holds-in, untaken-is}
-use Rattle.jupiter.proofs.Replay.{is-false}
-use Rattle.jupiter.proofs.Theorem.{Reached, Onward, run-ok, starts}
-
-pub all-from : {A : Type 0} (Q : A → Type 0) (d : A) (xs : List A) → ((i : ℕ) → i < length xs → Q (getD xs i d)) → All Q xs
-all-from Q d [] f = tt
-all-from Q d (x ∷ xs) f = (f 0 (suc-le-suc zero-le), all-from Q d xs (λ i h. f (suc i) (suc-le-suc h)))
+use Rattle.jupiter.proofs.Meeting.{untaken-is}
+use Rattle.jupiter.proofs.Replay.{is-false, in-itself}
+use Rattle.jupiter.proofs.Runs.{Reached, Onward, run-ok, starts}
 
 select-none : {A : Type 0} (p : A → Bool) (xs : List A) → All (λ x. p x ≡ false) xs → select p xs ≡ []
 unfolding select
@@ -42,10 +38,6 @@ module _ {𝓐 : Algebra} where
   unfolding inOrder select
   same-order [] A B h = refl
   same-order (e ∷ w) A B h = rw (h (e .name)) (ap (λ r. cond (holds (names B) (e .name)) (e ∷ r) r) (same-order w A B h))
-
-  in-itself : (xs : List (Made 𝓐)) → inOrder xs xs ≡ xs
-  unfolding inOrder
-  in-itself xs = L.select-all (λ e. holds (names xs) (e .name)) blank xs (all-from (λ e. holds (names xs) (e .name) ≡ true) blank xs (holds-in xs))
 
   -- 01's order, as far as an end is concerned
   abbrev orderOf : Who → History 𝓐 → List (Made 𝓐)

@@ -24,6 +24,10 @@ pub all-map : {A : Type 0} (Q R : A → Type 0) (xs : List A) → ((x : A) → Q
 all-map Q R [] f h = tt
 all-map Q R (x ∷ xs) f h = (f x (h .0), all-map Q R xs f (h .1))
 
+pub all-from : {A : Type 0} (Q : A → Type 0) (d : A) (xs : List A) → ((i : ℕ) → i < length xs → Q (getD xs i d)) → All Q xs
+all-from Q d [] f = tt
+all-from Q d (x ∷ xs) f = (f 0 (suc-le-suc zero-le), all-from Q d xs (λ i h. f (suc i) (suc-le-suc h)))
+
 module _ {A : Type 0} (p : A → Bool) (d : A) where
   pub select-append : (xs ys : List A) → select p (xs ++ ys) ≡ select p xs ++ select p ys
   unfolding select
@@ -336,3 +340,34 @@ module _ {A : Type 0} (p : A → Bool) (d : A) where
       go true (suc i) j f g ih = (f 0 (suc-le-suc zero-le) (suc-le-suc zero-le), ih i j (λ k lt ln. f (suc k) (suc-le-suc lt) (suc-le-suc ln)) g)
       go false i zero f g ih = ih i 0 f (λ k lt. absurd (not-suc-le-zero lt))
       go false i (suc j) f g ih = (g 0 (suc-le-suc zero-le) (suc-le-suc zero-le), ih i j f (λ k lt ln. g (suc k) (suc-le-suc lt) (suc-le-suc ln)))
+
+  -- where the j-th that p rejects stands, and a property of all before it
+  pub record Before (Q : A → Type 0) (xs : List A) (j : ℕ) : Type 0 where
+    pub front : List A
+    pub back : List A
+    pub whole : xs ≡ front ++ getD (reject p xs) j d ∷ back
+    pub every : All Q front
+
+  pub before-rejected : (Q : A → Type 0) (xs : List A) (j : ℕ) → j < length (reject p xs) → ((k : ℕ) → k < length (select p xs) → Q (getD (select p xs) k d))
+      → ((k : ℕ) → k < j → k < length (reject p xs) → Q (getD (reject p xs) k d)) → Before Q xs j
+  unfolding select reject
+  before-rejected Q [] j h f g = absurd (omega arith)
+  before-rejected Q (x ∷ xs) j h f g = go (p x) refl j h f g (λ j h f g. before-rejected Q xs j h f g)
+    where
+      go : (b : Bool) → p x ≡ b → (j : ℕ) → j < length (cond b (reject p xs) (x ∷ reject p xs))
+          → ((k : ℕ) → k < length (cond b (x ∷ select p xs) (select p xs)) → Q (getD (cond b (x ∷ select p xs) (select p xs)) k d))
+          → ((k : ℕ) → k < j → k < length (cond b (reject p xs) (x ∷ reject p xs)) → Q (getD (cond b (reject p xs) (x ∷ reject p xs)) k d))
+          → ((j : ℕ) → j < length (reject p xs) → ((k : ℕ) → k < length (select p xs) → Q (getD (select p xs) k d))
+          → ((k : ℕ) → k < j → k < length (reject p xs) → Q (getD (reject p xs) k d)) → Before Q xs j) → Before Q (x ∷ xs) j
+      go true e j h f g ih =
+          let r = ih j h (λ k lt. f (suc k) (suc-le-suc lt)) g in
+          record { front = x ∷ r .front; back = r .back; whole = rw e (ap {B = List A} (λ l. x ∷ l) (r .whole)); every = (f 0 (suc-le-suc zero-le), r .every) }
+      go false e zero h f g ih = record { front = []; back = xs; whole = rw e refl; every = tt }
+      go false e (suc j) h f g ih =
+          let r = ih j (le-of-suc-le-suc h) f (λ k lt ln. g (suc k) (suc-le-suc lt) (suc-le-suc ln)) in
+          record {
+            front = x ∷ r .front;
+            back = r .back;
+            whole = rw e (ap {B = List A} (λ l. x ∷ l) (r .whole));
+            every = (g 0 (suc-le-suc zero-le) (suc-le-suc zero-le), r .every);
+          }

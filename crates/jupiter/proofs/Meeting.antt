@@ -7,29 +7,31 @@ use mathlib.Core.Logic.{_≢_, _⊎_, inl, inr}
 use mathlib.Core.Bool.{Bool, true, false, not, cond, true≢false, _&&_, _||_}
 use mathlib.Core.List.{List, [], _∷_, _++_, append-assoc, append-nil}
 use lib.Dec.{T, ltb, leb, eqb}
-use lib.ListN.{length, getD, drop, length-append, drop-of-length-le, List·getD-append}
-use lib.Seq.{drop-cons, drop-append-seam}
+use lib.ListN.{length, getD, drop, length-append, drop-of-length-le, length-drop, List·getD-append}
+use lib.Seq.{drop-cons, drop-append-seam, getD-drop}
 use Rattle.jupiter.specs.Algebra.{Algebra, Laws}
 use Rattle.jupiter.specs.Made.{Name, Made, same, holds, select, reject, names, isBy, mine, others}
-use Rattle.jupiter.specs.Form.{form, listAt, inOrder, replay}
+use Rattle.jupiter.specs.Form.{form, listAt, inOrder, without, replay}
 use Rattle.jupiter.specs.Point.{point, blank, own, oth, ownForm, othForm}
 use Rattle.jupiter.specs.History.{History, order, missing}
 use Rattle.jupiter.specs.Ends.{End, Ends}
 use Rattle.jupiter.proofs.Lists as L
 use Rattle.jupiter.proofs.Lists.{All}
-use Rattle.jupiter.proofs.Grid.{ltb-true, ltb-false, ltb-lt, Contexts, own-name, oth-line, Good, docAt, Grid}
+use Rattle.jupiter.proofs.Grid.{ltb-true, ltb-false, ltb-lt, Contexts, own-line, own-name, oth-line, Good, docAt, Grid}
 use Rattle.jupiter.proofs.Line.{LineAt, between-good}
 use Rattle.jupiter.proofs.World.{named, mine-served, others-served, LineInv, Inv, taken, missing-is}
-use Rattle.jupiter.proofs.Replay.{or-true, or-false, same-refl, same-eq, same-differ, is-false, holds-more, held-next}
+use Rattle.jupiter.proofs.Replay.{or-true, or-false, same-refl, same-eq, same-differ, is-false, holds-more, held-next, holds-in}
+
+and-false : (b : Bool) → b && false ≡ false
+and-false true = refl
+and-false false = refl
+
+and-true′ : (b : Bool) → b && true ≡ b
+and-true′ true = refl
+and-true′ false = refl
 
 module _ {𝓐 : Algebra} where
-  -- an element of a list is held, and what is held of a part is held of the whole
-  pub holds-in : (xs : List (Made 𝓐)) (i : ℕ) → i < length xs → holds (names xs) (getD xs i blank .name) ≡ true
-  unfolding holds
-  holds-in [] i h = absurd (not-suc-le-zero h)
-  holds-in (x ∷ xs) zero h = ap (λ b. b || holds (names xs) (x .name)) (same-refl (x .name))
-  holds-in (x ∷ xs) (suc i) h = ap (λ b. same (getD xs i blank .name) (x .name) || b) (holds-in xs i (le-of-suc-le-suc h)) ∙ or-true (same (getD xs i blank .name) (x .name))
-
+  -- what is held of a part is held of the whole
   pub holds-select : (p : Made 𝓐 → Bool) (xs : List (Made 𝓐)) (n : Name) → holds (names (select p xs)) n ≡ true → holds (names xs) n ≡ true
   unfolding holds select
   holds-select p [] n h = h
@@ -58,6 +60,62 @@ module _ {𝓐 : Algebra} where
           or-on false k = ih k
       go true h ih = ap (λ b. same n (x .name) || b) (ih h) ∙ or-true (same n (x .name))
 
+  -- and what is held is an element
+  pub record HeldAt (xs : List (Made 𝓐)) (n : Name) : Type 0 where
+    pub place : ℕ
+    pub below : place < length xs
+    pub named-so : getD xs place blank .name ≡ n
+
+  pub held-at : (xs : List (Made 𝓐)) (n : Name) → holds (names xs) n ≡ true → HeldAt xs n
+  unfolding holds
+  held-at [] n h = absurd (true≢false (sym h))
+  held-at (x ∷ xs) n h = go (same n (x .name)) refl h (held-at xs n)
+    where
+      go : (b : Bool) → same n (x .name) ≡ b → b || holds (names xs) n ≡ true → (holds (names xs) n ≡ true → HeldAt xs n) → HeldAt (x ∷ xs) n
+      go true e k ih = record { place = 0; below = suc-le-suc zero-le; named-so = sym (same-eq n (x .name) e) }
+      go false e k ih = let r = ih k in record { place = suc (r .place); below = suc-le-suc (r .below); named-so = r .named-so }
+
+  holds-without : (done less : List (Made 𝓐)) (n : Name) → holds (names (without done less)) n ≡ holds (names done) n && not (holds (names less) n)
+  unfolding holds without select
+  holds-without [] less n = refl
+  holds-without (x ∷ xs) less n = go (same n (x .name)) refl (holds (names less) (x .name)) refl (holds-without xs less n)
+    where
+      go : (a : Bool) → same n (x .name) ≡ a → (b : Bool) → holds (names less) (x .name) ≡ b
+          → holds (names (select (λ e. not (holds (names less) (e .name))) xs)) n ≡ holds (names xs) n && not (holds (names less) n)
+          → holds (names (cond (not b) (x ∷ select (λ e. not (holds (names less) (e .name))) xs) (select (λ e. not (holds (names less) (e .name))) xs))) n
+          ≡ (a || holds (names xs) n) && not (holds (names less) n)
+      go true e true f ih =
+          let nx : holds (names less) n ≡ true = ap (holds (names less)) (same-eq n (x .name) e) ∙ f in
+          rw nx (ih ∙ rw nx (and-false (holds (names xs) n)))
+      go true e false f ih =
+          let nx : holds (names less) n ≡ false = ap (holds (names less)) (same-eq n (x .name) e) ∙ f in
+          rw (nx, e) refl
+      go false e true f ih = ih
+      go false e false f ih = rw e ih
+
+  -- of edits with names of their own: which are among those from number i on
+  module _ (xs : List (Made 𝓐)) (inj : (j k : ℕ) → j < length xs → k < length xs → same (getD xs j blank .name) (getD xs k blank .name) ≡ true → j ≡ k) where
+    not-behind : (i k : ℕ) → k < i → k < length xs → holds (names (drop i xs)) (getD xs k blank .name) ≡ true → ⊥
+    not-behind i k lt h t =
+        let r = held-at (drop i xs) (getD xs k blank .name) t in
+        let b : r .place < length xs - i = subst (λ n. r .place < n) (length-drop i xs) (r .below) in
+        let q : getD xs (i + r .place) blank .name ≡ getD xs k blank .name = ap (λ x. x .name) (sym (getD-drop i xs (r .place) blank)) ∙ r .named-so in
+        let z : i + r .place ≡ k = inj (i + r .place) k (omega arith) h (ap (λ n. same n (getD xs k blank .name)) q ∙ same-refl (getD xs k blank .name)) in
+        omega arith
+
+    behind : (i k : ℕ) → ¬ (k < i) → k < length xs → holds (names (drop i xs)) (getD xs k blank .name) ≡ true
+    behind i k le h =
+        let lt : k - i < length (drop i xs) = omega (arith, length-drop i xs) in
+        let n : i + (k - i) ≡ k = omega arith in
+        subst (λ x. holds (names (drop i xs)) (x .name) ≡ true) (getD-drop i xs (k - i) blank ∙ ap (λ j. getD xs j blank) n) (holds-in (drop i xs) (k - i) lt)
+
+    holds-drop : (i k : ℕ) → k < length xs → not (holds (names (drop i xs)) (getD xs k blank .name)) ≡ ltb k i
+    holds-drop i k h = go (ltb k i) refl
+      where
+        go : (b : Bool) → ltb k i ≡ b → not (holds (names (drop i xs)) (getD xs k blank .name)) ≡ ltb k i
+        go false e = ap not (behind i k (λ lt. true≢false (sym (ltb-true k i lt) ∙ e)) h) ∙ sym e
+        go true e = ap not (is-false (holds (names (drop i xs)) (getD xs k blank .name)) (not-behind i k (ltb-lt k i e) h)) ∙ sym e
+
 module _ {𝓐 : Algebra} (d : 𝓐 .Doc) (l : ℕ) (w served applied : List (Made 𝓐)) (c v : End 𝓐) (doc : 𝓐 .Doc) (line : LineAt d l w served applied c v doc) where
   abbrev m : ℕ
   m = length (mine l w)
@@ -70,6 +128,24 @@ module _ {𝓐 : Algebra} (d : 𝓐 .Doc) (l : ℕ) (w served applied : List (Ma
       let q : suc j ≡ suc k =
       sym (line .grid .contexts .own-number j hj) ∙ ap (λ x. x .number) (same-eq (own l w j .name) (own l w k .name) e) ∙ line .grid .contexts .own-number k hk in
       omega arith
+
+  -- what the client has applied, less its own edits from number i + 1 on
+  pub client-less : (i : ℕ) → inOrder w (without applied (drop i (mine l w))) ≡ point l w i (c .taken)
+  unfolding inOrder
+  client-less i =
+      L.select-firsts (isBy l) blank (λ e. holds (names (without applied (drop i (mine l w)))) (e .name)) w i (c .taken)
+      (λ k h. holds-without applied (drop i (mine l w)) (own l w k .name)
+      ∙ ap (λ b. b && not (holds (names (drop i (mine l w))) (own l w k .name))) (line .applied-own k h) ∙ holds-drop (mine l w) own-inj i k h)
+      (λ k h. holds-without applied (drop i (mine l w)) (oth l w k .name)
+      ∙ ap (λ b. holds (names applied) (oth l w k .name) && not b) (is-false (holds (names (drop i (mine l w))) (oth l w k .name)) (stranger k h))
+      ∙ and-true′ (holds (names applied) (oth l w k .name)) ∙ line .applied-oth k h)
+    where
+      stranger : (k : ℕ) → k < n → holds (names (drop i (mine l w))) (oth l w k .name) ≡ true → ⊥
+      stranger k h t =
+          let r = held-at (drop i (mine l w)) (oth l w k .name) t in
+          let b : r .place < m - i = subst (λ x. r .place < x) (length-drop i (mine l w)) (r .below) in
+          let q : own l w (i + r .place) .name ≡ oth l w k .name = ap (λ x. x .name) (sym (getD-drop i (mine l w) (r .place) blank)) ∙ r .named-so in
+          oth-line l w k h (sym (own-line l w (i + r .place) (omega arith)) ∙ ap (λ x. x .line) q)
 
   -- the missing edits past the unaccepted ones
   walk-oth : (r j : ℕ) → j + r ≡ n → c .taken ≤ j → (done : List (Made 𝓐)) → ((i : ℕ) → i < m → holds (names done) (own l w i .name) ≡ true)
@@ -135,6 +211,24 @@ module _ {𝓐 : Algebra} (d : 𝓐 .Doc) (E : Ends 𝓐) (h : History 𝓐) (in
       go false e =
           is-false _ (λ t. let y : suc k ≤ E .lines l .taken = inv .served-bound l (suc k) (ap (holds (names (h .served))) (sym (own-name l w (line .grid .contexts) k lt)) ∙ t) in
           true≢false (sym (ltb-true k _ y) ∙ e)) ∙ sym e
+
+  -- what the server has taken, less the others from number j + 1 on
+  pub server-less : (j : ℕ) → inOrder w (without (h .served) (drop j (others l w))) ≡ point l w (E .lines l .taken) j
+  unfolding inOrder
+  server-less j =
+      L.select-firsts (isBy l) blank (λ e. holds (names (without (h .served) (drop j (others l w)))) (e .name)) w (E .lines l .taken) j
+      (λ k lt. holds-without (h .served) (drop j (others l w)) (own l w k .name)
+      ∙ ap (λ b. holds (names (h .served)) (own l w k .name) && not b) (is-false (holds (names (drop j (others l w))) (own l w k .name)) (stranger k lt))
+      ∙ and-true′ (holds (names (h .served)) (own l w k .name)) ∙ served-own k lt)
+      (λ k lt. holds-without (h .served) (drop j (others l w)) (oth l w k .name)
+      ∙ ap (λ b. b && not (holds (names (drop j (others l w))) (oth l w k .name))) (served-oth k lt) ∙ holds-drop (others l w) (line .grid .contexts .oth-inj) j k lt)
+    where
+      stranger : (k : ℕ) → k < length (mine l w) → holds (names (drop j (others l w))) (own l w k .name) ≡ true → ⊥
+      stranger k lt t =
+          let r = held-at (drop j (others l w)) (own l w k .name) t in
+          let b : r .place < length (others l w) - j = subst (λ x. r .place < x) (length-drop j (others l w)) (r .below) in
+          let q : oth l w (j + r .place) .name ≡ own l w k .name = ap (λ x. x .name) (sym (getD-drop j (others l w) (r .place) blank)) ∙ r .named-so in
+          oth-line l w (j + r .place) (omega arith) (sym (ap (λ x. x .line) q ∙ own-line l w k lt))
 
   pub down-way : replay w (h .applied l) (missing h l) (E .docs l) ≡ docAt d l w (length (mine l w)) (length (others l w))
   down-way =

@@ -6,7 +6,10 @@ use mathlib.Core.Logic.{_≢_, _⊎_, inl, inr}
 use mathlib.Core.Bool.{Bool, true, false, not, cond, true≢false, _&&_, _||_}
 use mathlib.Core.List.{List, [], _∷_, _++_, append-assoc, append-nil}
 use lib.Dec.{T, eqb, ltb}
-use lib.ListN.{length}
+use lib.ListN.{length, getD}
+use native.Mathlib.Nat.{le-of-suc-le-suc, not-suc-le-zero}
+use Rattle.jupiter.specs.Point.{blank}
+use Rattle.jupiter.proofs.Lists as L
 use Rattle.jupiter.specs.Algebra.{Algebra}
 use Rattle.jupiter.specs.Made.{Name, Made, same, holds, select, names}
 use Rattle.jupiter.specs.Form.{form, inOrder, replay}
@@ -77,6 +80,19 @@ module _ {𝓐 : Algebra} where
       go : (b : Bool) → holds (names es) x ≡ b → (holds (names es) x ≡ true) ⊎ (x ≡ e .name)
       go true q = inl q
       go false q = inr (same-eq x (e .name) (ap (λ b. b || same x (e .name)) (sym q) ∙ sym (holds-snoc es e x) ∙ h))
+
+  -- an element of a list is held
+  pub holds-in : (xs : List (Made 𝓐)) (i : ℕ) → i < length xs → holds (names xs) (getD xs i blank .name) ≡ true
+  unfolding holds
+  holds-in [] i h = absurd (not-suc-le-zero h)
+  holds-in (x ∷ xs) zero h = ap (λ b. b || holds (names xs) (x .name)) (same-refl (x .name))
+  holds-in (x ∷ xs) (suc i) h =
+      ap (λ b. same (getD xs i blank .name) (x .name) || b) (holds-in xs i (le-of-suc-le-suc h)) ∙ or-true (same (getD xs i blank .name) (x .name))
+
+  -- all of a list, in its own order
+  pub in-itself : (xs : List (Made 𝓐)) → inOrder xs xs ≡ xs
+  unfolding inOrder
+  in-itself xs = L.select-all (λ e. holds (names xs) (e .name)) blank xs (L.all-from (λ e. holds (names xs) (e .name) ≡ true) blank xs (holds-in xs))
 
   -- Of edits with names of their own, those below t are held; with number t, those below t + 1.
   pub held-next : (f : ℕ → Made 𝓐) (n : ℕ) → ((j k : ℕ) → j < n → k < n → same (f j .name) (f k .name) ≡ true → j ≡ k) → (done : List (Made 𝓐)) (t : ℕ) → t < n

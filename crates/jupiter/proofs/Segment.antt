@@ -104,7 +104,12 @@ module _ (𝓐 : Algebra) (a b b′ : ℕ → 𝓐 .Edit) where
   over-from s (suc n) h g =
       let e : 𝓐 .transform (a s) (b s) ≡ a (suc s) = sym (h s (le-refl s) (omega arith)) in
       let f : 𝓐 .transform (b s) (a s) ≡ b′ s = sym (g s (le-refl s) (omega arith)) in
-      rw (e, f) (ap {B = List (𝓐 .Edit)} (λ r. b′ s ∷ r) (over-from (suc s) n (λ j x y. h j (omega arith) (omega arith)) (λ j x y. g j (omega arith) (omega arith))))
+      let rest : over 𝓐 (a (suc s)) (upFrom b (suc s) n) ≡ upFrom b′ (suc s) n =
+      over-from (suc s) n (λ j x y. h j (omega arith) (omega arith)) (λ j x y. g j (omega arith) (omega arith)) in
+      let first : over 𝓐 (a s) (b s ∷ upFrom b (suc s) n) ≡ b′ s ∷ over 𝓐 (a (suc s)) (upFrom b (suc s) n) =
+      ap {B = List (𝓐 .Edit)} (λ x. x ∷ over 𝓐 (𝓐 .transform (a s) (b s)) (upFrom b (suc s) n)) f
+      ∙ ap {B = List (𝓐 .Edit)} (λ x. b′ s ∷ over 𝓐 x (upFrom b (suc s) n)) e in
+      first ∙ ap {B = List (𝓐 .Edit)} (λ r. b′ s ∷ r) rest
 
   pub past-segment : (s e : ℕ) → s ≤ e → ((j : ℕ) → s ≤ j → j < e → a (suc j) ≡ 𝓐 .transform (a j) (b j)) → past 𝓐 (a s) (segment b s e) ≡ a e
   unfolding segment

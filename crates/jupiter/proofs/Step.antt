@@ -89,6 +89,8 @@ module _ {𝓐 : Algebra} (d : 𝓐 .Doc) where
   opens =
       record {
         doc-is = refl′;
+        hub-shown = shown′;
+        closed = record { order-closed = λ l. tt; applied-within = λ l n t. absurd (none-held n t); applied-closed = λ l. tt };
         served-bound = λ k x t. absurd (none-held (named k x) t);
         lines = λ l. record {
           line = record {

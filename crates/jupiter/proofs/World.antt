@@ -20,8 +20,9 @@ use Rattle.jupiter.proofs.Lists.{All, all-append}
 use Rattle.jupiter.proofs.Forms.{listAt-snoc}
 use Rattle.jupiter.proofs.Grid.{eqb-eq, eqb-same, eqb-differ, ltb-true, ltb-false, ltb-lt, Edge, seenOf, lagOf, Grows, grows-refl, grows-trans, Contexts, own-line, oth-line, own-name, docAt, Grid}
 use Rattle.jupiter.proofs.Extend.{NewOwn, row-own-cases, row-oth-cases, NewOth, col-grows, col-own-cases, col-oth-cases}
+use Rattle.jupiter.proofs.Closure.{Within, ClosedFrom, ClosedSet, Closed, closed-edit, within-snoc, closed-other, within-insert, context-of, closed-set-snoc, all-within, within-append}
 use Rattle.jupiter.proofs.Line.{UpOk, DownOk, LineAt, made-new, made-grows, made-fresh, line-edit, line-ack-up, line-ack-down, up-made, up-form, up-edge, line-up, down-made, line-down, line-other}
-use Rattle.jupiter.proofs.Replay.{is-false, holds-split, holds-more, same-differ, inOrder-insert}
+use Rattle.jupiter.proofs.Replay.{is-false, holds-split, holds-more, holds-last, same-differ, in-itself, inOrder-insert, replay-insert, replay-snoc}
 
 -- Names of another line k in a list have numbers up to `bound k`: what an end has applied of line k, the server has taken.
 abbrev pub Bounded : ℕ → (ℕ → ℕ) → List Name → Type 0
@@ -55,6 +56,8 @@ module _ {𝓐 : Algebra} (d : 𝓐 .Doc) where
 
   pub record Inv (E : Ends 𝓐) (h : History 𝓐) : Type 0 where
     pub doc-is : E .doc ≡ listAt d (h .served)
+    pub hub-shown : replay (h .served) [] (h .served) d ≡ E .doc
+    pub closed : Closed h
     pub served-bound : (k x : ℕ) → holds (names (h .served)) (named k x) ≡ true → x ≤ taken E k
     pub lines : (l : ℕ) → LineInv l (h .served) (h .untaken l) (h .applied l) (taken E) (E .clients l) (E .lines l) (E .docs l)
 
@@ -99,11 +102,33 @@ module _ {𝓐 : Algebra} (d : 𝓐 .Doc) where
         go k x kl (inl t) = inv .lines l .applied-bound k x kl t
         go k x kl (inr q) = absurd (kl (ap (λ y. y .line) q))
 
+    edit-closed : Closed (makes l o h)
+    edit-closed =
+        record {
+          order-closed = λ k. go k (eqb l k) refl;
+          applied-within = λ k. go′ k (eqb l k) refl;
+          applied-closed = λ k. go″ k (eqb l k) refl;
+        }
+      where
+        go : (k : ℕ) (b : Bool) → eqb l k ≡ b → ClosedFrom [] (h .served ++ cond b (us ++ (o ∷ [])) (h .untaken k))
+        go k true q = subst (ClosedFrom []) assoc (closed-edit w (h .applied l) o refl (inv .closed .order-closed l) (inv .closed .applied-within l))
+        go k false q = inv .closed .order-closed k
+
+        go′ : (k : ℕ) (b : Bool) → eqb l k ≡ b → Within (names (cond b (h .applied l ++ (o ∷ [])) (h .applied k))) (h .served ++ cond b (us ++ (o ∷ [])) (h .untaken k))
+        go′ k true q = subst (Within (names (h .applied l ++ (o ∷ [])))) assoc (within-snoc (h .applied l) w o (inv .closed .applied-within l))
+        go′ k false q = inv .closed .applied-within k
+
+        go″ : (k : ℕ) (b : Bool) → eqb l k ≡ b → ClosedSet (cond b (h .applied l ++ (o ∷ [])) (h .applied k))
+        go″ k true q = closed-set-snoc (h .applied l) o (inv .closed .applied-closed l) (λ n t. t)
+        go″ k false q = inv .closed .applied-closed k
+
     pub inv-edit : Inv (editing l e E) (afterEdit l e h)
     unfolding afterEdit
     inv-edit =
         record {
           doc-is = inv .doc-is;
+          hub-shown = inv .hub-shown;
+          closed = edit-closed;
           served-bound = inv .served-bound;
           lines = λ k. go k (eqb l k) refl;
         }
@@ -138,6 +163,8 @@ module _ {𝓐 : Algebra} (d : 𝓐 .Doc) where
     inv-ack-up a b =
         record {
           doc-is = inv .doc-is;
+          hub-shown = inv .hub-shown;
+          closed = inv .closed;
           served-bound = λ k x t. le-trans (inv .served-bound k x t) (same-taken (eqb l k) k refl);
           lines = λ k. go k (eqb l k) refl;
         }
@@ -168,7 +195,7 @@ module _ {𝓐 : Algebra} (d : 𝓐 .Doc) where
         go k false q = old k (E .lines k) refl (inv .lines k .line)
 
     pub inv-ack-down : E .clients l .acked ≤ s → s ≤ E .lines l .taken → Inv (ackingDown l s E) h
-    inv-ack-down a b = record { doc-is = inv .doc-is; served-bound = inv .served-bound; lines = λ k. go k (eqb l k) refl }
+    inv-ack-down a b = record { doc-is = inv .doc-is; hub-shown = inv .hub-shown; closed = inv .closed; served-bound = inv .served-bound; lines = λ k. go k (eqb l k) refl }
       where
         go : (k : ℕ) (b : Bool) → eqb l k ≡ b
             → LineInv k (h .served) (h .untaken k) (h .applied k) (taken E) (cond b (acks s (E .clients l)) (E .clients k)) (E .lines k) (E .docs k)
@@ -230,11 +257,49 @@ module _ {𝓐 : Algebra} (d : 𝓐 .Doc) where
         go k y kl (inl t) = inv .lines l .applied-bound k y kl t
         go k y kl (inr q) = subst (λ n. n .number ≤ taken E (n .line)) (sym q) (inv .lines l .oth-bound (E .clients l .taken) made)
 
+    -- all that stands before it in the order, the client has applied
+    down-context : Within (g .context) (h .applied l)
+    down-context =
+        let r = L.before-rejected (isBy l) blank (λ e. holds (names (h .applied l)) (e .name) ≡ true) dw (E .clients l .taken) made (dwas .applied-own)
+        (λ k lt hk. dwas .applied-oth k hk ∙ ltb-true k _ lt) in
+        λ n t. all-within (r .front) (h .applied l) (r .every) n (context-of (r .front) g (r .back) (subst (ClosedFrom []) (r .whole) (inv .closed .order-closed l)) n t)
+
+    down-closed : Closed (applies l (g ∷ drop (suc (E .clients l .taken)) (others l (h .served))) h)
+    unfolding applies
+    down-closed =
+        record {
+          order-closed = inv .closed .order-closed;
+          applied-within = λ k. go′ k (eqb l k) refl;
+          applied-closed = λ k. go″ k (eqb l k) refl;
+        }
+      where
+        in-order : holds (names dw) (g .name) ≡ true
+        in-order =
+            let r = L.before-rejected (isBy l) blank (λ e. Unit {0}) dw (E .clients l .taken) made (λ k hk. tt) (λ k lt hk. tt) in
+            subst (λ s. holds (names s) (g .name) ≡ true) (append-assoc (r .front) (g ∷ []) (r .back) ∙ sym (r .whole))
+            (within-append (r .front ++ (g ∷ [])) (r .back) (g .name) (holds-last (r .front) g))
+
+        go′ : (k : ℕ) (b : Bool) → eqb l k ≡ b → Within (names (cond b (h .applied l ++ (g ∷ [])) (h .applied k))) (h .served ++ h .untaken k)
+        go′ k true q =
+            subst (λ r. Within (names (h .applied l ++ (g ∷ []))) (h .served ++ h .untaken r)) (eqb-eq l k q)
+            (λ n t. pick n (holds-split (h .applied l) g n t))
+          where
+            pick : (n : Name) → (holds (names (h .applied l)) n ≡ true) ⊎ (n ≡ g .name) → holds (names dw) n ≡ true
+            pick n (inl t) = inv .closed .applied-within l n t
+            pick n (inr e) = subst (λ y. holds (names dw) y ≡ true) (sym e) in-order
+        go′ k false q = inv .closed .applied-within k
+
+        go″ : (k : ℕ) (b : Bool) → eqb l k ≡ b → ClosedSet (cond b (h .applied l ++ (g ∷ [])) (h .applied k))
+        go″ k true q = closed-set-snoc (h .applied l) g (inv .closed .applied-closed l) down-context
+        go″ k false q = inv .closed .applied-closed k
+
     pub inv-down : Inv (takingDown l x E) (afterDown l h)
     unfolding applies
     inv-down =
         subst (λ M. Inv (takingDown l x E) (applies l M h)) (sym first-missing) (record {
           doc-is = inv .doc-is;
+          hub-shown = inv .hub-shown;
+          closed = down-closed;
           served-bound = inv .served-bound;
           lines = λ k. go k (eqb l k) refl;
         })
@@ -273,7 +338,7 @@ module _ {𝓐 : Algebra} (d : 𝓐 .Doc) where
     o-by : isBy l o ≡ true
     o-by = uinv .untaken-own .0
 
-    o-is : own l uw a ≡ o
+    pub o-is : own l uw a ≡ o
     o-is =
         ap (own l uw) (uinv .v-count) ∙ ap (λ r. getD r (length (mine l (h .served))) blank) (L.select-in (isBy l) blank (h .served) o us o-by)
         ∙ getD-append-seam (mine l (h .served)) o (mine l us) blank
@@ -374,11 +439,49 @@ module _ {𝓐 : Algebra} (d : 𝓐 .Doc) where
                 (subst (λ n. n .number ≤ taken E′ (n .line)) (sym o-name) (omega (arith, up-bound-l))));
           }
 
+    pub o-new : holds (names (h .served)) (o .name) ≡ false
+    o-new = is-false _ (λ t. let y : suc a ≤ a = inv .served-bound l (suc a) (ap (holds (names (h .served))) (sym o-name) ∙ t) in absurd (omega arith))
+
+    up-shown : replay (h .served ++ (o ∷ [])) [] (h .served ++ (o ∷ [])) d ≡ 𝓐 .apply (arrived x (E .lines l)) (E .doc)
+    up-shown =
+        replay-snoc (h .served ++ (o ∷ [])) [] (h .served) o d
+        ∙ ap (λ C. 𝓐 .apply (form o C) (replay (h .served ++ (o ∷ [])) [] (h .served) d))
+        (inOrder-insert (h .served) o [] (h .served) o-new ∙ ap (λ r. inOrder r (h .served)) (append-nil (h .served)) ∙ in-itself (h .served))
+        ∙ ap (𝓐 .apply (form o (h .served))) (replay-insert (h .served) o [] [] (h .served) d o-new ∙ ap (λ r. replay r [] (h .served) d) (append-nil (h .served)) ∙ inv .hub-shown)
+        ∙ ap (λ e. 𝓐 .apply e (E .doc)) (sym arrives)
+
+    up-closed : Closed (serves l (o ∷ us) h)
+    unfolding serves
+    up-closed =
+        record {
+          order-closed = λ k. go k (eqb l k) refl;
+          applied-within = λ k. go′ k (eqb l k) refl;
+          applied-closed = inv .closed .applied-closed;
+        }
+      where
+        own-order : ClosedFrom [] uw
+        own-order = subst (λ r. ClosedFrom [] (h .served ++ r)) split (inv .closed .order-closed l)
+
+        go : (k : ℕ) (b : Bool) → eqb l k ≡ b → ClosedFrom [] ((h .served ++ (o ∷ [])) ++ cond b us (h .untaken k))
+        go k true q = subst (ClosedFrom []) (sym (append-assoc (h .served) (o ∷ []) us)) own-order
+        go k false q =
+            subst (ClosedFrom []) (sym (append-assoc (h .served) (o ∷ []) (h .untaken k))) (closed-other (h .served) o us (h .untaken k) own-order (inv .closed .order-closed k))
+
+        go′ : (k : ℕ) (b : Bool) → eqb l k ≡ b → Within (names (h .applied k)) ((h .served ++ (o ∷ [])) ++ cond b us (h .untaken k))
+        go′ k true q =
+            subst (λ r. Within (names (h .applied r)) ((h .served ++ (o ∷ [])) ++ us)) (eqb-eq l k q)
+            (subst (Within (names (h .applied l))) (ap (λ r. h .served ++ r) split ∙ sym (append-assoc (h .served) (o ∷ []) us)) (inv .closed .applied-within l))
+        go′ k false q =
+            subst (Within (names (h .applied k))) (sym (append-assoc (h .served) (o ∷ []) (h .untaken k)))
+            (within-insert (h .applied k) (h .served) o (h .untaken k) (inv .closed .applied-within k))
+
     pub up-inv : Inv E′ (serves l (o ∷ us) h)
     unfolding serves
     up-inv =
         record {
           doc-is = ap (λ e. 𝓐 .apply e (E .doc)) arrives ∙ ap (𝓐 .apply (form o (h .served))) (inv .doc-is) ∙ sym (listAt-snoc d (h .served) o);
+          hub-shown = up-shown;
+          closed = up-closed;
           served-bound = λ k y t. bound k y (holds-split (h .served) o (named k y) t);
           lines = λ k. go k (eqb l k) refl;
         }
@@ -406,9 +509,6 @@ module _ {𝓐 : Algebra} (d : 𝓐 .Doc) where
         go false q =
             subst (Grows k (h .served ++ h .untaken k)) (sym (append-assoc (h .served) (o ∷ []) (h .untaken k)))
             (col-grows k (h .served) (h .untaken k) o (other-new k (λ e. true≢false (sym (eqb-same l) ∙ ap (eqb l) e ∙ q))))
-
-    pub o-new : holds (names (h .served)) (o .name) ≡ false
-    o-new = is-false _ (λ t. let y : suc a ≤ a = inv .served-bound l (suc a) (ap (holds (names (h .served))) (sym o-name) ∙ t) in absurd (omega arith))
 
     pub o-new-to : (k : ℕ) → l ≢ k → holds (names (h .applied k)) (o .name) ≡ false
     o-new-to k lk = new-to (names (h .applied k)) k lk (inv .lines k .applied-bound)

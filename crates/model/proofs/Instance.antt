@@ -55,7 +55,7 @@ edit-laws =
           (laws .square a b d (from-T (fits a (length d)) u) (from-T (fits b (length d)) v)
           (apart l k a b h (from-T (priority (eqb l) a) s) (from-T (priority (eqb k) b) t)) .left);
       keeps-line = λ l a b s. to-T (priority (eqb l) (transformed a b)) (priority-transformed (eqb l) a b ∙ from-T (priority (eqb l) a) s);
-      grows-less = λ a b. omega (arith, inserts-transformed a b);
+      keeps-growth = inserts-transformed;
       size-apply = size-apply;
     }
 

@@ -6,6 +6,15 @@ pub mod Sound
 pub mod Opens
 pub mod Table
 pub mod Instance
+pub mod Small
+pub mod Sim
+pub mod Follow
+pub mod Outcome
+pub mod Ranges
+pub mod Calls
+pub mod Bounds
+pub mod Next
+pub mod Converges
 pub mod Wrong
 pub mod Computing
 pub mod Marked

@@ -67,7 +67,7 @@ opens-client n line items e =
     }))
 
 -- An edit of the client's own: its priority, where it has one, is the line.
-edits-sound : (c : Client) (e : Edit) → priority (eqb (c .line)) e ≡ true → soundClient c ≡ true → soundClient (editClient c e .end) ≡ true
+pub edits-sound : (c : Client) (e : Edit) → priority (eqb (c .line)) e ≡ true → soundClient c ≡ true → soundClient (editClient c e .end) ≡ true
 unfolding editClient
 edits-sound c e p s =
     answer-keeps (λ d. soundClient d ≡ true) (asks (editQuestions c e)) c (edited c e) 0 s
@@ -87,7 +87,7 @@ edits-sound c e p s =
 pub three : (a b d : Bool) → (a && b && d) ≡ true → (a ≡ true) × (b ≡ true) × (d ≡ true)
 three a b d e = (and-left a b (and-left (a && b) d e), and-right a b (and-left (a && b) d e), and-right (a && b) d e)
 
-client-takes-edit : (c : Client) (h : Header) (e : Edit) → headerInRange h ≡ true → soundClient c ≡ true → soundClient (clientTakesEdit c h e .end) ≡ true
+pub client-takes-edit : (c : Client) (h : Header) (e : Edit) → headerInRange h ≡ true → soundClient c ≡ true → soundClient (clientTakesEdit c h e .end) ≡ true
 unfolding clientTakesEdit
 client-takes-edit c h e range s =
     answer-keeps (λ d. soundClient d ≡ true) (asks (clientEditQuestions c h e)) c (clientTaken c (h .seen) e) (c .made - h .seen) s
@@ -105,7 +105,7 @@ client-takes-edit c h e range s =
     (q9 .1)
     (leb-true (length (applied (past e (unacked c (h .seen))) (c .items))) maxItems (q9 .2))))
 
-client-takes-ack : (c : Client) (l d seen : ℕ) → soundClient c ≡ true → soundClient (clientTakesAck c l d seen .end) ≡ true
+pub client-takes-ack : (c : Client) (l d seen : ℕ) → soundClient c ≡ true → soundClient (clientTakesAck c l d seen .end) ≡ true
 unfolding clientTakesAck
 client-takes-ack c l d seen s =
     answer-keeps (λ x. soundClient x ≡ true) (asks (clientAckQuestions c l d seen)) c (clientAcked c seen) 0 s
@@ -185,7 +185,7 @@ up-number h range d =
     go true false false y eb ex ea t = absurd (let w : _≡_ {A = ℕ} 0 1 = cc in omega arith)
     go false b x y eb ex ea t = absurd (let w : _≡_ {A = ℕ} 0 1 = cc in omega arith)
 
-server-takes-edit : (s : Server) (h : Header) (e : Edit) → headerInRange h ≡ true → soundServer s ≡ true → soundServer (serverTakesEdit s h e .end) ≡ true
+pub server-takes-edit : (s : Server) (h : Header) (e : Edit) → headerInRange h ≡ true → soundServer s ≡ true → soundServer (serverTakesEdit s h e .end) ≡ true
 unfolding serverTakesEdit
 server-takes-edit s h e range t =
     answer-keeps (λ d. soundServer d ≡ true) (asks (serverEditQuestions s h e)) s (serverTaken s (h .line) (h .seen) e) (lineOf s (h .line) .made - h .seen) t
@@ -211,7 +211,7 @@ server-takes-edit s h e range t =
     (leb-true (length (applied (carried s (h .line) (h .seen) e) (s .items))) maxItems (q9 .2))
     (y .1 .1 .1 .1 .1 .1 .1 .1 .0)))
 
-server-takes-ack : (s : Server) (l d seen : ℕ) → soundServer s ≡ true → soundServer (serverTakesAck s l d seen .end) ≡ true
+pub server-takes-ack : (s : Server) (l d seen : ℕ) → soundServer s ≡ true → soundServer (serverTakesAck s l d seen .end) ≡ true
 unfolding serverTakesAck
 server-takes-ack s l d seen t =
     answer-keeps (λ x. soundServer x ≡ true) (asks (serverAckQuestions s l d seen)) s (serverAcked s l seen) 0 t

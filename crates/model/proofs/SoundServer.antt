@@ -2,7 +2,7 @@
 use mathlib.Core.Path.{_≡_, refl, ap, sym, _∙_, subst}
 use mathlib.Core.Bool.{Bool, true, false, not, _&&_}
 use mathlib.Core.List.{List, [], _∷_, _++_, map}
-use Prim.Native.Nat.{ℕ, zero, suc, _+_, _-_, _≤_, _<_}
+use Prim.Native.Nat.{ℕ, zero, suc, _+_, _-_, _*_, _≤_, _<_}
 use native.Mathlib.Omega.{arith}
 use lib.Dec.{leb, ltb, eqb}
 use lib.ListN.{length, getD, drop, replicate, length-append, length-drop, length-map, length-replicate}
@@ -319,3 +319,28 @@ server-acked-sound s line seen f l1 ln q7 q8 =
           (acked-lines (s .n) (takenSum vs) 1 (line - 1) seen vs (f .lines) q7 q8);
       inserted = omega (arith, more, f .inserted);
     }
+
+-- the facts of one line
+pub lines-get : (n sum l : ℕ) (vs : List Line) → LinesFacts n sum l vs → (i : ℕ) → i < length vs → LineFacts n sum (l + i) (getD vs i noLine)
+lines-get n sum l [] f i lt = absurd (omega arith)
+lines-get n sum l (v ∷ vs) f zero lt = subst (λ (k : ℕ). LineFacts n sum k v) (omega arith) (f .0)
+lines-get n sum l (v ∷ vs) f (suc i) lt = subst (λ (k : ℕ). LineFacts n sum k (getD vs i noLine)) (omega arith) (lines-get n sum (suc l) vs (f .1) i (omega arith))
+
+pub line-fact : (s : Server) → ServerFacts s → (l : ℕ) → 1 ≤ l → l ≤ s .n → LineFacts (s .n) (takenSum (s .lines)) l (lineOf s l)
+line-fact s f l a b =
+    subst (λ (k : ℕ). LineFacts (s .n) (takenSum (s .lines)) k (lineOf s l)) (omega arith)
+    (lines-get (s .n) (takenSum (s .lines)) 1 (s .lines) (f .lines) (l - 1) (omega (arith, f .count)))
+
+-- all lines but one took at most 400 edits each
+takens-most : (n sum l : ℕ) (vs : List Line) → LinesFacts n sum l vs → takenSum vs ≤ length vs * 400
+takens-most n sum l [] f = omega arith
+takens-most n sum l (v ∷ vs) f = omega (arith, f .0 .taken, takens-most n sum (suc l) vs (f .1))
+
+takens-others : (n sum l : ℕ) (vs : List Line) → LinesFacts n sum l vs → (i : ℕ) → i < length vs → takenSum vs ≤ getD vs i noLine .taken + (length vs - 1) * 400
+takens-others n sum l [] f i lt = absurd (omega arith)
+takens-others n sum l (v ∷ vs) f zero lt = omega (arith, takens-most n sum (suc l) vs (f .1))
+takens-others n sum l (v ∷ vs) f (suc i) lt = omega (arith, f .0 .taken, takens-others n sum (suc l) vs (f .1) i (omega arith))
+
+pub made-most : (s : Server) → ServerFacts s → (l : ℕ) → 1 ≤ l → l ≤ s .n → lineOf s l .made ≤ 2800
+made-most s f l a b =
+    omega (arith, line-fact s f l a b .made, takens-others (s .n) (takenSum (s .lines)) 1 (s .lines) (f .lines) (l - 1) (omega (arith, f .count)), f .count, f .n .1)
