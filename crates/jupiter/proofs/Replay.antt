@@ -86,6 +86,7 @@ module _ {𝓐 : Algebra} where
       here : (j < t) ⊎ (j ≡ t) → holds (names (done ++ (f t ∷ []))) (f j .name) ≡ true
       here (inl lt) = holds-more done (f t) (f j .name) (held j h ∙ ltb-true j _ lt)
       here (inr e) = subst (λ k. holds (names (done ++ (f t ∷ []))) (f k .name) ≡ true) (sym e) (holds-last done (f t))
+
       go : (b : Bool) → ltb j (suc t) ≡ b → holds (names (done ++ (f t ∷ []))) (f j .name) ≡ ltb j (suc t)
       go true e = here (below-suc j t (ltb-lt j _ e)) ∙ sym e
       go false e =
