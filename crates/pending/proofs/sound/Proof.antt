@@ -55,9 +55,12 @@ loop-less c = omega (arith, c .before .before .before .before .loop .inv .0)
 
 -- src/lib.rt:100:5
 loop-again : tie.Need-loop-again Inv-loop μ-loop
-loop-again c = (omega (arith, c .before .before .before .loop-test), ap (λ (b : Bool). (c .before .before .before .before .loop .well && (b && (ltb (c .before .before .before .before .loop .i) (c .before .before .before .before .before .args .count) || c .is-nothing .result))) && rightFrom (rightPriority (c .before .before .before .before .before .args .n) (c .before .before .before .before .before .args .line) (c .before .before .before .before .before .args .own)) (c .before .before .before .before .before .args .count) (c .before .before .before .before .loop .i + 1) (drop (c .before .before .before .before .loop .i + 1) (edits (c .before .before .before .before .before .args .t1)))) (c .before .right .ensures)
-    ∙ ap (λ (b : Bool). (c .before .before .before .before .loop .well && (rightEdit (rightPriority (c .before .before .before .before .before .args .n) (c .before .before .before .before .before .args .line) (c .before .before .before .before .before .args .own)) (getD (c .before .before .before .before .before .args .t1) (c .before .before .before .before .loop .i) (slot Nothing) .edit) && (ltb (c .before .before .before .before .loop .i) (c .before .before .before .before .before .args .count) || b))) && rightFrom (rightPriority (c .before .before .before .before .before .args .n) (c .before .before .before .before .before .args .line) (c .before .before .before .before .before .args .own)) (c .before .before .before .before .before .args .count) (c .before .before .before .before .loop .i + 1) (drop (c .before .before .before .before .loop .i + 1) (edits (c .before .before .before .before .before .args .t1)))) (c .is-nothing .ensures)
-    ∙ right-turn (rightPriority (c .before .before .before .before .before .args .n) (c .before .before .before .before .before .args .line) (c .before .before .before .before .before .args .own)) (c .before .before .before .before .before .args .count) (c .before .before .before .before .loop .i) (c .before .before .before .before .before .args .t1) (c .before .before .before .before .loop .well) (omega (arith, c .before .before .before .loop-test, c .before .before .before .before .before .good .0 .1 .0 .1)) ∙ c .before .before .before .before .loop .inv .1)
+loop-again c = (
+  omega (arith, c .before .before .before .loop-test),
+  ap (λ (b : Bool). (c .before .before .before .before .loop .well && (b && (ltb (c .before .before .before .before .loop .i) (c .before .before .before .before .before .args .count) || c .is-nothing .result))) && rightFrom (rightPriority (c .before .before .before .before .before .args .n) (c .before .before .before .before .before .args .line) (c .before .before .before .before .before .args .own)) (c .before .before .before .before .before .args .count) (c .before .before .before .before .loop .i + 1) (drop (c .before .before .before .before .loop .i + 1) (edits (c .before .before .before .before .before .args .t1)))) (c .before .right .ensures)
+      ∙ ap (λ (b : Bool). (c .before .before .before .before .loop .well && (rightEdit (rightPriority (c .before .before .before .before .before .args .n) (c .before .before .before .before .before .args .line) (c .before .before .before .before .before .args .own)) (getD (c .before .before .before .before .before .args .t1) (c .before .before .before .before .loop .i) (slot Nothing) .edit) && (ltb (c .before .before .before .before .loop .i) (c .before .before .before .before .before .args .count) || b))) && rightFrom (rightPriority (c .before .before .before .before .before .args .n) (c .before .before .before .before .before .args .line) (c .before .before .before .before .before .args .own)) (c .before .before .before .before .before .args .count) (c .before .before .before .before .loop .i + 1) (drop (c .before .before .before .before .loop .i + 1) (edits (c .before .before .before .before .before .args .t1)))) (c .is-nothing .ensures)
+      ∙ right-turn (rightPriority (c .before .before .before .before .before .args .n) (c .before .before .before .before .before .args .line) (c .before .before .before .before .before .args .own)) (c .before .before .before .before .before .args .count) (c .before .before .before .before .loop .i) (c .before .before .before .before .before .args .t1) (c .before .before .before .before .loop .well) (omega (arith, c .before .before .before .loop-test, c .before .before .before .before .before .good .0 .1 .0 .1)) ∙ c .before .before .before .before .loop .inv .1,
+)
 
 -- src/lib.rt:95:1
 returns : tie.Need-returns Inv-loop μ-loop
