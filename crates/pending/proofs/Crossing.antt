@@ -23,7 +23,7 @@ use Rattle.pending.specs.declared.Crossed.{Crossed}
 use Rattle.pending.specs.Slots.{slot, usedEdits, filled, steps, crossed, Kept}
 use Rattle.pending.proofs.Sweep.{sweep, sweep-read, sweep-store}
 use Rattle.pending.proofs.Slots.{filled-length, filled-getD, kept-length, used-length, kept-end, used-filled, rest}
-use Rattle.pending.proofs.Whole.{and-true, and-assoc}
+use Rattle.pending.proofs.Whole.{placed-more}
 
 -- One step more of each of the model's recursions.
 past-more : (e : Edit) (es : List Edit) (i : ℕ) → i < length es → past e (take (suc i) es) ≡ transformed (past e (take i es)) (getD es i Nothing)
@@ -37,14 +37,6 @@ unfolding past over
 over-at e [] i h = absurd (not-suc-le-zero h)
 over-at e (p ∷ es) zero h = refl
 over-at e (p ∷ es) (suc i) h = over-at (transformed e p) es i (le-of-suc-le-suc h)
-
-placed-more : (es : List Edit) (i : ℕ) → i < length es → allPlaced (take (suc i) es) ≡ (allPlaced (take i es) && placed (getD es i Nothing))
-unfolding allPlaced
-placed-more [] i h = absurd (not-suc-le-zero h)
-placed-more (e ∷ es) zero h = and-true (placed e)
-placed-more (e ∷ es) (suc i) h =
-    ap (λ (b : Bool). placed e && b) (placed-more es i (le-of-suc-le-suc h))
-    ∙ sym (and-assoc (placed e) (allPlaced (take i es)) (placed (getD es i Nothing)))
 
 placed-position : (e : Edit) → placed e ≡ true → positionOf e ≤ maxItems
 unfolding within

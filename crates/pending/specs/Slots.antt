@@ -10,7 +10,7 @@ use Rattle.ot.specs.declared.Edit.the-variants.{Nothing, Delete, Insert}
 use Rattle.ot.specs.Edit.{transformed}
 use Rattle.model.specs.Limits.{maxPending}
 use Rattle.model.specs.Questions.{every}
-use Rattle.model.specs.Cross.{past, over, placed, allPlaced, priority, priorities}
+use Rattle.model.specs.Cross.{past, over, allPlaced, priorities}
 use Rattle.model.specs.Client.{other}
 use Rattle.pending.specs.declared.Slot.{Slot}
 use Rattle.pending.specs.declared.Crossed.{Crossed}
@@ -45,9 +45,9 @@ abbrev pub rightPriority : ℕ → ℕ → Bool → ℕ → Bool
 rightPriority n line true = eqb line
 rightPriority n line false = other n line
 
--- one pending edit: position and priority
-abbrev pub rightEdit : (ℕ → Bool) → Edit → Bool
-rightEdit good e = placed e && priority good e
+-- positions and priorities
+abbrev pub rightEdits : (ℕ → Bool) → List Edit → Bool
+rightEdits good es = allPlaced es && priorities good es
 
 -- Question 2 about the pending edits: kept are exactly count edits, at most 64, their positions and priorities right; unused
 -- places are zero.
