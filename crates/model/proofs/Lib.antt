@@ -2,3 +2,10 @@ pub mod Tests
 pub mod Cross
 pub mod SoundClient
 pub mod SoundServer
+pub mod Sound
+pub mod Opens
+pub mod Table
+pub mod Instance
+pub mod Wrong
+pub mod Computing
+pub mod Marked

@@ -3,3 +3,12 @@ pub mod Questions
 pub mod Cross
 pub mod Client
 pub mod Server
+pub mod Edits
+pub mod Sheet
+pub mod Log
+pub mod Run
+pub mod Claim
+pub mod Ours
+pub mod Sound
+pub mod Wrong
+pub mod Marked

@@ -1,0 +1,13 @@
+pub mod Lists
+pub mod Segment
+pub mod Forms
+pub mod Grid
+pub mod Extend
+pub mod Replay
+pub mod Line
+pub mod World
+pub mod Step
+pub mod Meeting
+pub mod Size
+pub mod Theorem
+pub mod Consistency

@@ -1,0 +1,62 @@
+-- Lists of calls on the server and its clients, with no limit on any count, and what they leave.
+use Prim.Native.Nat.{ℕ, zero, suc}
+use mathlib.Core.Bool.{Bool, true, false, _&&_, cond}
+use mathlib.Core.Option.{Option, none, some}
+use mathlib.Core.List.{List, [], _∷_, _++_}
+use lib.ListN.{getElem?}
+use Rattle.jupiter.specs.Algebra.{Algebra}
+use Rattle.jupiter.specs.History.{History, noHistory, afterEdit, afterUp, afterDown}
+use Rattle.jupiter.specs.Ends.{Message, Ends, opened, canSend, message, current, canTake, editing, takingUp, takingDown, ackingUp, ackingDown}
+
+-- What was written, with its line. An end takes only what goes its way on its line, so the letter says who may take it.
+pub data Letter (𝓐 : Algebra) : Type 0 where
+  up down : ℕ → Message 𝓐 → Letter 𝓐
+  upAck downAck : ℕ → ℕ → Letter 𝓐
+
+pub data Call (𝓐 : Algebra) : Type 0 where
+  -- client l makes an edit
+  edit : ℕ → 𝓐 .Edit → Call 𝓐
+  -- client l, or the server to client l, sends edit number k
+  sendUp sendDown : ℕ → ℕ → Call 𝓐
+  -- client l, or the server to client l, sends an acknowledgement
+  tellUp tellDown : ℕ → Call 𝓐
+  -- whoever may take it gets the letter that was written as the i-th, counted from 0: at any time, in any order, any number of times
+  deliver : ℕ → Call 𝓐
+
+pub record State (𝓐 : Algebra) : Type 0 where
+  pub ends : Ends 𝓐
+  pub history : History 𝓐
+  pub letters : List (Letter 𝓐)
+
+module _ {𝓐 : Algebra} where
+  abbrev pub initial : 𝓐 .Doc → State 𝓐
+  initial d = record { ends = opened d; history = noHistory; letters = [] }
+
+  abbrev pub writes : Letter 𝓐 → State 𝓐 → State 𝓐
+  writes x s = record { ends = s .ends; history = s .history; letters = s .letters ++ (x ∷ []) }
+
+  abbrev pub goes : (Ends 𝓐 → Ends 𝓐) → (History 𝓐 → History 𝓐) → State 𝓐 → State 𝓐
+  goes f g s = record { ends = f (s .ends); history = g (s .history); letters = s .letters }
+
+  -- a letter that may not be taken changes nothing
+  unfoldable pub receive : Option (Letter 𝓐) → State 𝓐 → State 𝓐
+  receive none s = s
+  receive (some (up l m)) s = cond (canTake m (s .ends .lines l)) (goes (takingUp l m) (afterUp l) s) s
+  receive (some (down l m)) s = cond (canTake m (s .ends .clients l)) (goes (takingDown l m) (afterDown l) s) s
+  receive (some (upAck l seen)) s = cond (current seen (s .ends .lines l)) (goes (ackingUp l seen) (λ h. h) s) s
+  receive (some (downAck l seen)) s = cond (current seen (s .ends .clients l)) (goes (ackingDown l seen) (λ h. h) s) s
+
+  unfoldable pub step : State 𝓐 → Call 𝓐 → State 𝓐
+  step s (edit l e) =
+      cond (𝓐 .by l e && 𝓐 .fits e (s .ends .docs l)) (goes (editing l e) (afterEdit l e) s) s
+  step s (sendUp l k) =
+      cond (canSend k (s .ends .clients l)) (writes (up l (message k (s .ends .clients l))) s) s
+  step s (sendDown l k) =
+      cond (canSend k (s .ends .lines l)) (writes (down l (message k (s .ends .lines l))) s) s
+  step s (tellUp l) = writes (upAck l (s .ends .clients l .taken)) s
+  step s (tellDown l) = writes (downAck l (s .ends .lines l .taken)) s
+  step s (deliver i) = receive (getElem? (s .letters) i) s
+
+  unfoldable pub run : State 𝓐 → List (Call 𝓐) → State 𝓐
+  run s [] = s
+  run s (c ∷ cs) = run (step s c) cs

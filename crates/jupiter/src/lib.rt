@@ -1,0 +1,1 @@
+// The theory of the protocol: no code. Its definitions stand in specs/, their proofs in proofs/.

@@ -1,0 +1,158 @@
+-- What a list of calls leaves by the definitions (01: "What an edit becomes", "Meeting"). It is computed from the calls and from which of
+-- them were refused, and from nothing else that a sheet answers.
+use Prim.Native.Nat.{ℕ, zero, suc, _+_, _-_}
+use mathlib.Core.Bool.{Bool, true, false, _&&_, cond}
+use mathlib.Core.Option.{Option, none, some}
+use mathlib.Core.List.{List, [], _∷_, _++_}
+use lib.Dec.{leb, ltb, eqb}
+use lib.ListN.{length, getD, getElem?}
+use Rattle.ot.specs.declared.Edit.{Edit}
+use Rattle.ot.specs.declared.Edit.the-variants as edit
+use Rattle.ot.specs.Edit.{applied}
+use Rattle.wire.specs.declared.Message.the-variants as message
+use Rattle.wire.specs.Message.{messageOf}
+use Rattle.wire.specs.Bytes.{bytesOf}
+use Rattle.jupiter.specs.Made.{Made, mine, others}
+use Rattle.jupiter.specs.Form.{form, inOrder}
+use Rattle.jupiter.specs.Point.{blank, ownForm, othForm}
+use Rattle.jupiter.specs.History.{History, noHistory, at, order, madeBy, missing, afterEdit, afterUp, afterDown, newEdit}
+use Rattle.model.specs.Edits.{edits}
+use Rattle.model.specs.Sheet.{Call, insert, delete, send, tell, receive, junk}
+
+-- what a message says besides its line, direction and seen
+pub data Content : Type 0 where
+  editing : (number : ℕ) → Edit → Content
+  acknowledging : Content
+
+-- A message as the definitions have it. Direction 0 goes up to the server, 1 down.
+pub record Letter : Type 0 where
+  pub line : ℕ
+  pub direction : ℕ
+  pub seen : ℕ
+  pub content : Content
+
+abbrev pub contentBytes : ℕ → ℕ → ℕ → Content → List ℕ
+contentBytes l d s (editing k e) = bytesOf (messageOf (record { line = l; direction = d; number = k; seen = s }) e)
+contentBytes l d s acknowledging = bytesOf (message.Ack l d s)
+
+abbrev pub letterBytes : Letter → List ℕ
+letterBytes m = contentBytes (m .line) (m .direction) (m .seen) (m .content)
+
+pub record Log : Type 0 where
+  -- which edits were made, served and applied
+  pub history : History edits
+  -- the list of each end: the initial list with each edit applied in its form at what the end had applied (0: the server's)
+  pub shown : ℕ → List ℕ
+  -- the last seen that the server took on each line, 0 before any
+  pub heard : ℕ → ℕ
+  -- the messages written, and the count of pending edits passed that each editing and taking owes
+  pub letters : List Letter
+  pub passed : List ℕ
+
+abbrev pub noLog : List ℕ → Log
+noLog initial = record { history = noHistory; shown = λ a. initial; heard = λ l. 0; letters = []; passed = [] }
+
+-- the edits that end a has applied, in the order of the definition
+unfoldable pub setOf : History edits → ℕ → List (Made edits)
+setOf h zero = h .served
+setOf h (suc l) = inOrder (order h (suc l)) (h .applied (suc l))
+
+-- the counts of an end on line l: edits made there, edits taken there
+unfoldable pub madeAt : History edits → ℕ → ℕ → ℕ
+madeAt h zero l = length (others l (h .served))
+madeAt h (suc a) l = madeBy h (suc a)
+
+unfoldable pub takenAt : History edits → ℕ → ℕ → ℕ
+takenAt h zero l = length (mine l (h .served))
+takenAt h (suc a) l = length (others (suc a) (h .applied (suc a)))
+
+-- An edit goes out in its form at what its sender has applied, less the edits of its own line's outgoing ones from its number on: at the
+-- client the first k - 1 of its own and all that it took; at the server all that it took on the line and the first k - 1 of the others.
+unfoldable pub sentForm : History edits → ℕ → ℕ → ℕ → Edit
+sentForm h zero l k = othForm l (h .served) (takenAt h zero l) (k - 1)
+sentForm h (suc a) l k = ownForm (suc a) (order h (suc a)) (k - 1) (takenAt h (suc a) (suc a))
+
+abbrev pub letterOf : History edits → ℕ → ℕ → Content → Letter
+letterOf h zero l c = record { line = l; direction = 1; seen = takenAt h zero l; content = c }
+letterOf h (suc a) l c = record { line = suc a; direction = 0; seen = takenAt h (suc a) (suc a); content = c }
+
+-- an end applies an edit in its form at what it has applied
+abbrev pub shows : Log → ℕ → Made edits → ℕ → List ℕ
+shows w a e = at a (applied (form e (setOf (w .history) a)) (w .shown a)) (w .shown)
+
+abbrev pub writes : Log → Letter → Log
+writes w m =
+    record { history = w .history; shown = w .shown; heard = w .heard; letters = w .letters ++ (m ∷ []); passed = w .passed }
+
+-- an editing or taking that changes nothing, or only what was heard
+abbrev pub hears : Log → (ℕ → ℕ) → Log
+hears w heard =
+    record { history = w .history; shown = w .shown; heard = heard; letters = w .letters; passed = w .passed ++ (0 ∷ []) }
+
+abbrev pub edited : Log → ℕ → Edit → Log
+edited w l e =
+    record {
+      history = afterEdit l e (w .history);
+      shown = shows w l (newEdit (w .history) l e);
+      heard = w .heard;
+      letters = w .letters;
+      passed = w .passed ++ (0 ∷ []);
+    }
+
+-- the first edit of a list, where there is one
+abbrev pub first : List (Made edits) → Made edits
+first es = getD es 0 blank
+
+-- the server takes client l's next edit; client l takes its next one
+abbrev pub tookUp : Log → ℕ → ℕ → Log
+tookUp w l seen =
+    record {
+      history = afterUp l (w .history);
+      shown = shows w 0 (first (w .history .untaken l));
+      heard = at l seen (w .heard);
+      letters = w .letters;
+      passed = w .passed ++ ((madeAt (w .history) 0 l - seen) ∷ []);
+    }
+
+abbrev pub tookDown : Log → ℕ → ℕ → Log
+tookDown w l seen =
+    record {
+      history = afterDown l (w .history);
+      shown = shows w l (first (missing (w .history) l));
+      heard = w .heard;
+      letters = w .letters;
+      passed = w .passed ++ ((madeAt (w .history) l l - seen) ∷ []);
+    }
+
+-- The message is known from the sending that wrote it. One that an end had no right to take (another line's, or going the other way)
+-- leaves the log as it is, whatever the end answered.
+abbrev pub tookContent : Log → Bool → Bool → ℕ → ℕ → Content → Log
+tookContent w up down l seen (editing k e) = cond up (tookUp w l seen) (cond down (tookDown w l seen) (hears w (w .heard)))
+tookContent w up down l seen acknowledging = cond up (hears w (at l seen (w .heard))) (hears w (w .heard))
+
+unfoldable pub took : Log → ℕ → Option Letter → Log
+took w a none = hears w (w .heard)
+took w a (some m) =
+    tookContent w (eqb a 0 && eqb (m .direction) 0) (eqb a (m .line) && eqb (m .direction) 1) (m .line) (m .seen) (m .content)
+
+-- a call that was not refused
+unfoldable pub logged : Log → Call → Log
+logged w (insert l p x) = edited w l (edit.Insert p x l)
+logged w (delete l p) = edited w l (edit.Delete p)
+logged w (send a l k lent) = writes w (letterOf (w .history) a l (editing k (sentForm (w .history) a l k)))
+logged w (tell a l lent) = writes w (letterOf (w .history) a l acknowledging)
+logged w (receive a i) = took w a (getElem? (w .letters) i)
+logged w (junk a bytes) = hears w (w .heard)
+
+-- a call that was refused: an editing or taking owes the count 0
+unfoldable pub refusedLog : Log → Call → Log
+refusedLog w (insert l p x) = hears w (w .heard)
+refusedLog w (delete l p) = hears w (w .heard)
+refusedLog w (send a l k lent) = w
+refusedLog w (tell a l lent) = w
+refusedLog w (receive a i) = hears w (w .heard)
+refusedLog w (junk a bytes) = hears w (w .heard)
+
+-- the log after a call, by the number of its refusal or 0
+unfoldable pub log : Log → Call → ℕ → Log
+log w c r = cond (eqb r 0) (logged w c) (refusedLog w c)

@@ -1,0 +1,91 @@
+-- Lists of calls on the ends of a sheet (01: "Meeting").
+use Prim.Native.Nat.{ℕ, zero, suc, _+_}
+use mathlib.Core.Bool.{Bool, true, false, _&&_, cond}
+use mathlib.Core.Option.{Option, none, some}
+use mathlib.Core.List.{List, [], _∷_, _++_}
+use lib.Dec.{leb, ltb, eqb}
+use lib.ListN.{length, getD, take, getElem?}
+use Rattle.wire.specs.declared.Read.{Read}
+use Rattle.wire.specs.declared.Read.the-variants as read
+use Rattle.wire.specs.Bytes.{parsed}
+use Rattle.jupiter.specs.History.{at}
+use Rattle.model.specs.Questions.{Answer, Sent, between}
+use Rattle.model.specs.Sheet.{Sheet, Call, insert, delete, send, tell, receive, junk}
+use Rattle.model.specs.Log.{Log, noLog, log}
+
+-- the bytes of a list are bytes
+unfoldable pub areBytes : List ℕ → Bool
+areBytes [] = true
+areBytes (b ∷ bs) = ltb b 256 && areBytes bs
+
+-- numbers of a list of items
+unfoldable pub areItems : List ℕ → Bool
+areItems [] = true
+areItems (x ∷ xs) = ltb x 4294967296 && areItems xs
+
+abbrev pub unreadable : Read → Bool
+unreadable read.Refused = true
+unreadable (read.Message m) = false
+
+-- What can be called at all: ends that there are, numbers that fit the widths of a call's parameters, bytes; and junk is bytes that no
+-- message has.
+unfoldable pub callable : ℕ → Call → Bool
+callable n (insert l p x) = between 1 n l && ltb p 65536 && ltb x 4294967296
+callable n (delete l p) = between 1 n l && ltb p 65536
+callable n (send a l k lent) = leb a n && ltb l 256 && ltb k 65536 && areBytes lent
+callable n (tell a l lent) = leb a n && ltb l 256 && areBytes lent
+callable n (receive a i) = leb a n
+callable n (junk a bytes) = leb a n && areBytes bytes && unreadable (parsed bytes)
+
+module _ (S : Sheet) where
+  -- the ends as the last call on each left them, the messages written, the counts answered, and the log of the definitions
+  pub record State : Type 0 where
+    pub ends : ℕ → S .End
+    pub messages : List (List ℕ)
+    pub passed : List ℕ
+    pub recorded : Log
+
+  -- a call that answers an end: that end is the new one, refused or not
+  abbrev pub answered : State → ℕ → Call → Answer (S .End) → State
+  answered s a c r =
+      record {
+        ends = at a (r .end) (s .ends);
+        messages = s .messages;
+        passed = s .passed ++ (r .passed ∷ []);
+        recorded = log (s .recorded) c (r .refusal);
+      }
+
+  -- a sending changes no end; what it wrote is a message
+  abbrev pub written : State → Call → Sent → State
+  written s c r =
+      record {
+        ends = s .ends;
+        messages = cond (eqb (r .refusal) 0) (s .messages ++ (take (r .written) (r .buffer) ∷ [])) (s .messages);
+        passed = s .passed;
+        recorded = log (s .recorded) c (r .refusal);
+      }
+
+  -- no such message was written: no call
+  unfoldable pub handed : State → ℕ → Call → Option (List ℕ) → State
+  handed s a c none = s
+  handed s a c (some bytes) = answered s a c (S .take (s .ends a) bytes)
+
+  unfoldable pub call : State → Call → State
+  call s (insert l p x) = answered s l (insert l p x) (S .insert (s .ends l) p x)
+  call s (delete l p) = answered s l (delete l p) (S .delete (s .ends l) p)
+  call s (send a l k lent) = written s (send a l k lent) (S .send (s .ends a) l k lent)
+  call s (tell a l lent) = written s (tell a l lent) (S .tell (s .ends a) l lent)
+  call s (receive a i) = handed s a (receive a i) (getElem? (s .messages) i)
+  call s (junk a bytes) = answered s a (junk a bytes) (S .take (s .ends a) bytes)
+
+  unfoldable pub run : ℕ → State → List Call → State
+  run n s [] = s
+  run n s (c ∷ cs) = run n (cond (callable n c) (call s c) s) cs
+
+  -- the ends as opening returned them
+  abbrev pub opened : ℕ → List ℕ → ℕ → S .End
+  opened n items zero = S .openServer n items .end
+  opened n items (suc l) = S .openClient n (suc l) items .end
+
+  abbrev pub start : ℕ → List ℕ → State
+  start n items = record { ends = opened n items; messages = []; passed = []; recorded = noLog items }
