@@ -1,25 +1,24 @@
 -- Question 2 about the slots: what the loops compute is the definition, and what the array is where the answer is yes.
 use Prim.Native.Nat.{ℕ, zero, suc, _+_, _-_, _≤_, _<_}
-use native.Mathlib.Nat.{le-of-suc-le-suc, not-suc-le-zero}
+use native.Mathlib.Nat.{le-refl, le-of-suc-le-suc, not-suc-le-zero}
 use native.Mathlib.Numerals.{add-one}
 use native.Mathlib.Omega.{arith}
 use mathlib.Core.Path.{_≡_, refl, ap, _∙_, sym}
 use mathlib.Core.Bool.{Bool, true, false, _&&_}
 use mathlib.Core.List.{List, [], _∷_, map}
-use lib.Dec.{leb, eqb}
 use lib.ListN.{length, getD, take, drop, replicate, length-take, length-drop, length-map, List·getD-map, drop-of-length-le}
 use lib.Seq.{drop-cons}
 use borrow.Author.Tests.{lt-leb, le-leb, eq-eqb, leb-true}
 use Rattle.ot.specs.declared.Edit.{Edit}
 use Rattle.ot.specs.declared.Edit.the-variants.{Nothing, Delete, Insert}
+use Rattle.ot.specs.Items.{padded}
 use Rattle.model.specs.Limits.{maxPending}
 use Rattle.model.specs.Cross.{placed, allPlaced, priority, priorities}
-use Rattle.model.proofs.Tests.{and-left, and-right, hold}
+use Rattle.model.proofs.Tests.{and-left, and-right, hold, held}
 use Rattle.pending.specs.declared.Slot.{Slot}
-use Rattle.pending.specs.Pad.{padTo}
-use Rattle.pending.specs.Slots.{slot, edits, usedEdits, filled, isNothing, allNothing, rightEdits, soundTests, soundSlots, Kept}
+use Rattle.pending.specs.Slots.{slot, edits, usedEdits, filled, isNothing, allNothing, rightEdits, soundTests, soundSlots, Kept, Tested}
 use Rattle.pending.proofs.Pad.{pad-of}
-use Rattle.pending.proofs.Slots.{slots-edits, take-edits}
+use Rattle.pending.proofs.Slots.{slots-edits, take-edits, used-filled, filled-drop}
 
 and-true : (b : Bool) → (b && true) ≡ b
 and-true true = refl
@@ -145,6 +144,28 @@ module _ (good : ℕ → Bool) (count : ℕ) (slots : List Slot) where
           few = few;
           whole =
               pad-of maxPending (slot Nothing) slots count sixty-four few zeros
-              ∙ ap (padTo maxPending (slot Nothing)) (sym (slots-edits (take count slots)) ∙ ap (map slot) (sym (take-edits count slots)));
+              ∙ ap (padded (slot Nothing) maxPending) (sym (slots-edits (take count slots)) ∙ ap (map slot) (sym (take-edits count slots)));
           placed = f .1 .1 .0;
         }
+
+    pub tested : (r : Bool) → r ≡ soundSlots good count slots → Tested good count slots r
+    tested r e = record { answer = e; places = sixty-four; kept = λ y. sound-kept (sym e ∙ y) }
+
+zeros-nothing : (n : ℕ) → allNothing (edits (replicate n (slot Nothing))) ≡ true
+unfolding allNothing
+zeros-nothing zero = refl
+zeros-nothing (suc n) = zeros-nothing n
+
+-- The array for a list of right edits passes the test.
+pub sound-filled : (good : ℕ → Bool) (es : List Edit) → length es ≤ maxPending → allPlaced es ≡ true → priorities good es ≡ true
+    → soundSlots good (length es) (filled es) ≡ true
+unfolding soundSlots
+sound-filled good es h p q =
+    held (soundTests good (length es) (filled es))
+    (le-leb (length es) maxPending h,
+    (eq-eqb (length (usedEdits (length es) (filled es))) (length es) (ap length (used-filled es)),
+    (ap allPlaced (used-filled es) ∙ p,
+    (ap (priorities good) (used-filled es) ∙ q,
+    (ap allNothing (drop-edits (length es) (filled es) ∙ ap edits (filled-drop es (length es) (le-refl (length es))))
+    ∙ zeros-nothing (maxPending - length es),
+    tt)))))

@@ -9,7 +9,7 @@ ghost use Rattle.model.specs.Limits.{maxItems, maxPending};
 ghost use Rattle.model.specs.Questions.{between};
 ghost use Rattle.model.specs.Cross.{placed, priority};
 ghost use Rattle.ot.specs.Edit.{positionOf};
-ghost use Rattle.pending.specs.Slots.{edits, usedEdits, filled, isNothing, allNothing, rightPriority, rightEdits, soundSlots, crossed, Kept};
+ghost use Rattle.pending.specs.Slots.{edits, usedEdits, filled, isNothing, allNothing, rightPriority, rightEdits, crossed, Kept, Tested};
 use ot::Edit;
 
 // One place of the buffer. An unused one holds Nothing.
@@ -141,8 +141,7 @@ fn unused_empty(slots: [Slot; 64], count: usize) -> bool
 
 // Question 2 about the pending edits: those of a client (own), or those that the server keeps for a line.
 pub fn sound(slots: [Slot; 64], count: usize, n: u8, line: u8, own: bool) -> bool
-    ensures answer { λ r. ⌜ r ≡ soundSlots (rightPriority n line own) count slots ⌝ }
-    ensures kept { λ r. ⌜ (r ≡ true → Kept count slots) ⌝ }
+    ensures { λ r. ⌜ Tested (rightPriority n line own) count slots r ⌝ }
 {
     if 64 < count {
         return false;

@@ -8,9 +8,6 @@ use Rattle.pending.specs.Slots.{edits, allNothing}
 use Rattle.pending.proofs.Whole.{unused-turn, unused-end}
 use Rattle.pending.proofs.unused_empty.Statement.{statement}
 use Rattle.pending.proofs.unused_empty.Tie as tie
-use Rattle.pending.proofs.unused_empty.Reads as reads
-use Rattle.pending.proofs.unused_empty.Lts as lts
-use Rattle.pending.proofs.is_nothing.Reads as is-nothing-reads
 
 abbrev Inv-loop : tie.InvT-loop
 Inv-loop count slots empty₀ i₀ empty i = (empty && allNothing (drop i (edits slots))) ≡ allNothing (drop count (edits slots))
@@ -18,35 +15,27 @@ Inv-loop count slots empty₀ i₀ empty i = (empty && allNothing (drop i (edits
 abbrev μ-loop : tie.MeasureT-loop
 μ-loop count slots empty₀ i₀ empty i = 64 - i
 
--- src/lib.rt:134:5
 loop-holds : tie.Need-loop-holds Inv-loop μ-loop
 loop-holds c = refl
 
--- src/lib.rt:135:17
 mul-s : tie.Need-mul-s Inv-loop μ-loop
 mul-s c = omega (arith, c .loop-test)
 
--- src/lib.rt:135:17
 array-copy-out-s : tie.Need-array-copy-out-s Inv-loop μ-loop
 array-copy-out-s c = omega (arith, c .loop-test)
 
--- src/lib.rt:137:25
 is-nothing-requires : tie.Need-is-nothing-requires Inv-loop μ-loop
 is-nothing-requires c κs = search needs
 
--- src/lib.rt:134:9
 add-i : tie.Need-add-i Inv-loop μ-loop
 add-i c = omega (arith, c .before .before .loop-test)
 
--- src/lib.rt:134:5
 loop-less : tie.Need-loop-less Inv-loop μ-loop
 loop-less c = omega (arith, c .before .before .loop-test)
 
--- src/lib.rt:134:5
 loop-again : tie.Need-loop-again Inv-loop μ-loop
 loop-again c = unused-turn (c .before .before .before .loop .i) (c .before .before .before .before .args .t1) (c .before .before .before .loop .empty) (c .is-nothing .result) (omega (arith, c .before .before .loop-test, c .before .before .before .before .good .0 .1 .0 .1)) (c .is-nothing .ensures) ∙ c .before .before .before .loop .inv
 
--- src/lib.rt:130:1
 returns : tie.Need-returns Inv-loop μ-loop
 returns c = sym (unused-end (c .before .loop .i) (c .before .before .args .t1) (c .before .loop .empty) (omega (arith, c .loop-test, c .before .before .good .0 .1 .0 .1))) ∙ c .before .loop .inv
 
