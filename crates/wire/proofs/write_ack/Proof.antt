@@ -11,7 +11,7 @@ use Rattle.wire.proofs.write_ack.Tie as tie
 
 returns : tie.Need-returns
 unfolding bytesOf
-returns c = too-long (Ack (c .before .args .line) (c .before .args .direction) (c .before .args .seen)) (now (c .before .args .out)) 5 refl (c .if1 .taken)
+returns c = too-long (Ack (c .before .args .line) (c .before .args .direction) (c .before .args .seen)) (now (c .before .args .out)) 5 refl (omega arith)
 
 slice-write-out : tie.Need-slice-write-out
 slice-write-out c = search needs
@@ -39,7 +39,7 @@ same-length c = search needs
 
 returns-2 : tie.Need-returns-2
 unfolding bytesOf
-returns-2 c = fitting (Ack (c .before .args .line) (c .before .args .direction) (c .before .args .seen)) (now (c .before .args .out)) 5 refl _ (c .if1 .left) refl
+returns-2 c = fitting (Ack (c .before .args .line) (c .before .args .direction) (c .before .args .seen)) (now (c .before .args .out)) 5 refl _ (omega arith) refl
 
 pub write-ack-spec : {M : Type 1} → statement M
 write-ack-spec =

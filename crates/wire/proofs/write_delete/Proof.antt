@@ -1,3 +1,4 @@
+use native.Mathlib.Omega.{arith}
 use Rattle.wire.specs.declared.Message.the-variants.{Delete}
 use mathlib.Core.Path.{refl}
 use denote.Ref.{now}
@@ -9,7 +10,7 @@ use Rattle.wire.proofs.write_delete.Tie as tie
 
 returns : tie.Need-returns
 unfolding bytesOf
-returns c = too-long (Delete (c .before .before .args .h) (c .before .before .args .p)) (now (c .before .before .args .out)) 9 refl (c .if1 .taken)
+returns c = too-long (Delete (c .before .before .args .h) (c .before .before .args .p)) (now (c .before .before .args .out)) 9 refl (omega arith)
 
 put-header-requires : tie.Need-put-header-requires
 put-header-requires c κs = search needs
@@ -31,7 +32,7 @@ same-length c = search needs
 
 returns-2 : tie.Need-returns-2
 unfolding bytesOf
-returns-2 c = fitting (Delete (c .before .before .before .before .before .before .args .h) (c .before .before .before .before .before .before .args .p)) (now (c .before .before .before .before .before .before .args .out)) 9 refl _ (c .before .before .before .before .if1 .left) (simp (c .before .before .put-header .ensures))
+returns-2 c = fitting (Delete (c .before .before .before .before .before .before .args .h) (c .before .before .before .before .before .before .args .p)) (now (c .before .before .before .before .before .before .args .out)) 9 refl _ (omega arith) (simp (c .before .before .put-header .ensures))
 
 pub write-delete-spec : {M : Type 1} → statement M
 write-delete-spec =

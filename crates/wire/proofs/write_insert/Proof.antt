@@ -11,7 +11,7 @@ use Rattle.wire.proofs.write_insert.Tie as tie
 
 returns : tie.Need-returns
 unfolding bytesOf
-returns c = too-long (Insert (c .before .before .args .h) (c .before .before .args .p) (c .before .before .args .x) (c .before .before .args .r)) (now (c .before .before .args .out)) 14 refl (c .if1 .taken)
+returns c = too-long (Insert (c .before .before .args .h) (c .before .before .args .p) (c .before .before .args .x) (c .before .before .args .r)) (now (c .before .before .args .out)) 14 refl (omega arith)
 
 put-header-requires : tie.Need-put-header-requires
 put-header-requires c κs = search needs
@@ -60,7 +60,7 @@ same-length c = search needs
 
 returns-2 : tie.Need-returns-2
 unfolding bytesOf
-returns-2 c = fitting (Insert (c .before .before .before .before .before .before .args .h) (c .before .before .before .before .before .before .args .p) (c .before .before .before .before .before .before .args .x) (c .before .before .before .before .before .before .args .r)) (now (c .before .before .before .before .before .before .args .out)) 14 refl _ (c .before .before .before .before .if1 .left) (simp (c .before .before .put-header .ensures))
+returns-2 c = fitting (Insert (c .before .before .before .before .before .before .args .h) (c .before .before .before .before .before .before .args .p) (c .before .before .before .before .before .before .args .x) (c .before .before .before .before .before .before .args .r)) (now (c .before .before .before .before .before .before .args .out)) 14 refl _ (omega arith) (simp (c .before .before .put-header .ensures))
 
 pub write-insert-spec : {M : Type 1} → statement M
 write-insert-spec =
