@@ -15,7 +15,7 @@ two-at-requires-2 : tie.Need-two-at-requires-2
 two-at-requires-2 c κs = search needs
 
 returns : tie.Need-returns
-returns c = cc
+returns c = simp (c .before .before .before .byte-at .ensures, c .before .before .byte-at2 .ensures, c .before .two-at .ensures, c .two-at2 .ensures)
 
 pub header-at-spec : {M : Type 1} → statement M
 header-at-spec =

@@ -12,13 +12,13 @@ enum-known-e-2 : tie.Need-enum-known-e-2
 enum-known-e-2 c = search needs
 
 returns : tie.Need-returns
-returns c = cc
+returns c = simp (c .enum-told .given .1)
 
 returns-2 : tie.Need-returns-2
-returns-2 c = cc
+returns-2 c = simp (c .before .e .given .1)
 
 returns-3 : tie.Need-returns-3
-returns-3 c = cc
+returns-3 c = simp (c .before .e2 .given .1)
 
 pub of-edit-spec : {M : Type 1} → statement M
 of-edit-spec =

@@ -17,19 +17,19 @@ enum-told-4 c = search needs
 
 returns : tie.Need-returns
 unfolding bytesOf
-returns c = cc
+returns c = simp (c .enum-told .given .1)
 
 returns-2 : tie.Need-returns-2
 unfolding bytesOf
-returns-2 c = cc
+returns-2 c = simp (c .enum-told2 .given .1)
 
 returns-3 : tie.Need-returns-3
 unfolding bytesOf
-returns-3 c = cc
+returns-3 c = simp (c .enum-told3 .given .1)
 
 returns-4 : tie.Need-returns-4
 unfolding bytesOf
-returns-4 c = cc
+returns-4 c = simp (c .enum-told4 .given .1)
 
 pub size-spec : {M : Type 1} → statement M
 size-spec =

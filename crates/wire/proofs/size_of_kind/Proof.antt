@@ -3,16 +3,16 @@ use Rattle.wire.proofs.size_of_kind.Statement.{statement}
 use Rattle.wire.proofs.size_of_kind.Tie as tie
 
 returns : tie.Need-returns
-returns c = cc
+returns c = simp (c .match .keys1)
 
 returns-2 : tie.Need-returns-2
-returns-2 c = cc
+returns-2 c = simp (c .match .keys2)
 
 returns-3 : tie.Need-returns-3
-returns-3 c = cc
+returns-3 c = simp (c .match .keys3)
 
 returns-4 : tie.Need-returns-4
-returns-4 c = cc
+returns-4 c = simp (c .match .keys4)
 
 returns-5 : tie.Need-returns-5
 returns-5 c = let r = c .match .rest in
