@@ -25,14 +25,12 @@ use Rattle.jupiter.specs.History.{History, at, order}
 use Rattle.jupiter.specs.Ends as ends
 use Rattle.jupiter.specs.Ends.{Ends, takes, arrived, takingUp, takingDown}
 use Rattle.jupiter.specs.Run.{Letter, up, down}
-use Rattle.jupiter.specs.Claims.{inserts, Delivers}
+use Rattle.jupiter.specs.Claims.{inserts}
 use Rattle.jupiter.proofs.Lists.{All}
 use Rattle.jupiter.proofs.Line.{LineAt, line-down, line-up, up-edge, up-arrives}
 use Rattle.jupiter.proofs.Meeting.{server-doc}
 use Rattle.jupiter.proofs.World.{Inv, first-untaken}
-use Rattle.jupiter.proofs.Step.{UpMessage, DownMessage, up-message, down-message}
-use Rattle.jupiter.proofs.Size.{inserts-append}
-use Rattle.jupiter.proofs.Theorem.{next-down, next-up}
+use Rattle.jupiter.proofs.Step.{UpMessage, DownMessage, up-message, down-message, up-fits, down-fits}
 use Rattle.model.specs.Limits.{maxLines, maxInserts, maxEdits, maxPending, maxItems}
 use Rattle.model.specs.Questions.{Question, ask, asks, Answer, answer, Sent, sent}
 use Rattle.model.specs.Cross.{past, over, allPlaced, priority, insertsOf}
@@ -91,7 +89,34 @@ module _ (n : ℕ) (items : List ℕ) (s : State ours) (sim : Sim n items s) (fe
   room : length items + inserts (order h l) ≤ 512
   room = omega (arith, inserts-most n items s sim few l lo hi)
 
-  -- ---- going down
+  -- ---- a message that goes down, whenever it was written: where questions 4 to 7 say yes, so do 8 and 9
+  module _ (x : ends.Message edits) (ok : DownMessage items E h l x) (next : x .number ≡ suc (c .taken)) (cur : c .acked ≤ x .seen) where
+    -- the line once it is taken
+    after : LineAt items l (order h l) (h .served) (h .applied l ++ (oth l (order h l) (c .taken) ∷ [])) (takes x c) v (applied (arrived x c) (E .docs l))
+    after = line-down items l (order h l) (h .served) (h .applied l) c v (E .docs l) line x ok next cur
+
+    down-past : past (x .edit) (unacked C (x .seen)) ≡ arrived x c
+    down-past = past-same (x .edit) (drop (x .seen - c .acked) (c .pending))
+
+    down-over : over (x .edit) (unacked C (x .seen)) ≡ takes x c .pending
+    down-over = over-same (x .edit) (drop (x .seen - c .acked) (c .pending))
+
+    pub down-8 : leb (x .seen) (c .made) ≡ true
+    down-8 = le-leb (x .seen) (c .made) (omega (arith, ok .seen-le, line .v-taken, line .c-made))
+
+    pub down-9 : (fits (past (x .edit) (unacked C (x .seen))) (length (E .docs l)) && allPlaced (over (x .edit) (unacked C (x .seen)))
+        && leb (length (applied (past (x .edit) (unacked C (x .seen))) (E .docs l))) maxItems) ≡ true
+    down-9 =
+        both (fits (past (x .edit) (unacked C (x .seen))) (length (E .docs l)) && allPlaced (over (x .edit) (unacked C (x .seen))))
+        (leb (length (applied (past (x .edit) (unacked C (x .seen))) (E .docs l))) maxItems)
+        (both (fits (past (x .edit) (unacked C (x .seen))) (length (E .docs l))) (allPlaced (over (x .edit) (unacked C (x .seen))))
+        (ap (λ (e : Edit). fits e (length (E .docs l))) down-past ∙ from-T (fits (arrived x c) (length (E .docs l))) (down-fits items E h (sim .inv) l x ok next cur))
+        (ap allPlaced down-over ∙ client-placed items l (order h l) (h .served) (h .applied l ++ (oth l (order h l) (c .taken) ∷ [])) (takes x c) v (applied (arrived x c) (E .docs l)) after room))
+        (le-leb (length (applied (past (x .edit) (unacked C (x .seen))) (E .docs l))) maxItems
+        (subst (λ (e : Edit). length (applied e (E .docs l)) ≤ maxItems) (sym down-past)
+        (subst (λ (d : List ℕ). length d ≤ maxItems) (sym (after .c-doc)) (doc-most items (order h l) room l (length (mine l (order h l))) (suc (c .taken))))))
+
+  -- ---- the next edit going down
   module _ (more : c .taken < v .made) (lent : List ℕ) (long : 14 ≤ length lent) where
     abbrev k : ℕ
     k = suc (c .taken)
@@ -119,19 +144,6 @@ module _ (n : ℕ) (items : List ℕ) (s : State ours) (sim : Sim n items s) (fe
         (subst (λ (u : Line). between (u .acked + 1) (u .made) k ≡ true) (sym same-line) (true-between (v .acked + 1) (v .made) k (omega (arith, line .v-acked)) more),
         (le-leb (length (bytesOf (serverMessage S l k))) (length lent) (omega (arith, short (serverMessage S l k))), tt)))))
 
-    -- the line once it is taken
-    after : LineAt items l (order h l) (h .served) (h .applied l ++ (oth l (order h l) (c .taken) ∷ [])) (takes x c) v (applied (arrived x c) (E .docs l))
-    after = line-down items l (order h l) (h .served) (h .applied l) c v (E .docs l) line x ok refl (line .c-acked)
-
-    down-fits : fits (arrived x c) (length (E .docs l)) ≡ true
-    down-fits = from-T (fits (arrived x c) (length (E .docs l))) (next-down items E h (sim .inv) l more .fits)
-
-    down-past : past (x .edit) (unacked C (v .taken)) ≡ arrived x c
-    down-past = past-same (x .edit) (drop (v .taken - c .acked) (c .pending))
-
-    down-over : over (x .edit) (unacked C (v .taken)) ≡ takes x c .pending
-    down-over = over-same (x .edit) (drop (v .taken - c .acked) (c .pending))
-
     down-priority : priority (other n l) (x .edit) ≡ true
     down-priority = priority-get (other n l) (v .pending) (k - suc (v .acked)) (omega (arith, K .count, line .v-acked)) (K .priorities)
 
@@ -143,15 +155,8 @@ module _ (n : ℕ) (items : List ℕ) (s : State ours) (sim : Sim n items s) (fe
         (lt-ltb (c .taken) k (le-refl k),
         (eq-eqb k (c .taken + 1) (sym (add-one (c .taken))),
         (le-leb (c .acked) (v .taken) (line .c-acked),
-        (le-leb (v .taken) (c .made) (omega (arith, line .v-taken, line .c-made)),
-        (both (fits (past (x .edit) (unacked C (v .taken))) (length (E .docs l)) && allPlaced (over (x .edit) (unacked C (v .taken))))
-        (leb (length (applied (past (x .edit) (unacked C (v .taken))) (E .docs l))) maxItems)
-        (both (fits (past (x .edit) (unacked C (v .taken))) (length (E .docs l))) (allPlaced (over (x .edit) (unacked C (v .taken))))
-        (ap (λ (e : Edit). fits e (length (E .docs l))) down-past ∙ down-fits)
-        (ap allPlaced down-over ∙ client-placed items l (order h l) (h .served) (h .applied l ++ (oth l (order h l) (c .taken) ∷ [])) (takes x c) v (applied (arrived x c) (E .docs l)) after room))
-        (le-leb (length (applied (past (x .edit) (unacked C (v .taken))) (E .docs l))) maxItems
-        (subst (λ (e : Edit). length (applied e (E .docs l)) ≤ maxItems) (sym down-past)
-        (subst (λ (d : List ℕ). length d ≤ maxItems) (sym (after .c-doc)) (doc-most items (order h l) room l (length (mine l (order h l))) (suc (c .taken)))))), tt)))))))
+        (down-8 x ok refl (line .c-acked),
+        (down-9 x ok refl (line .c-acked), tt)))))))
 
     -- what was written reads as the message, and the client takes it
     down-taken : takeClient C (take (length (bytesOf (serverMessage S l k))) (bytesOf (serverMessage S l k) ++ drop (length (bytesOf (serverMessage S l k))) lent))
@@ -172,7 +177,55 @@ module _ (n : ℕ) (items : List ℕ) (s : State ours) (sim : Sim n items s) (fe
           rises = ap (λ (r : Sent). takeClient C (take (r .written) (r .buffer)) .end .taken) down-sent ∙ ap (λ (r : Answer Client). r .end .taken) down-taken ∙ add-one (c .taken);
         }
 
-  -- ---- going up
+  -- ---- a message that goes up, whenever it was written: where questions 4 to 7 say yes, so do 8 to 10
+  on-line : (P : Line → Type 0) → P (lineFrom v (sim .si l)) → P (lineOf S l)
+  on-line P p = subst P (sym same-line) p
+
+  module _ (y : ends.Message edits) (okay : UpMessage items E h l y) (following : y .number ≡ suc (v .taken)) (current : v .acked ≤ y .seen) where
+    up-after : LineAt items l (order h l) (h .served ++ (own l (order h l) (v .taken) ∷ [])) (h .applied l) c (takes y v) (E .docs l)
+    up-after = line-up items l (order h l) (h .served) (h .applied l) c v (E .docs l) line y okay following current
+
+    up-carried : carried S l (y .seen) (y .edit) ≡ arrived y v
+    up-carried = carried-from n (length items) (E .doc) (E .lines) (sim .si) l lo hi y
+
+    up-over : over (y .edit) (unackedOf (lineOf S l) (y .seen)) ≡ takes y v .pending
+    up-over = ap (λ (u : Line). over (y .edit) (unackedOf u (y .seen))) same-line ∙ over-same (y .edit) (drop (y .seen - v .acked) (v .pending))
+
+    up-length : length (applied (arrived y v) (E .doc)) ≤ maxItems
+    up-length =
+        let edge = up-edge items l (order h l) (h .served) (h .applied l) c v (E .docs l) line y okay following current in
+        subst (λ (d : List ℕ). length d ≤ maxItems)
+        (edge .gives ∙ ap₂ applied (sym (up-arrives items l (order h l) (h .served) (h .applied l) c v (E .docs l) line y okay following current)) (sym (server-doc items E h (sim .inv) l)))
+        (doc-most items (order h l) room l (suc (v .taken)) (length (others l (order h l))))
+
+    -- the insert that goes up is one that the client has counted
+    up-inserts : sim .si l + insertsOf (y .edit) ≤ maxInserts
+    up-inserts =
+        first-untaken items edit-laws E h (sim .inv) l y okay following current (h .untaken l) refl (λ r. sim .si l + insertsOf (y .edit) ≤ maxInserts)
+        (λ o us split.
+          omega (arith,
+          client-more n items s sim few l,
+          client-most n items s sim few l lo hi,
+          ap inserts split ∙ inserts-cons o us,
+          first-inserts n items s sim l lo hi y okay following o us split))
+
+    pub up-8 : leb (y .seen) (lineOf S l .made) ≡ true
+    up-8 = on-line (λ u. leb (y .seen) (u .made) ≡ true) (le-leb (y .seen) (v .made) (omega (arith, okay .seen-le, line .c-taken, line .v-made)))
+
+    pub up-9 : (fits (carried S l (y .seen) (y .edit)) (length (E .doc)) && allPlaced (over (y .edit) (unackedOf (lineOf S l) (y .seen)))
+        && leb (length (applied (carried S l (y .seen) (y .edit)) (E .doc))) maxItems) ≡ true
+    up-9 =
+        both (fits (carried S l (y .seen) (y .edit)) (length (E .doc)) && allPlaced (over (y .edit) (unackedOf (lineOf S l) (y .seen))))
+        (leb (length (applied (carried S l (y .seen) (y .edit)) (E .doc))) maxItems)
+        (both (fits (carried S l (y .seen) (y .edit)) (length (E .doc))) (allPlaced (over (y .edit) (unackedOf (lineOf S l) (y .seen))))
+        (ap (λ (e : Edit). fits e (length (E .doc))) up-carried ∙ from-T (fits (arrived y v) (length (E .doc))) (up-fits items E h (sim .inv) l y okay following current))
+        (ap allPlaced up-over ∙ server-placed items l (order h l) (h .served ++ (own l (order h l) (v .taken) ∷ [])) (h .applied l) c (takes y v) (E .docs l) up-after room))
+        (le-leb (length (applied (carried S l (y .seen) (y .edit)) (E .doc))) maxItems (subst (λ (e : Edit). length (applied e (E .doc)) ≤ maxItems) (sym up-carried) up-length))
+
+    pub up-10 : leb (lineOf S l .inserts + insertsOf (y .edit)) maxInserts ≡ true
+    up-10 = on-line (λ u. leb (u .inserts + insertsOf (y .edit)) maxInserts ≡ true) (le-leb (sim .si l + insertsOf (y .edit)) maxInserts up-inserts)
+
+  -- ---- the next edit going up
   module _ (more : v .taken < c .made) (roomy-others : (j : ℕ) → 1 ≤ j → j ≤ n → (j ≡ l → ⊥) → E .lines j .made - E .lines j .acked < maxPending) (lent : List ℕ) (long : 14 ≤ length lent) where
     abbrev up-k : ℕ
     up-k = suc (v .taken)
@@ -189,8 +242,8 @@ module _ (n : ℕ) (items : List ℕ) (s : State ours) (sim : Sim n items s) (fe
     up-low : c .acked < up-k
     up-low = omega (arith, line .c-acked)
 
-    up-message-ok : UpMessage items E h l y
-    up-message-ok = up-message items E h (sim .inv) l up-k up-low more
+    okay : UpMessage items E h l y
+    okay = up-message items E h (sim .inv) l up-k up-low more
 
     up-sent : sendClient C l up-k lent
         ≡ record { refusal = 0; written = length (bytesOf (clientMessage C up-k)); buffer = bytesOf (clientMessage C up-k) ++ drop (length (bytesOf (clientMessage C up-k))) lent }
@@ -202,39 +255,6 @@ module _ (n : ℕ) (items : List ℕ) (s : State ours) (sim : Sim n items s) (fe
         (eq-eqb l l refl,
         (true-between (c .acked + 1) (c .made) up-k (omega (arith, line .c-acked)) more,
         (le-leb (length (bytesOf (clientMessage C up-k))) (length lent) (omega (arith, short (clientMessage C up-k))), tt)))))
-
-    up-after : LineAt items l (order h l) (h .served ++ (own l (order h l) (v .taken) ∷ [])) (h .applied l) c (takes y v) (E .docs l)
-    up-after = line-up items l (order h l) (h .served) (h .applied l) c v (E .docs l) line y up-message-ok refl (line .v-acked)
-
-    up-fits : fits (arrived y v) (length (E .doc)) ≡ true
-    up-fits = from-T (fits (arrived y v) (length (E .doc))) (next-up items E h (sim .inv) l more .fits)
-
-    up-carried : carried S l (c .taken) (y .edit) ≡ arrived y v
-    up-carried = carried-from n (length items) (E .doc) (E .lines) (sim .si) l lo hi y
-
-    up-over : over (y .edit) (unackedOf (lineOf S l) (c .taken)) ≡ takes y v .pending
-    up-over = ap (λ (u : Line). over (y .edit) (unackedOf u (c .taken))) same-line ∙ over-same (y .edit) (drop (c .taken - v .acked) (v .pending))
-
-    up-length : length (applied (arrived y v) (E .doc)) ≤ maxItems
-    up-length =
-        let edge = up-edge items l (order h l) (h .served) (h .applied l) c v (E .docs l) line y up-message-ok refl (line .v-acked) in
-        subst (λ (d : List ℕ). length d ≤ maxItems)
-        (edge .gives ∙ ap₂ applied (sym (up-arrives items l (order h l) (h .served) (h .applied l) c v (E .docs l) line y up-message-ok refl (line .v-acked))) (sym (server-doc items E h (sim .inv) l)))
-        (doc-most items (order h l) room l (suc (v .taken)) (length (others l (order h l))))
-
-    -- the insert that goes up is one that the client has counted
-    up-inserts : sim .si l + insertsOf (y .edit) ≤ maxInserts
-    up-inserts =
-        first-untaken items edit-laws E h (sim .inv) l y up-message-ok refl (line .v-acked) (h .untaken l) refl (λ r. sim .si l + insertsOf (y .edit) ≤ maxInserts)
-        (λ o us split.
-          omega (arith,
-          client-more n items s sim few l,
-          client-most n items s sim few l lo hi,
-          split-inserts o us split,
-          first-inserts n items s sim l lo hi y up-message-ok refl o us split))
-      where
-        split-inserts : (o : Made edits) (us : List (Made edits)) → h .untaken l ≡ o ∷ us → inserts (h .untaken l) ≡ insertsOf (o .edit) + inserts us
-        split-inserts o us e = ap inserts e ∙ inserts-cons o us
 
     up-roomy : othersRoomy (l - 1) (S .lines) ≡ true
     up-roomy =
@@ -250,18 +270,10 @@ module _ (n : ℕ) (items : List ℕ) (s : State ours) (sim : Sim n items s) (fe
         (on-line (λ u. ltb (u .taken) up-k ≡ true) (lt-ltb (v .taken) up-k (le-refl up-k)),
         (on-line (λ u. eqb up-k (u .taken + 1) ≡ true) (eq-eqb up-k (v .taken + 1) (sym (add-one (v .taken)))),
         (on-line (λ u. leb (u .acked) (c .taken) ≡ true) (le-leb (v .acked) (c .taken) (line .v-acked)),
-        (on-line (λ u. leb (c .taken) (u .made) ≡ true) (le-leb (c .taken) (v .made) (omega (arith, line .c-taken, line .v-made))),
-        (both (fits (carried S l (c .taken) (y .edit)) (length (E .doc)) && allPlaced (over (y .edit) (unackedOf (lineOf S l) (c .taken))))
-        (leb (length (applied (carried S l (c .taken) (y .edit)) (E .doc))) maxItems)
-        (both (fits (carried S l (c .taken) (y .edit)) (length (E .doc))) (allPlaced (over (y .edit) (unackedOf (lineOf S l) (c .taken))))
-        (ap (λ (e : Edit). fits e (length (E .doc))) up-carried ∙ up-fits)
-        (ap allPlaced up-over ∙ server-placed items l (order h l) (h .served ++ (own l (order h l) (v .taken) ∷ [])) (h .applied l) c (takes y v) (E .docs l) up-after room))
-        (le-leb (length (applied (carried S l (c .taken) (y .edit)) (E .doc))) maxItems (subst (λ (e : Edit). length (applied e (E .doc)) ≤ maxItems) (sym up-carried) up-length)),
-        (on-line (λ u. leb (u .inserts + insertsOf (y .edit)) maxInserts ≡ true) (le-leb (sim .si l + insertsOf (y .edit)) maxInserts up-inserts),
+        (up-8 y okay refl (line .v-acked),
+        (up-9 y okay refl (line .v-acked),
+        (up-10 y okay refl (line .v-acked),
         (up-roomy, tt)))))))))
-      where
-        on-line : (P : Line → Type 0) → P (lineFrom v (sim .si l)) → P (lineOf S l)
-        on-line P p = subst P (sym same-line) p
 
     up-taken : takeServer S (take (length (bytesOf (clientMessage C up-k))) (bytesOf (clientMessage C up-k) ++ drop (length (bytesOf (clientMessage C up-k))) lent))
         ≡ record { refusal = 0; end = serverTaken S l (c .taken) (y .edit); passed = lineOf S l .made - c .taken }
