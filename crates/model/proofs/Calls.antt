@@ -416,7 +416,7 @@ module _ (n : ℕ) (items : List ℕ) (s : State ours) (sim : Sim n items s) whe
 some-eq : (x y : List ℕ) → some x ≡ some y → x ≡ y
 some-eq x y e = cc
 
-lettered : (xs : List (Letter edits)) (i : ℕ) (b : List ℕ) → getElem? (map letterBytes xs) i ≡ some b → (P : Letter edits → Type 0) → All P xs
+pub lettered : (xs : List (Letter edits)) (i : ℕ) (b : List ℕ) → getElem? (map letterBytes xs) i ≡ some b → (P : Letter edits → Type 0) → All P xs
     → (x : Letter edits) × (getElem? xs i ≡ some x) × (b ≡ letterBytes x) × P x
 lettered [] i b e P a = absurd (let z : _≡_ {A = ℕ} 0 1 = cc in omega arith)
 lettered (x ∷ xs) zero b e P a = (x, refl, some-eq b (letterBytes x) (sym e), a .0)

@@ -139,7 +139,7 @@ module _ (n : ℕ) (items : List ℕ) (lo : 1 ≤ n) (hi : n ≤ maxLines) (few 
   client-starts : (l : ℕ) → 1 ≤ l → l ≤ n → openClient n l items .end ≡ clientFrom n l (record { made = 0; taken = 0; acked = 0; pending = [] }) items 0
   client-starts l a b = ap (λ (r : Answer Client). r .end) (client-opens n l items lo hi a b few)
 
-  starts : Sim n items (start ours n items)
+  pub starts : Sim n items (start ours n items)
   unfolding select reject inserts
   starts =
       record {
@@ -181,7 +181,7 @@ runs n items (c ∷ cs) s sim = runs n items cs (cond (callable n c) (call ours 
     go false e = sim
 
 -- what an opening that was not refused was asked
-server-asked : (n : ℕ) (items : List ℕ) → openServer n items .refusal ≡ 0 → (1 ≤ n) × (n ≤ maxLines) × (length items ≤ maxInitial)
+pub server-asked : (n : ℕ) (items : List ℕ) → openServer n items .refusal ≡ 0 → (1 ≤ n) × (n ≤ maxLines) × (length items ≤ maxInitial)
 unfolding openServer
 server-asked n items e =
     let z = accepted (asks (openServerQuestions n items)) noServer (freshServer n items) 0 e in

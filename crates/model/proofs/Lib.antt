@@ -15,6 +15,7 @@ pub mod Calls
 pub mod Bounds
 pub mod Next
 pub mod Converges
+pub mod Refusals
 pub mod Wrong
 pub mod Computing
 pub mod Marked

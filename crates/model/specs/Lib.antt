@@ -11,4 +11,5 @@ pub mod Claim
 pub mod Ours
 pub mod Sound
 pub mod Wrong
+pub mod Refusals
 pub mod Marked
