@@ -6,50 +6,37 @@ use Rattle.ot.specs.Items.{sizeAfter}
 use borrow.Author.Needs.{needs}
 use Rattle.ot.proofs.enough.Statement.{statement}
 use Rattle.ot.proofs.enough.Tie as tie
-use Rattle.ot.proofs.enough.Reads as reads
-use Rattle.ot.proofs.enough.Lts as lts
-use Rattle.ot.proofs.wide.Reads as wide-reads
 
--- src/lib.rt:108:26
 enum-told : tie.Need-enum-told
 enum-told c = search needs
 
--- src/lib.rt:110:16
 enum-told-2 : tie.Need-enum-told-2
 enum-told-2 c = search needs
 
--- src/lib.rt:111:17
 returns : tie.Need-returns
 unfolding sizeAfter
 returns c = simp (c .before .enum-told2 .given .1, le-leb (c .before .before .before .args .len - 1) 512 (omega arith))
 
--- src/lib.rt:113:13
 sub-result : tie.Need-sub-result
 sub-result c = search needs
 
--- src/lib.rt:115:34
 enum-told-3 : tie.Need-enum-told-3
 enum-told-3 c = search needs
 
--- src/lib.rt:115:34
 wide-requires : tie.Need-wide-requires
 wide-requires c κs = search needs
 
--- src/lib.rt:115:34
 add-result : tie.Need-add-result
 add-result c = search needs
 
--- src/lib.rt:104:1
 returns-2 : tie.Need-returns-2
 unfolding sizeAfter
 returns-2 c = simp (c .enum-told .given .1)
 
--- src/lib.rt:104:1
 returns-3 : tie.Need-returns-3
 unfolding sizeAfter
 returns-3 c = simp (c .before .enum-told2 .given .1)
 
--- src/lib.rt:104:1
 returns-4 : tie.Need-returns-4
 unfolding sizeAfter
 returns-4 c = simp (c .before .enum-told3 .given .1, c .wide .ensures)

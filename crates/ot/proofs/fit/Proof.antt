@@ -3,45 +3,33 @@ use Rattle.ot.specs.Edit.{fits}
 use borrow.Author.Needs.{needs}
 use Rattle.ot.proofs.fit.Statement.{statement}
 use Rattle.ot.proofs.fit.Tie as tie
-use Rattle.ot.proofs.fit.Reads as reads
-use Rattle.ot.proofs.fit.Lts as lts
-use Rattle.ot.proofs.wide.Reads as wide-reads
 
--- src/lib.rt:97:26
 enum-told : tie.Need-enum-told
 enum-told c = search needs
 
--- src/lib.rt:98:22
 enum-known-e : tie.Need-enum-known-e
 enum-known-e c = search needs
 
--- src/lib.rt:99:22
 enum-known-e-2 : tie.Need-enum-known-e-2
 enum-known-e-2 c = search needs
 
--- src/lib.rt:99:46
 wide-requires : tie.Need-wide-requires
 wide-requires c κs = search needs
 
--- src/lib.rt:99:57
 wide-requires-2 : tie.Need-wide-requires-2
 wide-requires-2 c κs = search needs
 
--- src/lib.rt:99:57
 add-result : tie.Need-add-result
 add-result c = search needs
 
--- src/lib.rt:93:1
 returns : tie.Need-returns
 unfolding fits
 returns c = simp (c .enum-told .given .1)
 
--- src/lib.rt:93:1
 returns-2 : tie.Need-returns-2
 unfolding fits
 returns-2 c = simp (c .before .e .given .1)
 
--- src/lib.rt:93:1
 returns-3 : tie.Need-returns-3
 unfolding fits
 returns-3 c = simp (c .before .before .before .e2 .given .1, c .before .wide .ensures, c .wide2 .ensures)
