@@ -1,29 +1,67 @@
 //! What a sceptical engineer would run against the sheet (README.md).
 
+mod cases;
+mod check;
 mod cjupiter;
+mod damage;
 mod driver;
 mod edit;
 mod form;
 mod generate;
 mod limits;
 mod literal;
+mod mutants;
 mod oracle;
 mod plain;
 mod protocol;
 mod rng;
+mod scripts;
+mod shrink;
+mod steady;
 mod subject;
 
-fn main() {
-    let list = generate::honest(1);
-    let t = std::time::Instant::now();
-    let mut calls = 0;
-    for seed in 0..2000 {
-        let list = generate::honest(seed);
-        let out = subject::all()[0].output(&list).unwrap();
-        match oracle::check(&list, &out) {
-            Ok(r) => { calls += r.followed; if !r.delivered || r.followed != list.calls.len() { println!("seed {seed}: {r:?} of {}", list.calls.len()); } }
-            Err((i, e)) => { println!("seed {seed} call {i}: {e}"); break; }
+use std::process::ExitCode;
+
+const USAGE: &str = "harness check [--seconds N] [--seed S]   everything, within a time (60 s); status 1 on a difference
+harness long [--calls N] [--seed S]      runs of calls until N were made (10,000,000)
+harness mutants [--slip NAME]            every slip has to be noticed
+harness one SORT --seed S                one seed again, as a failure names it (Honest, Limits, Hostile, Bytes, Noise, Ends, Script)";
+
+/// The number after `--name`, or the default.
+fn option(arguments: &[String], name: &str, default: u64) -> u64 {
+    let at = arguments.iter().position(|argument| argument == name);
+    at.and_then(|at| arguments.get(at + 1)).and_then(|word| word.parse().ok()).unwrap_or(default)
+}
+
+fn main() -> ExitCode {
+    let arguments: Vec<String> = std::env::args().skip(1).collect();
+    let subjects = subject::all();
+    let names: Vec<&str> = subjects.iter().map(|subject| subject.name()).collect();
+    println!("under test: {}", names.join(", "));
+    let seed = option(&arguments, "--seed", 1);
+    let fine = match arguments.first().map(String::as_str) {
+        Some("check") => check::timed(option(&arguments, "--seconds", 60), seed, &subjects),
+        Some("long") => check::long(option(&arguments, "--calls", 10_000_000), seed, &subjects),
+        Some("mutants") => {
+            let only = arguments.iter().position(|argument| argument == "--slip").and_then(|at| arguments.get(at + 1));
+            mutants::sane() && mutants::run(only.map(String::as_str))
         }
+        Some("one") => {
+            let sort = check::SORTS.into_iter().find(|sort| arguments.get(1).is_some_and(|word| format!("{sort:?}") == *word));
+            let Some(sort) = sort else {
+                eprintln!("{USAGE}");
+                return ExitCode::from(2);
+            };
+            check::seed(sort, seed, &subjects, &mut check::Tally::default())
+        }
+        _ => {
+            eprintln!("{USAGE}");
+            return ExitCode::from(2);
+        }
+    };
+    if fine {
+        ExitCode::SUCCESS
+    } else {
+        ExitCode::FAILURE
     }
-    println!("{} {calls} {:?}", list.calls.len(), t.elapsed());
 }

@@ -31,6 +31,16 @@ struct Line {
     /// The set of the first j others, at index j.
     first: Vec<Set>,
     shown: Vec<u32>,
+    /// Forms already asked for, of the client's and of the server's pending edits.
+    asked: [Asked; 2],
+}
+
+/// Forms of successive numbers at one count of taken edits; they stay as long as that count does.
+#[derive(Default)]
+struct Asked {
+    taken: u16,
+    from: u16,
+    forms: Vec<Edit>,
 }
 
 impl Line {
@@ -222,8 +232,28 @@ impl Oracle {
         answer(0, length, 0)
     }
 
-    /// The form that a pending edit is owed: at what its end had applied, less the line's pending edits from its number on.
+    /// The form that a pending edit is owed, asked for once.
     fn pending(&mut self, end: usize, l: usize, number: u16) -> Edit {
+        let side = (end == 0) as usize;
+        let line = &self.lines[l - 1];
+        let taken = if end == 0 { line.server.taken } else { line.client.taken };
+        let asked = &line.asked[side];
+        let at = number.wrapping_sub(asked.from) as usize;
+        if asked.taken == taken && at < asked.forms.len() {
+            return asked.forms[at];
+        }
+        let form = self.owed(end, l, number);
+        let asked = &mut self.lines[l - 1].asked[side];
+        if asked.taken != taken {
+            *asked = Asked { taken, from: number, forms: vec![form] };
+        } else if at == asked.forms.len() {
+            asked.forms.push(form);
+        }
+        form
+    }
+
+    /// At what its end had applied, less the line's pending edits from its number on.
+    fn owed(&mut self, end: usize, l: usize, number: u16) -> Edit {
         let line = &self.lines[l - 1];
         if end != 0 {
             let set = line.point(l - 1, number - 1, line.client.taken);
