@@ -3,7 +3,7 @@
 use crate::oracle::{self, Report, Wrong};
 use crate::protocol::*;
 use crate::subject::Subject;
-use crate::{damage, generate, scripts, shrink, steady};
+use crate::{damage, edges, generate, scripts, shrink, steady};
 use std::time::{Duration, Instant};
 
 /// The sorts of random input, each made from a seed.
@@ -25,11 +25,15 @@ impl Sort {
     pub fn lists(self, seed: u64) -> Vec<List> {
         match self {
             Sort::Honest => vec![generate::honest(seed)],
-            Sort::Limits => vec![generate::limits(seed)],
+            Sort::Limits => vec![edges::limits(seed)],
             Sort::Hostile => vec![generate::hostile(seed)],
             Sort::Bytes => damage::bytes(seed),
             Sort::Noise => vec![damage::noise(seed)],
-            Sort::Ends => damage::ends(seed),
+            Sort::Ends => {
+                let mut lists = damage::crafted();
+                lists.extend(damage::ends(seed));
+                lists
+            }
             Sort::Script => vec![],
         }
     }
@@ -69,17 +73,6 @@ impl Tally {
                 self.most_passed = self.most_passed.max(u16::from_be_bytes([out[at + 2], out[at + 3]]));
             }
             at += call.answer_length();
-        }
-    }
-
-    pub fn add(&mut self, other: &Tally) {
-        self.lists += other.lists;
-        self.calls += other.calls;
-        self.scripts += other.scripts;
-        self.followed += other.followed;
-        self.most_passed = self.most_passed.max(other.most_passed);
-        for (mine, theirs) in self.refusals.iter_mut().zip(other.refusals) {
-            *mine += theirs;
         }
     }
 

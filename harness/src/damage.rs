@@ -149,7 +149,7 @@ pub fn ends(seed: u64) -> Vec<List> {
         probes(end, &mut list);
         lists.push(list);
     };
-    for end in [0, 1] {
+    for end in [0, 1, 2] {
         for choice in field::N..=field::INSERTS {
             for &value in edge_values(choice) {
                 for line in if end == 0 { 1..=4 } else { 1..=1 } {
@@ -273,6 +273,82 @@ fn together(end: u8) -> Vec<Vec<Call>> {
         vec![set(0, field::N, 4)],
         vec![set(0, field::N, 2)],
     ]
+}
+
+/// Sound ends at a limit, made by overwriting, and the message that asks for one more: questions 9, 10 and 12 where no run of calls leads.
+pub fn crafted() -> Vec<List> {
+    let mut lists = Vec::new();
+    for inserts in [46, 47, 48] {
+        for length in [128, 510, 511, 512] {
+            for kept in [0, 1, 63, 64] {
+                let mut list = server_at_limit(8, inserts, length, kept);
+                list.calls.extend([Call::dump(0), Call::take(0, 0), Call::dump(0)]);
+                lists.push(list);
+            }
+        }
+    }
+    for length in [0, 127, 511, 512] {
+        for kept in [0, 1, 63, 64] {
+            let mut list = client_at_limit(length, kept);
+            let edits = [Call::insert(1, 1, 5), Call::delete(1, 1)];
+            for call in edits.into_iter().chain([Call::take(1, 0)]) {
+                list.calls.extend([Call::dump(1), call, Call::dump(1)]);
+            }
+            lists.push(list);
+        }
+    }
+    lists
+}
+
+fn poked(slot: u8, bytes: &[u8]) -> Vec<Call> {
+    bytes.iter().enumerate().map(|(at, &byte)| Call::poke(slot, at as u16, byte, bytes.len() as u8)).collect()
+}
+
+/// Pending edits all over the list, inserts and deletes in turn; inserts have the priority given.
+fn pending_edits(end: u8, line: u8, kept: u16, length: u16, priority: u8) -> Vec<Call> {
+    let spread = length.max(1);
+    let edit = |index: u16| Call {
+        position: 1 + (index * 7) % spread,
+        size: 1 + (index % 2) as u8,
+        priority: if index % 2 == 1 { priority } else { 0 },
+        ..Call::set(end, line, field::PENDING, index, if index % 2 == 1 { 9 } else { 0 })
+    };
+    (0..kept).map(edit).collect()
+}
+
+/// A server of n lines where every line has 48 edits taken, line 1 has `inserts` inserts taken and `kept` edits pending; slot 0 holds
+/// line 1's next edit, an insert in the middle that has seen none of the pending ones.
+pub fn server_at_limit(n: u8, inserts: u32, length: u16, kept: u16) -> List {
+    let mut list = List::opened(n, (1..=128).collect());
+    let made = 48 * (n as u16 - 1);
+    for line in 1..=n {
+        let pairs = [
+            (field::TAKEN, 48),
+            (field::MADE, made as u32),
+            (field::ACKED, (made - if line == 1 { kept } else { 0 }) as u32),
+            (field::INSERTS, if line == 1 { inserts } else { 48 }),
+        ];
+        list.calls.extend(pairs.map(|(choice, value)| Call::set(0, line, choice, 0, value)));
+    }
+    list.calls.push(Call::set(0, 0, field::LENGTH, 0, length as u32));
+    list.calls.extend((128..length).map(|index| Call::set(0, 0, field::ITEM, index, 1000 + index as u32)));
+    list.calls.extend(pending_edits(0, 1, kept, length, 2));
+    let ([seen_high, seen_low], [high, low]) = ((made - kept).to_be_bytes(), (length / 2 + 1).to_be_bytes());
+    list.calls.extend(poked(0, &[1, 1, 0, 0, 49, seen_high, seen_low, high, low, 0, 0, 0, 5, 1]));
+    list
+}
+
+/// Client 1 of eight with `kept` edits pending and nothing taken; slot 0 holds the first edit that comes down, an insert in the middle.
+pub fn client_at_limit(length: u16, kept: u16) -> List {
+    let mut list = List::opened(8, (1..=length.min(128) as u32).collect());
+    list.calls.push(Call::set(1, 0, field::LENGTH, 0, length as u32));
+    list.calls.extend((128..length).map(|index| Call::set(1, 0, field::ITEM, index, 1000 + index as u32)));
+    list.calls.push(Call::set(1, 0, field::MADE, 0, kept as u32));
+    list.calls.push(Call::set(1, 0, field::INSERTS, 0, kept as u32 / 2));
+    list.calls.extend(pending_edits(1, 1, kept, length, 1));
+    let [high, low] = (length / 2 + 1).to_be_bytes();
+    list.calls.extend(poked(0, &[1, 1, 1, 0, 1, 0, 0, high, low, 0, 0, 0, 5, 2]));
+    list
 }
 
 /// Openings at and past their limits, and calls on what they return.

@@ -262,10 +262,10 @@ fn dump_line<'a>(line: &Line, mut out: &'a mut [u8]) -> &'a mut [u8] {
     }
     let (now, rest) = out.split_at_mut(8 * PENDING);
     for (eight, edit) in now.chunks_exact_mut(8).zip(&line.pending) {
-        eight[0] = edit.kind;
-        eight[1] = edit.priority;
-        eight[2..4].copy_from_slice(&edit.position.to_be_bytes());
-        eight[4..].copy_from_slice(&edit.item.to_be_bytes());
+        eight[0] = edit.kind();
+        eight[1] = edit.priority();
+        eight[2..4].copy_from_slice(&edit.position().to_be_bytes());
+        eight[4..].copy_from_slice(&edit.item().to_be_bytes());
     }
     rest
 }

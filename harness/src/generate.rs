@@ -20,15 +20,15 @@ struct Mood {
     odd: usize,
     /// Dump the end after every so many calls.
     dump_every: usize,
-    /// Clients that the network reaches now; the others go on editing.
+    /// Edits stand at this position at most, so that many meet.
     hot_positions: u16,
 }
 
 pub struct Run {
     pub list: List,
-    world: World<Right>,
-    rng: Rng,
-    n: usize,
+    pub world: World<Right>,
+    pub rng: Rng,
+    pub n: usize,
     mood: Mood,
     since_dump: usize,
     scratch: Vec<u8>,
@@ -41,29 +41,6 @@ pub fn honest(seed: u64) -> List {
     while run.list.calls.len() < target {
         run.action();
     }
-    run.deliver_all();
-    run.list
-}
-
-/// A run to the limits: 48 inserts, 400 edits, 64 pending, 512 items; at its end everything is delivered.
-pub fn limits(seed: u64) -> List {
-    let mut run = Run::open(seed);
-    run.mood = Mood { edits: 60, deletes: 15, exchanges: 30, acknowledgements: 4, strays: 3, odd: 2, dump_every: 9, hot_positions: 600 };
-    match run.rng.below(4) {
-        // every insert that the sheet has room for
-        0 => run.mood.deletes = 0,
-        // all 400 edits
-        1 => run.mood = Mood { deletes: 88, exchanges: 80, ..run.mood },
-        // 64 pending at the clients
-        2 => run.mood.exchanges = 2,
-        // 64 pending at the server: one line is never answered
-        _ => run.mood.acknowledgements = 0,
-    }
-    let patience = if run.mood.deletes > 80 { 40_000 } else { 6_000 };
-    while run.list.calls.len() < patience && run.rng.below(2_000) != 0 {
-        run.action();
-    }
-    run.edges();
     run.deliver_all();
     run.list
 }
@@ -86,10 +63,16 @@ pub fn hostile(seed: u64) -> List {
 }
 
 impl Run {
+    /// A sheet of any size.
     pub fn open(seed: u64) -> Run {
         let mut rng = Rng::new(seed);
         let n = rng.between(1, LINES);
         let count = rng.pick(&[0, 0, 1, 2, 3, 10, 60, 127, 128, 128]);
+        Run::sized(rng, n, count)
+    }
+
+    /// A sheet of n lines that opens with so many items.
+    pub fn sized(mut rng: Rng, n: usize, count: usize) -> Run {
         let small = rng.once_in(2);
         let item = |rng: &mut Rng| if small { rng.below(3) as u32 } else { rng.next() as u32 };
         let initial: Vec<u32> = (0..count).map(|_| item(&mut rng)).collect();
@@ -121,7 +104,7 @@ impl Run {
     }
 
     /// The same, and a dump of the end every so often.
-    fn call_and_look(&mut self, call: Call) -> u8 {
+    pub fn call_and_look(&mut self, call: Call) -> u8 {
         let refusal = self.call(call);
         self.since_dump += 1;
         if self.since_dump >= self.mood.dump_every {
@@ -253,17 +236,6 @@ impl Run {
         }
     }
 
-    /// Each limit's edge, asked for outright: position, inserts, edits, pending, items, buffer.
-    fn edges(&mut self) {
-        for l in 1..=self.n as u8 {
-            let length = self.world.clients[l as usize - 1].length;
-            for position in [0, 1, length, length + 1, length + 2] {
-                self.call_and_look(Call::insert(l, position, 9));
-                self.call_and_look(Call::delete(l, position));
-            }
-        }
-    }
-
     /// Sends and takes until no end lacks anything.
     pub fn deliver_all(&mut self) {
         loop {
@@ -291,7 +263,7 @@ impl Run {
         }
     }
 
-    fn hand_over(&mut self, from: usize, l: usize, k: u16) -> bool {
+    pub fn hand_over(&mut self, from: usize, l: usize, k: u16) -> bool {
         let slot = self.slot();
         self.call(Call::send(from as u8, l as u8, k, slot, 14));
         self.call(Call::take(if from == 0 { l as u8 } else { 0 }, slot)) == 0

@@ -1,10 +1,12 @@
 //! What a sceptical engineer would run against the sheet (README.md).
 
+mod bench;
 mod cases;
 mod check;
 mod cjupiter;
 mod damage;
 mod driver;
+mod edges;
 mod edit;
 mod form;
 mod generate;
@@ -13,6 +15,7 @@ mod literal;
 mod mutants;
 mod oracle;
 mod plain;
+mod plot;
 mod protocol;
 mod rng;
 mod scripts;
@@ -25,12 +28,18 @@ use std::process::ExitCode;
 const USAGE: &str = "harness check [--seconds N] [--seed S]   everything, within a time (60 s); status 1 on a difference
 harness long [--calls N] [--seed S]      runs of calls until N were made (10,000,000)
 harness mutants [--slip NAME]            every slip has to be noticed
+harness bench [--out FOLDER]             times and bytes, as a table and a plot (target/bench)
 harness one SORT --seed S                one seed again, as a failure names it (Honest, Limits, Hostile, Bytes, Noise, Ends, Script)";
+
+/// The word after `--name`.
+fn word<'a>(arguments: &'a [String], name: &str) -> Option<&'a str> {
+    let at = arguments.iter().position(|argument| argument == name)?;
+    arguments.get(at + 1).map(String::as_str)
+}
 
 /// The number after `--name`, or the default.
 fn option(arguments: &[String], name: &str, default: u64) -> u64 {
-    let at = arguments.iter().position(|argument| argument == name);
-    at.and_then(|at| arguments.get(at + 1)).and_then(|word| word.parse().ok()).unwrap_or(default)
+    word(arguments, name).and_then(|word| word.parse().ok()).unwrap_or(default)
 }
 
 fn main() -> ExitCode {
@@ -43,16 +52,19 @@ fn main() -> ExitCode {
         Some("check") => check::timed(option(&arguments, "--seconds", 60), seed, &subjects),
         Some("long") => check::long(option(&arguments, "--calls", 10_000_000), seed, &subjects),
         Some("mutants") => {
-            let only = arguments.iter().position(|argument| argument == "--slip").and_then(|at| arguments.get(at + 1));
-            mutants::sane() && mutants::run(only.map(String::as_str))
+            mutants::sane() && mutants::run(word(&arguments, "--slip"))
         }
+        Some("bench") => bench::run(word(&arguments, "--out").unwrap_or("target/bench").as_ref(), &subjects),
         Some("one") => {
             let sort = check::SORTS.into_iter().find(|sort| arguments.get(1).is_some_and(|word| format!("{sort:?}") == *word));
             let Some(sort) = sort else {
                 eprintln!("{USAGE}");
                 return ExitCode::from(2);
             };
-            check::seed(sort, seed, &subjects, &mut check::Tally::default())
+            let (start, mut tally) = (std::time::Instant::now(), check::Tally::default());
+            let fine = check::seed(sort, seed, &subjects, &mut tally);
+            tally.print(start.elapsed());
+            fine
         }
         _ => {
             eprintln!("{USAGE}");

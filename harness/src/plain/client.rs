@@ -44,7 +44,7 @@ impl Client {
             && (own.made <= EDITS || R::slips(Slip::SoundMade))
             && (own.taken <= OTHERS || R::slips(Slip::SoundTaken))
             && (own.inserts <= own.made || R::slips(Slip::SoundInsertsMade))
-            && own.sound::<R>(1 << (self.line & 15))
+            && own.sound::<R>(|priority| priority == self.line)
             && (rest_is_zero(&self.items, self.length) || R::slips(Slip::SoundItemsZero))
     }
 
@@ -65,10 +65,14 @@ impl Client {
             return Answer::refused(refusal);
         }
         if !R::slips(Slip::ListLeft) {
+            let last = self.items[(self.length as usize).saturating_sub(1).min(ITEMS - 1)];
             edit.apply(&mut self.items, &mut self.length);
+            if R::slips(Slip::TailLeft) && edit.kind() != INSERT {
+                self.items[self.length as usize] = last;
+            }
         }
         self.own.keep(edit);
-        self.own.inserts += (edit.kind == INSERT) as u16;
+        self.own.inserts += (edit.kind() == INSERT) as u16;
         Answer { refusal: 0, passed: 0 }
     }
 
@@ -77,7 +81,7 @@ impl Client {
         let own = &self.own;
         let most_inserts = if R::slips(Slip::Insert49) { INSERTS + 1 } else { INSERTS };
         let most_edits = if R::slips(Slip::Edit401) { EDITS + 1 } else { EDITS };
-        let ten = edit.kind == INSERT && own.inserts >= most_inserts;
+        let ten = edit.kind() == INSERT && own.inserts >= most_inserts;
         let twelve = own.kept() as usize >= room::<R>();
         if !self.sound::<R>() {
             2
@@ -135,8 +139,8 @@ impl Client {
         if R::slips(Slip::FiveBeforeFour) && !message.is_ack() && message.number <= self.own.taken {
             return Answer::refused(5);
         }
-        let own_priority = edit.priority == self.line && !R::slips(Slip::OwnPriorityDown);
-        let foreign = edit.kind != INSERT || (1 <= edit.priority && edit.priority <= self.n && !own_priority);
+        let own_priority = edit.priority() == self.line && !R::slips(Slip::OwnPriorityDown);
+        let foreign = edit.kind() != INSERT || (1 <= edit.priority() && edit.priority() <= self.n && !own_priority);
         if message.direction != DOWN || message.line != self.line || !foreign {
             return Answer::refused(4);
         }
@@ -177,11 +181,11 @@ fn room<R: Rules>() -> usize {
 /// Question 9 of editing.
 #[inline]
 fn fits<R: Rules>(edit: Edit, length: u16) -> bool {
-    if R::slips(Slip::DeletePastEnd) && edit.kind != INSERT {
-        return 1 <= edit.position && edit.position <= length + 1;
+    if R::slips(Slip::DeletePastEnd) && edit.kind() != INSERT {
+        return 1 <= edit.position() && edit.position() <= length + 1;
     }
-    if R::slips(Slip::InsertPastEnd) && edit.kind == INSERT {
-        return edit.fits(length, ITEMS as u16) && edit.position <= length.max(1);
+    if R::slips(Slip::InsertPastEnd) && edit.kind() == INSERT {
+        return edit.fits(length, ITEMS as u16) && edit.position() <= length.max(1);
     }
     edit.fits(length, if R::slips(Slip::Item513) { 513 } else { ITEMS as u16 })
 }

@@ -56,8 +56,8 @@ pub fn read<R: Rules>(bytes: &[u8]) -> Option<Message> {
         && (direction <= DOWN || R::slips(Slip::DirectionRange))
         && (kind == 4 || (1 <= number && number <= most_number))
         && (seen <= most_seen || R::slips(Slip::SeenRange))
-        && (kind > 2 || inside(edit.position, 1, ITEMS as u16) || R::slips(Slip::PositionRange))
-        && (kind > 1 || inside(edit.priority, 1, LINES as u8) || R::slips(Slip::PriorityRange));
+        && (kind > 2 || inside(edit.position(), 1, ITEMS as u16) || R::slips(Slip::PositionRange))
+        && (kind > 1 || inside(edit.priority(), 1, LINES as u8) || R::slips(Slip::PriorityRange));
     in_range.then_some(Message { line, direction, number, seen, edit })
 }
 
@@ -83,7 +83,7 @@ fn read_by_length<R: Rules>(bytes: &[u8]) -> Option<Message> {
 pub fn write(message: &Message) -> ([u8; 14], usize) {
     let mut bytes = [0; 14];
     let edit = message.edit;
-    let kind = match (message.is_ack(), edit.kind) {
+    let kind = match (message.is_ack(), edit.kind()) {
         (true, _) => 4,
         (false, edit::INSERT) => 1,
         (false, edit::DELETE) => 2,
@@ -95,9 +95,9 @@ pub fn write(message: &Message) -> ([u8; 14], usize) {
     } else {
         bytes[3..5].copy_from_slice(&message.number.to_be_bytes());
         bytes[5..7].copy_from_slice(&message.seen.to_be_bytes());
-        bytes[7..9].copy_from_slice(&edit.position.to_be_bytes());
-        bytes[9..13].copy_from_slice(&edit.item.to_be_bytes());
-        bytes[13] = edit.priority;
+        bytes[7..9].copy_from_slice(&edit.position().to_be_bytes());
+        bytes[9..13].copy_from_slice(&edit.item().to_be_bytes());
+        bytes[13] = edit.priority();
     }
     (bytes, length_of(kind))
 }

@@ -1,63 +1,89 @@
-//! Edits, packed into eight bytes, and carrying one past another without branches.
+//! Edits, packed into one 64-bit word, and carrying one past another without branches.
 
 pub const NOTHING: u8 = 0;
 pub const DELETE: u8 = 1;
 pub const INSERT: u8 = 2;
 
-/// An edit. What a kind does not use is zero, so that an unused place is eight zero bytes and equality is one comparison.
-#[derive(Clone, Copy, PartialEq, Eq, Debug, Default)]
-#[repr(C, align(8))]
-pub struct Edit {
-    pub item: u32,
-    pub position: u16,
-    pub priority: u8,
-    pub kind: u8,
-}
+/// An edit: from the top, kind (8 bits), position (16), priority (8), item (32). What a kind does not use is zero, so that an unused place is the
+/// word 0. Position and priority stand side by side: one comparison of 24 bits decides who moves.
+#[derive(Clone, Copy, PartialEq, Eq, Default)]
+#[repr(transparent)]
+pub struct Edit(u64);
+
+const STEP: u32 = 40;
 
 impl Edit {
-    pub const NOTHING: Edit = Edit { item: 0, position: 0, priority: 0, kind: NOTHING };
+    pub const NOTHING: Edit = Edit(0);
 
     #[inline]
     pub fn delete(position: u16) -> Edit {
-        Edit { item: 0, position, priority: 0, kind: DELETE }
+        Edit((DELETE as u64) << 56 | (position as u64) << STEP)
     }
 
     #[inline]
     pub fn insert(position: u16, item: u32, priority: u8) -> Edit {
-        Edit { item, position, priority, kind: INSERT }
+        Edit((INSERT as u64) << 56 | (position as u64) << STEP | (priority as u64) << 32 | item as u64)
     }
 
-    /// The eight bytes as one number: zero exactly for an unused place.
+    #[inline]
+    pub fn kind(self) -> u8 {
+        (self.0 >> 56) as u8
+    }
+
+    #[inline]
+    pub fn position(self) -> u16 {
+        (self.0 >> STEP) as u16
+    }
+
+    #[inline]
+    pub fn priority(self) -> u8 {
+        (self.0 >> 32) as u8
+    }
+
+    #[inline]
+    pub fn item(self) -> u32 {
+        self.0 as u32
+    }
+
+    /// Zero exactly for an unused place.
     #[inline]
     pub fn word(self) -> u64 {
-        self.item as u64 | (self.position as u64) << 32 | (self.priority as u64) << 48 | (self.kind as u64) << 56
+        self.0
+    }
+
+    /// The same edit at another position.
+    #[inline]
+    pub fn at(self, position: u16) -> Edit {
+        Edit(self.0 & !(0xFFFF << STEP) | (position as u64) << STEP)
+    }
+
+    /// Position and priority in one number.
+    #[inline]
+    fn key(self) -> u32 {
+        (self.0 >> 32) as u32 & 0xFF_FFFF
     }
 
     /// This edit's form after `other`.
-    /// An insert moves up behind an insert at a smaller position, or at its own with a smaller priority; a delete also
-    /// moves up behind an insert at its own position, which the tie value 256, above every priority, says.
+    /// An insert moves up behind an insert at a smaller position, or at its own with a smaller priority; a delete also moves up behind an
+    /// insert at its own position, which the tie value 255, above the priorities 1 to 8, says.
     #[inline]
     pub fn past(self, other: Edit) -> Edit {
-        let tie = if self.kind == INSERT { self.priority as u32 } else { 256 };
-        let key = (self.position as u32) * 512 + tie;
-        let other_key = (other.position as u32) * 512 + other.priority as u32;
-        let there = (self.kind != NOTHING) as u16;
-        let up = there & (other.kind == INSERT) as u16 & (key > other_key) as u16;
-        let down = there & (other.kind == DELETE) as u16 & (self.position > other.position) as u16;
-        let moved = Edit { position: self.position.wrapping_add(up).wrapping_sub(down), ..self };
-        let gone = (self.kind == DELETE) & (other.kind == DELETE) & (self.position == other.position);
-        if gone {
-            Edit::NOTHING
-        } else {
-            moved
-        }
+        let (kind, other_kind) = (self.kind(), other.kind());
+        let key = self.key() | if kind == INSERT { 0 } else { 255 };
+        let there = kind != NOTHING;
+        let up = there & (other_kind == INSERT) & (key > other.key());
+        let later = self.position() > other.position();
+        let down = there & (other_kind == DELETE) & later;
+        let gone = (kind == DELETE) & (other_kind == DELETE) & (self.position() == other.position());
+        let moved = self.0.wrapping_add((up as u64) << STEP).wrapping_sub((down as u64) << STEP);
+        Edit(if gone { 0 } else { moved })
     }
 
     /// Whether the edit fits a list of `length` items and leaves at most `limit`.
     #[inline]
     pub fn fits(self, length: u16, limit: u16) -> bool {
-        let position = self.position;
-        match self.kind {
+        let position = self.position();
+        match self.kind() {
             INSERT => 1 <= position && position <= length + 1 && length < limit,
             DELETE => 1 <= position && position <= length,
             _ => true,
@@ -67,11 +93,11 @@ impl Edit {
     /// Applies an edit that fits; the place a delete leaves at the end becomes zero.
     #[inline]
     pub fn apply(self, items: &mut [u32], length: &mut u16) {
-        let (at, end) = (self.position as usize, *length as usize);
-        match self.kind {
+        let (at, end) = (self.position() as usize, *length as usize);
+        match self.kind() {
             INSERT => {
                 items.copy_within(at - 1..end, at);
-                items[at - 1] = self.item;
+                items[at - 1] = self.item();
                 *length += 1;
             }
             DELETE => {
@@ -81,5 +107,11 @@ impl Edit {
             }
             _ => {}
         }
+    }
+}
+
+impl std::fmt::Debug for Edit {
+    fn fmt(&self, f: &mut std::fmt::Formatter) -> std::fmt::Result {
+        write!(f, "kind {} position {} priority {} item {}", self.kind(), self.position(), self.priority(), self.item())
     }
 }

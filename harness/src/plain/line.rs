@@ -1,7 +1,7 @@
 //! One line of an end: its counts and its pending edits. A client has one, the server eight.
 
 use super::codec::{self, Message};
-use super::edit::{Edit, INSERT, NOTHING};
+use super::edit::{Edit, DELETE, INSERT, NOTHING};
 use super::slip::{Rules, Slip};
 use super::{Answer, Sent};
 use crate::limits::*;
@@ -33,10 +33,9 @@ impl Line {
         self.made.wrapping_sub(self.acked)
     }
 
-    /// The part of question 2 that both kinds of end ask of their lines; `allowed` has bit p set for each priority p
-    /// that a pending insert may have.
+    /// The part of question 2 that both kinds of end ask of their lines; `allowed` says which priorities a pending insert may have.
     #[inline]
-    pub fn sound<R: Rules>(&self, allowed: u16) -> bool {
+    pub fn sound<R: Rules>(&self, allowed: impl Fn(u8) -> bool) -> bool {
         let kept = self.kept() as usize;
         let counts = (self.acked <= self.made || R::slips(Slip::SoundAcked))
             && (kept <= PENDING || R::slips(Slip::SoundPending))
@@ -47,11 +46,9 @@ impl Line {
         let (used, unused) = self.pending.split_at(kept.min(PENDING));
         let mut bad = false;
         for edit in used {
-            let there = edit.kind != NOTHING;
-            let outside = edit.position.wrapping_sub(1) >= ITEMS as u16;
-            let priority = edit.priority > 8 || allowed >> (edit.priority & 15) & 1 == 0;
-            bad |= there & outside & !R::slips(Slip::SoundPosition);
-            bad |= (edit.kind == INSERT) & priority & !R::slips(Slip::SoundPriority);
+            let outside = edit.position().wrapping_sub(1) >= ITEMS as u16;
+            bad |= (edit.kind() != NOTHING) & outside & !R::slips(Slip::SoundPosition);
+            bad |= (edit.kind() == INSERT) & !allowed(edit.priority()) & !R::slips(Slip::SoundPriority);
         }
         let rest = unused.iter().fold(0, |all, edit| all | edit.word());
         !bad && (rest == 0 || R::slips(Slip::SoundPendingZero))
@@ -104,7 +101,7 @@ impl Line {
         for (new, &old) in crossed.pending.iter_mut().zip(&self.pending[from..to]) {
             let form = carried::<R>(old, crossed.edit);
             crossed.edit = carried::<R>(crossed.edit, old);
-            highest = highest.max(form.position);
+            highest = highest.max(form.position());
             *new = form;
         }
         crossed.within = highest <= ITEMS as u16 || R::slips(Slip::PendingPast512);
@@ -164,27 +161,19 @@ fn put<R: Rules>(message: &Message, out: &mut [u8]) -> Sent {
     Sent { refusal: 0, length: length as u8 }
 }
 
+/// One edit past another, and the slips of that table.
 #[inline]
 fn carried<R: Rules>(edit: Edit, other: Edit) -> Edit {
-    let both = (edit.kind, other.kind, edit.position == other.position);
-    let equal = |slip| R::slips(slip) && both.2;
-    let up = Edit { position: edit.position.wrapping_add(1), ..edit };
-    if both.0 == INSERT && both.1 == INSERT && equal(Slip::TieReversed) {
-        return if edit.priority < other.priority { up } else { edit };
-    }
-    if both.0 == INSERT && both.1 == INSERT && equal(Slip::TieBoth) {
-        return up;
-    }
-    if both == (INSERT, 1, true) && edit.position > 1 && equal(Slip::InsertDeleteEqual) {
-        return Edit { position: edit.position - 1, ..edit };
-    }
-    if both == (1, INSERT, true) && equal(Slip::DeleteInsertEqual) {
-        return edit;
-    }
-    if both == (1, 1, true) && equal(Slip::DeleteTwice) {
-        return edit;
-    }
-    edit.past(other)
+    let position = edit.position();
+    let slip = match (edit.kind(), other.kind(), position == other.position()) {
+        (INSERT, INSERT, true) if R::slips(Slip::TieReversed) => position + (edit.priority() < other.priority()) as u16,
+        (INSERT, INSERT, true) if R::slips(Slip::TieBoth) => position + 1,
+        (INSERT, DELETE, true) if R::slips(Slip::InsertDeleteEqual) => position.max(2) - 1,
+        (DELETE, INSERT, true) if R::slips(Slip::DeleteInsertEqual) => position,
+        (DELETE, DELETE, true) if R::slips(Slip::DeleteTwice) => position,
+        _ => return edit.past(other),
+    };
+    edit.at(slip)
 }
 
 /// The slips that spoil what crossing computed.

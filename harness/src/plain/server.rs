@@ -45,7 +45,6 @@ impl Server {
         let (used, unused) = self.lines.split_at(n.min(LINES));
         let taken: u32 = used.iter().map(|line| line.taken as u32).sum();
         let inserts: u32 = used.iter().map(|line| line.inserts as u32).sum();
-        let priorities = (1u16 << n.min(LINES) + 1) - 2;
         (self.initial as usize <= INITIAL || R::slips(Slip::SoundInitial))
             && (self.length as usize <= ITEMS || R::slips(Slip::SoundLength))
             && (self.length as u32 <= self.initial as u32 + inserts || R::slips(Slip::SoundListBound))
@@ -53,7 +52,7 @@ impl Server {
                 (line.taken <= EDITS || R::slips(Slip::SoundTaken))
                     && (line.made as u32 == taken - line.taken as u32 || R::slips(Slip::SoundSum))
                     && (line.inserts <= line.taken || R::slips(Slip::SoundInsertsMade))
-                    && line.sound::<R>(priorities & !(2 << l))
+                    && line.sound::<R>(|priority| (priority.wrapping_sub(1) < self.n) & (priority != l as u8 + 1))
             })
             && (unused.iter().all(|line| *line == Line::ZERO) || R::slips(Slip::SoundPastN))
             && (rest_is_zero(&self.items, self.length) || R::slips(Slip::SoundItemsZero))
@@ -99,7 +98,7 @@ impl Server {
             return Answer::refused(6);
         }
         let edit = message.edit;
-        let own = edit.kind != INSERT || edit.priority == message.line || R::slips(Slip::OtherPriorityUp);
+        let own = edit.kind() != INSERT || edit.priority() == message.line || R::slips(Slip::OtherPriorityUp);
         if message.direction != UP || !self.has(message.line) || !own {
             return Answer::refused(4);
         }
@@ -120,7 +119,7 @@ impl Server {
     /// Questions 9, 10 and 12, and the taking.
     fn take_edit<R: Rules>(&mut self, message: Message) -> Answer {
         let own = message.line as usize - 1;
-        let insert = message.edit.kind == INSERT;
+        let insert = message.edit.kind() == INSERT;
         let line = &self.lines[own];
         let crossed = line.cross::<R>(message.edit, message.seen);
         let ten = insert && line.inserts >= INSERTS && !R::slips(Slip::ServerNoTen);
@@ -139,7 +138,7 @@ impl Server {
         self.lines[own].store::<R>(&crossed, message.seen);
         self.lines[own].inserts += insert as u16;
         let kept = if R::slips(Slip::KeepsArrived) { message.edit } else { crossed.edit };
-        let thrown = R::slips(Slip::NothingThrown) && kept.kind == NOTHING;
+        let thrown = R::slips(Slip::NothingThrown) && kept.kind() == NOTHING;
         for l in 0..n {
             let other = l != own || (R::slips(Slip::KeepsForMaker) && self.lines[l].kept() < 64);
             if other && !thrown {
