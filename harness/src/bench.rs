@@ -4,6 +4,7 @@
 //! the middle one of all turns is given with the lowest and the highest.
 
 use crate::cjupiter::CJupiter;
+use crate::clock::thread as clock;
 use crate::damage::{client_at_limit, server_at_limit};
 use crate::edges;
 use crate::edit::Edit;
@@ -51,22 +52,42 @@ fn tasks() -> Vec<Task> {
     tasks.push(call_task("client delete, 8 pending, 512 items".to_string(), client_at_limit(512, 8), Call::delete(1, 200), 0));
     for length in [128, 511] {
         for kept in [0, 8, 64] {
-            tasks.push(call_task(format!("client take, {kept} pending, {length} items"), client_at_limit(length, kept), Call::take(1, 0), 0));
+            tasks.push(call_task(
+                format!("client take, {kept} pending, {length} items"),
+                client_at_limit(length, kept),
+                Call::take(1, 0),
+                0,
+            ));
         }
     }
     for length in [128, 510] {
         for kept in [0, 8, 64] {
-            tasks.push(call_task(format!("server take, {kept} pending, {length} items"), server_at_limit(8, 47, length, kept), Call::take(0, 0), 0));
+            tasks.push(call_task(
+                format!("server take, {kept} pending, {length} items"),
+                server_at_limit(8, 47, length, kept),
+                Call::take(0, 0),
+                0,
+            ));
         }
     }
     tasks.push(call_task("client send, 8 pending, 128 items".to_string(), client_at_limit(128, 8), Call::send(1, 1, 4, 1, 14), 0));
     tasks.push(call_task("server send, 8 pending, 128 items".to_string(), server_at_limit(8, 47, 128, 8), Call::send(0, 1, 330, 1, 14), 0));
     // a line that is none: question 2 is asked, then 4 says no
     for (length, kept) in [(128, 0), (511, 64)] {
-        tasks.push(call_task(format!("client soundness alone, {kept} pending, {length} items"), client_at_limit(length, kept), Call::tell(1, 0, 1, 14), 4));
+        tasks.push(call_task(
+            format!("client soundness alone, {kept} pending, {length} items"),
+            client_at_limit(length, kept),
+            Call::tell(1, 0, 1, 14),
+            4,
+        ));
     }
     for (length, kept) in [(128, 0), (510, 64)] {
-        tasks.push(call_task(format!("server soundness alone, {kept} pending, {length} items"), server_at_limit(8, 47, length, kept), Call::tell(0, 0, 1, 14), 4));
+        tasks.push(call_task(
+            format!("server soundness alone, {kept} pending, {length} items"),
+            server_at_limit(8, 47, length, kept),
+            Call::tell(0, 0, 1, 14),
+            4,
+        ));
     }
     tasks.push(script_task());
     tasks
@@ -88,23 +109,6 @@ fn time(task: &Task, subject: &dyn Subject) -> f64 {
     let start = clock();
     (task.work)(subject, task.times);
     (clock() - start) / task.times as f64
-}
-
-/// This thread's processor time in nanoseconds: what other programs take does not count.
-fn clock() -> f64 {
-    #[repr(C)]
-    struct Timespec {
-        seconds: i64,
-        nanoseconds: i64,
-    }
-    extern "C" {
-        fn clock_gettime(clock: i32, time: *mut Timespec) -> i32;
-    }
-    const THREAD: i32 = 3;
-    let mut time = Timespec { seconds: 0, nanoseconds: 0 };
-    // the C library that Rust's own links; it fills `time`
-    assert_eq!(unsafe { clock_gettime(THREAD, &mut time) }, 0);
-    time.seconds as f64 * 1e9 + time.nanoseconds as f64
 }
 
 fn middle(values: &mut [f64]) -> (f64, f64, f64) {
@@ -230,7 +234,13 @@ fn growth(subjects: &[&dyn Subject]) -> Vec<Growth> {
         let graph = graph.unwrap();
         let times = turns.iter_mut().map(|times| middle(times).0).collect();
         let server = &graph.replicas[0];
-        rows.push(Growth { edits: real, times, server_bytes: std::mem::size_of::<Server>(), graph_bytes: server.bytes(), edges: server.edges() });
+        rows.push(Growth {
+            edits: real,
+            times,
+            server_bytes: std::mem::size_of::<Server>(),
+            graph_bytes: server.bytes(),
+            edges: server.edges(),
+        });
         eprint!(".");
     }
     eprintln!();

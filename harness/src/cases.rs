@@ -22,9 +22,24 @@ fn limits() -> (String, String) {
         output += &format!("{refusal}\n");
     };
     for number in 1..=400 {
-        let edit = if number <= 48 { "1 ins 1 7" } else if number % 2 == 1 { "1 del 1" } else { "1 ins 1 7" };
+        let edit = if number <= 48 {
+            "1 ins 1 7"
+        } else if number % 2 == 1 {
+            "1 del 1"
+        } else {
+            "1 ins 1 7"
+        };
         let over = number > 48 && number % 2 == 0;
-        add(edit.to_string(), if over { 10 } else if number > 48 + 96 { 9 } else { 0 });
+        add(
+            edit.to_string(),
+            if over {
+                10
+            } else if number > 48 + 96 {
+                9
+            } else {
+                0
+            },
+        );
         if !over && number <= 48 + 96 {
             let made = if number <= 48 { number } else { 48 + (number - 47) / 2 };
             add(format!("1 up {made}"), 0);
@@ -56,7 +71,7 @@ fn wire(subject: &dyn Subject) -> bool {
         return false;
     };
     let p9 = [14, 1, 1, 0, 0, 1, 0, 0, 0, 1, 0, 0, 0, 0x1E, 1, FRESH, FRESH];
-    // P10: three of client 1's edits reach the server, which then acknowledges line 2's; line 2 sent three
+    // P10: three edits of client 2 reach the server, which acknowledges them
     let mut list = List::opened(2, vec![1, 2, 3]);
     for k in 1..=3 {
         list.calls.extend([Call::delete(2, 1), Call::send(2, 2, k, 0, 14), Call::take(0, 0)]);
@@ -66,7 +81,41 @@ fn wire(subject: &dyn Subject) -> bool {
     let Ok(acked) = subject.output(&list) else {
         return false;
     };
-    out[at..].starts_with(&p9) && acked[end..].starts_with(&[5, 4, 2, 1, 0, 3, FRESH])
+    let holds = |out: &[u8], at: usize, bytes: &[u8]| out.get(at..).is_some_and(|rest| rest.starts_with(bytes));
+    holds(&out, at, &p9) && holds(&acked, end, &[5, 4, 2, 1, 0, 3, FRESH])
+}
+
+/// The frame around the calls: headers that are none, a rest of a call, an output that is too short.
+fn frame(subject: &dyn Subject) -> bool {
+    let mut list = List::opened(2, vec![1, 2, 3]);
+    list.calls.extend([Call::dump(1), Call::insert(1, 1, 9), Call::show(3), Call::dump(0)]);
+    let (bytes, whole) = (list.bytes(), list.output_length());
+    let mut out = vec![0; whole];
+    let answers = subject.run(&bytes, &mut out);
+    let mut fine = answers == whole;
+    let mut wide = (HEADER_ITEMS as u16 + 1).to_be_bytes().to_vec();
+    wide.resize(2 + 4 * (HEADER_ITEMS + 1) + CALL, 0);
+    for none in [&bytes[..0], &bytes[..1], &bytes[..13], &wide] {
+        fine &= subject.run(none, &mut [0; 64]) == 0;
+    }
+    // a rest of a call is passed over
+    let mut cut = vec![0; whole];
+    fine &= subject.run(&bytes[..bytes.len() - 1], &mut cut) == whole - ANSWER - SERVER_DUMP;
+    // and a call whose answer has no room is not begun; the bytes there stay
+    for short in 0..whole {
+        if short % 97 > 3 && short < whole - 5 {
+            continue;
+        }
+        let mut room = vec![7; short];
+        let written = subject.run(&bytes, &mut room);
+        let expected = list.calls.iter().map(Call::answer_length).scan(0, |sum, length| {
+            *sum += length;
+            Some(*sum)
+        });
+        let expected = expected.take_while(|&sum| sum <= short).last().unwrap_or(0);
+        fine &= written == expected && room[..written] == out[..written] && room[written..].iter().all(|&byte| byte == 7);
+    }
+    fine
 }
 
 /// Runs all of them; what fails is printed.
@@ -81,6 +130,10 @@ pub fn all(subjects: &[&dyn Subject]) -> bool {
                 println!("FAILURE: case {name} on {}", subject.name());
                 fine = false;
             }
+        }
+        if !frame(*subject) {
+            println!("FAILURE: the frame around the calls on {}", subject.name());
+            fine = false;
         }
         if !wire(*subject) {
             println!("FAILURE: P9 or P10 on {}", subject.name());

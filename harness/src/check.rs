@@ -3,7 +3,7 @@
 use crate::oracle::{self, Report, Wrong};
 use crate::protocol::*;
 use crate::subject::Subject;
-use crate::{damage, edges, generate, scripts, shrink, steady};
+use crate::{clock, damage, edges, generate, scripts, shrink, steady};
 use std::time::{Duration, Instant};
 
 /// The sorts of random input, each made from a seed.
@@ -76,9 +76,17 @@ impl Tally {
         }
     }
 
-    pub fn print(&self, time: Duration) {
-        let each = self.calls as f64 / time.as_secs_f64();
-        println!("{} lists, {} calls ({each:.0} a second), {} of all entries followed by graph and definition, {} scripts", self.lists, self.calls, self.followed, self.scripts);
+    /// The whole process's time counts, generating and judging included.
+    pub fn print(&self) {
+        let seconds = clock::process() / 1e9;
+        println!(
+            "{} lists, {} calls, {} scripts; {seconds:.1} s of processor time, {:.0} calls a second",
+            self.lists,
+            self.calls,
+            self.scripts,
+            self.calls as f64 / seconds
+        );
+        println!("followed by the graph and the definition: {} calls and dumps", self.followed);
         let named: Vec<String> = (0..=255).filter(|&r| self.refusals[r] > 0).map(|r| format!("{r}: {}", self.refusals[r])).collect();
         println!("answers by refusal  {}", named.join("  "));
         println!("most edits passed by one taking: {}", self.most_passed);
@@ -94,34 +102,38 @@ pub fn compare(list: &List, one: &[u8], other: &[u8], names: [&str; 2]) -> Resul
     for (index, call) in list.calls.iter().enumerate() {
         let range = at..at + call.answer_length();
         let (a, b) = (one.get(range.clone()), other.get(range));
-        if a != b {
-            let cut = |bytes: Option<&[u8]>| match (bytes, a, b) {
-                (Some(bytes), Some(a), Some(b)) => {
-                    let at = a.iter().zip(b).position(|(a, b)| a != b).unwrap_or(0);
-                    format!("byte {at} {:?}", &bytes[at..bytes.len().min(at + 8)])
-                }
-                _ => "a shorter or longer output".to_string(),
-            };
-            return Err((index, format!("{} says {}; {} says {}", names[0], cut(a), names[1], cut(b))));
+        if let (Some(a), Some(b)) = (a, b) {
+            if let Some(byte) = a.iter().zip(b).position(|(a, b)| a != b) {
+                let text = format!("{}: {} says {}, {} says {}", place(call, byte), names[0], a[byte], names[1], b[byte]);
+                return Err((index, text));
+            }
+        } else {
+            return Err((index, format!("{} wrote {} bytes, {} wrote {}", names[0], one.len(), names[1], other.len())));
         }
         at += call.answer_length();
     }
     Err((list.calls.len(), "the outputs' lengths differ".to_string()))
 }
 
-/// Judges a list: all subjects answer the same, and what they answer is right.
-pub fn judge(list: &List, subjects: &[&dyn Subject], delivers: bool, tally: &mut Tally) -> Result<(), Wrong> {
+/// All subjects answer the same; what they answer.
+fn same(list: &List, subjects: &[&dyn Subject]) -> Result<Vec<u8>, Wrong> {
     let output = |subject: &dyn Subject| subject.output(list).map_err(|text| (0, text));
     let first = output(subjects[0])?;
     for other in &subjects[1..] {
         compare(list, &first, &output(*other)?, [subjects[0].name(), other.name()])?;
     }
-    steady::check(list, &first)?;
-    let report = oracle::check(list, &first)?;
+    Ok(first)
+}
+
+/// Judges a list: all subjects answer the same, and what they answer is right.
+pub fn judge(list: &List, subjects: &[&dyn Subject], delivers: bool, tally: &mut Tally) -> Result<(), Wrong> {
+    let out = same(list, subjects)?;
+    steady::check(list, &out)?;
+    let report = oracle::check(list, &out)?;
     if delivers && !report.delivered {
         return Err((list.calls.len(), "not every edit could be delivered".to_string()));
     }
-    tally.count(list, &first, report);
+    tally.count(list, &out, report);
     Ok(())
 }
 
@@ -140,14 +152,7 @@ pub fn judge_script(script: &[u8], subjects: &[&dyn Subject]) -> Result<(), Stri
 /// Runs one seed of one sort. A failure is printed with its shortest list, and false comes back.
 pub fn seed(sort: Sort, seed: u64, subjects: &[&dyn Subject], tally: &mut Tally) -> bool {
     if sort == Sort::Script {
-        let script = scripts::random(seed, 400);
-        tally.scripts += 1;
-        let Err(text) = judge_script(&script, subjects) else {
-            return true;
-        };
-        let short = shrink::shrink_script(&script, Duration::from_secs(20), &|script| judge_script(script, subjects).is_err());
-        println!("FAILURE: {sort:?}, seed {seed}: {text}\nshortest script found:\n{}", String::from_utf8_lossy(&short).escape_debug());
-        return false;
+        return (0..20).all(|part| script(20 * seed + part, subjects, tally));
     }
     for list in sort.lists(seed) {
         if let Err((index, text)) = judge(&list, subjects, sort.delivers(), tally) {
@@ -159,22 +164,59 @@ pub fn seed(sort: Sort, seed: u64, subjects: &[&dyn Subject], tally: &mut Tally)
     true
 }
 
-/// Prints the shortest list of calls that still fails.
-pub fn report(list: &List, index: usize, delivers: bool, subjects: &[&dyn Subject]) {
-    let fails = |list: &List| judge(list, subjects, delivers, &mut Tally::default()).is_err();
+fn script(seed: u64, subjects: &[&dyn Subject], tally: &mut Tally) -> bool {
+    let script = scripts::random(seed, 400);
+    tally.scripts += 1;
+    let Err(text) = judge_script(&script, subjects) else {
+        return true;
+    };
+    let short = shrink::shrink_script(&script, Duration::from_secs(20), &|script| judge_script(script, subjects).is_err());
+    println!("FAILURE: Script, seed {}: {text}\nshortest script found:\n{}", seed / 20, String::from_utf8_lossy(&short).escape_debug());
+    false
+}
+
+/// Prints the shortest list of calls that still fails, and writes it to a file for `replay`.
+fn report(list: &List, index: usize, delivers: bool, subjects: &[&dyn Subject]) {
+    let judged = |list: &List| judge(list, subjects, delivers, &mut Tally::default());
+    // where the subjects differ, the slower opinions are not asked again
+    let differ = same(list, subjects).is_err();
+    let fails = |list: &List| if differ { same(list, subjects).is_err() } else { judged(list).is_err() };
     let mut cut = list.clone();
     cut.calls.truncate(index + 1);
     let start = if fails(&cut) { &cut } else { list };
-    let short = shrink::shrink(start, Duration::from_secs(30), &fails);
+    let short = shrink::shrink(start, Duration::from_secs(60), &fails);
     println!("shortest list found ({} calls of {}), initial {:?}:", short.calls.len(), list.calls.len(), short.initial);
-    for call in &short.calls {
-        println!("  {}", call.words());
+    let left_out = short.calls.len().saturating_sub(60);
+    for (index, call) in short.calls.iter().enumerate() {
+        if index == 10 && left_out > 0 {
+            println!("  .. {left_out} calls ..");
+        }
+        if index < 10 || index >= 10 + left_out {
+            println!("  {}", call.words());
+        }
     }
-    if let Err((_, text)) = judge(&short, subjects, delivers, &mut Tally::default()) {
+    if let Err((_, text)) = judged(&short) {
         println!("  {text}");
     }
-    let hex: String = short.bytes().iter().map(|byte| format!("{byte:02x}")).collect();
-    println!("its bytes: {hex}");
+    if std::fs::write(FAILURE, short.bytes()).is_ok() {
+        println!("again: harness replay {FAILURE}");
+    }
+}
+
+const FAILURE: &str = "failure.calls";
+
+/// Judges the list of calls in a file.
+pub fn replay(bytes: &[u8], subjects: &[&dyn Subject]) -> bool {
+    let Some(list) = List::of(bytes) else {
+        println!("no list of calls");
+        return false;
+    };
+    let mut tally = Tally::default();
+    match judge(&list, subjects, false, &mut tally) {
+        Ok(()) => tally.print(),
+        Err((index, text)) => println!("FAILURE: call {index}: {text}"),
+    }
+    tally.lists > 0
 }
 
 /// The whole check within a time: the fixed parts first, then random seeds in turn.
@@ -190,7 +232,7 @@ pub fn timed(seconds: u64, first: u64, subjects: &[&dyn Subject]) -> bool {
         now += 1;
     }
     println!("seeds {first} to {}", now - 1);
-    tally.print(start.elapsed());
+    tally.print();
     println!("{}", if fine { "no difference" } else { "DIFFERENT" });
     fine
 }
@@ -206,7 +248,6 @@ fn judge_openings(subjects: &[&dyn Subject], tally: &mut Tally) -> bool {
 
 /// Runs of calls until so many were made.
 pub fn long(calls: u64, first: u64, subjects: &[&dyn Subject]) -> bool {
-    let start = Instant::now();
     let mut tally = Tally::default();
     let mut fine = true;
     let mut now = first;
@@ -216,7 +257,7 @@ pub fn long(calls: u64, first: u64, subjects: &[&dyn Subject]) -> bool {
         now += 1;
     }
     println!("seeds {first} to {}", now - 1);
-    tally.print(start.elapsed());
+    tally.print();
     println!("{}", if fine { "no difference" } else { "DIFFERENT" });
     fine
 }

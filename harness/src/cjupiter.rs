@@ -120,9 +120,10 @@ impl Replica {
     fn same_graph(&self, other: &Replica) -> bool {
         let covered = |edges: &[Edge], others: &[Edge]| edges.iter().all(|edge| others.contains(edge));
         self.css.len() == other.css.len()
-            && self.css.iter().all(|(node, edges)| {
-                other.css.get(node).is_some_and(|others| edges.len() == others.len() && covered(edges, others))
-            })
+            && self
+                .css
+                .iter()
+                .all(|(node, edges)| other.css.get(node).is_some_and(|others| edges.len() == others.len() && covered(edges, others)))
     }
 }
 

@@ -127,7 +127,8 @@ fn edge_values(field: u8) -> &'static [u32] {
 /// The calls that ask question 2, at one end, with dumps around each.
 fn probes(end: u8, list: &mut List) {
     let slots: &[u8] = if end == 0 { &[0, 6, 9, 60] } else { &[1, 2, 3, 7, 8, 60] };
-    let mut calls = vec![Call::send(end, end.max(1), 1, 20, 14), Call::send(end, end.max(1), 2, 20, 14), Call::tell(end, end.max(1), 21, 14)];
+    let mut calls =
+        vec![Call::send(end, end.max(1), 1, 20, 14), Call::send(end, end.max(1), 2, 20, 14), Call::tell(end, end.max(1), 21, 14)];
     calls.extend(slots.iter().map(|&slot| Call::take(end, slot)));
     if end != 0 {
         calls.extend([Call::insert(end, 1, 5), Call::delete(end, 1), Call::delete(end, 20)]);
@@ -240,7 +241,10 @@ fn together(end: u8) -> Vec<Vec<Call>> {
             vec![set(1, field::N, 0), set(1, field::LINE, 0)],
             vec![set(1, field::LENGTH, 512)],
             with(all_pending(64, 0), &(0..64).map(|i| edit(1, i, 2, 512, 1)).collect::<Vec<_>>()),
-            with(all_pending(10, 0), &(0..10).map(|i| edit(1, i, 2, 512, 1)).collect::<Vec<_>>()).into_iter().chain((10..64).map(|i| edit(1, i, 0, 0, 0))).collect(),
+            with(all_pending(10, 0), &(0..10).map(|i| edit(1, i, 2, 512, 1)).collect::<Vec<_>>())
+                .into_iter()
+                .chain((10..64).map(|i| edit(1, i, 0, 0, 0)))
+                .collect(),
         ];
     }
     // three lines: taken (a, b, c), made the sums of the others, nothing pending
@@ -262,7 +266,10 @@ fn together(end: u8) -> Vec<Vec<Call>> {
         counts(1, 401, 0),
         with(counts(100, 100, 100), &[set(1, field::INSERTS, 48), set(2, field::INSERTS, 48), set(3, field::INSERTS, 48)]),
         with(counts(100, 100, 100), &[set(1, field::INSERTS, 49)]),
-        with(counts(100, 100, 100), &[set(2, field::INSERTS, 48), set(2, field::TAKEN, 47), set(1, field::MADE, 147), set(3, field::MADE, 147)]),
+        with(
+            counts(100, 100, 100),
+            &[set(2, field::INSERTS, 48), set(2, field::TAKEN, 47), set(1, field::MADE, 147), set(3, field::MADE, 147)],
+        ),
         with(counts(64, 0, 0), &[set(2, field::ACKED, 0), set(3, field::ACKED, 0)]),
         with(counts(65, 0, 0), &[set(2, field::ACKED, 0), set(3, field::ACKED, 0)]),
         with(counts(63, 0, 0), &[set(2, field::ACKED, 0), set(3, field::ACKED, 63)]),

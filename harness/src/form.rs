@@ -74,9 +74,7 @@ impl History {
     /// The line of the last edit of `set` outside `context`: the server's order, then the edits that it has not taken, in order of making.
     /// A line's last edit in the set stands behind its others, and only one line has untaken edits in any set that is asked about.
     fn last_outside(&self, context: &Set, set: &Set) -> Option<usize> {
-        (0..LINES)
-            .filter(|&l| set[l] > context[l])
-            .max_by_key(|&l| self.lines[l][set[l] as usize - 1].place.unwrap_or(usize::MAX))
+        (0..LINES).filter(|&l| set[l] > context[l]).max_by_key(|&l| self.lines[l][set[l] as usize - 1].place.unwrap_or(usize::MAX))
     }
 }
 

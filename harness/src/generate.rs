@@ -295,9 +295,11 @@ impl Run {
         let end = if up { server } else { client };
         let (next, acked, made) = (end.taken + 1, end.acked, end.made);
         let number = next + if self.rng.once_in(5) { self.rng.below(3) as u16 } else { 0 };
-        let wanted = self.rng.between(acked as usize, made.max(acked) as usize) as i32 + if self.rng.once_in(4) { self.rng.below(3) as i32 - 1 } else { 0 };
+        let wanted = self.rng.between(acked as usize, made.max(acked) as usize) as i32
+            + if self.rng.once_in(4) { self.rng.below(3) as i32 - 1 } else { 0 };
         let seen = wanted.max(0) as u16;
-        let position = if self.rng.once_in(2) { self.rng.between(1, 20) } else { self.rng.pick(&[0, 1, 448, 449, 500, 511, 512, 513]) } as u16;
+        let position =
+            if self.rng.once_in(2) { self.rng.between(1, 20) } else { self.rng.pick(&[0, 1, 448, 449, 500, 511, 512, 513]) } as u16;
         let priority = if up && self.rng.below(4) > 0 { l } else { self.rng.between(1, LINES) } as u8;
         let kind = self.rng.between(1, 4) as u8;
         let mut bytes = vec![kind, l as u8, !up as u8];

@@ -49,7 +49,12 @@ fn notice(slip: Slip, seen: Seen) -> Option<Notice> {
         Seen::Comparison => {
             let opening = damage::openings();
             if matches!(slip, Slip::Open129 | Slip::OpenNine | Slip::OpenLineZero) {
-                return by_comparison(&opening, true).then(|| Notice { by: "comparison", input: "openings".to_string(), calls: opening.calls.len(), shortest: None });
+                return by_comparison(&opening, true).then(|| Notice {
+                    by: "comparison",
+                    input: "openings".to_string(),
+                    calls: opening.calls.len(),
+                    shortest: None,
+                });
             }
             in_lists(&SORTS[..6], "comparison", &by_comparison)
         }

@@ -99,11 +99,8 @@ pub fn check(list: &List, out: &[u8]) -> Result<Report, Wrong> {
     for (index, call) in list.calls.iter().enumerate() {
         let answer = out.get(at..at + call.answer_length()).ok_or_else(|| (index, "the output ends here".to_string()))?;
         at += answer.len();
-        let expected = if index < openings {
-            Expected::Bytes(vec![0; ANSWER])
-        } else {
-            oracle.expect(call).map_err(|text| (index, text))?
-        };
+        let expected =
+            if index < openings { Expected::Bytes(vec![0; ANSWER]) } else { oracle.expect(call).map_err(|text| (index, text))? };
         let Expected::Bytes(expected) = expected else {
             return Ok(report);
         };
@@ -118,14 +115,8 @@ pub fn check(list: &List, out: &[u8]) -> Result<Report, Wrong> {
 }
 
 fn differing(call: &Call, expected: &[u8], answer: &[u8]) -> String {
-    if expected[..ANSWER] != answer[..ANSWER] {
-        let words = |a: &[u8]| format!("refusal {}, length {}, passed {}", a[0], a[1], u16::from_be_bytes([a[2], a[3]]));
-        return format!("expected {}; got {}", words(expected), words(answer));
-    }
     let at = expected.iter().zip(answer).position(|(e, a)| e != a).unwrap_or(0);
-    let near = at.saturating_sub(2)..(at + 8).min(expected.len());
-    let what = if call.op == SHOW { "slot" } else { "dump" };
-    format!("the {what} differs at byte {}: expected {:?}; got {:?}", at - ANSWER, &expected[near.clone()], &answer[near])
+    format!("{}: expected {}, got {}", place(call, at), expected[at], answer[at])
 }
 
 impl Oracle {

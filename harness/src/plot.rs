@@ -91,7 +91,8 @@ pub fn growth(rows: &[Growth], names: &[&str]) -> String {
         times.push(curve(name, colour, &move |row| row.times[index]));
     }
     let (wide, high) = (2.0 * (WIDTH + LEFT) + 40.0, TOP + HEIGHT + 50.0);
-    let mut svg = format!("<svg xmlns='http://www.w3.org/2000/svg' width='{wide}' height='{high}' font-family='sans-serif' font-size='12'>\n");
+    let mut svg =
+        format!("<svg xmlns='http://www.w3.org/2000/svg' width='{wide}' height='{high}' font-family='sans-serif' font-size='12'>\n");
     writeln!(svg, "<rect width='100%' height='100%' fill='white'/>").unwrap();
     panel(&mut svg, LEFT, "Bytes kept at the server", &bytes);
     panel(&mut svg, 2.0 * LEFT + WIDTH, "Nanoseconds per edit, whole sheet", &times);

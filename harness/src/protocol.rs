@@ -165,6 +165,33 @@ impl Call {
     }
 }
 
+/// What stands at a byte of a call's answer, for a failure's report.
+pub fn place(call: &Call, byte: usize) -> String {
+    if byte < ANSWER {
+        return ["refusal", "length", "passed count", "passed count"][byte].to_string();
+    }
+    let at = byte - ANSWER;
+    if call.op == SHOW {
+        return if at == 0 { "the slot's length".to_string() } else { format!("the slot's byte {}", at - 1) };
+    }
+    const WIDE: usize = 8 + PENDING * 8;
+    let (head, lines) = if call.end == 0 { (6, LINES) } else { (4, 1) };
+    let line = |at: usize| match at {
+        0..=7 => ["made", "taken", "acked", "inserts"][at / 2].to_string(),
+        _ => format!("pending[{}] {}", (at - 8) / 8, ["kind", "priority", "position", "position", "item", "item", "item", "item"][at % 8]),
+    };
+    if at < head {
+        let names =
+            if call.end == 0 { ["n", "zero", "length", "length", "initial", "initial"] } else { ["n", "line", "length", "length", "", ""] };
+        names[at].to_string()
+    } else if at < head + lines * WIDE {
+        let which = if call.end == 0 { format!("line {} ", (at - head) / WIDE + 1) } else { String::new() };
+        which + &line((at - head) % WIDE)
+    } else {
+        format!("items[{}]", (at - head - lines * WIDE) / 4)
+    }
+}
+
 /// A whole call list: the header's items and the calls.
 #[derive(Clone, PartialEq, Eq, Debug, Default)]
 pub struct List {
@@ -183,6 +210,14 @@ impl List {
             call.write(&mut bytes);
         }
         bytes
+    }
+
+    pub fn of(bytes: &[u8]) -> Option<List> {
+        let count = u16::from_be_bytes([*bytes.first()?, *bytes.get(1)?]) as usize;
+        let (items, calls) = bytes[2..].split_at_checked(4 * count)?;
+        let initial = items.chunks_exact(4).map(|four| u32::from_be_bytes(four.try_into().unwrap())).collect();
+        let calls = calls.chunks_exact(CALL).map(|call| Call::read(call.try_into().unwrap())).collect();
+        Some(List { initial, calls })
     }
 
     pub fn output_length(&self) -> usize {

@@ -121,7 +121,25 @@ pub fn random(seed: u64, lines: usize) -> Vec<u8> {
 }
 
 fn first_line(rng: &mut Rng, n: usize) -> String {
-    let bad = ["lines 2 item 1", "lines", "lines 2", "lines 2 items ", "lines 256 items 1", "lines 2 items 4294967296", " lines 2 items", "lines  2 items", "lines 2 items 1 ", "line 2 items", "lines 0 items", "lines 9 items", "lines 255 items 3", "lines 2 items\r", "lines -1 items", "lines 2 items x", ""];
+    let bad = [
+        "lines 2 item 1",
+        "lines",
+        "lines 2",
+        "lines 2 items ",
+        "lines 256 items 1",
+        "lines 2 items 4294967296",
+        " lines 2 items",
+        "lines  2 items",
+        "lines 2 items 1 ",
+        "line 2 items",
+        "lines 0 items",
+        "lines 9 items",
+        "lines 255 items 3",
+        "lines 2 items\r",
+        "lines -1 items",
+        "lines 2 items x",
+        "",
+    ];
     if rng.once_in(15) {
         return rng.pick(&bad).to_string();
     }
@@ -230,7 +248,11 @@ pub fn full() -> Vec<u8> {
         let mut lines = String::new();
         if made[l] < 400 {
             made[l] += 1;
-            lines += &if made[l] <= 48 { format!("{} ins {} {}\n", l + 1, rng.between(1, 100), rng.next() as u32 >> 12) } else { format!("{} del 1\n", l + 1) };
+            lines += &if made[l] <= 48 {
+                format!("{} ins {} {}\n", l + 1, rng.between(1, 100), rng.next() as u32 >> 12)
+            } else {
+                format!("{} del 1\n", l + 1)
+            };
         }
         while taken[l] < made[l] {
             taken[l] += 1;

@@ -79,9 +79,8 @@ fn sound_server(dump: &[u8]) -> bool {
     let (used, unused) = lines.split_at(n as usize);
     let all_taken: u64 = used.iter().map(|line| line.taken).sum();
     let all_inserts: u64 = used.iter().map(|line| line.inserts).sum();
-    let zero = |line: &Line| {
-        [line.made, line.taken, line.acked, line.inserts] == [0; 4] && line.pending.iter().all(|&edit| edit == (0, 0, 0, 0))
-    };
+    let zero =
+        |line: &Line| [line.made, line.taken, line.acked, line.inserts] == [0; 4] && line.pending.iter().all(|&edit| edit == (0, 0, 0, 0));
     used.iter().enumerate().all(|(index, line)| {
         line.taken <= 400
             && line.made == all_taken - line.taken

@@ -18,7 +18,8 @@ pub trait Subject: Sync {
     /// Everything that a list of calls answers; a panic is an answer too.
     fn output(&self, list: &List) -> Result<Vec<u8>, String> {
         let mut out = vec![0; list.output_length()];
-        let written = catch_unwind(AssertUnwindSafe(|| self.run(&list.bytes(), &mut out))).map_err(|_| format!("{} panics", self.name()))?;
+        let written =
+            catch_unwind(AssertUnwindSafe(|| self.run(&list.bytes(), &mut out))).map_err(|_| format!("{} panics", self.name()))?;
         out.truncate(written);
         Ok(out)
     }

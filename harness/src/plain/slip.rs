@@ -24,6 +24,11 @@ pub fn set(slip: Slip) {
     NOW.store(slip as usize, Ordering::Relaxed);
 }
 
+/// The slip of that name.
+pub fn named(name: &str) -> Option<Slip> {
+    ALL.iter().map(|row| row.0).find(|slip| format!("{slip:?}").eq_ignore_ascii_case(name))
+}
+
 impl Rules for Wrong {
     #[inline]
     fn slips(slip: Slip) -> bool {
