@@ -161,11 +161,20 @@ pub sound-filled : (good : ℕ → Bool) (es : List Edit) → length es ≤ maxP
     → soundSlots good (length es) (filled es) ≡ true
 unfolding soundSlots
 sound-filled good es h p q =
-    held (soundTests good (length es) (filled es))
-    (le-leb (length es) maxPending h,
-    (eq-eqb (length (usedEdits (length es) (filled es))) (length es) (ap length (used-filled es)),
-    (ap allPlaced (used-filled es) ∙ p,
-    (ap (priorities good) (used-filled es) ∙ q,
-    (ap allNothing (drop-edits (length es) (filled es) ∙ ap edits (filled-drop es (length es) (le-refl (length es))))
-    ∙ zeros-nothing (maxPending - length es),
-    tt)))))
+    held (soundTests good (length es) (filled es)) (
+      le-leb (length es) maxPending h,
+      (
+        eq-eqb (length (usedEdits (length es) (filled es))) (length es) (ap length (used-filled es)),
+        (
+          ap allPlaced (used-filled es) ∙ p,
+          (
+            ap (priorities good) (used-filled es) ∙ q,
+            (
+              ap allNothing (drop-edits (length es) (filled es) ∙ ap edits (filled-drop es (length es) (le-refl (length es))))
+                  ∙ zeros-nothing (maxPending - length es),
+              tt,
+            ),
+          ),
+        ),
+      ),
+    )

@@ -18,31 +18,31 @@ loop-holds : tie.Need-loop-holds Inv-loop μ-loop
 loop-holds c = (omega arith, refl)
 
 add-j : tie.Need-add-j Inv-loop μ-loop
-add-j c = omega (arith, c .before .before .pre .1 .few, c .before .before .pre .0, c .before .loop .inv .0)
+add-j c = omega arith
 
 mul-slots : tie.Need-mul-slots Inv-loop μ-loop
-mul-slots c = omega (arith, c .before .before .before .pre .1 .few, c .before .before .before .pre .0, c .before .before .loop .inv .0)
+mul-slots c = omega arith
 
 array-copy-out-slots : tie.Need-array-copy-out-slots Inv-loop μ-loop
-array-copy-out-slots c = omega (arith, c .before .before .before .pre .1 .few, c .before .before .before .pre .0, c .before .before .loop .inv .0)
+array-copy-out-slots c = omega arith
 
 mul-slots-2 : tie.Need-mul-slots-2 Inv-loop μ-loop
-mul-slots-2 c = omega (arith, c .before .before .before .before .pre .1 .few, c .before .before .before .before .pre .0, c .before .before .before .loop .inv .0)
+mul-slots-2 c = omega arith
 
 array-set-from-slots : tie.Need-array-set-from-slots Inv-loop μ-loop
-array-set-from-slots c = omega (arith, c .before .before .before .before .pre .1 .few, c .before .before .before .before .pre .0, c .before .before .before .loop .inv .0)
+array-set-from-slots c = omega arith
 
 mul-slots-3 : tie.Need-mul-slots-3 Inv-loop μ-loop
-mul-slots-3 c = omega (arith, c .before .before .before .pre .1 .few, c .before .before .before .pre .0, c .before .before .loop .inv .0)
+mul-slots-3 c = omega arith
 
 array-set-from-slots-2 : tie.Need-array-set-from-slots-2 Inv-loop μ-loop
-array-set-from-slots-2 c = omega (arith, c .before .before .before .pre .1 .few, c .before .before .before .pre .0, c .before .before .loop .inv .0)
+array-set-from-slots-2 c = omega arith
 
 add-i : tie.Need-add-i Inv-loop μ-loop
-add-i c = omega (arith, c .before .before .before .pre .1 .few, c .before .before .before .pre .0, c .before .before .loop .inv .0)
+add-i c = omega arith
 
 loop-less : tie.Need-loop-less Inv-loop μ-loop
-loop-less c = omega (arith, c .before .before .before .pre .1 .few, c .before .before .before .pre .0, c .before .before .loop .inv .0)
+loop-less c = omega arith
 
 loop-again : tie.Need-loop-again Inv-loop μ-loop
 loop-again c = let turn = rest-turn (c .before .before .before .args .count) (c .before .before .before .args .t1) (c .before .before .before .pre .1) (c .before .before .before .args .gone) (c .before .before .loop .i) (c .before .before .loop .slots) (omega (arith, c .before .before .before .pre .1 .few)) (c .before .before .loop .inv .1) in

@@ -15,19 +15,19 @@ loop-holds : tie.Need-loop-holds Inv-loop μ-loop
 loop-holds c = crossing-none (c .args .count) (c .args .t1) (c .pre .1) (c .args .e)
 
 mul-s : tie.Need-mul-s Inv-loop μ-loop
-mul-s c = omega (arith, c .loop-test, c .before .before .pre .1 .few)
+mul-s c = omega arith
 
 array-copy-out-s : tie.Need-array-copy-out-s Inv-loop μ-loop
-array-copy-out-s c = omega (arith, c .loop-test, c .before .before .pre .1 .few)
+array-copy-out-s c = omega arith
 
 transform-requires : tie.Need-transform-requires Inv-loop μ-loop
 transform-requires c κs = omega (arith, next-position (c .before .before .before .args .count) (c .before .before .before .args .t1) (c .before .before .before .pre .1) (c .before .before .before .args .e) (c .before .before .loop .passed) (c .before .before .loop .slots) (c .before .before .loop .current) (c .before .before .loop .good) (c .before .before .loop .inv) (c .before .loop-test .taken))
 
 mul-slots : tie.Need-mul-slots Inv-loop μ-loop
-mul-slots c = omega (arith, c .before .before .loop-test, c .before .before .before .before .pre .1 .few)
+mul-slots c = omega arith
 
 array-set-from-slots : tie.Need-array-set-from-slots Inv-loop μ-loop
-array-set-from-slots c = omega (arith, c .before .before .loop-test, c .before .before .before .before .pre .1 .few)
+array-set-from-slots c = omega arith
 
 is-placed-requires : tie.Need-is-placed-requires Inv-loop μ-loop
 is-placed-requires c κs = search needs
@@ -36,16 +36,16 @@ transform-requires-2 : tie.Need-transform-requires-2 Inv-loop μ-loop
 transform-requires-2 c κs = omega (arith, c .before .before .before .before .before .pre .0, current-position (c .before .before .before .before .before .args .count) (c .before .before .before .before .before .args .t1) (c .before .before .before .before .before .pre .1) (c .before .before .before .before .before .args .e) (c .before .before .before .before .loop .passed) (c .before .before .before .before .loop .slots) (c .before .before .before .before .loop .current) (c .before .before .before .before .loop .good) (c .before .before .before .before .loop .inv))
 
 add-passed : tie.Need-add-passed Inv-loop μ-loop
-add-passed c = omega (arith, c .before .before .before .before .loop-test, c .before .before .before .before .before .before .pre .1 .few)
+add-passed c = omega arith
 
 loop-less : tie.Need-loop-less Inv-loop μ-loop
-loop-less c = omega (arith, c .before .before .before .before .loop-test, c .before .before .before .before .before .before .pre .1 .few)
+loop-less c = omega arith
 
 loop-again : tie.Need-loop-again Inv-loop μ-loop
 loop-again c = crossing-turn (c .before .before .before .before .before .before .args .count) (c .before .before .before .before .before .before .args .t1) (c .before .before .before .before .before .before .pre .1) (c .before .before .before .before .before .before .args .e) (c .before .before .before .before .before .loop .passed) (c .before .before .before .before .before .loop .slots) (c .before .before .before .before .before .loop .current) (c .before .before .before .before .before .loop .good) (c .before .before .before .before .before .loop .inv) (c .before .before .transform .result) (c .transform2 .result) (c .before .is-placed .result) (c .before .before .before .before .loop-test .taken) (c .before .before .transform .ensures) (c .before .is-placed .ensures) (c .transform2 .ensures)
 
 cast-t19 : tie.Need-cast-t19 Inv-loop μ-loop
-cast-t19 c = omega (arith, c .before .loop .inv .turns, c .before .before .pre .1 .few)
+cast-t19 c = omega arith
 
 returns : tie.Need-returns Inv-loop μ-loop
 returns c = crossing-end (c .before .before .args .count) (c .before .before .args .t1) (c .before .before .pre .1) (c .before .before .args .e) (c .before .loop .passed) (c .before .loop .slots) (c .before .loop .current) (c .before .loop .good) (c .before .loop .inv) (omega (arith, c .before .loop .inv .turns, c .loop-test .left))

@@ -20,10 +20,10 @@ unfolding allPlaced priorities
 loop-holds c = (omega arith, refl)
 
 mul-s : tie.Need-mul-s Inv-loop μ-loop
-mul-s c = omega (arith, c .before .before .pre, c .loop-test)
+mul-s c = omega arith
 
 array-copy-out-s : tie.Need-array-copy-out-s Inv-loop μ-loop
-array-copy-out-s c = omega (arith, c .before .before .pre, c .loop-test)
+array-copy-out-s c = omega arith
 
 is-placed-requires : tie.Need-is-placed-requires Inv-loop μ-loop
 is-placed-requires c κs = search needs
@@ -32,10 +32,10 @@ is-ranked-requires : tie.Need-is-ranked-requires Inv-loop μ-loop
 is-ranked-requires c κs = search needs
 
 add-i : tie.Need-add-i Inv-loop μ-loop
-add-i c = omega (arith, c .before .before .before .before .before .pre, c .before .before .before .loop-test)
+add-i c = omega arith
 
 loop-less : tie.Need-loop-less Inv-loop μ-loop
-loop-less c = omega (arith, c .before .before .before .before .before .pre, c .before .before .before .loop-test)
+loop-less c = omega arith
 
 loop-again : tie.Need-loop-again Inv-loop μ-loop
 loop-again c = (omega (arith, c .before .before .before .loop-test), ap (λ (b : Bool). b && (c .before .is-placed .result && c .is-ranked .result)) (c .before .before .before .before .loop .inv .1) ∙ used-turn (rightPriority (c .before .before .before .before .before .args .n) (c .before .before .before .before .before .args .line) (c .before .before .before .before .before .args .own)) (c .before .before .before .before .loop .i) (c .before .before .before .before .before .args .t1) (c .before .is-placed .result) (c .is-ranked .result) (omega (arith, c .before .before .before .loop-test, c .before .before .before .before .before .pre, c .before .before .before .before .before .good .0 .1 .0 .1)) (c .before .is-placed .ensures) (c .is-ranked .ensures))
