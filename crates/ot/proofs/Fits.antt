@@ -11,7 +11,8 @@ use borrow.Author.Tests.{ltb-true, ltb-false, leb-true, le-leb, eqb-false}
 use Rattle.ot.specs.declared.Edit.{Edit}
 use Rattle.ot.specs.declared.Edit.the-variants.{Nothing, Delete, Insert}
 use Rattle.ot.specs.Edit.{positionOf, insertedAt, deletedAt, applied, fits, transformed}
-use Rattle.ot.specs.Laws.{stamp, distinct, within, sizeAfter}
+use Rattle.ot.specs.Laws.{stamp, distinct, within}
+use Rattle.ot.specs.Items.{sizeAfter}
 
 -- ---- tests
 

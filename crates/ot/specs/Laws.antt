@@ -1,5 +1,5 @@
 -- What holds of edits, as statements. proofs/Laws.antt proves them.
-use Prim.Native.Nat.{ℕ, _+_, _-_, _≤_}
+use Prim.Native.Nat.{ℕ, _+_, _≤_}
 use mathlib.Core.Path.{_≡_}
 use mathlib.Core.Bool.{Bool, true, not, _&&_}
 use mathlib.Core.Option.{Option, none, some}
@@ -9,6 +9,7 @@ use lib.ListN.{length}
 use Rattle.ot.specs.declared.Edit.{Edit}
 use Rattle.ot.specs.declared.Edit.the-variants.{Nothing, Delete, Insert}
 use Rattle.ot.specs.Edit.{positionOf, applied, fits, transformed}
+use Rattle.ot.specs.Items.{sizeAfter, padded, edited, Room}
 
 -- what an insert brings with it: item and priority
 unfoldable pub stamp : Edit → Option (ℕ × ℕ)
@@ -30,12 +31,6 @@ within n Nothing = true
 within n (Delete p) = leb 1 p && leb p n
 within n (Insert p x r) = leb 1 p && leb p n
 
--- how many items a list of n has after the edit
-unfoldable pub sizeAfter : Edit → ℕ → ℕ
-sizeAfter Nothing n = n
-sizeAfter (Delete p) n = n - 1
-sizeAfter (Insert p x r) n = n + 1
-
 -- Two edits of one list, each in its form after the other, fit, and give one list in both orders.
 pub record Closes (a b : Edit) (l : List ℕ) : Type 0 where
   pub left : fits (transformed a b) (length (applied b l)) ≡ true
@@ -53,3 +48,5 @@ pub record Laws : Type 0 where
   -- an edit that fits changes the length as its kind says; no edit adds more than one item
   pub size : (e : Edit) (l : List ℕ) → fits e (length l) ≡ true → length (applied e l) ≡ sizeAfter e (length l)
   pub grows : (e : Edit) (l : List ℕ) → length (applied e l) ≤ length l + 1
+  -- an array whose unused places are 0 stays one
+  pub array : (m : ℕ) (e : Edit) (l : List ℕ) → Room e (length l) m → edited e (length l) (padded 0 m l) ≡ padded 0 m (applied e l)

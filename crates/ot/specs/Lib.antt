@@ -1,2 +1,4 @@
 pub mod Edit
+pub mod Cases
+pub mod Items
 pub mod Laws

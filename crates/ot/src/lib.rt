@@ -1,7 +1,10 @@
 // Edits of a list, and operational transformation: the form of one edit after another.
 ghost use mathlib.Core.Path.{_≡_};
-ghost use Prim.Native.Nat.{_<_};
-ghost use Rattle.ot.specs.Edit.{positionOf, transformed};
+ghost use Prim.Native.Nat.{_+_, _-_, _<_, _≤_};
+ghost use mathlib.Core.List.{_∷_, _++_};
+ghost use lib.ListN.{length, take, drop};
+ghost use Rattle.ot.specs.Edit.{positionOf, insertedAt, deletedAt, transformed};
+ghost use Rattle.ot.specs.Items.{capacity, Room, Edited};
 
 // An edit. Positions count from 1.
 // Nothing stands first: an unused place of an array then holds it, and no second value for "empty" is needed.
@@ -76,5 +79,55 @@ pub fn transform(a: Edit, b: Edit) -> Edit
         Edit::Nothing => Edit::Nothing,
         Edit::Delete(p) => transform_delete(p, b),
         Edit::Insert(p, x, r) => transform_insert(p, x, r, b),
+    }
+}
+
+// Puts x into the list that the first len places hold, before its place at, counted from 0. The items from there on move up by one,
+// into the first unused place; nothing else is touched.
+fn insert_at(items: &mut [u32], len: usize, at: usize, x: u32)
+    requires { ⌜ (at ≤ len) × (len < length (now items)) ⌝ }
+    ensures { λ r. ⌜ now (items .exit) ≡ insertedAt at x (take len (now (items .entry))) ++ drop (len + 1) (now (items .entry)) ⌝ }
+{
+    let mut held = x;
+    let mut i = at;
+    while i < len {
+        let next = items[i];
+        items[i] = held;
+        held = next;
+        i += 1;
+    }
+    items[len] = held;
+}
+
+// Takes the item at place at, counted from 0, out of the list that the first len places hold. The items behind it move down by one,
+// and the place that this frees becomes 0.
+fn delete_at(items: &mut [u32], len: usize, at: usize)
+    requires { ⌜ (at < len) × (len ≤ length (now items)) ⌝ }
+    ensures { λ r. ⌜ now (items .exit) ≡ deletedAt at (take len (now (items .entry))) ++ 0 ∷ drop len (now (items .entry)) ⌝ }
+{
+    let last = len - 1;
+    let mut i = at;
+    while i < last {
+        items[i] = items[i + 1];
+        i += 1;
+    }
+    items[last] = 0;
+}
+
+// Applies e to the list that the first len places hold, and gives its new length.
+pub fn apply(items: &mut [u32; 512], len: u16, e: Edit) -> u16
+    requires { ⌜ Room e len capacity ⌝ }
+    ensures { λ r. ⌜ Edited e len (now (items .entry)) (now (items .exit)) r ⌝ }
+{
+    match e {
+        Edit::Nothing => len,
+        Edit::Delete(p) => {
+            delete_at(items, len as usize, (p - 1) as usize);
+            len - 1
+        }
+        Edit::Insert(p, x, _) => {
+            insert_at(items, len as usize, (p - 1) as usize, x);
+            len + 1
+        }
     }
 }
