@@ -1,1 +1,4 @@
+pub mod Ranges
 pub mod Buffer
+pub mod Codec
+pub mod Cases

@@ -1,2 +1,4 @@
 pub mod Message
 pub mod Bytes
+pub mod Codec
+pub mod Cases
