@@ -1,0 +1,68 @@
+-- The pending edits of a line (01: its kept edits) in an array of slots, and question 2's part about them.
+use Prim.Native.Nat.{ℕ, _+_, _≤_}
+use mathlib.Core.Path.{_≡_}
+use mathlib.Core.Bool.{Bool, true, false, _&&_}
+use mathlib.Core.List.{List, [], _∷_, _++_, map}
+use lib.Dec.{leb, eqb}
+use lib.ListN.{length, take, drop}
+use Rattle.ot.specs.declared.Edit.{Edit}
+use Rattle.ot.specs.declared.Edit.the-variants.{Nothing, Delete, Insert}
+use Rattle.model.specs.Limits.{maxPending}
+use Rattle.model.specs.Questions.{every}
+use Rattle.model.specs.Cross.{past, over, placed, allPlaced, priority, priorities}
+use Rattle.model.specs.Client.{other}
+use Rattle.pending.specs.declared.Slot.{Slot}
+use Rattle.pending.specs.Pad.{padTo}
+
+abbrev pub slot : Edit → Slot
+slot e = record { edit = e }
+
+abbrev pub edits : List Slot → List Edit
+edits slots = map (λ s. s .edit) slots
+
+-- the slots in use are the first count
+abbrev pub usedEdits : ℕ → List Slot → List Edit
+usedEdits count slots = take count (edits slots)
+
+-- the one array for a list of pending edits: every unused slot holds nothing
+unfoldable pub filled : List Edit → List Slot
+filled es = padTo maxPending (slot Nothing) (map slot es)
+
+abbrev pub isNothing : Edit → Bool
+isNothing Nothing = true
+isNothing (Delete p) = false
+isNothing (Insert p x r) = false
+
+unfoldable pub allNothing : List Edit → Bool
+allNothing [] = true
+allNothing (e ∷ es) = isNothing e && allNothing es
+
+-- The priorities that question 4 lets through: a client's own inserts have its line, what the server keeps for a line
+-- has another of 1 to n.
+abbrev pub rightPriority : ℕ → ℕ → Bool → ℕ → Bool
+rightPriority n line true = eqb line
+rightPriority n line false = other n line
+
+-- one pending edit: position and priority
+abbrev pub rightEdit : (ℕ → Bool) → Edit → Bool
+rightEdit good e = placed e && priority good e
+
+-- Question 2 about the pending edits: kept are exactly count edits, at most 64, their positions and priorities right; unused
+-- places are zero.
+abbrev pub soundTests : (ℕ → Bool) → ℕ → List Slot → List Bool
+soundTests good count slots =
+    leb count maxPending
+    ∷ eqb (length (usedEdits count slots)) count
+    ∷ allPlaced (usedEdits count slots)
+    ∷ priorities good (usedEdits count slots)
+    ∷ allNothing (drop count (edits slots))
+    ∷ []
+
+unfoldable pub soundSlots : (ℕ → Bool) → ℕ → List Slot → Bool
+soundSlots good count slots = every (soundTests good count slots)
+
+-- What the other functions may assume of the array that they are handed.
+pub record Kept (count : ℕ) (slots : List Slot) : Type 0 where
+  pub few : count ≤ maxPending
+  pub whole : slots ≡ filled (usedEdits count slots)
+  pub placed : allPlaced (usedEdits count slots) ≡ true

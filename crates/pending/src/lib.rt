@@ -1,0 +1,106 @@
+// The outgoing buffer of a line: the pending edits, in slots of an array.
+ghost use mathlib.Core.Path.{_≡_};
+ghost use mathlib.Core.Bool.{true};
+ghost use mathlib.Core.List.{[], _∷_, _++_};
+ghost use Prim.Native.Nat.{_<_, _≤_};
+ghost use lib.ListN.{length, getD, drop};
+ghost use Rattle.ot.specs.declared.Edit.the-variants as edit;
+ghost use Rattle.model.specs.Limits.{maxItems};
+ghost use Rattle.model.specs.Questions.{between};
+ghost use Rattle.pending.specs.Slots.{edits, usedEdits, filled, isNothing, rightPriority, rightEdit, soundSlots, Kept};
+use ot::Edit;
+
+// One place of the buffer. An unused one holds Nothing.
+pub struct Slot {
+    pub edit: Edit,
+}
+
+// The edit in slot i, counted from 0; nothing past the last.
+pub fn at(slots: [Slot; 64], i: usize) -> Edit
+    ensures { λ r. ⌜ r ≡ getD (edits slots) i edit.Nothing ⌝ }
+{
+    if i < 64 {
+        let s = slots[i];
+        return s.edit;
+    }
+    Edit::Nothing
+}
+
+// One more pending edit.
+pub fn push(mut slots: [Slot; 64], count: usize, e: Edit) -> [Slot; 64]
+    requires { ⌜ (count < 64) × Kept count slots ⌝ }
+    ensures { λ r. ⌜ r ≡ filled (usedEdits count slots ++ (e ∷ [])) ⌝ }
+{
+    slots[count] = Slot { edit: e };
+    slots
+}
+
+// The first gone of the pending edits are acknowledged: the rest move down, and the places that this frees hold Nothing.
+pub fn acked(mut slots: [Slot; 64], count: usize, gone: usize) -> [Slot; 64]
+    requires { ⌜ (gone ≤ count) × Kept count slots ⌝ }
+    ensures { λ r. ⌜ r ≡ filled (drop gone (usedEdits count slots)) ⌝ }
+{
+    for i in 0..count {
+        let j = i + gone;
+        if j < 64 {
+            slots[i] = slots[j];
+        } else {
+            slots[i] = Slot {
+                edit: Edit::Nothing,
+            };
+        }
+    }
+    slots
+}
+
+// A position of 1 to 512.
+fn in_list(p: u16) -> bool
+    ensures { λ r. ⌜ r ≡ between 1 maxItems p ⌝ }
+{
+    (1 <= p) & (p <= 512)
+}
+
+// The priority of a client's own insert (own) or of another's, kept by the server for a line.
+fn right_priority(n: u8, line: u8, own: bool, priority: u8) -> bool
+    ensures { λ r. ⌜ r ≡ rightPriority n line own priority ⌝ }
+{
+    if own {
+        return line == priority;
+    }
+    (1 <= priority) & (priority <= n) & !(priority == line)
+}
+
+fn right(e: Edit, n: u8, line: u8, own: bool) -> bool
+    ensures { λ r. ⌜ r ≡ rightEdit (rightPriority n line own) e ⌝ }
+{
+    match e {
+        Edit::Nothing => true,
+        Edit::Delete(p) => in_list(p),
+        Edit::Insert(p, _, priority) => in_list(p) & right_priority(n, line, own, priority),
+    }
+}
+
+fn is_nothing(e: Edit) -> bool
+    ensures { λ r. ⌜ r ≡ isNothing e ⌝ }
+{
+    match e {
+        Edit::Nothing => true,
+        Edit::Delete(_) => false,
+        Edit::Insert(_, _, _) => false,
+    }
+}
+
+// Question 2 about the pending edits, for a client of its own (own) and for the server of a line. It looks at every slot
+// whatever it finds, so that the loop has no branch.
+pub fn sound(slots: [Slot; 64], count: usize, n: u8, line: u8, own: bool) -> bool
+    ensures answer { λ r. ⌜ r ≡ soundSlots (rightPriority n line own) count slots ⌝ }
+    ensures kept { λ r. ⌜ (r ≡ true → Kept count slots) ⌝ }
+{
+    let mut well = count <= 64;
+    for i in 0..64 {
+        let s = slots[i];
+        let e = s.edit;
+        well = well & (right(e, n, line, own) & ((i < count) | is_nothing(e)));
+    }
+    well
+}
