@@ -1,6 +1,6 @@
 // Question 2: is the end sound? Every test is made whatever the others find, so that no loop has a branch.
 ghost use mathlib.Core.Path.{_≡_};
-ghost use mathlib.Core.Bool.{true};
+ghost use mathlib.Core.Bool.{true, cond};
 ghost use Prim.Native.Nat.{_+_, _-_, _≤_, _<_, min};
 ghost use Rattle.server.specs.Sound.{Added, countsSound, countsZero, soundPlace, soundPlaces, KeptLine, KeptLines};
 use crate::Line;
@@ -32,6 +32,16 @@ pub fn pending_count(made: u16, acked: u16) -> usize
         return 0;
     }
     (made - acked) as usize
+}
+
+// The one or the other, without a branch where it is called.
+fn pick(first: bool, a: bool, b: bool) -> bool
+    ensures { λ r. ⌜ r ≡ cond first a b ⌝ }
+{
+    if first {
+        return a;
+    }
+    b
 }
 
 // How many of the eight places are in use.
@@ -75,8 +85,7 @@ fn sound_place(v: Line, i: usize, n: u8, sum: u32) -> bool
     let slots = pending::sound(p, count, n, line, false);
     let sound = counts_sound(v.made, v.taken, v.acked, v.inserts, sum);
     let zero = counts_zero(v.made, v.taken, v.acked, v.inserts);
-    let used = i < n as usize;
-    ((used & sound) | (!used & zero)) & slots
+    pick(i < n as usize, sound, zero) & slots
 }
 
 impl Server {

@@ -1,3 +1,4 @@
+use Rattle.pending.proofs.Whole.{and-assoc, and-true}
 use borrow.Author.Needs.{needs}
 use Rattle.server.proofs.question2.counts_sound.Statement.{statement}
 use Rattle.server.proofs.question2.counts_sound.Tie as tie
@@ -11,7 +12,7 @@ less-requires c κs = search needs
 
 -- src/question2.rt:48:1
 returns : tie.Need-returns
-returns c = ?
+returns c = simp (c .less .ensures, and-assoc, and-true)
 
 pub counts-sound-spec : {M : Type 1} → statement M
 counts-sound-spec = tie.close (tie.spec less-requires returns)
