@@ -68,7 +68,7 @@ module _ (good : ℕ → Bool) (count i : ℕ) (e : Edit) (es : List Edit) (next
   in-use h r =
       let k : count - i ≡ suc (count - suc i) = omega arith in
       let a : rightAt good count i e ≡ rightEdit good e =
-          ap (λ (b : Bool). rightEdit good e && (b || isNothing e)) (lt-ltb i count h) ∙ and-true (rightEdit good e) in
+      ap (λ (b : Bool). rightEdit good e && (b || isNothing e)) (lt-ltb i count h) ∙ and-true (rightEdit good e) in
       ap (λ (b : Bool). b && next) a ∙ ap (λ (b : Bool). rightEdit good e && b) r
       ∙ used-step (placed e) (priority good e) (allPlaced (take (count - suc i) es)) (priorities good (take (count - suc i) es))
       (allNothing (drop (count - suc i) es) && true)
@@ -95,19 +95,21 @@ right-parts good count i (e ∷ es) = go (ltb i count) refl (right-parts good co
     go true h r = in-use good count i e es (rightFrom good count (suc i) es) (ltb-true i count h) r
     go false h r = not-in-use good count i e es (rightFrom good count (suc i) es) (ltb-false i count h) r
 
--- What the loop has found after i turns, with what is still to be looked at, is the answer.
-pub right-turn : (good : ℕ → Bool) (count i : ℕ) (slots : List Slot) (well : Bool) → i < length slots
-    → ((well && rightAt good count i (getD slots i (slot Nothing) .edit)) && rightFrom good count (i + 1) (drop (i + 1) (edits slots)))
+-- What the loop has found after i turns, with what is still to be looked at, is the answer. In a turn p, q and u are what
+-- was found of the edit at place i.
+pub right-turn : (good : ℕ → Bool) (count i : ℕ) (slots : List Slot) (well p q u : Bool) → i < length slots
+    → p ≡ placed (getD slots i (slot Nothing) .edit) → q ≡ priority good (getD slots i (slot Nothing) .edit)
+    → u ≡ isNothing (getD slots i (slot Nothing) .edit)
+    → ((well && ((p && q) && (ltb i count || u))) && rightFrom good count (i + 1) (drop (i + 1) (edits slots)))
     ≡ (well && rightFrom good count i (drop i (edits slots)))
 unfolding rightFrom
-right-turn good count i slots well h =
+right-turn good count i slots well p q u h ep eq eu =
+    let e : Edit = getD slots i (slot Nothing) .edit in
     let m : length (edits slots) ≡ length slots = length-map slots (λ (s : Slot). s .edit) in
-    let d : drop i (edits slots) ≡ getD slots i (slot Nothing) .edit ∷ drop (suc i) (edits slots) =
-        drop-cons (edits slots) i Nothing (omega arith)
-        ∙ ap (λ (e : Edit). e ∷ drop (suc i) (edits slots)) (List·getD-map (λ (s : Slot). s .edit) slots i (slot Nothing)) in
-    ap (λ (k : ℕ). (well && rightAt good count i (getD slots i (slot Nothing) .edit)) && rightFrom good count k (drop k (edits slots))) (add-one i)
-    ∙ and-assoc well (rightAt good count i (getD slots i (slot Nothing) .edit)) (rightFrom good count (suc i) (drop (suc i) (edits slots)))
-    ∙ ap (λ (es : List Edit). well && rightFrom good count i es) (sym d)
+    let d : drop i (edits slots) ≡ e ∷ drop (suc i) (edits slots) =
+    drop-cons (edits slots) i Nothing (omega arith)
+    ∙ ap (λ (x : Edit). x ∷ drop (suc i) (edits slots)) (List·getD-map (λ (s : Slot). s .edit) slots i (slot Nothing)) in
+    rw (add-one, ep, eq, eu, d) (and-assoc well (rightAt good count i e) (rightFrom good count (suc i) (drop (suc i) (edits slots))))
 
 drop-edits : (k : ℕ) (l : List Slot) → drop k (edits l) ≡ edits (drop k l)
 drop-edits zero l = refl
@@ -138,7 +140,7 @@ module _ (good : ℕ → Bool) (count : ℕ) (slots : List Slot) (sixty-four : l
   unfolding rightFrom soundSlots
   right-sound well h =
       let none : drop maxPending (edits slots) ≡ [] =
-          drop-of-length-le (edits slots) {i = maxPending} (omega (arith, length-map slots (λ (s : Slot). s .edit))) in
+      drop-of-length-le (edits slots) {i = maxPending} (omega (arith, length-map slots (λ (s : Slot). s .edit))) in
       sym (and-true well) ∙ ap (λ (es : List Edit). well && rightFrom good count maxPending es) (sym none) ∙ h
       ∙ ap (λ (b : Bool). leb count maxPending && b) (right-parts good count 0 (edits slots))
       ∙ go (leb count maxPending) refl
@@ -160,8 +162,8 @@ module _ (good : ℕ → Bool) (count : ℕ) (slots : List Slot) (sixty-four : l
       let f = hold (soundTests good count slots) h in
       let few : count ≤ maxPending = leb-true count maxPending (f .0) in
       let zeros : drop count slots ≡ replicate (maxPending - count) (slot Nothing) =
-          nothing-slots (drop count slots) (ap allNothing (sym (drop-edits count slots)) ∙ f .1 .1 .1 .1 .0)
-          ∙ ap (λ (n : ℕ). replicate n (slot Nothing)) (length-drop count slots ∙ ap (λ (n : ℕ). n - count) sixty-four) in
+      nothing-slots (drop count slots) (ap allNothing (sym (drop-edits count slots)) ∙ f .1 .1 .1 .1 .0)
+      ∙ ap (λ (n : ℕ). replicate n (slot Nothing)) (length-drop count slots ∙ ap (λ (n : ℕ). n - count) sixty-four) in
       record {
         few = few;
         whole = pad-of maxPending (slot Nothing) slots count sixty-four few zeros

@@ -1,5 +1,5 @@
 -- The pending edits of a line (01: its kept edits) in an array of slots, and question 2's part about them.
-use Prim.Native.Nat.{ℕ, _+_, _≤_}
+use Prim.Native.Nat.{ℕ, suc, _≤_}
 use mathlib.Core.Path.{_≡_}
 use mathlib.Core.Bool.{Bool, true, false, _&&_}
 use mathlib.Core.List.{List, [], _∷_, _++_, map}
@@ -7,11 +7,13 @@ use lib.Dec.{leb, eqb}
 use lib.ListN.{length, take, drop}
 use Rattle.ot.specs.declared.Edit.{Edit}
 use Rattle.ot.specs.declared.Edit.the-variants.{Nothing, Delete, Insert}
+use Rattle.ot.specs.Edit.{transformed}
 use Rattle.model.specs.Limits.{maxPending}
 use Rattle.model.specs.Questions.{every}
 use Rattle.model.specs.Cross.{past, over, placed, allPlaced, priority, priorities}
 use Rattle.model.specs.Client.{other}
 use Rattle.pending.specs.declared.Slot.{Slot}
+use Rattle.pending.specs.declared.Crossed.{Crossed}
 use Rattle.pending.specs.Pad.{padTo}
 
 abbrev pub slot : Edit → Slot
@@ -66,3 +68,12 @@ pub record Kept (count : ℕ) (slots : List Slot) : Type 0 where
   pub few : count ≤ maxPending
   pub whole : slots ≡ filled (usedEdits count slots)
   pub placed : allPlaced (usedEdits count slots) ≡ true
+
+-- how many steps the arriving edit takes past the pending ones
+unfoldable pub steps : Edit → List Edit → ℕ
+steps e [] = 0
+steps e (p ∷ ps) = suc (steps (transformed e p) ps)
+
+-- What an arriving edit leaves of the pending ones, its own form, question 9's test of the forms, and the count that the answer gives.
+abbrev pub crossed : Edit → List Edit → Crossed
+crossed e es = record { slots = filled (over e es); edit = past e es; placed = allPlaced (over e es); passed = steps e es }

@@ -7,12 +7,23 @@ ghost use lib.ListN.{length, getD, drop};
 ghost use Rattle.ot.specs.declared.Edit.the-variants as edit;
 ghost use Rattle.model.specs.Limits.{maxItems};
 ghost use Rattle.model.specs.Questions.{between};
-ghost use Rattle.pending.specs.Slots.{edits, usedEdits, filled, isNothing, rightPriority, rightEdit, soundSlots, Kept};
+ghost use Rattle.model.specs.Cross.{placed, priority};
+ghost use Rattle.ot.specs.Edit.{positionOf};
+ghost use Rattle.pending.specs.Slots.{edits, usedEdits, filled, isNothing, rightPriority, soundSlots, crossed, Kept};
 use ot::Edit;
 
 // One place of the buffer. An unused one holds Nothing.
 pub struct Slot {
     pub edit: Edit,
+}
+
+// What an arriving edit leaves: the pending edits in their forms after it, its own form after them, whether those forms
+// have positions that a message can carry, and how many pending edits it was transformed past.
+pub struct Crossed {
+    pub slots: [Slot; 64],
+    pub edit: Edit,
+    pub placed: bool,
+    pub passed: u16,
 }
 
 // The edit in slot i, counted from 0; nothing past the last.
@@ -61,22 +72,33 @@ fn in_list(p: u16) -> bool
 }
 
 // The priority of a client's own insert (own) or of another's, kept by the server for a line.
-fn right_priority(n: u8, line: u8, own: bool, priority: u8) -> bool
-    ensures { λ r. ⌜ r ≡ rightPriority n line own priority ⌝ }
+fn right_priority(n: u8, line: u8, own: bool, p: u8) -> bool
+    ensures { λ r. ⌜ r ≡ rightPriority n line own p ⌝ }
 {
     if own {
-        return line == priority;
+        return line == p;
     }
-    (1 <= priority) & (priority <= n) & !(priority == line)
+    (1 <= p) & (p <= n) & !(p == line)
 }
 
-fn right(e: Edit, n: u8, line: u8, own: bool) -> bool
-    ensures { λ r. ⌜ r ≡ rightEdit (rightPriority n line own) e ⌝ }
+// A position, if there is one, of 1 to 512.
+fn is_placed(e: Edit) -> bool
+    ensures { λ r. ⌜ r ≡ placed e ⌝ }
 {
     match e {
         Edit::Nothing => true,
         Edit::Delete(p) => in_list(p),
-        Edit::Insert(p, _, priority) => in_list(p) & right_priority(n, line, own, priority),
+        Edit::Insert(p, _, _) => in_list(p),
+    }
+}
+
+fn is_ranked(e: Edit, n: u8, line: u8, own: bool) -> bool
+    ensures { λ r. ⌜ r ≡ priority (rightPriority n line own) e ⌝ }
+{
+    match e {
+        Edit::Nothing => true,
+        Edit::Delete(_) => true,
+        Edit::Insert(_, _, p) => right_priority(n, line, own, p),
     }
 }
 
@@ -100,7 +122,42 @@ pub fn sound(slots: [Slot; 64], count: usize, n: u8, line: u8, own: bool) -> boo
     for i in 0..64 {
         let s = slots[i];
         let e = s.edit;
-        well = well & (right(e, n, line, own) & ((i < count) | is_nothing(e)));
+        well = well & ((is_placed(e) & is_ranked(e, n, line, own)) & ((i < count) | is_nothing(e)));
     }
     well
+}
+
+// The arriving edit goes past the pending ones in order, and each of these past the arriving edit as it stood before that one.
+fn cross_all(mut slots: [Slot; 64], count: usize, e: Edit) -> Crossed
+    requires { ⌜ (positionOf e ≤ maxItems) × Kept count slots ⌝ }
+    ensures { λ r. ⌜ r ≡ crossed e (usedEdits count slots) ⌝ }
+{
+    let mut current = e;
+    let mut good = true;
+    let mut passed = 0;
+    while passed < count {
+        let s = slots[passed];
+        let p = s.edit;
+        let form = ot::transform(p, current);
+        slots[passed] = Slot { edit: form };
+        good = good & is_placed(form);
+        current = ot::transform(current, p);
+        passed += 1;
+    }
+    Crossed {
+        slots,
+        edit: current,
+        placed: good,
+        passed: passed as u16,
+    }
+}
+
+// An edit arrives that was made after the first gone of the pending edits: these are dropped, and the others and the edit
+// are transformed past each other.
+pub fn cross(slots: [Slot; 64], count: usize, gone: usize, e: Edit) -> Crossed
+    requires { ⌜ (gone ≤ count) × ((positionOf e ≤ maxItems) × Kept count slots) ⌝ }
+    ensures { λ r. ⌜ r ≡ crossed e (drop gone (usedEdits count slots)) ⌝ }
+{
+    let rest = acked(slots, count, gone);
+    cross_all(rest, count - gone, e)
 }
