@@ -7,8 +7,8 @@ use native.Mathlib.Numerals.{add-one}
 use native.Mathlib.Omega.{arith}
 use lib.Dec.{leb, ltb, eqb}
 use lib.ListN.{length, getD, take, drop, length-map, drop-of-length-le}
-use lib.Seq.{take-suc, drop-cons, take-all}
-use borrow.Author.Tests.{eqb-true, leb-true, leb-false}
+use lib.Seq.{take-suc, drop-cons, take-all, take-nil, drop-nil}
+use borrow.Author.Tests.{eqb-true, leb-true, leb-false, ltb-true, ltb-false}
 use Rattle.model.specs.Limits.{maxInserts, maxEdits}
 use Rattle.model.specs.Questions.{every}
 use Rattle.model.specs.Cross.{allPlaced, priorities}
@@ -21,6 +21,10 @@ use Rattle.server.specs.declared.Line.{Line}
 use Rattle.server.specs.View.{viewLine}
 use Rattle.server.specs.Sound.{tidyLine, countsSound, countsZero, zeroLine, soundPlace, soundPlaces, KeptLine, KeptLines}
 use Rattle.server.proofs.Bools.{bool-ext}
+
+-- what lies past an array's end
+abbrev pub blank : Line
+blank = record { made = 0; taken = 0; acked = 0; inserts = 0; pending = [] }
 
 module _ (n sum i : ℕ) (v : Line) where
   abbrev sound : Bool
@@ -79,6 +83,46 @@ module _ (n sum i : ℕ) (v : Line) where
       go : (b : Bool) → (cond b sound zeros && slots (v .made - v .acked)) ≡ cond b (model.soundLine n sum (suc i) (viewLine v) && tidyLine v) (zeroLine v)
       go true = in-use
       go false = not-in-use
+
+-- the same, by what is asked: the first k places are in use
+abbrev parts : ℕ → ℕ → ℕ → ℕ → List Line → Bool
+parts n sum l k vs =
+    model.soundLines n sum l (map viewLine (take k vs)) && (every (map tidyLine (take k vs)) && every (map zeroLine (drop k vs)))
+
+regroup : (a t l u z : Bool) → ((a && t) && (l && (u && z))) ≡ ((a && l) && ((t && u) && z))
+regroup true true l u z = refl
+regroup true false true u z = refl
+regroup true false false u z = refl
+regroup false t l u z = refl
+
+from-place : (n sum i : ℕ) (vs : List Line) → soundPlaces n sum i vs ≡ parts n sum (suc i) (n - i) vs
+unfolding soundPlaces model.soundLines
+from-place n sum i [] = rw (take-nil {A = Line} (n - i), drop-nil {A = Line} (n - i))
+from-place n sum i (v ∷ vs) = go (ltb i n) refl (from-place n sum (suc i) vs)
+  where
+    go : (b : Bool) → ltb i n ≡ b → soundPlaces n sum (suc i) vs ≡ parts n sum (suc (suc i)) (n - suc i) vs
+        → (cond b (model.soundLine n sum (suc i) (viewLine v) && tidyLine v) (zeroLine v) && soundPlaces n sum (suc i) vs)
+        ≡ parts n sum (suc i) (n - i) (v ∷ vs)
+    go true t e =
+        let h : i < n = ltb-true i n t in
+        let k : suc (n - suc i) ≡ n - i = omega arith in
+        ap (λ (b : Bool). (model.soundLine n sum (suc i) (viewLine v) && tidyLine v) && b) e
+        ∙ regroup (model.soundLine n sum (suc i) (viewLine v)) (tidyLine v)
+        (model.soundLines n sum (suc (suc i)) (map viewLine (take (n - suc i) vs)))
+        (every (map tidyLine (take (n - suc i) vs)))
+        (every (map zeroLine (drop (n - suc i) vs)))
+        ∙ ap (λ (j : ℕ). parts n sum (suc i) j (v ∷ vs)) k
+    go false t e =
+        let h : n ≤ i = ltb-false i n t in
+        let k : n - suc i ≡ 0 = omega arith in
+        let m : 0 ≡ n - i = omega arith in
+        ap (λ (b : Bool). zeroLine v && b) (e ∙ ap (λ (j : ℕ). parts n sum (suc (suc i)) j vs) k)
+        ∙ ap (λ (j : ℕ). parts n sum (suc i) j (v ∷ vs)) m
+
+pub all-places : (n sum : ℕ) (vs : List Line) → soundPlaces n sum 0 vs ≡ parts n sum 1 n vs
+all-places n sum vs =
+    let e : n - 0 ≡ n = omega arith in
+    from-place n sum 0 vs ∙ ap (λ (k : ℕ). parts n sum 1 k vs) e
 
 -- one turn of the loop over the places
 pub places-turn : (n sum i : ℕ) (lines : List Line) (well : Bool) (d : Line) → i < length lines

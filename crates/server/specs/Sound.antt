@@ -9,6 +9,7 @@ use Rattle.model.specs.Limits.{maxInserts, maxEdits, maxItems}
 use Rattle.model.specs.Questions.{every}
 use Rattle.model.specs.Server.{soundLine, soundServer, total}
 use Rattle.pending.specs.Slots.{edits, allNothing, Kept}
+use Rattle.endpoint.specs.Items.{allZero}
 use Rattle.server.specs.declared.Line.{Line}
 use Rattle.server.specs.declared.Server.{Server}
 use Rattle.server.specs.declared.Sums.{Sums}
@@ -38,6 +39,24 @@ soundPlace n sum i v = cond (ltb i n) (soundLine n sum (suc i) (viewLine v) && t
 unfoldable pub soundPlaces : ℕ → ℕ → ℕ → List Line → Bool
 soundPlaces n sum i [] = true
 soundPlaces n sum i (v ∷ vs) = soundPlace n sum i v && soundPlaces n sum (suc i) vs
+
+-- question 2, test by test
+abbrev pub structTests : Server → List Bool
+structTests s =
+    soundServer (view s)
+    ∷ leb (s .len) maxItems
+    ∷ allZero (drop (s .len) (s .items))
+    ∷ every (map tidyLine (take (s .n) (s .lines)))
+    ∷ every (map zeroLine (drop (s .n) (s .lines)))
+    ∷ []
+
+unfoldable pub soundStruct : Server → Bool
+soundStruct s = every (structTests s)
+
+-- What the calls may assume once question 2 has been answered yes: such a struct is the one for its meaning.
+pub record Sound (s : Server) : Type 0 where
+  pub well : soundStruct s ≡ true
+  pub whole : s ≡ store (view s)
 
 -- the edits taken, and the inserts among them, of the first n lines
 pub record Added (n : ℕ) (lines : List Line) (r : Sums) : Type 0 where

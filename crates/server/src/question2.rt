@@ -2,7 +2,7 @@
 ghost use mathlib.Core.Path.{_≡_};
 ghost use mathlib.Core.Bool.{true, cond};
 ghost use Prim.Native.Nat.{_+_, _-_, _≤_, _<_, min};
-ghost use Rattle.server.specs.Sound.{Added, countsSound, countsZero, soundPlace, soundPlaces, KeptLine, KeptLines};
+ghost use Rattle.server.specs.Sound.{Added, countsSound, countsZero, soundPlace, soundPlaces, KeptLine, KeptLines, soundStruct, Sound};
 use crate::Line;
 use crate::Server;
 use crate::Sums;
@@ -116,5 +116,22 @@ impl Server {
             well = well & sound_place(v, i, self.n, sum);
         }
         well
+    }
+
+    pub fn sound(self) -> bool
+        ensures answer { λ r. ⌜ r ≡ soundStruct self ⌝ }
+        ensures whole { λ r. ⌜ (r ≡ true → Sound self) ⌝ }
+    {
+        let sums = self.add_up();
+        let lines = self.sound_lines(sums.taken);
+        let most = self.initial as u32 + sums.inserts;
+        let zero = endpoint::zero_from(&self.items, self.len as usize);
+        (1 <= self.n)
+            & (self.n <= 8)
+            & (self.initial <= 128)
+            & (self.len <= 512)
+            & (self.len as u32 <= most)
+            & zero
+            & lines
     }
 }

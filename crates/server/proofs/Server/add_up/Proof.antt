@@ -7,7 +7,7 @@ use borrow.Author.Needs.{needs}
 use Rattle.model.specs.Server as model
 use Rattle.server.specs.declared.Line.{Line}
 use Rattle.server.specs.View.{viewLine}
-use Rattle.server.proofs.Places.{total-turn, take-min, length-mapped}
+use Rattle.server.proofs.Places.{blank, total-turn, take-min, length-mapped}
 use Rattle.server.proofs.Server.add_up.Statement.{statement}
 use Rattle.server.proofs.Server.add_up.Tie as tie
 use Rattle.server.proofs.Server.add_up.Reads as reads
@@ -66,7 +66,17 @@ loop-less c = search needs
 -- src/question2.rt:89:9
 loop-again : tie.Need-loop-again Inv-loop μ-loop
 loop-again c =
-    let e : c .before .wide .result ≡ 5 = c .before .wide .ensures .0 in ?
+    let l : length (c .before .before .before .before .before .before .args .t1 .lines) ≡ 8 = search (length-mapped, needs) in
+    let h : c .before .before .before .before .loop .i < length (c .before .before .before .before .before .before .args .t1 .lines) =
+        omega (arith, c .before .before .before .loop-test, c .before .before .before .before .loop .inv .1 .0) in
+    let t = total-turn (λ v. v .taken) (c .before .before .before .before .loop .i) (c .before .before .before .before .before .before .args .t1 .lines) blank h in
+    let n = total-turn (λ v. v .inserts) (c .before .before .before .before .loop .i) (c .before .before .before .before .before .before .args .t1 .lines) blank h in
+    (omega (arith, c .before .before .before .loop-test),
+    (c .before .before .before .before .loop .inv .1 .0,
+    (omega (arith, c .before .wide .ensures .1, c .before .before .before .before .loop .inv .1 .1 .0),
+    (omega (arith, c .wide2 .ensures .1, c .before .before .before .before .loop .inv .1 .1 .1 .0),
+    (omega (arith, c .before .wide .ensures .0, c .before .before .before .before .loop .inv .1 .1 .1 .1 .0),
+    omega (arith, c .wide2 .ensures .0, c .before .before .before .before .loop .inv .1 .1 .1 .1 .1))))))
 
 -- src/question2.rt:83:5
 returns : tie.Need-returns Inv-loop μ-loop
