@@ -16,6 +16,7 @@ use Rattle.model.proofs.Tests.{both, and-left, and-right, hold, held, true-betw
 use Rattle.pending.specs.Pad.{padTo}
 use Rattle.pending.specs.Slots.{edits, usedEdits, filled, allNothing}
 use Rattle.pending.proofs.Pad.{pad-of}
+use Rattle.pending.proofs.Whole.{and-assoc, and-true}
 use Rattle.endpoint.specs.Items.{allZero}
 use Rattle.endpoint.proofs.Items.{stored-of}
 use Rattle.server.specs.declared.Line.{Line}
@@ -46,6 +47,9 @@ codeTests s =
     ∷ allZero (drop (s .len) (s .items))
     ∷ soundPlaces (s .n) (sumTaken s) 0 (s .lines)
     ∷ []
+
+chain : (a b c d e f g : Bool) → ((((((a && b) && c) && d) && e) && f) && g) ≡ every (a ∷ b ∷ c ∷ d ∷ e ∷ f ∷ g ∷ [])
+chain a b c d e f g = simp (and-assoc, and-true)
 
 -- ---- one line
 
@@ -146,6 +150,18 @@ module _ (s : Server) (eight : length (s .lines) ≡ 8) (places : length (s .ite
       (all-places (s .n) (sumTaken s) (s .lines)
       ∙ both lines-sound (tidy && zeros) (m .1 .1 .1 .1 .0) (both tidy zeros (t .1 .1 .1 .0) (t .1 .1 .1 .1 .0)),
       tt))))))))
+
+  -- as the code joins them
+  pub struct-code : (inserts taken : ℕ) (zero lines : Bool) → inserts ≡ sumInserts s → taken ≡ sumTaken s → zero ≡ allZero (drop (s .len) (s .items))
+      → lines ≡ soundPlaces (s .n) taken 0 (s .lines)
+      → (((((((leb 1 (s .n) && leb (s .n) 8) && leb (s .initial) 128) && leb (s .len) 512) && leb (s .len) (s .initial + inserts)) && zero) && lines)) ≡ soundStruct s
+  struct-code inserts taken zero lines i t z l =
+      chain (leb 1 (s .n)) (leb (s .n) 8) (leb (s .initial) 128) (leb (s .len) 512) (leb (s .len) (s .initial + inserts)) zero lines
+      ∙ ap (λ (n : ℕ). every (leb 1 (s .n) ∷ leb (s .n) 8 ∷ leb (s .initial) 128 ∷ leb (s .len) 512 ∷ leb (s .len) (s .initial + n) ∷ zero ∷ lines ∷ [])) i
+      ∙ ap (λ (b : Bool). every (leb 1 (s .n) ∷ leb (s .n) 8 ∷ leb (s .initial) 128 ∷ leb (s .len) 512 ∷ leb (s .len) (s .initial + sumInserts s) ∷ b ∷ lines ∷ [])) z
+      ∙ ap (λ (b : Bool). every (leb 1 (s .n) ∷ leb (s .n) 8 ∷ leb (s .initial) 128 ∷ leb (s .len) 512 ∷ leb (s .len) (s .initial + sumInserts s) ∷ allZero (drop (s .len) (s .items)) ∷ b ∷ []))
+      (l ∙ ap (λ (n : ℕ). soundPlaces (s .n) n 0 (s .lines)) t)
+      ∙ struct-sound
 
   pub struct-whole : KeptLines (s .lines) → soundStruct s ≡ true → Sound s
   unfolding soundStruct model.soundServer view store

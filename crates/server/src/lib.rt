@@ -1,7 +1,18 @@
-// The server's end of a sheet.
+// The server's end of a sheet. Each call takes the end by value and hands it back in its answer.
 mod question2;
 
+ghost use mathlib.Core.Path.{_≡_};
+ghost use Rattle.model.specs.Server.{noLine, noServer, sendServer, tellServer, serverTakesAck};
+ghost use Rattle.endpoint.specs.Sending.{answered as sentAs};
+ghost use Rattle.server.specs.View.{storeLine, view, store};
+ghost use Rattle.server.specs.Sound.{Sound};
+ghost use Rattle.server.specs.Calls.{refused, answered, opened, sends, tells, takes};
+use endpoint::Sent;
+use ot::Edit;
 use pending::Slot;
+use wire::Header;
+use wire::Message;
+use crate::question2::pending_count;
 
 // What the server keeps of one line.
 pub struct Line {
@@ -32,4 +43,200 @@ pub struct Server {
 pub struct Sums {
     pub taken: u32,
     pub inserts: u32,
+}
+
+// What opening and taking answer: 0 or the number of the question that said no, how many pending edits an edit was transformed past,
+// and the end.
+pub struct Answer {
+    pub refusal: u8,
+    pub passed: u16,
+    pub server: Server,
+}
+
+// A line that nothing has come over.
+fn unused_line() -> Line
+    ensures { λ r. ⌜ r ≡ storeLine noLine ⌝ }
+{
+    let none = Slot {
+        edit: Edit::Nothing,
+    };
+    let pending = [none; 64];
+    Line {
+        made: 0,
+        taken: 0,
+        acked: 0,
+        inserts: 0,
+        pending,
+    }
+}
+
+// Question 1 says no.
+fn unopened() -> Answer
+    ensures { λ r. ⌜ r ≡ refused (store noServer) 1 ⌝ }
+{
+    let unused = unused_line();
+    let lines = [unused; 8];
+    let items = [0u32; 512];
+    Answer {
+        refusal: 1,
+        passed: 0,
+        server: Server {
+            n: 0,
+            initial: 0,
+            len: 0,
+            items,
+            lines,
+        },
+    }
+}
+
+impl Server {
+    // The limits, by name.
+    pub const LINES: usize = 8;
+    pub const INSERTS: u16 = 48;
+    pub const EDITS: u16 = 400;
+    pub const PENDING: usize = 64;
+    pub const ITEMS: usize = 512;
+    pub const INITIAL: usize = 128;
+
+    pub fn open(n: u8, items: &[u32]) -> Answer
+        ensures { λ r. ⌜ r ≡ opened n (now (items .entry)) ⌝ }
+    {
+        let fits = (1 <= n) & (n as usize <= Server::LINES) & (items.len() <= Server::INITIAL);
+        if fits {
+            let len = items.len() as u16;
+            let unused = unused_line();
+            let lines = [unused; 8];
+            let items = endpoint::initial(items);
+            return Answer {
+                refusal: 0,
+                passed: 0,
+                server: Server {
+                    n,
+                    initial: len,
+                    len,
+                    items,
+                    lines,
+                },
+            };
+        }
+        unopened()
+    }
+
+    fn refuse(self, number: u8) -> Answer
+        ensures { λ r. ⌜ r ≡ refused self number ⌝ }
+    {
+        Answer {
+            refusal: number,
+            passed: 0,
+            server: self,
+        }
+    }
+
+    fn send_sound(self, line: u8, k: u16, out: &mut [u8]) -> Sent
+        requires { ⌜ Sound self ⌝ }
+        ensures { λ r. ⌜ sentAs r (now (out .exit)) ≡ sendServer (view self) line k (now (out .entry)) ⌝ }
+    {
+        let here = (1 <= line) & (line <= self.n);
+        if here {
+            let i = (line - 1) as usize;
+            let v = self.lines[i];
+            let kept = (v.acked < k) & (k <= v.made);
+            if kept {
+                let p = v.pending;
+                let e = pending::at(p, pending_count(k - 1, v.acked));
+                let h = Header {
+                    line,
+                    direction: 1,
+                    number: k,
+                    seen: v.taken,
+                };
+                return endpoint::finish(0, wire::of_edit(h, e), out);
+            }
+            return Sent {
+                refusal: 13,
+                written: 0,
+            };
+        }
+        Sent {
+            refusal: 4,
+            written: 0,
+        }
+    }
+
+    // Number k of the pending edits of a line, in its present form.
+    pub fn send(self, line: u8, k: u16, out: &mut [u8]) -> Sent
+        ensures { λ r. ⌜ sentAs r (now (out .exit)) ≡ sends self line k (now (out .entry)) ⌝ }
+    {
+        let well = self.sound();
+        if well {
+            return self.send_sound(line, k, out);
+        }
+        Sent {
+            refusal: 2,
+            written: 0,
+        }
+    }
+
+    fn tell_sound(self, line: u8, out: &mut [u8]) -> Sent
+        requires { ⌜ Sound self ⌝ }
+        ensures { λ r. ⌜ sentAs r (now (out .exit)) ≡ tellServer (view self) line (now (out .entry)) ⌝ }
+    {
+        let here = (1 <= line) & (line <= self.n);
+        if here {
+            let i = (line - 1) as usize;
+            let v = self.lines[i];
+            return endpoint::finish(0, Message::Ack(line, 1, v.taken), out);
+        }
+        Sent {
+            refusal: 4,
+            written: 0,
+        }
+    }
+
+    // An acknowledgement of what was taken on a line.
+    pub fn tell(self, line: u8, out: &mut [u8]) -> Sent
+        ensures { λ r. ⌜ sentAs r (now (out .exit)) ≡ tells self line (now (out .entry)) ⌝ }
+    {
+        let well = self.sound();
+        if well {
+            return self.tell_sound(line, out);
+        }
+        Sent {
+            refusal: 2,
+            written: 0,
+        }
+    }
+
+    // An acknowledgement only drops pending edits.
+    fn take_ack(mut self, line: u8, direction: u8, seen: u16) -> Answer
+        requires { ⌜ Sound self ⌝ }
+        ensures { λ r. ⌜ r ≡ answered self (serverTakesAck (view self) line direction seen) ⌝ }
+    {
+        let here = (direction == 0) & ((1 <= line) & (line <= self.n));
+        if here {
+            let i = (line - 1) as usize;
+            let v = self.lines[i];
+            let q = endpoint::ask_seen(seen, v.acked, v.made);
+            if q == 0 {
+                let p = v.pending;
+                let gone = pending_count(seen, v.acked);
+                let pending = pending::acked(p, pending_count(v.made, v.acked), gone);
+                self.lines[i] = Line {
+                    made: v.made,
+                    taken: v.taken,
+                    acked: seen,
+                    inserts: v.inserts,
+                    pending,
+                };
+                return Answer {
+                    refusal: 0,
+                    passed: 0,
+                    server: self,
+                };
+            }
+            return self.refuse(q);
+        }
+        self.refuse(4)
+    }
 }

@@ -59,10 +59,10 @@ fn counts_sound(made: u16, taken: u16, acked: u16, inserts: u16, sum: u32) -> bo
     ensures { λ r. ⌜ r ≡ countsSound sum made taken acked inserts ⌝ }
 {
     let others = less(sum, taken as u32);
-    (taken <= 400)
+    (taken <= Server::EDITS)
         & (made as u32 == others)
         & (acked <= made)
-        & (inserts <= 48)
+        & (inserts <= Server::INSERTS)
         & (inserts <= taken)
 }
 
@@ -127,9 +127,9 @@ impl Server {
         let most = self.initial as u32 + sums.inserts;
         let zero = endpoint::zero_from(&self.items, self.len as usize);
         (1 <= self.n)
-            & (self.n <= 8)
-            & (self.initial <= 128)
-            & (self.len <= 512)
+            & (self.n as usize <= Server::LINES)
+            & (self.initial as usize <= Server::INITIAL)
+            & (self.len as usize <= Server::ITEMS)
             & (self.len as u32 <= most)
             & zero
             & lines

@@ -1,3 +1,11 @@
+use Prim.Native.Nat.{ℕ, _+_}
+use mathlib.Core.Path.{_≡_, refl, ap, _∙_, sym}
+use mathlib.Core.Bool.{Bool, true, _&&_}
+use lib.Dec.{leb}
+use lib.ListN.{length}
+use Rattle.model.proofs.Tests.{and-right}
+use Rattle.server.proofs.Places.{length-mapped}
+use Rattle.server.proofs.Whole.{struct-code, struct-whole}
 use borrow.Author.Needs.{needs}
 use Rattle.server.proofs.Server.sound.Statement.{statement}
 use Rattle.server.proofs.Server.sound.Tie as tie
@@ -37,7 +45,14 @@ cast-result c = search needs
 
 -- src/question2.rt:121:5
 returns : tie.Need-returns
-returns c = ?
+returns c =
+    let s = c .before .before .before .before .before .before .before .args .t1 in
+    let eight : length (s .lines) ≡ 8 = search (length-mapped, needs) in
+    let places : length (s .items) ≡ 512 = search needs in
+    let sums = c .before .before .before .before .before .before .add-up in
+    let lines = c .before .before .before .before .before .sound-lines in
+    let e = struct-code s eight places (sums .result .inserts) (sums .result .taken) (c .zero-from .result) (lines .result) (sums .ensures .inserts) (sums .ensures .taken) (c .zero-from .ensures) (lines .ensures .0) in
+    (e, λ y. struct-whole s eight places (lines .ensures .1 (and-right (((((leb 1 (s .n) && leb (s .n) 8) && leb (s .initial) 128) && leb (s .len) 512) && leb (s .len) (s .initial + sums .result .inserts)) && c .zero-from .result) (lines .result) y)) (sym e ∙ y))
 
 pub sound-spec : {M : Type 1} → statement M
 sound-spec =
