@@ -1,3 +1,5 @@
 pub mod Bools
 pub mod Places
 pub mod Whole
+pub mod Lines
+pub mod Answers

@@ -152,12 +152,12 @@ module _ (s : Server) (eight : length (s .lines) ≡ 8) (places : length (s .ite
       tt))))))))
 
   -- as the code joins them
-  pub struct-code : (inserts taken : ℕ) (zero lines : Bool) → inserts ≡ sumInserts s → taken ≡ sumTaken s → zero ≡ allZero (drop (s .len) (s .items))
+  pub struct-code : (inserts taken : ℕ) (unused lines : Bool) → inserts ≡ sumInserts s → taken ≡ sumTaken s → unused ≡ allZero (drop (s .len) (s .items))
       → lines ≡ soundPlaces (s .n) taken 0 (s .lines)
-      → (((((((leb 1 (s .n) && leb (s .n) 8) && leb (s .initial) 128) && leb (s .len) 512) && leb (s .len) (s .initial + inserts)) && zero) && lines)) ≡ soundStruct s
-  struct-code inserts taken zero lines i t z l =
-      chain (leb 1 (s .n)) (leb (s .n) 8) (leb (s .initial) 128) (leb (s .len) 512) (leb (s .len) (s .initial + inserts)) zero lines
-      ∙ ap (λ (n : ℕ). every (leb 1 (s .n) ∷ leb (s .n) 8 ∷ leb (s .initial) 128 ∷ leb (s .len) 512 ∷ leb (s .len) (s .initial + n) ∷ zero ∷ lines ∷ [])) i
+      → (((((((leb 1 (s .n) && leb (s .n) 8) && leb (s .initial) 128) && leb (s .len) 512) && leb (s .len) (s .initial + inserts)) && unused) && lines)) ≡ soundStruct s
+  struct-code inserts taken unused lines i t z l =
+      chain (leb 1 (s .n)) (leb (s .n) 8) (leb (s .initial) 128) (leb (s .len) 512) (leb (s .len) (s .initial + inserts)) unused lines
+      ∙ ap (λ (n : ℕ). every (leb 1 (s .n) ∷ leb (s .n) 8 ∷ leb (s .initial) 128 ∷ leb (s .len) 512 ∷ leb (s .len) (s .initial + n) ∷ unused ∷ lines ∷ [])) i
       ∙ ap (λ (b : Bool). every (leb 1 (s .n) ∷ leb (s .n) 8 ∷ leb (s .initial) 128 ∷ leb (s .len) 512 ∷ leb (s .len) (s .initial + sumInserts s) ∷ b ∷ lines ∷ [])) z
       ∙ ap (λ (b : Bool). every (leb 1 (s .n) ∷ leb (s .n) 8 ∷ leb (s .initial) 128 ∷ leb (s .len) 512 ∷ leb (s .len) (s .initial + sumInserts s) ∷ allZero (drop (s .len) (s .items)) ∷ b ∷ []))
       (l ∙ ap (λ (n : ℕ). soundPlaces (s .n) n 0 (s .lines)) t)

@@ -1,3 +1,7 @@
+use Rattle.server.proofs.Answers.{nothing-opened}
+use mathlib.Core.Path.{_≡_, refl, ap}
+use Rattle.server.specs.declared.Line.{Line}
+use Rattle.server.specs.View.{store}
 use borrow.Author.Needs.{needs}
 use Rattle.server.proofs.unopened.Statement.{statement}
 use Rattle.server.proofs.unopened.Tie as tie
@@ -11,7 +15,7 @@ unused-line-requires c κs = search needs
 
 -- src/lib.rt:74:1
 returns : tie.Need-returns
-returns c = ?
+returns c = nothing-opened (c .unused-line .result) (c .unused-line .ensures)
 
 pub unopened-spec : {M : Type 1} → statement M
 unopened-spec = tie.close (tie.spec unused-line-requires returns)

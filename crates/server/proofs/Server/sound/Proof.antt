@@ -44,6 +44,15 @@ cast-result : tie.Need-cast-result
 cast-result c = search needs
 
 -- src/question2.rt:121:5
+cast-result-2 : tie.Need-cast-result-2
+cast-result-2 c = search needs
+
+cast-result-3 : tie.Need-cast-result-3
+cast-result-3 c = search needs
+
+cast-result-4 : tie.Need-cast-result-4
+cast-result-4 c = search needs
+
 returns : tie.Need-returns
 returns c =
     let s = c .before .before .before .before .before .before .before .args .t1 in
@@ -65,4 +74,7 @@ sound-spec =
     cast-zero-from
     zero-from-requires
     cast-result
+    cast-result-2
+    cast-result-3
+    cast-result-4
     returns)
