@@ -45,6 +45,21 @@ store m =
       pending = filled (m .pending);
     }
 
+-- a client that has made and taken nothing
+abbrev pub fresh : ℕ → ℕ → ℕ → List ℕ → Client
+fresh n line len items =
+    record {
+      n = n;
+      line = line;
+      made = 0;
+      taken = 0;
+      acked = 0;
+      inserts = 0;
+      len = len;
+      items = items;
+      pending = filled [];
+    }
+
 -- Question 2: the model's, with what only a struct can break.
 abbrev pub soundTests : Client → List Bool
 soundTests c =

@@ -2,7 +2,7 @@
 ghost use mathlib.Core.Path.{_≡_};
 ghost use mathlib.Core.Bool.{true};
 ghost use Prim.Native.Nat.{_-_};
-ghost use Rattle.client.specs.Store.{countTests, sound, Sound};
+ghost use Rattle.client.specs.Store.{fresh, countTests, sound, Sound};
 ghost use Rattle.client.specs.Answers.{opened, refusedWith};
 ghost use Rattle.model.specs.Questions.{every};
 use ot::Edit;
@@ -78,5 +78,47 @@ impl Client {
         let slots = self.pending;
         let zeros = endpoint::zero_from(&self.items, self.len as usize);
         self.counts_sound() & zeros & pending::sound(slots, count, self.n, self.line, true)
+    }
+
+    // A client that has made and taken nothing.
+    fn fresh(n: u8, line: u8, len: u16, items: [u32; 512]) -> Client
+        ensures { λ r. ⌜ r ≡ fresh n line len items ⌝ }
+    {
+        let pending = [Slot {
+            edit: Edit::Nothing,
+        }; 64];
+        Client {
+            n,
+            line,
+            made: 0,
+            taken: 0,
+            acked: 0,
+            inserts: 0,
+            len,
+            items,
+            pending,
+        }
+    }
+
+    // A client of line `line` of n, with the initial list. Refused, it is all zeros.
+    pub fn open(n: u8, line: u8, items: &[u32]) -> Answer
+        ensures { λ r. ⌜ r ≡ opened n line (now (items .entry)) ⌝ }
+    {
+        let lines = (1 <= n) & (n <= Client::LINES);
+        let own = (1 <= line) & (line <= n);
+        if lines & own & (items.len() <= Client::INITIAL) {
+            let client = Client::fresh(n, line, items.len() as u16, endpoint::initial(items));
+            return Answer {
+                refusal: 0,
+                passed: 0,
+                client,
+            };
+        }
+        let client = Client::fresh(0, 0, 0, [0; 512]);
+        Answer {
+            refusal: 1,
+            passed: 0,
+            client,
+        }
     }
 }
