@@ -1,0 +1,48 @@
+-- What each call of a client answers: the model's answer in structs. An end that is not sound is refused by question 2.
+use Prim.Native.Nat.{ℕ}
+use mathlib.Core.Bool.{Bool, cond}
+use mathlib.Core.List.{List}
+use lib.Dec.{eqb}
+use Rattle.ot.specs.declared.Edit.{Edit}
+use Rattle.ot.specs.declared.Edit.the-variants.{Delete, Insert}
+use Rattle.model.specs.Questions as model
+use Rattle.model.specs.Client as client
+use Rattle.client.specs.declared.Client.{Client}
+use Rattle.client.specs.declared.Answer.{Answer}
+use Rattle.client.specs.Store.{view, store, sound}
+
+abbrev pub refusedWith : ℕ → Client → Answer
+refusedWith r c = record { refusal = r; passed = 0; client = c }
+
+-- the model's answer in structs: on a refusal the end is the one that came
+abbrev pub given : Client → model.Answer client.Client → Answer
+given c a = record { refusal = a .refusal; passed = a .passed; client = cond (eqb (a .refusal) 0) (store (a .end)) c }
+
+unfoldable pub guarded : Client → model.Answer client.Client → Answer
+guarded c a = cond (sound c) (given c a) (refusedWith 2 c)
+
+-- a refused opening returns an end that is all zeros
+abbrev pub opened : ℕ → ℕ → List ℕ → Answer
+opened n line items = given (store client.noClient) (client.openClient n line items)
+
+abbrev pub edited : Client → Edit → Answer
+edited c e = guarded c (client.editClient (view c) e)
+
+abbrev pub inserted : Client → ℕ → ℕ → Answer
+inserted c p x = guarded c (client.insertClient (view c) p x)
+
+abbrev pub deleted : Client → ℕ → Answer
+deleted c p = guarded c (client.deleteClient (view c) p)
+
+abbrev pub taken : Client → List ℕ → Answer
+taken c bytes = guarded c (client.takeClient (view c) bytes)
+
+-- A sending changes no end: the answer, and the lent buffer.
+unfoldable pub guardedSending : Client → model.Sent → List ℕ → model.Sent
+guardedSending c a lent = cond (sound c) a (record { refusal = 2; written = 0; buffer = lent })
+
+abbrev pub sentEdit : Client → ℕ → ℕ → List ℕ → model.Sent
+sentEdit c line k lent = guardedSending c (client.sendClient (view c) line k lent) lent
+
+abbrev pub sentAck : Client → ℕ → List ℕ → model.Sent
+sentAck c line lent = guardedSending c (client.tellClient (view c) line lent) lent
