@@ -2,17 +2,24 @@
 mod question2;
 
 ghost use mathlib.Core.Path.{_≡_};
-ghost use Rattle.model.specs.Server.{noLine, noServer, sendServer, tellServer, serverTakesAck};
+ghost use mathlib.Core.Bool.{true};
+ghost use lib.Dec.{eqb};
+ghost use Rattle.model.specs.Cross.{placed, priority};
+ghost use Rattle.model.specs.Server.{noLine, noServer, sendServer, tellServer, serverTakesAck, serverTakesEdit, serverTaken, othersRoomy};
 ghost use Rattle.endpoint.specs.Sending.{answered as sentAs};
 ghost use Rattle.server.specs.View.{storeLine, view, store};
 ghost use Rattle.server.specs.Sound.{Sound};
 ghost use Rattle.server.specs.Calls.{refused, answered, opened, sends, tells, takes};
+ghost use Rattle.server.specs.Taking.{keptBy, Keeps, Next, Accepted};
 use endpoint::Sent;
 use ot::Edit;
+use pending::Crossed;
 use pending::Slot;
 use wire::Header;
 use wire::Message;
+use wire::Read;
 use crate::question2::pending_count;
+use crate::question2::used;
 
 // What the server keeps of one line.
 pub struct Line {
@@ -87,6 +94,17 @@ fn unopened() -> Answer
             items,
             lines,
         },
+    }
+}
+
+// An insert that comes up a line has the line's priority.
+fn is_own(line: u8, e: Edit) -> bool
+    ensures { λ r. ⌜ r ≡ priority (eqb line) e ⌝ }
+{
+    match e {
+        Edit::Nothing => true,
+        Edit::Delete(_) => true,
+        Edit::Insert(_, _, p) => line == p,
     }
 }
 
@@ -238,5 +256,135 @@ impl Server {
             return self.refuse(q);
         }
         self.refuse(4)
+    }
+
+    // Has every line but the one at a place, counted from 0, room for one more pending edit?
+    fn others_roomy(self, at: usize) -> bool
+        requires { ⌜ Sound self ⌝ }
+        ensures { λ r. ⌜ r ≡ othersRoomy at (view self .lines) ⌝ }
+    {
+        let mut roomy = true;
+        let m = used(self.n);
+        for i in 0..m {
+            let v = self.lines[i];
+            let count = pending_count(v.made, v.acked);
+            roomy = roomy & ((i == at) | (count < Server::PENDING));
+        }
+        roomy
+    }
+
+    // The server keeps the edit for every line but the one that it came on.
+    fn keep(mut self, at: usize, e: Edit) -> Server
+        requires { ⌜ Keeps self at ⌝ }
+        ensures { λ r. ⌜ r ≡ store (keptBy (view self) at e) ⌝ }
+    {
+        let m = used(self.n);
+        for i in 0..m {
+            if i == at {
+                continue;
+            }
+            let v = self.lines[i];
+            let p = v.pending;
+            let pending = pending::push(p, pending_count(v.made, v.acked), e);
+            self.lines[i] = Line {
+                made: v.made + 1,
+                taken: v.taken,
+                acked: v.acked,
+                inserts: v.inserts,
+                pending,
+            };
+        }
+        self
+    }
+
+    // The edit as it stands after the pending ones is applied and kept for the others; of the line that it came on the pending edits
+    // are those in their forms after it.
+    fn accept(self, line: u8, seen: u16, e: Edit, c: Crossed) -> Answer
+        requires { ⌜ Accepted self line seen e c ⌝ }
+        ensures { λ r. ⌜ r ≡ record { refusal = 0; passed = c .passed; server = store (serverTaken (view self) line seen e) } ⌝ }
+    {
+        let i = (line - 1) as usize;
+        let v = self.lines[i];
+        let form = c.edit;
+        let pending = c.slots;
+        let mut next = self.keep(i, form);
+        next.lines[i] = Line {
+            made: v.made,
+            taken: v.taken + 1,
+            acked: seen,
+            inserts: v.inserts + endpoint::inserts_of(e),
+            pending,
+        };
+        let len = next.len;
+        let longer = ot::apply(&mut next.items, len, form);
+        next.len = longer;
+        Answer {
+            refusal: 0,
+            passed: c.passed,
+            server: next,
+        }
+    }
+
+    // Questions 9, 10 and 12.
+    fn take_next(self, h: Header, e: Edit) -> Answer
+        requires { ⌜ Next self h e ⌝ }
+        ensures { λ r. ⌜ r ≡ answered self (serverTakesEdit (view self) h e) ⌝ }
+    {
+        let i = (h.line - 1) as usize;
+        let v = self.lines[i];
+        let p = v.pending;
+        let gone = pending_count(h.seen, v.acked);
+        let c = pending::cross(p, pending_count(v.made, v.acked), gone, e);
+        let form = c.edit;
+        let room = endpoint::has_room(form, self.len) & c.placed;
+        if room {
+            if v.inserts + endpoint::inserts_of(e) <= Server::INSERTS {
+                let others = self.others_roomy(i);
+                if others {
+                    return self.accept(h.line, h.seen, e, c);
+                }
+                return self.refuse(12);
+            }
+            return self.refuse(10);
+        }
+        self.refuse(9)
+    }
+
+    // Questions 4 to 8.
+    fn take_edit(self, h: Header, e: Edit) -> Answer
+        requires { ⌜ Sound self × (placed e ≡ true) ⌝ }
+        ensures { λ r. ⌜ r ≡ answered self (serverTakesEdit (view self) h e) ⌝ }
+    {
+        let own = is_own(h.line, e);
+        let up = (h.direction == 0) & ((1 <= h.line) & (h.line <= self.n)) & own;
+        if up {
+            let i = (h.line - 1) as usize;
+            let v = self.lines[i];
+            let asked = endpoint::ask_edit(h.number, h.seen, v.taken, v.acked, v.made);
+            if asked == 0 {
+                return self.take_next(h, e);
+            }
+            return self.refuse(asked);
+        }
+        self.refuse(4)
+    }
+
+    // Bytes that a client sent: exactly one message.
+    pub fn take(self, bytes: &[u8]) -> Answer
+        ensures { λ r. ⌜ r ≡ takes self (now (bytes .entry)) ⌝ }
+    {
+        let well = self.sound();
+        if well {
+            let Read::Message(m) = wire::parse(bytes) else {
+                return self.refuse(3);
+            };
+            return match m {
+                Message::Insert(h, p, x, r) => self.take_edit(h, Edit::Insert(p, x, r)),
+                Message::Delete(h, p) => self.take_edit(h, Edit::Delete(p)),
+                Message::Nothing(h) => self.take_edit(h, Edit::Nothing),
+                Message::Ack(line, direction, seen) => self.take_ack(line, direction, seen),
+            };
+        }
+        self.refuse(2)
     }
 }

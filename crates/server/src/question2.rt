@@ -45,7 +45,7 @@ fn pick(first: bool, a: bool, b: bool) -> bool
 }
 
 // How many of the eight places are in use.
-fn used(n: u8) -> usize
+pub fn used(n: u8) -> usize
     ensures { λ r. ⌜ r ≡ min n 8 ⌝ }
 {
     if n <= 8 {
