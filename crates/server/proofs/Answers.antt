@@ -95,6 +95,7 @@ unused-lines n h = go maxLines h
     stored : (k : ℕ) → replicate k (storeLine model.noLine) ≡ map storeLine (replicate k model.noLine)
     stored zero = refl
     stored (suc k) = ap (λ (r : List Line). storeLine model.noLine ∷ r) (stored k)
+
     go : (m : ℕ) → n ≤ m → replicate m (storeLine model.noLine) ≡ padTo m (storeLine model.noLine) (map storeLine (replicate n model.noLine))
     go m k =
         let e : m ≡ n + (m - n) = omega arith in
@@ -128,7 +129,7 @@ module _ (n : ℕ) (items : List ℕ) where
       let all : take 128 items ≡ items = take-all 128 items (open-short t) in
       let i : a ≡ padTo maxItems 0 items = e ∙ ap (padTo maxItems 0) all in
       let l : replicate 8 u ≡ padTo maxLines (storeLine model.noLine) (map storeLine (replicate n model.noLine)) =
-          ap (replicate 8) v ∙ unused-lines n few in
+      ap (replicate 8) v ∙ unused-lines n few in
       let q = asks-yes 1 (every (between 1 maxLines n ∷ leb (length items) maxInitial ∷ [])) [] (open-asks true t) in
       (λ j. record { refusal = 0; passed = 0; server = record { n = n; initial = length items; len = length items; items = i j; lines = l j } })
       ∙ sym (yes-answer (store model.noServer) (asks (ask 1 (every (between 1 maxLines n ∷ leb (length items) maxInitial ∷ [])) ∷ [])) model.noServer
@@ -180,8 +181,8 @@ module _ (s : Server) (h : Sound s) (line : ℕ) where
     unfolding model.sendServer sent view
     send-none t u =
         let q : asks sendQuestions ≡ 13 =
-            second-yes 2 4 (model.soundServer (view s)) (between 1 (s .n) line) (ask 13 isKept ∷ sendLast) (means s h) t
-            ∙ asks-no 13 isKept sendLast (kept-is t ∙ u) in
+        second-yes 2 4 (model.soundServer (view s)) (between 1 (s .n) line) (ask 13 isKept ∷ sendLast) (means s h) t
+        ∙ asks-no 13 isKept sendLast (kept-is t ∙ u) in
         sym (ap (λ (r : ℕ). sent r (bytesOf (model.serverMessage (view s) line k)) lent) q)
 
     message-is : (m : Message) (e : Edit) → between 1 (s .n) line ≡ true → kept ≡ true → e ≡ getD (edits (v .pending)) ((k - 1) - v .acked) Nothing
@@ -192,8 +193,8 @@ module _ (s : Server) (h : Sound s) (line : ℕ) where
         let i : (k - 1) - v .acked ≡ k - (v .acked + 1) = omega arith in
         let in-use : k - (v .acked + 1) < v .made - v .acked = omega arith in
         let p : e ≡ pendingAt (v .acked) (usedEdits (v .made - v .acked) (v .pending)) k =
-            f ∙ ap (λ (j : ℕ). getD (edits (v .pending)) j Nothing) i
-            ∙ sym (getD-take (v .made - v .acked) (edits (v .pending)) (k - (v .acked + 1)) Nothing in-use) in
+        f ∙ ap (λ (j : ℕ). getD (edits (v .pending)) j Nothing) i
+        ∙ sym (getD-take (v .made - v .acked) (edits (v .pending)) (k - (v .acked + 1)) Nothing in-use) in
         g ∙ ap (messageOf (record { line = line; direction = 1; number = k; seen = v .taken })) p
         ∙ sym (ap (λ (w : model.Line). messageOf (record { line = line; direction = 1; number = k; seen = w .taken }) (pendingAt (w .acked) (w .pending) k)) (line-of s h line t))
 
@@ -202,8 +203,8 @@ module _ (s : Server) (h : Sound s) (line : ℕ) where
     unfolding model.sendServer view
     send-done m e t u f g =
         let q : asks sendQuestions ≡ asks sendLast =
-            second-yes 2 4 (model.soundServer (view s)) (between 1 (s .n) line) (ask 13 isKept ∷ sendLast) (means s h) t
-            ∙ asks-yes 13 isKept sendLast (kept-is t ∙ u) in
+        second-yes 2 4 (model.soundServer (view s)) (between 1 (s .n) line) (ask 13 isKept ∷ sendLast) (means s h) t
+        ∙ asks-yes 13 isKept sendLast (kept-is t ∙ u) in
         ap (λ (w : Message). finished 0 w lent) (message-is m e t u f g)
         ∙ sym (ap (λ (r : ℕ). sent r (bytesOf (model.serverMessage (view s) line k)) lent) q)
 
@@ -222,7 +223,7 @@ module _ (s : Server) (h : Sound s) (line : ℕ) where
     unfolding model.tellServer view bytesOf
     tell-done t =
         let q : asks tellQuestions ≡ asks (ask 14 (leb 5 (length lent)) ∷ []) =
-            second-yes 2 4 (model.soundServer (view s)) (between 1 (s .n) line) (ask 14 (leb 5 (length lent)) ∷ []) (means s h) t in
+        second-yes 2 4 (model.soundServer (view s)) (between 1 (s .n) line) (ask 14 (leb 5 (length lent)) ∷ []) (means s h) t in
         ap (λ (w : model.Line). finished 0 (message.Ack line 1 (w .taken)) lent) (sym (line-of s h line t))
         ∙ sym (ap (λ (r : ℕ). sent r (bytesOf (message.Ack line 1 (model.lineOf (view s) line .taken))) lent) q)
 
@@ -277,12 +278,12 @@ module _ (s : Server) (h : Sound s) (line : ℕ) where
         let at = place-used s h line b in
         let new : model.Line = model.lineAcked seen (viewLine v) in
         let l : set (s .lines) (line - 1) (record { made = v .made; taken = v .taken; acked = seen; inserts = v .inserts; pending = slots })
-            ≡ padTo maxLines (storeLine model.noLine) (map storeLine (model.atPlace (line - 1) (model.lineAcked seen) (λ w. w) (used s))) =
-            ap (λ (p : List Slot). set (s .lines) (line - 1) (record { made = v .made; taken = v .taken; acked = seen; inserts = v .inserts; pending = p })) f
-            ∙ store-line s h (line - 1) at (model.lineAcked seen (viewLine v))
-            ∙ ap (λ (w : model.Line). padTo maxLines (storeLine model.noLine) (map storeLine (set (used s) (line - 1) (model.lineAcked seen w)))) (sym (at-view s h (line - 1) at))
-            ∙ ap (λ (vs : List model.Line). padTo maxLines (storeLine model.noLine) (map storeLine vs))
-            (ap (λ (vs : List model.Line). set vs (line - 1) (model.lineAcked seen (getD (used s) (line - 1) model.noLine))) (sym (place-id (line - 1) (used s)))
-            ∙ place-set (line - 1) (model.lineAcked seen) (λ w. w) (used s) (omega (arith, lines-count s h))) in
+        ≡ padTo maxLines (storeLine model.noLine) (map storeLine (model.atPlace (line - 1) (model.lineAcked seen) (λ w. w) (used s))) =
+        ap (λ (p : List Slot). set (s .lines) (line - 1) (record { made = v .made; taken = v .taken; acked = seen; inserts = v .inserts; pending = p })) f
+        ∙ store-line s h (line - 1) at (model.lineAcked seen (viewLine v))
+        ∙ ap (λ (w : model.Line). padTo maxLines (storeLine model.noLine) (map storeLine (set (used s) (line - 1) (model.lineAcked seen w)))) (sym (at-view s h (line - 1) at))
+        ∙ ap (λ (vs : List model.Line). padTo maxLines (storeLine model.noLine) (map storeLine vs))
+        (ap (λ (vs : List model.Line). set vs (line - 1) (model.lineAcked seen (getD (used s) (line - 1) model.noLine))) (sym (place-id (line - 1) (used s)))
+        ∙ place-set (line - 1) (model.lineAcked seen) (λ w. w) (used s) (omega (arith, lines-count s h))) in
         (λ j. record { refusal = 0; passed = 0; server = record { n = s .n; initial = s .initial; len = len-is s h j; items = items-are s h j; lines = l j } })
         ∙ sym (yes-answer s (asks ackQuestions) (view s) (model.serverAcked (view s) line seen) 0 (ack-asks t ∙ sym e ∙ z))

@@ -2,7 +2,7 @@
 use mathlib.Core.Path.{_≡_, refl, ap, sym, _∙_, subst}
 use mathlib.Core.Bool.{Bool, true}
 use mathlib.Core.List.{List, [], _∷_, _++_, map}
-use Prim.Native.Nat.{ℕ, zero, suc, _+_, _-_, _*_, _≤_, _<_}
+use Prim.Native.Nat.{ℕ, zero, suc, _+_, _-_, _*_, _≤_, _<_, min}
 use native.Mathlib.Numerals.{add-one}
 use native.Mathlib.Omega.{arith}
 use lib.ListN.{length, getD, take, drop, set, replicate, length-map, List·getD-map, List·getD-append}
@@ -30,6 +30,10 @@ use Rattle.server.proofs.Roomy.{room-at}
 abbrev pub withLines : Server → List Line → Server
 withLines s l = record { n = s .n; initial = s .initial; len = s .len; items = s .items; lines = l }
 
+pub with-lines : (s t : Server) (l m k : List Line) → t ≡ withLines s l → k ≡ m → withLines t k ≡ withLines s m
+with-lines s t l m k e f =
+    λ j. record { n = e j .n; initial = e j .initial; len = e j .len; items = e j .items; lines = f j }
+
 -- where the loop goes
 abbrev pub keptLines : Server → ℕ → Edit → List Line
 keptLines s at e = padTo maxLines (storeLine model.noLine) (map storeLine (model.atPlace at (λ v. v) (model.lineKeeps e) (used s)))
@@ -38,6 +42,10 @@ keptLines s at e = padTo maxLines (storeLine model.noLine) (map storeLine (model
 sum-few : (n sum l : ℕ) (vs : List model.Line) → LinesFacts n sum l vs → takenSum vs ≤ 400 * length vs
 sum-few n sum l [] f = omega arith
 sum-few n sum l (v ∷ vs) f = omega (arith, sum-few n sum (suc l) vs (f .1), f .0 .taken)
+
+-- all lines in use are among the eight
+pub few-used : (s : Server) → Sound s → min (s .n) 8 ≡ s .n
+few-used s h = omega (arith, lines-few s h)
 
 module _ (s : Server) (h : Sound s) (i : ℕ) (lt : i < s .n) where
   pub made-few : getD (s .lines) i blank .made ≤ 3200
@@ -113,7 +121,7 @@ module _ (s : Server) (h : Sound s) (at : ℕ) (e : Edit) where
     pub keep-skip : i ≡ at → a ≡ swept (keptLines s at e) (s .lines) (i + 1)
     keep-skip z =
         let own : getD (s .lines) i blank ≡ getD (keptLines s at e) i blank =
-            ap (λ (j : ℕ). getD (s .lines) j blank) z ∙ own-at (subst (λ (j : ℕ). j < s .n) z lt) ∙ sym (ap (λ (j : ℕ). getD (keptLines s at e) j blank) z) in
+        ap (λ (j : ℕ). getD (s .lines) j blank) z ∙ own-at (subst (λ (j : ℕ). j < s .n) z lt) ∙ sym (ap (λ (j : ℕ). getD (keptLines s at e) j blank) z) in
         sym (set-getD a i blank) ∙ ap (set a i) (read-at ∙ own)
         ∙ ap (λ (l : List Line). set l i (getD (keptLines s at e) i blank)) sw
         ∙ swept-store (keptLines s at e) (s .lines) i blank target-length inside
@@ -126,8 +134,8 @@ module _ (s : Server) (h : Sound s) (at : ℕ) (e : Edit) where
   unfolding view store
   keep-end i t z f =
       let l : swept (keptLines s at e) (s .lines) i ≡ keptLines s at e =
-          ap (swept (keptLines s at e) (s .lines)) z
-          ∙ swept-to (keptLines s at e) (s .lines) (s .n)
-          (pad-drop maxLines (storeLine model.noLine) (map storeLine (model.atPlace at (λ v. v) (model.lineKeeps e) (used s))) (s .n) (omega (arith, stored-count))
-          ∙ sym (ap (drop (s .n)) (lines-are s h) ∙ pad-drop maxLines (storeLine model.noLine) (map storeLine (used s)) (s .n) (omega (arith, used-stored)))) in
+      ap (swept (keptLines s at e) (s .lines)) z
+      ∙ swept-to (keptLines s at e) (s .lines) (s .n)
+      (pad-drop maxLines (storeLine model.noLine) (map storeLine (model.atPlace at (λ v. v) (model.lineKeeps e) (used s))) (s .n) (omega (arith, stored-count))
+      ∙ sym (ap (drop (s .n)) (lines-are s h) ∙ pad-drop maxLines (storeLine model.noLine) (map storeLine (used s)) (s .n) (omega (arith, used-stored)))) in
       f ∙ (λ j. record { n = s .n; initial = s .initial; len = len-is s h j; items = items-are s h j; lines = l j })

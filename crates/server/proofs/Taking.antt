@@ -109,29 +109,29 @@ module _ (s : Server) (line seen : ℕ) (e : Edit) (c : Crossed) (a : Accepted s
       let n : t .n ≡ s .n = ap (λ (u : Server). u .n) f in
       let initial : t .initial ≡ s .initial = ap (λ (u : Server). u .initial) f in
       let size-is : size ≡ length (applied (model.carried (view s) line seen e) before) =
-          w .length ∙ room-length (c .edit) (t .len) before (sym (len-is s (a .sound)) ∙ sym len) room-t
-          ∙ ap (λ (d : Edit). length (applied d before)) form in
+      w .length ∙ room-length (c .edit) (t .len) before (sym (len-is s (a .sound)) ∙ sym len) room-t
+      ∙ ap (λ (d : Edit). length (applied d before)) form in
       let items-are′ : items ≡ padTo maxItems 0 (applied (model.carried (view s) line seen e) before) =
-          w .items ∙ room-stored (c .edit) (t .len) (t .items) before arr (sym (len-is s (a .sound)) ∙ sym len) room-t
-          ∙ ap (λ (d : Edit). padTo maxItems 0 (applied d before)) form in
+      w .items ∙ room-stored (c .edit) (t .len) (t .items) before arr (sym (len-is s (a .sound)) ∙ sym len) room-t
+      ∙ ap (λ (d : Edit). padTo maxItems 0 (applied d before)) form in
       let slots : c .slots ≡ filled (over e (model.unackedOf (viewLine v) seen)) =
-          ap (λ (d : Crossed). d .slots) (a .met)
-          ∙ ap (λ (u : model.Line). filled (over e (model.unackedOf u seen))) (line-of s (a .sound) line (a .here)) in
+      ap (λ (d : Crossed). d .slots) (a .met)
+      ∙ ap (λ (u : model.Line). filled (over e (model.unackedOf u seen))) (line-of s (a .sound) line (a .here)) in
       let others : List model.Line = model.atPlace (line - 1) (λ u. u) (model.lineKeeps (c .edit)) (used s) in
       let count : line - 1 < length (model.atPlace (line - 1) (λ u. u) (model.lineKeeps (c .edit)) (used s)) =
-          omega (arith, length-atPlace (line - 1) (λ u. u) (model.lineKeeps (c .edit)) (used s), lines-count s (a .sound), here) in
+      omega (arith, length-atPlace (line - 1) (λ u. u) (model.lineKeeps (c .edit)) (used s), lines-count s (a .sound), here) in
       let lines : set (t .lines) (line - 1) (record { made = v .made; taken = v .taken + 1; acked = seen; inserts = v .inserts + k; pending = c .slots })
-          ≡ padTo maxLines (storeLine model.noLine) (map storeLine (model.atPlace (line - 1) (model.lineTaken seen e) (model.lineKeeps (model.carried (view s) line seen e)) (used s))) =
-          ap (λ (p : List Slot). set (t .lines) (line - 1) (record { made = v .made; taken = v .taken + 1; acked = seen; inserts = v .inserts + k; pending = p })) slots
-          ∙ ap (λ (j : ℕ). set (t .lines) (line - 1) (record { made = v .made; taken = v .taken + 1; acked = seen; inserts = v .inserts + j; pending = filled (over e (model.unackedOf (viewLine v) seen)) })) g
-          ∙ ap (λ (l : List Line). set l (line - 1) (storeLine (model.lineTaken seen e (viewLine v)))) (ap (λ (u : Server). u .lines) f)
-          ∙ pad-set maxLines (storeLine model.noLine) (map storeLine (model.atPlace (line - 1) (λ u. u) (model.lineKeeps (c .edit)) (used s))) (line - 1) (storeLine (model.lineTaken seen e (viewLine v)))
-          (omega (arith, length-map (model.atPlace (line - 1) (λ u. u) (model.lineKeeps (c .edit)) (used s)) storeLine, count))
-          ∙ ap (padTo maxLines (storeLine model.noLine)) (set-map storeLine (model.atPlace (line - 1) (λ u. u) (model.lineKeeps (c .edit)) (used s)) (line - 1) (model.lineTaken seen e (viewLine v)))
-          ∙ ap (λ (u : model.Line). padTo maxLines (storeLine model.noLine) (map storeLine (set (model.atPlace (line - 1) (λ w. w) (model.lineKeeps (c .edit)) (used s)) (line - 1) (model.lineTaken seen e u)))) (sym (at-view s (a .sound) (line - 1) here))
-          ∙ ap (λ (l : List model.Line). padTo maxLines (storeLine model.noLine) (map storeLine l))
-          (place-set (line - 1) (model.lineTaken seen e) (model.lineKeeps (c .edit)) (used s) (omega (arith, lines-count s (a .sound), here)))
-          ∙ ap (λ (d : Edit). padTo maxLines (storeLine model.noLine) (map storeLine (model.atPlace (line - 1) (model.lineTaken seen e) (model.lineKeeps d) (used s)))) form in
+      ≡ padTo maxLines (storeLine model.noLine) (map storeLine (model.atPlace (line - 1) (model.lineTaken seen e) (model.lineKeeps (model.carried (view s) line seen e)) (used s))) =
+      ap (λ (p : List Slot). set (t .lines) (line - 1) (record { made = v .made; taken = v .taken + 1; acked = seen; inserts = v .inserts + k; pending = p })) slots
+      ∙ ap (λ (j : ℕ). set (t .lines) (line - 1) (record { made = v .made; taken = v .taken + 1; acked = seen; inserts = v .inserts + j; pending = filled (over e (model.unackedOf (viewLine v) seen)) })) g
+      ∙ ap (λ (l : List Line). set l (line - 1) (storeLine (model.lineTaken seen e (viewLine v)))) (ap (λ (u : Server). u .lines) f)
+      ∙ pad-set maxLines (storeLine model.noLine) (map storeLine (model.atPlace (line - 1) (λ u. u) (model.lineKeeps (c .edit)) (used s))) (line - 1) (storeLine (model.lineTaken seen e (viewLine v)))
+      (omega (arith, length-map (model.atPlace (line - 1) (λ u. u) (model.lineKeeps (c .edit)) (used s)) storeLine, count))
+      ∙ ap (padTo maxLines (storeLine model.noLine)) (set-map storeLine (model.atPlace (line - 1) (λ u. u) (model.lineKeeps (c .edit)) (used s)) (line - 1) (model.lineTaken seen e (viewLine v)))
+      ∙ ap (λ (u : model.Line). padTo maxLines (storeLine model.noLine) (map storeLine (set (model.atPlace (line - 1) (λ w. w) (model.lineKeeps (c .edit)) (used s)) (line - 1) (model.lineTaken seen e u)))) (sym (at-view s (a .sound) (line - 1) here))
+      ∙ ap (λ (l : List model.Line). padTo maxLines (storeLine model.noLine) (map storeLine l))
+      (place-set (line - 1) (model.lineTaken seen e) (model.lineKeeps (c .edit)) (used s) (omega (arith, lines-count s (a .sound), here)))
+      ∙ ap (λ (d : Edit). padTo maxLines (storeLine model.noLine) (map storeLine (model.atPlace (line - 1) (model.lineTaken seen e) (model.lineKeeps d) (used s)))) form in
       λ j. record { n = n j; initial = initial j; len = size-is j; items = items-are′ j; lines = lines j }
 
 -- ---- questions
@@ -257,9 +257,9 @@ module _ (s : Server) (hd : Header) (e : Edit) where
     pub next-seen : (u .acked ≤ hd .seen) × (hd .seen ≤ u .made)
     next-seen =
         let zero : asks (editQuestions (hd .number) (hd .seen) (u .taken) (u .acked) (u .made)) ≡ 0 =
-            sym (numbers-are (n .sound) up) ∙ n .asked in
+        sym (numbers-are (n .sound) up) ∙ n .asked in
         let y = yes-all (editQuestions (hd .number) (hd .seen) (u .taken) (u .acked) (u .made))
-            (eqb-false 5 0 refl, (eqb-false 6 0 refl, (eqb-false 7 0 refl, (eqb-false 8 0 refl, tt)))) zero in
+        (eqb-false 5 0 refl, (eqb-false 6 0 refl, (eqb-false 7 0 refl, (eqb-false 8 0 refl, tt)))) zero in
         (leb-true (u .acked) (hd .seen) (y .1 .1 .0), leb-true (hd .seen) (u .made) (y .1 .1 .1 .0))
 
     pub next-kept : KeptLine (getD (s .lines) (hd .line - 1) blank)

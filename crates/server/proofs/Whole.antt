@@ -59,7 +59,7 @@ stored-line v k = λ i. record { made = v .made; taken = v .taken; acked = v .ac
 zero-line : (v : Line) → KeptLine v → zeroLine v ≡ true → v ≡ storeLine model.noLine
 zero-line v k z =
     let h = hold (eqb (v .made) 0 ∷ eqb (v .taken) 0 ∷ eqb (v .acked) 0 ∷ eqb (v .inserts) 0 ∷ [])
-        (and-left (countsZero (v .made) (v .taken) (v .acked) (v .inserts)) (allNothing (edits (v .pending))) z) in
+    (and-left (countsZero (v .made) (v .taken) (v .acked) (v .inserts)) (allNothing (edits (v .pending))) z) in
     let a : v .made ≡ 0 = eqb-true (v .made) 0 (h .0) in
     let b : v .taken ≡ 0 = eqb-true (v .taken) 0 (h .1 .0) in
     let c : v .acked ≡ 0 = eqb-true (v .acked) 0 (h .1 .1 .0) in
@@ -122,34 +122,63 @@ module _ (s : Server) (eight : length (s .lines) ≡ 8) (places : length (s .ite
       let n : s .n ≤ 8 = leb-true (s .n) 8 (h .1 .0) in
       let len : s .len ≤ 512 = leb-true (s .len) 512 (h .1 .1 .1 .0) in
       let most : s .len ≤ s .initial + sumInserts s = leb-true (s .len) (s .initial + sumInserts s) (h .1 .1 .1 .1 .0) in
-      held (structTests s)
-      (held (model.serverTests (view s))
-      (both (leb 1 (s .n)) (leb (s .n) 8) (h .0) (h .1 .0),
-      (h .1 .1 .0,
-      (le-leb (length (take (s .len) (s .items))) maxItems items-short,
-      (eq-eqb (length (used s)) (s .n) (lines-length n),
-      (and-left lines-sound (tidy && zeros) p,
-      (le-leb (length (take (s .len) (s .items))) (s .initial + sumInserts s) (omega (arith, items-length len)), tt)))))),
-      (h .1 .1 .1 .0,
-      (h .1 .1 .1 .1 .1 .0,
-      (and-left tidy zeros (and-right lines-sound (tidy && zeros) p),
-      (and-right tidy zeros (and-right lines-sound (tidy && zeros) p), tt))))))
+      held (structTests s) (
+        held (model.serverTests (view s)) (
+          both (leb 1 (s .n)) (leb (s .n) 8) (h .0) (h .1 .0),
+          (
+            h .1 .1 .0,
+            (
+              le-leb (length (take (s .len) (s .items))) maxItems items-short,
+              (
+                eq-eqb (length (used s)) (s .n) (lines-length n),
+                (
+                  and-left lines-sound (tidy && zeros) p,
+                  (le-leb (length (take (s .len) (s .items))) (s .initial + sumInserts s) (omega (arith, items-length len)), tt),
+                ),
+              ),
+            ),
+          ),
+        ),
+        (
+          h .1 .1 .1 .0,
+          (
+            h .1 .1 .1 .1 .1 .0,
+            (
+              and-left tidy zeros (and-right lines-sound (tidy && zeros) p),
+              (and-right tidy zeros (and-right lines-sound (tidy && zeros) p), tt),
+            ),
+          ),
+        ),
+      ))
       (λ e.
       let t = hold (structTests s) e in
       let m = hold (model.serverTests (view s)) (t .0) in
       let len : s .len ≤ 512 = leb-true (s .len) 512 (t .1 .0) in
       let most : length (take (s .len) (s .items)) ≤ s .initial + sumInserts s =
-          leb-true (length (take (s .len) (s .items))) (s .initial + sumInserts s) (m .1 .1 .1 .1 .1 .0) in
-      held (codeTests s)
-      (and-left (leb 1 (s .n)) (leb (s .n) 8) (m .0),
-      (and-right (leb 1 (s .n)) (leb (s .n) 8) (m .0),
-      (m .1 .0,
-      (t .1 .0,
-      (le-leb (s .len) (s .initial + sumInserts s) (omega (arith, items-length len)),
-      (t .1 .1 .0,
-      (all-places (s .n) (sumTaken s) (s .lines)
-      ∙ both lines-sound (tidy && zeros) (m .1 .1 .1 .1 .0) (both tidy zeros (t .1 .1 .1 .0) (t .1 .1 .1 .1 .0)),
-      tt))))))))
+      leb-true (length (take (s .len) (s .items))) (s .initial + sumInserts s) (m .1 .1 .1 .1 .1 .0) in
+      held (codeTests s) (
+        and-left (leb 1 (s .n)) (leb (s .n) 8) (m .0),
+        (
+          and-right (leb 1 (s .n)) (leb (s .n) 8) (m .0),
+          (
+            m .1 .0,
+            (
+              t .1 .0,
+              (
+                le-leb (s .len) (s .initial + sumInserts s) (omega (arith, items-length len)),
+                (
+                  t .1 .1 .0,
+                  (
+                    all-places (s .n) (sumTaken s) (s .lines)
+                        ∙ both lines-sound (tidy && zeros) (m .1 .1 .1 .1 .0) (both tidy zeros (t .1 .1 .1 .0) (t .1 .1 .1 .1 .0)),
+                    tt,
+                  ),
+                ),
+              ),
+            ),
+          ),
+        ),
+      ))
 
   -- as the code joins them
   pub struct-code : (inserts taken : ℕ) (unused lines : Bool) → inserts ≡ sumInserts s → taken ≡ sumTaken s → unused ≡ allZero (drop (s .len) (s .items))
@@ -173,11 +202,11 @@ module _ (s : Server) (eight : length (s .lines) ≡ 8) (places : length (s .ite
       let size : s .len ≡ length (take (s .len) (s .items)) = sym (items-length len) in
       let items : s .items ≡ padTo maxItems 0 (take (s .len) (s .items)) = stored-of (s .items) (s .len) places len (t .1 .1 .0) in
       let rest : drop (s .n) (s .lines) ≡ replicate (maxLines - s .n) (storeLine model.noLine) =
-          zero-lines (drop (s .n) (s .lines)) (kept-drop (s .n) (s .lines) k) (t .1 .1 .1 .1 .0)
-          ∙ ap (λ (j : ℕ). replicate j (storeLine model.noLine)) (length-drop (s .n) (s .lines) ∙ ap (λ (j : ℕ). j - s .n) eight) in
+      zero-lines (drop (s .n) (s .lines)) (kept-drop (s .n) (s .lines) k) (t .1 .1 .1 .1 .0)
+      ∙ ap (λ (j : ℕ). replicate j (storeLine model.noLine)) (length-drop (s .n) (s .lines) ∙ ap (λ (j : ℕ). j - s .n) eight) in
       let lines : s .lines ≡ padTo maxLines (storeLine model.noLine) (map storeLine (used s)) =
-          pad-of maxLines (storeLine model.noLine) (s .lines) (s .n) eight n rest
-          ∙ ap (padTo maxLines (storeLine model.noLine)) (stored-lines (take (s .n) (s .lines)) (kept-take (s .n) (s .lines) k)) in
+      pad-of maxLines (storeLine model.noLine) (s .lines) (s .n) eight n rest
+      ∙ ap (padTo maxLines (storeLine model.noLine)) (stored-lines (take (s .n) (s .lines)) (kept-take (s .n) (s .lines) k)) in
       record {
         well = e;
         whole = λ i. record { n = s .n; initial = s .initial; len = size i; items = items i; lines = lines i };

@@ -11,6 +11,8 @@ ghost use Rattle.server.specs.View.{storeLine, view, store};
 ghost use Rattle.server.specs.Sound.{Sound};
 ghost use Rattle.server.specs.Calls.{refused, answered, opened, sends, tells, takes};
 ghost use Rattle.server.specs.Taking.{keptBy, Keeps, Next, Accepted};
+use crate::question2::pending_count;
+use crate::question2::used;
 use endpoint::Sent;
 use ot::Edit;
 use pending::Crossed;
@@ -18,8 +20,6 @@ use pending::Slot;
 use wire::Header;
 use wire::Message;
 use wire::Read;
-use crate::question2::pending_count;
-use crate::question2::used;
 
 // What the server keeps of one line.
 pub struct Line {
@@ -111,10 +111,15 @@ fn is_own(line: u8, e: Edit) -> bool
 impl Server {
     // The limits, by name.
     pub const LINES: usize = 8;
+
     pub const INSERTS: u16 = 48;
+
     pub const EDITS: u16 = 400;
+
     pub const PENDING: usize = 64;
+
     pub const ITEMS: usize = 512;
+
     pub const INITIAL: usize = 128;
 
     pub fn open(n: u8, items: &[u32]) -> Answer

@@ -100,10 +100,7 @@ impl Server {
             taken += wide(v.taken);
             inserts += wide(v.inserts);
         }
-        Sums {
-            taken,
-            inserts,
-        }
+        Sums { taken, inserts }
     }
 
     fn sound_lines(self, sum: u32) -> bool

@@ -1,3 +1,4 @@
+use mathlib.Core.Path.{_≡_, refl, ap, _∙_, sym, subst}
 use borrow.Author.Needs.{needs}
 use Rattle.server.proofs.is_own.Statement.{statement}
 use Rattle.server.proofs.is_own.Tie as tie
@@ -26,7 +27,7 @@ returns-2 c = search needs
 
 -- src/lib.rt:101:1
 returns-3 : tie.Need-returns-3
-returns-3 c = ?
+returns-3 c = simp (c .before .e .given .1)
 
 pub is-own-spec : {M : Type 1} → statement M
 is-own-spec = tie.close (tie.spec enum-told enum-told-2 enum-known-e returns returns-2 returns-3)

@@ -68,15 +68,24 @@ loop-again : tie.Need-loop-again Inv-loop μ-loop
 loop-again c =
     let l : length (c .before .before .before .before .before .before .args .t1 .lines) ≡ 8 = search (length-mapped, needs) in
     let h : c .before .before .before .before .loop .i < length (c .before .before .before .before .before .before .args .t1 .lines) =
-        omega (arith, c .before .before .before .loop-test, c .before .before .before .before .loop .inv .1 .0) in
+    omega (arith, c .before .before .before .loop-test, c .before .before .before .before .loop .inv .1 .0) in
     let t = total-turn (λ v. v .taken) (c .before .before .before .before .loop .i) (c .before .before .before .before .before .before .args .t1 .lines) blank h in
-    let n = total-turn (λ v. v .inserts) (c .before .before .before .before .loop .i) (c .before .before .before .before .before .before .args .t1 .lines) blank h in
-    (omega (arith, c .before .before .before .loop-test),
-    (c .before .before .before .before .loop .inv .1 .0,
-    (omega (arith, c .before .wide .ensures .1, c .before .before .before .before .loop .inv .1 .1 .0),
-    (omega (arith, c .wide2 .ensures .1, c .before .before .before .before .loop .inv .1 .1 .1 .0),
-    (omega (arith, c .before .wide .ensures .0, c .before .before .before .before .loop .inv .1 .1 .1 .1 .0),
-    omega (arith, c .wide2 .ensures .0, c .before .before .before .before .loop .inv .1 .1 .1 .1 .1))))))
+    let n = total-turn (λ v. v .inserts) (c .before .before .before .before .loop .i) (c .before .before .before .before .before .before .args .t1 .lines) blank h in (
+      omega (arith, c .before .before .before .loop-test),
+      (
+        c .before .before .before .before .loop .inv .1 .0,
+        (
+          omega (arith, c .before .wide .ensures .1, c .before .before .before .before .loop .inv .1 .1 .0),
+          (
+            omega (arith, c .wide2 .ensures .1, c .before .before .before .before .loop .inv .1 .1 .1 .0),
+            (
+              omega (arith, c .before .wide .ensures .0, c .before .before .before .before .loop .inv .1 .1 .1 .1 .0),
+              omega (arith, c .wide2 .ensures .0, c .before .before .before .before .loop .inv .1 .1 .1 .1 .1),
+            ),
+          ),
+        ),
+      ),
+    )
 
 -- src/question2.rt:83:5
 returns : tie.Need-returns Inv-loop μ-loop
@@ -84,7 +93,7 @@ returns c =
     let l : length (c .before .before .before .args .t1 .lines) ≡ 8 = search (length-mapped, needs) in
     let i : c .before .loop .i ≡ min (c .before .before .before .args .t1 .n) 8 = omega (arith, c .before .before .used .ensures, c .before .loop .inv .0, c .loop-test) in
     let t : take (c .before .loop .i) (c .before .before .before .args .t1 .lines) ≡ take (c .before .before .before .args .t1 .n) (c .before .before .before .args .t1 .lines) =
-        ap (λ (k : ℕ). take k (c .before .before .before .args .t1 .lines)) i ∙ take-min (c .before .before .before .args .t1 .n) 8 (c .before .before .before .args .t1 .lines) l in
+    ap (λ (k : ℕ). take k (c .before .before .before .args .t1 .lines)) i ∙ take-min (c .before .before .before .args .t1 .n) 8 (c .before .before .before .args .t1 .lines) l in
     record {
       taken = c .before .loop .inv .1 .1 .1 .1 .0 ∙ ap (λ (l : List Line). model.total (λ v. v .taken) (map viewLine l)) t;
       inserts = c .before .loop .inv .1 .1 .1 .1 .1 ∙ ap (λ (l : List Line). model.total (λ v. v .inserts) (map viewLine l)) t;

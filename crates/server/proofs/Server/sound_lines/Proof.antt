@@ -49,20 +49,24 @@ loop-less c = search needs
 loop-again : tie.Need-loop-again Inv-loop μ-loop
 loop-again c =
     let l : length (c .before .before .before .before .args .t1 .lines) ≡ 8 = search (length-mapped, needs) in
-    let h : c .before .before .before .loop .i < length (c .before .before .before .before .args .t1 .lines) = omega (arith, c .before .before .loop-test) in
-    (omega (arith, c .before .before .loop-test),
-    (ap (λ (b : Bool). (c .before .before .before .loop .well && b) && soundPlaces (c .before .before .before .before .args .t1 .n) (c .before .before .before .before .args .sum) (c .before .before .before .loop .i + 1) (drop (c .before .before .before .loop .i + 1) (c .before .before .before .before .args .t1 .lines))) (c .sound-place .ensures .0)
-    ∙ places-turn (c .before .before .before .before .args .t1 .n) (c .before .before .before .before .args .sum) (c .before .before .before .loop .i) (c .before .before .before .before .args .t1 .lines) (c .before .before .before .loop .well) _ h
-    ∙ c .before .before .before .loop .inv .1 .0,
-    λ y. kept-turn (c .before .before .before .loop .i) (c .before .before .before .before .args .t1 .lines) _ h (c .before .before .before .loop .inv .1 .1 (and-left (c .before .before .before .loop .well) (c .sound-place .result) y)) (c .sound-place .ensures .1 (and-right (c .before .before .before .loop .well) (c .sound-place .result) y))))
+    let h : c .before .before .before .loop .i < length (c .before .before .before .before .args .t1 .lines) = omega (arith, c .before .before .loop-test) in (
+      omega (arith, c .before .before .loop-test),
+      (
+        ap (λ (b : Bool). (c .before .before .before .loop .well && b) && soundPlaces (c .before .before .before .before .args .t1 .n) (c .before .before .before .before .args .sum) (c .before .before .before .loop .i + 1) (drop (c .before .before .before .loop .i + 1) (c .before .before .before .before .args .t1 .lines))) (c .sound-place .ensures .0)
+            ∙ places-turn (c .before .before .before .before .args .t1 .n) (c .before .before .before .before .args .sum) (c .before .before .before .loop .i) (c .before .before .before .before .args .t1 .lines) (c .before .before .before .loop .well) _ h
+            ∙ c .before .before .before .loop .inv .1 .0,
+        λ y. kept-turn (c .before .before .before .loop .i) (c .before .before .before .before .args .t1 .lines) _ h (c .before .before .before .loop .inv .1 .1 (and-left (c .before .before .before .loop .well) (c .sound-place .result) y)) (c .sound-place .ensures .1 (and-right (c .before .before .before .loop .well) (c .sound-place .result) y)),
+      ),
+    )
 
 -- src/question2.rt:100:5
 returns : tie.Need-returns Inv-loop μ-loop
 returns c =
     let l : length (c .before .before .args .t1 .lines) ≡ 8 = search (length-mapped, needs) in
-    let h : length (c .before .before .args .t1 .lines) ≤ c .before .loop .i = omega (arith, c .loop-test) in
-    (places-end (c .before .before .args .t1 .n) (c .before .before .args .sum) (c .before .loop .i) (c .before .before .args .t1 .lines) (c .before .loop .well) (soundPlaces (c .before .before .args .t1 .n) (c .before .before .args .sum) 0 (c .before .before .args .t1 .lines)) h (c .before .loop .inv .1 .0),
-    λ y. kept-end (c .before .loop .i) (c .before .before .args .t1 .lines) h (c .before .loop .inv .1 .1 y))
+    let h : length (c .before .before .args .t1 .lines) ≤ c .before .loop .i = omega (arith, c .loop-test) in (
+      places-end (c .before .before .args .t1 .n) (c .before .before .args .sum) (c .before .loop .i) (c .before .before .args .t1 .lines) (c .before .loop .well) (soundPlaces (c .before .before .args .t1 .n) (c .before .before .args .sum) 0 (c .before .before .args .t1 .lines)) h (c .before .loop .inv .1 .0),
+      λ y. kept-end (c .before .loop .i) (c .before .before .args .t1 .lines) h (c .before .loop .inv .1 .1 y),
+    )
 
 pub sound-lines-spec : {M : Type 1} → statement M
 sound-lines-spec =

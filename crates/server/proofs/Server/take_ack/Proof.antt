@@ -51,9 +51,10 @@ pending-count-requires-2 c κs = search needs
 -- src/lib.rt:224:21
 acked-requires : tie.Need-acked-requires
 acked-requires c κs = let at = place-used (c .before .before .before .before .before .before .before .args .t1) (c .before .before .before .before .before .before .before .pre) (c .before .before .before .before .before .before .before .args .line) (and-right (eqb (c .before .before .before .before .before .before .before .args .direction) 0) (between 1 (c .before .before .before .before .before .before .before .args .t1 .n) (c .before .before .before .before .before .before .before .args .line)) (c .before .before .before .before .before .before .if1 .taken)) in
-    let high = seen-high (c .before .before .before .before .before .before .before .args .t1) (c .before .before .before .before .before .before .before .pre) (c .before .before .before .before .before .before .before .args .line) (c .before .before .before .before .before .before .before .args .direction) (c .before .before .before .before .before .before .before .args .seen) (c .before .before .before .before .ask-seen .result) (c .before .before .before .before .ask-seen .ensures) (c .before .before .before .if2 .taken) in
-    (omega (arith, c .before .pending-count .ensures, c .pending-count2 .ensures),
-    subst (λ (n : ℕ). Kept n (getD (c .before .before .before .before .before .before .before .args .t1 .lines) (c .before .before .before .before .before .before .before .args .line - 1) blank .pending)) (sym (c .pending-count2 .ensures)) (at-kept (c .before .before .before .before .before .before .before .args .t1) (c .before .before .before .before .before .before .before .pre) (c .before .before .before .before .before .before .before .args .line - 1) at))
+    let high = seen-high (c .before .before .before .before .before .before .before .args .t1) (c .before .before .before .before .before .before .before .pre) (c .before .before .before .before .before .before .before .args .line) (c .before .before .before .before .before .before .before .args .direction) (c .before .before .before .before .before .before .before .args .seen) (c .before .before .before .before .ask-seen .result) (c .before .before .before .before .ask-seen .ensures) (c .before .before .before .if2 .taken) in (
+      omega (arith, c .before .pending-count .ensures, c .pending-count2 .ensures),
+      subst (λ (n : ℕ). Kept n (getD (c .before .before .before .before .before .before .before .args .t1 .lines) (c .before .before .before .before .before .before .before .args .line - 1) blank .pending)) (sym (c .pending-count2 .ensures)) (at-kept (c .before .before .before .before .before .before .before .args .t1) (c .before .before .before .before .before .before .before .pre) (c .before .before .before .before .before .before .before .args .line - 1) at),
+    )
 
 -- src/lib.rt:225:17
 mul-t24 : tie.Need-mul-t24
