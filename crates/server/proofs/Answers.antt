@@ -15,13 +15,13 @@ use Rattle.wire.specs.declared.Message.{Message}
 use Rattle.wire.specs.declared.Message.the-variants as message
 use Rattle.wire.specs.Message.{messageOf}
 use Rattle.wire.specs.Bytes.{bytesOf}
+use Rattle.ot.specs.Items.{padded}
 use Rattle.model.specs.Limits.{maxLines, maxItems, maxInitial}
 use Rattle.model.specs.Questions.{Question, ask, asks, every, between, Answer, answer, sent}
 use Rattle.model.specs.Client.{pendingAt}
 use Rattle.model.specs.Server as model
 use Rattle.model.proofs.Tests.{both, and-left, and-right, yes-all, between-true}
 use Rattle.pending.specs.declared.Slot.{Slot}
-use Rattle.pending.specs.Pad.{padTo}
 use Rattle.pending.specs.Slots.{edits, usedEdits, filled}
 use Rattle.endpoint.specs.Items.{initialItems}
 use Rattle.endpoint.specs.Line.{seenQuestions}
@@ -89,14 +89,14 @@ unfolding store
 nothing-opened u e =
     λ j. record { refusal = 1; passed = 0; server = record { n = 0; initial = 0; len = 0; items = replicate 512 0; lines = replicate 8 (e j) } }
 
-unused-lines : (n : ℕ) → n ≤ maxLines → replicate maxLines (storeLine model.noLine) ≡ padTo maxLines (storeLine model.noLine) (map storeLine (replicate n model.noLine))
+unused-lines : (n : ℕ) → n ≤ maxLines → replicate maxLines (storeLine model.noLine) ≡ padded (storeLine model.noLine) maxLines (map storeLine (replicate n model.noLine))
 unused-lines n h = go maxLines h
   where
     stored : (k : ℕ) → replicate k (storeLine model.noLine) ≡ map storeLine (replicate k model.noLine)
     stored zero = refl
     stored (suc k) = ap (λ (r : List Line). storeLine model.noLine ∷ r) (stored k)
 
-    go : (m : ℕ) → n ≤ m → replicate m (storeLine model.noLine) ≡ padTo m (storeLine model.noLine) (map storeLine (replicate n model.noLine))
+    go : (m : ℕ) → n ≤ m → replicate m (storeLine model.noLine) ≡ padded (storeLine model.noLine) m (map storeLine (replicate n model.noLine))
     go m k =
         let e : m ≡ n + (m - n) = omega arith in
         let l : n ≡ length (map storeLine (replicate n model.noLine)) = sym (length-map (replicate n model.noLine) storeLine ∙ length-replicate n model.noLine) in
@@ -127,8 +127,8 @@ module _ (n : ℕ) (items : List ℕ) where
       let w = and-left (leb 1 n && leb n 8) (leb (length items) 128) t in
       let few : n ≤ 8 = leb-true n 8 (and-right (leb 1 n) (leb n 8) w) in
       let all : take 128 items ≡ items = take-all 128 items (open-short t) in
-      let i : a ≡ padTo maxItems 0 items = e ∙ ap (padTo maxItems 0) all in
-      let l : replicate 8 u ≡ padTo maxLines (storeLine model.noLine) (map storeLine (replicate n model.noLine)) =
+      let i : a ≡ padded 0 maxItems items = e ∙ ap (padded 0 maxItems) all in
+      let l : replicate 8 u ≡ padded (storeLine model.noLine) maxLines (map storeLine (replicate n model.noLine)) =
       ap (replicate 8) v ∙ unused-lines n few in
       let q = asks-yes 1 (every (between 1 maxLines n ∷ leb (length items) maxInitial ∷ [])) [] (open-asks true t) in
       (λ j. record { refusal = 0; passed = 0; server = record { n = n; initial = length items; len = length items; items = i j; lines = l j } })
@@ -278,11 +278,11 @@ module _ (s : Server) (h : Sound s) (line : ℕ) where
         let at = place-used s h line b in
         let new : model.Line = model.lineAcked seen (viewLine v) in
         let l : set (s .lines) (line - 1) (record { made = v .made; taken = v .taken; acked = seen; inserts = v .inserts; pending = slots })
-        ≡ padTo maxLines (storeLine model.noLine) (map storeLine (model.atPlace (line - 1) (model.lineAcked seen) (λ w. w) (used s))) =
+        ≡ padded (storeLine model.noLine) maxLines (map storeLine (model.atPlace (line - 1) (model.lineAcked seen) (λ w. w) (used s))) =
         ap (λ (p : List Slot). set (s .lines) (line - 1) (record { made = v .made; taken = v .taken; acked = seen; inserts = v .inserts; pending = p })) f
         ∙ store-line s h (line - 1) at (model.lineAcked seen (viewLine v))
-        ∙ ap (λ (w : model.Line). padTo maxLines (storeLine model.noLine) (map storeLine (set (used s) (line - 1) (model.lineAcked seen w)))) (sym (at-view s h (line - 1) at))
-        ∙ ap (λ (vs : List model.Line). padTo maxLines (storeLine model.noLine) (map storeLine vs))
+        ∙ ap (λ (w : model.Line). padded (storeLine model.noLine) maxLines (map storeLine (set (used s) (line - 1) (model.lineAcked seen w)))) (sym (at-view s h (line - 1) at))
+        ∙ ap (λ (vs : List model.Line). padded (storeLine model.noLine) maxLines (map storeLine vs))
         (ap (λ (vs : List model.Line). set vs (line - 1) (model.lineAcked seen (getD (used s) (line - 1) model.noLine))) (sym (place-id (line - 1) (used s)))
         ∙ place-set (line - 1) (model.lineAcked seen) (λ w. w) (used s) (omega (arith, lines-count s h))) in
         (λ j. record { refusal = 0; passed = 0; server = record { n = s .n; initial = s .initial; len = len-is s h j; items = items-are s h j; lines = l j } })

@@ -9,11 +9,11 @@ use lib.ListN.{length, getD, take, drop, set, replicate, length-map, List·getD-
 use lib.Seq.{set-getD}
 use Rattle.ot.specs.declared.Edit.{Edit}
 use Rattle.ot.proofs.Sweep.{swept, swept-read, swept-store, swept-to}
+use Rattle.ot.specs.Items.{padded}
 use Rattle.model.specs.Limits.{maxLines, maxPending}
 use Rattle.model.specs.Server as model
 use Rattle.model.proofs.SoundServer.{LinesFacts, length-atPlace, takenSum}
 use Rattle.pending.specs.declared.Slot.{Slot}
-use Rattle.pending.specs.Pad.{padTo}
 use Rattle.pending.specs.Slots.{usedEdits, filled}
 use Rattle.pending.proofs.Pad.{pad-length, pad-drop}
 use Rattle.server.specs.declared.Line.{Line}
@@ -36,7 +36,7 @@ with-lines s t l m k e f =
 
 -- where the loop goes
 abbrev pub keptLines : Server → ℕ → Edit → List Line
-keptLines s at e = padTo maxLines (storeLine model.noLine) (map storeLine (model.atPlace at (λ v. v) (model.lineKeeps e) (used s)))
+keptLines s at e = padded (storeLine model.noLine) maxLines (map storeLine (model.atPlace at (λ v. v) (model.lineKeeps e) (used s)))
 
 -- the sum of what n lines took
 sum-few : (n sum l : ℕ) (vs : List model.Line) → LinesFacts n sum l vs → takenSum vs ≤ 400 * length vs

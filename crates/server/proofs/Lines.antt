@@ -6,12 +6,12 @@ use Prim.Native.Nat.{ℕ, zero, suc, _+_, _-_, _≤_, _<_}
 use native.Mathlib.Omega.{arith}
 use lib.ListN.{length, getD, take, drop, set, replicate, length-map, length-set, List·getD-map, List·getD-append}
 use lib.Seq.{getD-take, set-append-left}
+use Rattle.ot.specs.Items.{padded}
 use Rattle.model.specs.Limits.{maxLines}
 use Rattle.model.specs.Questions.{between}
 use Rattle.model.specs.Server as model
 use Rattle.model.proofs.Tests.{hold, between-true}
 use Rattle.model.proofs.SoundServer.{LineFacts, LinesFacts, ServerFacts, server-facts, takenSum}
-use Rattle.pending.specs.Pad.{padTo}
 use Rattle.pending.proofs.Pad.{pad-length}
 use Rattle.server.specs.declared.Line.{Line}
 use Rattle.server.specs.declared.Server.{Server}
@@ -28,7 +28,7 @@ module _ {A : Type 0} where
   getD-default (x ∷ l) zero d e h = refl
   getD-default (x ∷ l) (suc i) d e h = getD-default l i d e (omega arith)
 
-  pub pad-set : (n : ℕ) (z : A) (l : List A) (i : ℕ) (x : A) → i < length l → set (padTo n z l) i x ≡ padTo n z (set l i x)
+  pub pad-set : (n : ℕ) (z : A) (l : List A) (i : ℕ) (x : A) → i < length l → set (padded z n l) i x ≡ padded z n (set l i x)
   pad-set n z l i x h =
       set-append-left l (replicate (n - length l) z) i x h ∙ ap (λ (k : ℕ). set l i x ++ replicate (n - k) z) (sym (length-set l i x))
 
@@ -101,11 +101,11 @@ module _ (s : Server) (h : Sound s) where
   unfolding view
   lines-count = facts .count
 
-  pub lines-are : s .lines ≡ padTo maxLines (storeLine model.noLine) (map storeLine (used s))
+  pub lines-are : s .lines ≡ padded (storeLine model.noLine) maxLines (map storeLine (used s))
   unfolding view store
   lines-are = ap (λ (t : Server). t .lines) (h .whole)
 
-  pub items-are : s .items ≡ padTo 512 0 (take (s .len) (s .items))
+  pub items-are : s .items ≡ padded 0 512 (take (s .len) (s .items))
   unfolding view store
   items-are = ap (λ (t : Server). t .items) (h .whole)
 
@@ -147,12 +147,12 @@ module _ (s : Server) (h : Sound s) where
 
     -- a line put into its place
     pub store-line : (w : model.Line)
-        → set (s .lines) i (storeLine w) ≡ padTo maxLines (storeLine model.noLine) (map storeLine (set (used s) i w))
+        → set (s .lines) i (storeLine w) ≡ padded (storeLine model.noLine) maxLines (map storeLine (set (used s) i w))
     store-line w =
         let k : i < length (map storeLine (used s)) = omega (arith, stored-count) in
         ap (λ (l : List Line). set l i (storeLine w)) lines-are
         ∙ pad-set maxLines (storeLine model.noLine) (map storeLine (used s)) i (storeLine w) k
-        ∙ ap (padTo maxLines (storeLine model.noLine)) (set-map storeLine (used s) i w)
+        ∙ ap (padded (storeLine model.noLine) maxLines) (set-map storeLine (used s) i w)
 
   module _ (line : ℕ) (t : between 1 (s .n) line ≡ true) where
     pub line-low : 1 ≤ line

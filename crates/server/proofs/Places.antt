@@ -16,11 +16,10 @@ use Rattle.model.specs.Client.{other}
 use Rattle.model.specs.Server as model
 use Rattle.model.proofs.Tests.{both, and-left, and-right, hold, held}
 use Rattle.pending.specs.Slots.{edits, allNothing, soundTests, soundSlots}
-use Rattle.pending.proofs.Whole.{and-assoc, and-true}
 use Rattle.server.specs.declared.Line.{Line}
 use Rattle.server.specs.View.{viewLine}
 use Rattle.server.specs.Sound.{tidyLine, countsSound, countsZero, zeroLine, soundPlace, soundPlaces, KeptLine, KeptLines}
-use Rattle.server.proofs.Bools.{bool-ext}
+use Rattle.server.proofs.Bools.{bool-ext, and-assoc, and-true}
 
 -- what lies past an array's end
 abbrev pub blank : Line

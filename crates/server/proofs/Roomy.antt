@@ -13,7 +13,7 @@ use Rattle.model.specs.Limits.{maxPending}
 use Rattle.model.specs.Questions.{every}
 use Rattle.model.specs.Server as model
 use Rattle.model.proofs.Tests.{and-left, and-right}
-use Rattle.pending.proofs.Whole.{and-true, and-assoc}
+use Rattle.server.proofs.Bools.{and-assoc, and-true}
 
 -- the lines from place i on, but for the one at place at
 unfoldable pub roomyFrom : ℕ → ℕ → List model.Line → Bool

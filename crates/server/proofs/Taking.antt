@@ -11,7 +11,7 @@ use Rattle.ot.specs.declared.Edit.{Edit}
 use Rattle.ot.specs.declared.Edit.the-variants.{Nothing, Delete, Insert}
 use Rattle.ot.specs.Edit.{positionOf, applied, fits}
 use Rattle.ot.specs.Laws.{within}
-use Rattle.ot.specs.Items.{sizeAfter, edited, Room, Edited}
+use Rattle.ot.specs.Items.{sizeAfter, edited, Room, Edited, padded}
 use Rattle.wire.specs.declared.Header.{Header}
 use Rattle.wire.specs.declared.Message.{Message}
 use Rattle.wire.specs.declared.Message.the-variants as message
@@ -29,7 +29,6 @@ use Rattle.model.proofs.Tests.{both, and-left, and-right, yes-all, true-between
 use Rattle.model.proofs.SoundServer.{length-atPlace}
 use Rattle.pending.specs.declared.Slot.{Slot}
 use Rattle.pending.specs.declared.Crossed.{Crossed}
-use Rattle.pending.specs.Pad.{padTo}
 use Rattle.pending.specs.Slots.{usedEdits, filled, steps, crossed, Kept}
 use Rattle.pending.proofs.Crossing.{steps-length}
 use Rattle.endpoint.specs.Items.{stored, roomy}
@@ -111,9 +110,9 @@ module _ (s : Server) (line seen : ℕ) (e : Edit) (c : Crossed) (a : Accepted s
       let size-is : size ≡ length (applied (model.carried (view s) line seen e) before) =
       w .length ∙ room-length (c .edit) (t .len) before (sym (len-is s (a .sound)) ∙ sym len) room-t
       ∙ ap (λ (d : Edit). length (applied d before)) form in
-      let items-are′ : items ≡ padTo maxItems 0 (applied (model.carried (view s) line seen e) before) =
+      let items-are′ : items ≡ padded 0 maxItems (applied (model.carried (view s) line seen e) before) =
       w .items ∙ room-stored (c .edit) (t .len) (t .items) before arr (sym (len-is s (a .sound)) ∙ sym len) room-t
-      ∙ ap (λ (d : Edit). padTo maxItems 0 (applied d before)) form in
+      ∙ ap (λ (d : Edit). padded 0 maxItems (applied d before)) form in
       let slots : c .slots ≡ filled (over e (model.unackedOf (viewLine v) seen)) =
       ap (λ (d : Crossed). d .slots) (a .met)
       ∙ ap (λ (u : model.Line). filled (over e (model.unackedOf u seen))) (line-of s (a .sound) line (a .here)) in
@@ -121,17 +120,17 @@ module _ (s : Server) (line seen : ℕ) (e : Edit) (c : Crossed) (a : Accepted s
       let count : line - 1 < length (model.atPlace (line - 1) (λ u. u) (model.lineKeeps (c .edit)) (used s)) =
       omega (arith, length-atPlace (line - 1) (λ u. u) (model.lineKeeps (c .edit)) (used s), lines-count s (a .sound), here) in
       let lines : set (t .lines) (line - 1) (record { made = v .made; taken = v .taken + 1; acked = seen; inserts = v .inserts + k; pending = c .slots })
-      ≡ padTo maxLines (storeLine model.noLine) (map storeLine (model.atPlace (line - 1) (model.lineTaken seen e) (model.lineKeeps (model.carried (view s) line seen e)) (used s))) =
+      ≡ padded (storeLine model.noLine) maxLines (map storeLine (model.atPlace (line - 1) (model.lineTaken seen e) (model.lineKeeps (model.carried (view s) line seen e)) (used s))) =
       ap (λ (p : List Slot). set (t .lines) (line - 1) (record { made = v .made; taken = v .taken + 1; acked = seen; inserts = v .inserts + k; pending = p })) slots
       ∙ ap (λ (j : ℕ). set (t .lines) (line - 1) (record { made = v .made; taken = v .taken + 1; acked = seen; inserts = v .inserts + j; pending = filled (over e (model.unackedOf (viewLine v) seen)) })) g
       ∙ ap (λ (l : List Line). set l (line - 1) (storeLine (model.lineTaken seen e (viewLine v)))) (ap (λ (u : Server). u .lines) f)
       ∙ pad-set maxLines (storeLine model.noLine) (map storeLine (model.atPlace (line - 1) (λ u. u) (model.lineKeeps (c .edit)) (used s))) (line - 1) (storeLine (model.lineTaken seen e (viewLine v)))
       (omega (arith, length-map (model.atPlace (line - 1) (λ u. u) (model.lineKeeps (c .edit)) (used s)) storeLine, count))
-      ∙ ap (padTo maxLines (storeLine model.noLine)) (set-map storeLine (model.atPlace (line - 1) (λ u. u) (model.lineKeeps (c .edit)) (used s)) (line - 1) (model.lineTaken seen e (viewLine v)))
-      ∙ ap (λ (u : model.Line). padTo maxLines (storeLine model.noLine) (map storeLine (set (model.atPlace (line - 1) (λ w. w) (model.lineKeeps (c .edit)) (used s)) (line - 1) (model.lineTaken seen e u)))) (sym (at-view s (a .sound) (line - 1) here))
-      ∙ ap (λ (l : List model.Line). padTo maxLines (storeLine model.noLine) (map storeLine l))
+      ∙ ap (padded (storeLine model.noLine) maxLines) (set-map storeLine (model.atPlace (line - 1) (λ u. u) (model.lineKeeps (c .edit)) (used s)) (line - 1) (model.lineTaken seen e (viewLine v)))
+      ∙ ap (λ (u : model.Line). padded (storeLine model.noLine) maxLines (map storeLine (set (model.atPlace (line - 1) (λ w. w) (model.lineKeeps (c .edit)) (used s)) (line - 1) (model.lineTaken seen e u)))) (sym (at-view s (a .sound) (line - 1) here))
+      ∙ ap (λ (l : List model.Line). padded (storeLine model.noLine) maxLines (map storeLine l))
       (place-set (line - 1) (model.lineTaken seen e) (model.lineKeeps (c .edit)) (used s) (omega (arith, lines-count s (a .sound), here)))
-      ∙ ap (λ (d : Edit). padTo maxLines (storeLine model.noLine) (map storeLine (model.atPlace (line - 1) (model.lineTaken seen e) (model.lineKeeps d) (used s)))) form in
+      ∙ ap (λ (d : Edit). padded (storeLine model.noLine) maxLines (map storeLine (model.atPlace (line - 1) (model.lineTaken seen e) (model.lineKeeps d) (used s)))) form in
       λ j. record { n = n j; initial = initial j; len = size-is j; items = items-are′ j; lines = lines j }
 
 -- ---- questions

@@ -9,21 +9,20 @@ use lib.ListN.{length, take, drop, replicate, length-take, length-drop, length-m
 use lib.Seq.{length-take-le}
 use borrow.Author.Tests.{leb-true, le-leb, eq-eqb, eqb-true}
 use Rattle.ot.specs.declared.Edit.{Edit}
+use Rattle.ot.specs.Items.{padded}
 use Rattle.model.specs.Limits.{maxLines, maxItems, maxInitial}
 use Rattle.model.specs.Questions.{every, between}
 use Rattle.model.specs.Server as model
 use Rattle.model.proofs.Tests.{both, and-left, and-right, hold, held, true-between, between-true}
-use Rattle.pending.specs.Pad.{padTo}
 use Rattle.pending.specs.Slots.{edits, usedEdits, filled, allNothing}
 use Rattle.pending.proofs.Pad.{pad-of}
-use Rattle.pending.proofs.Whole.{and-assoc, and-true}
 use Rattle.endpoint.specs.Items.{allZero}
 use Rattle.endpoint.proofs.Items.{stored-of}
 use Rattle.server.specs.declared.Line.{Line}
 use Rattle.server.specs.declared.Server.{Server}
 use Rattle.server.specs.View.{viewLine, view, storeLine, store}
 use Rattle.server.specs.Sound.{tidyLine, countsZero, zeroLine, soundPlaces, structTests, soundStruct, Sound, KeptLine, KeptLines}
-use Rattle.server.proofs.Bools.{bool-ext}
+use Rattle.server.proofs.Bools.{bool-ext, and-assoc, and-true}
 use Rattle.server.proofs.Places.{all-places}
 
 -- the lines in use
@@ -200,13 +199,13 @@ module _ (s : Server) (eight : length (s .lines) ≡ 8) (places : length (s .ite
       let len : s .len ≤ 512 = leb-true (s .len) 512 (t .1 .0) in
       let n : s .n ≤ 8 = leb-true (s .n) 8 (and-right (leb 1 (s .n)) (leb (s .n) 8) (m .0)) in
       let size : s .len ≡ length (take (s .len) (s .items)) = sym (items-length len) in
-      let items : s .items ≡ padTo maxItems 0 (take (s .len) (s .items)) = stored-of (s .items) (s .len) places len (t .1 .1 .0) in
+      let items : s .items ≡ padded 0 maxItems (take (s .len) (s .items)) = stored-of (s .items) (s .len) places len (t .1 .1 .0) in
       let rest : drop (s .n) (s .lines) ≡ replicate (maxLines - s .n) (storeLine model.noLine) =
       zero-lines (drop (s .n) (s .lines)) (kept-drop (s .n) (s .lines) k) (t .1 .1 .1 .1 .0)
       ∙ ap (λ (j : ℕ). replicate j (storeLine model.noLine)) (length-drop (s .n) (s .lines) ∙ ap (λ (j : ℕ). j - s .n) eight) in
-      let lines : s .lines ≡ padTo maxLines (storeLine model.noLine) (map storeLine (used s)) =
+      let lines : s .lines ≡ padded (storeLine model.noLine) maxLines (map storeLine (used s)) =
       pad-of maxLines (storeLine model.noLine) (s .lines) (s .n) eight n rest
-      ∙ ap (padTo maxLines (storeLine model.noLine)) (stored-lines (take (s .n) (s .lines)) (kept-take (s .n) (s .lines) k)) in
+      ∙ ap (padded (storeLine model.noLine) maxLines) (stored-lines (take (s .n) (s .lines)) (kept-take (s .n) (s .lines) k)) in
       record {
         well = e;
         whole = λ i. record { n = s .n; initial = s .initial; len = size i; items = items i; lines = lines i };

@@ -2,9 +2,9 @@
 use Prim.Native.Nat.{ℕ, _-_}
 use mathlib.Core.List.{List, map}
 use lib.ListN.{length, take}
+use Rattle.ot.specs.Items.{padded}
 use Rattle.model.specs.Limits.{maxLines, maxItems}
 use Rattle.model.specs.Server as model
-use Rattle.pending.specs.Pad.{padTo}
 use Rattle.pending.specs.Slots.{usedEdits, filled}
 use Rattle.server.specs.declared.Line.{Line}
 use Rattle.server.specs.declared.Server.{Server}
@@ -36,6 +36,6 @@ store m =
       n = m .n;
       initial = m .initial;
       len = length (m .items);
-      items = padTo maxItems 0 (m .items);
-      lines = padTo maxLines (storeLine model.noLine) (map storeLine (m .lines));
+      items = padded 0 maxItems (m .items);
+      lines = padded (storeLine model.noLine) maxLines (map storeLine (m .lines));
     }

@@ -1,4 +1,4 @@
-use Rattle.pending.proofs.Whole.{and-assoc, and-true}
+use Rattle.server.proofs.Bools.{and-assoc, and-true}
 use borrow.Author.Needs.{needs}
 use Rattle.server.proofs.question2.counts_sound.Statement.{statement}
 use Rattle.server.proofs.question2.counts_sound.Tie as tie

@@ -1,4 +1,4 @@
-use Rattle.pending.proofs.Whole.{and-assoc, and-true}
+use Rattle.server.proofs.Bools.{and-assoc, and-true}
 use Rattle.server.proofs.question2.counts_zero.Statement.{statement}
 use Rattle.server.proofs.question2.counts_zero.Tie as tie
 
