@@ -1,2 +1,4 @@
 pub mod Sound
 pub mod Answers
+pub mod Messages
+pub mod Edits

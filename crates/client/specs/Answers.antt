@@ -1,18 +1,28 @@
 -- What each call of a client answers: the model's answer in structs. An end that is not sound is refused by question 2.
-use Prim.Native.Nat.{ℕ}
+use Prim.Native.Nat.{ℕ, _+_, _-_}
 use mathlib.Core.Bool.{Bool, cond}
-use mathlib.Core.List.{List}
-use lib.Dec.{eqb}
+use mathlib.Core.List.{List, [], _∷_}
+use lib.Dec.{leb, ltb, eqb}
+use lib.ListN.{getD}
 use Rattle.ot.specs.declared.Edit.{Edit}
-use Rattle.ot.specs.declared.Edit.the-variants.{Delete, Insert}
+use Rattle.ot.specs.declared.Edit.the-variants.{Nothing, Delete, Insert}
+use Rattle.wire.specs.declared.Message.{Message}
+use Rattle.wire.specs.Message.{messageOf}
+use Rattle.pending.specs.Slots.{edits}
+use Rattle.model.specs.Limits.{maxInserts, maxEdits, maxPending}
+use Rattle.model.specs.Cross.{insertsOf}
 use Rattle.model.specs.Questions as model
 use Rattle.model.specs.Client as client
+use Rattle.endpoint.specs.Items.{roomy}
 use Rattle.client.specs.declared.Client.{Client}
 use Rattle.client.specs.declared.Answer.{Answer}
-use Rattle.client.specs.Store.{view, store, sound}
+use Rattle.client.specs.Store.{pendingCount, view, store, sound}
 
 abbrev pub refusedWith : ℕ → Client → Answer
 refusedWith r c = record { refusal = r; passed = 0; client = c }
+
+abbrev pub doneWith : ℕ → client.Client → Answer
+doneWith passed m = record { refusal = 0; passed = passed; client = store m }
 
 -- the model's answer in structs: on a refusal the end is the one that came
 abbrev pub given : Client → model.Answer client.Client → Answer
@@ -46,3 +56,25 @@ sentEdit c line k lent = guardedSending c (client.sendClient (view c) line k len
 
 abbrev pub sentAck : Client → ℕ → List ℕ → model.Sent
 sentAck c line lent = guardedSending c (client.tellClient (view c) line lent) lent
+
+-- question 4 of a sending, and 4 and 13
+abbrev pub lineQuestion : Client → ℕ → List model.Question
+lineQuestion c line = model.ask 4 (eqb line (c .line)) ∷ []
+
+abbrev pub sendQuestions : Client → ℕ → ℕ → List model.Question
+sendQuestions c line k = model.ask 4 (eqb line (c .line)) ∷ model.ask 13 (model.between (c .acked + 1) (c .made) k) ∷ []
+
+-- the message of edit number k; every slot that holds no pending edit holds nothing
+abbrev pub messageAt : Client → ℕ → Message
+messageAt c k =
+    messageOf (record { line = c .line; direction = 0; number = k; seen = c .taken })
+    (getD (edits (c .pending)) (k - (c .acked + 1)) Nothing)
+
+-- questions 9 to 12 of an editing, by the counts
+abbrev pub editAsked : Client → Edit → List model.Question
+editAsked c e =
+    model.ask 9 (roomy e (c .len))
+    ∷ model.ask 10 (leb (c .inserts + insertsOf e) maxInserts)
+    ∷ model.ask 11 (ltb (c .made) maxEdits)
+    ∷ model.ask 12 (ltb (pendingCount c) maxPending)
+    ∷ []

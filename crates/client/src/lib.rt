@@ -5,6 +5,10 @@ ghost use Prim.Native.Nat.{_-_};
 ghost use Rattle.client.specs.Store.{fresh, countTests, sound, Sound};
 ghost use Rattle.client.specs.Answers.{opened, refusedWith};
 ghost use Rattle.model.specs.Questions.{every};
+
+mod editing;
+mod sending;
+
 use ot::Edit;
 use pending::Slot;
 
