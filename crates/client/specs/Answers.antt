@@ -1,19 +1,23 @@
 -- What each call of a client answers: the model's answer in structs. An end that is not sound is refused by question 2.
 use Prim.Native.Nat.{ℕ, _+_, _-_}
-use mathlib.Core.Bool.{Bool, cond}
+use mathlib.Core.Bool.{Bool, _&&_, cond}
 use mathlib.Core.List.{List, [], _∷_}
 use lib.Dec.{leb, ltb, eqb}
-use lib.ListN.{getD}
+use lib.ListN.{length, getD}
 use Rattle.ot.specs.declared.Edit.{Edit}
 use Rattle.ot.specs.declared.Edit.the-variants.{Nothing, Delete, Insert}
+use Rattle.ot.specs.Edit.{applied}
+use Rattle.wire.specs.declared.Header.{Header}
 use Rattle.wire.specs.declared.Message.{Message}
 use Rattle.wire.specs.Message.{messageOf}
+use Rattle.pending.specs.declared.Crossed.{Crossed}
 use Rattle.pending.specs.Slots.{edits}
 use Rattle.model.specs.Limits.{maxInserts, maxEdits, maxPending}
-use Rattle.model.specs.Cross.{insertsOf}
+use Rattle.model.specs.Cross.{priority, insertsOf}
 use Rattle.model.specs.Questions as model
 use Rattle.model.specs.Client as client
-use Rattle.endpoint.specs.Items.{roomy}
+use Rattle.endpoint.specs.Items.{stored, roomy}
+use Rattle.endpoint.specs.Line.{seenQuestions, editQuestions}
 use Rattle.client.specs.declared.Client.{Client}
 use Rattle.client.specs.declared.Answer.{Answer}
 use Rattle.client.specs.Store.{pendingCount, view, store, sound}
@@ -78,3 +82,32 @@ editAsked c e =
     ∷ model.ask 11 (ltb (c .made) maxEdits)
     ∷ model.ask 12 (ltb (pendingCount c) maxPending)
     ∷ []
+
+-- questions 4 to 8 of a taking; of an acknowledgement 4, 7 and 8
+abbrev pub takeAsked : Client → Header → Edit → List model.Question
+takeAsked c h e =
+    model.ask 4 (eqb (h .direction) 1 && eqb (h .line) (c .line) && priority (client.other (c .n) (c .line)) e)
+    ∷ editQuestions (h .number) (h .seen) (c .taken) (c .acked) (c .made)
+
+abbrev pub ackAsked : Client → ℕ → ℕ → ℕ → List model.Question
+ackAsked c line direction seen = model.ask 4 (eqb direction 1 && eqb line (c .line)) ∷ seenQuestions seen (c .acked) (c .made)
+
+-- what an arriving edit and the pending ones that it crossed make of an end
+abbrev pub crossedWith : Client → ℕ → Crossed → Answer
+crossedWith c seen x =
+    record {
+      refusal = 0;
+      passed = x .passed;
+      client =
+          record {
+            n = c .n;
+            line = c .line;
+            made = c .made;
+            taken = c .taken + 1;
+            acked = seen;
+            inserts = c .inserts;
+            len = length (applied (x .edit) (view c .items));
+            items = stored (applied (x .edit) (view c .items));
+            pending = x .slots;
+          };
+    }

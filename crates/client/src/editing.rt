@@ -3,23 +3,12 @@ ghost use mathlib.Core.Path.{_≡_};
 ghost use Rattle.model.specs.Questions.{asks};
 ghost use Rattle.model.specs.Client as client;
 ghost use Rattle.client.specs.Store.{Sound, view};
-ghost use Rattle.client.specs.Answers.{refusedWith, doneWith, editAsked, edited, inserted, deleted};
+ghost use Rattle.client.specs.Answers.{doneWith, editAsked, edited, inserted, deleted};
 use crate::Answer;
 use crate::Client;
 use ot::Edit;
 
 impl Client {
-    // The end as it came, with the number of the question that said no.
-    fn refused(self, refusal: u8) -> Answer
-        ensures { λ r. ⌜ r ≡ refusedWith refusal self ⌝ }
-    {
-        Answer {
-            refusal,
-            passed: 0,
-            client: self,
-        }
-    }
-
     // Questions 9 to 12.
     fn ask_editing(self, e: Edit) -> u8
         requires { ⌜ Sound self ⌝ }
