@@ -5,6 +5,11 @@ ghost use Prim.Native.Nat.{_-_};
 ghost use Rattle.client.specs.Store.{fresh, countTests, sound, Sound};
 ghost use Rattle.client.specs.Answers.{opened, refusedWith};
 ghost use Rattle.model.specs.Questions.{every};
+
+mod editing;
+mod sending;
+mod taking;
+
 use ot::Edit;
 use pending::Slot;
 
@@ -78,6 +83,17 @@ impl Client {
         let slots = self.pending;
         let zeros = endpoint::zero_from(&self.items, self.len as usize);
         self.counts_sound() & zeros & pending::sound(slots, count, self.n, self.line, true)
+    }
+
+    // The end as it came, with the number of the question that said no.
+    fn refused(self, refusal: u8) -> Answer
+        ensures { λ r. ⌜ r ≡ refusedWith refusal self ⌝ }
+    {
+        Answer {
+            refusal,
+            passed: 0,
+            client: self,
+        }
     }
 
     // A client that has made and taken nothing.

@@ -1,1 +1,17 @@
 pub mod Lists
+pub mod Segment
+pub mod Forms
+pub mod Grid
+pub mod Extend
+pub mod Replay
+pub mod Line
+pub mod Closure
+pub mod World
+pub mod Step
+pub mod Meeting
+pub mod Size
+pub mod Runs
+pub mod Theorem
+pub mod Consistency
+pub mod Walk
+pub mod Reading

@@ -24,6 +24,10 @@ pub all-map : {A : Type 0} (Q R : A → Type 0) (xs : List A) → ((x : A) → Q
 all-map Q R [] f h = tt
 all-map Q R (x ∷ xs) f h = (f x (h .0), all-map Q R xs f (h .1))
 
+pub all-from : {A : Type 0} (Q : A → Type 0) (d : A) (xs : List A) → ((i : ℕ) → i < length xs → Q (getD xs i d)) → All Q xs
+all-from Q d [] f = tt
+all-from Q d (x ∷ xs) f = (f 0 (suc-le-suc zero-le), all-from Q d xs (λ i h. f (suc i) (suc-le-suc h)))
+
 module _ {A : Type 0} (p : A → Bool) (d : A) where
   pub select-append : (xs ys : List A) → select p (xs ++ ys) ≡ select p xs ++ select p ys
   unfolding select
@@ -244,4 +248,126 @@ module _ {A : Type 0} (p : A → Bool) (d : A) where
             more = rw e (ap {B = List A} (λ l. x ∷ l) (r .more));
             less = rw e (ap {B = List A} (λ l. x ∷ l) (r .less));
             behind = r .behind;
+          }
+
+  -- A test that the first i that pass p have, and the first j that do not, and no other, selects the point.
+  pub select-firsts : (r : A → Bool) (xs : List A) (i j : ℕ) → ((k : ℕ) → k < length (select p xs) → r (getD (select p xs) k d) ≡ ltb k i)
+      → ((k : ℕ) → k < length (reject p xs) → r (getD (reject p xs) k d) ≡ ltb k j) → select r xs ≡ firsts p xs i j
+  unfolding firsts select reject enter
+  select-firsts r [] i j f g = refl
+  select-firsts r (x ∷ xs) i j f g = go (p x) i j f g (λ i j f g. select-firsts r xs i j f g)
+    where
+      go : (b : Bool) (i j : ℕ) → ((k : ℕ) → k < length (cond b (x ∷ select p xs) (select p xs)) → r (getD (cond b (x ∷ select p xs) (select p xs)) k d) ≡ ltb k i)
+          → ((k : ℕ) → k < length (cond b (reject p xs) (x ∷ reject p xs)) → r (getD (cond b (reject p xs) (x ∷ reject p xs)) k d) ≡ ltb k j)
+          → ((i j : ℕ) → ((k : ℕ) → k < length (select p xs) → r (getD (select p xs) k d) ≡ ltb k i)
+          → ((k : ℕ) → k < length (reject p xs) → r (getD (reject p xs) k d) ≡ ltb k j) → select r xs ≡ firsts p xs i j)
+          → cond (r x) (x ∷ select r xs) (select r xs) ≡ enter x b i j (λ i′ j′. firsts p xs i′ j′)
+      go true zero j f g ih =
+          let no-one : r x ≡ false = f 0 (suc-le-suc zero-le) ∙ leb·suc-zero 0 in
+          rw no-one (ih 0 j (λ k lt. f (suc k) (suc-le-suc lt) ∙ leb·suc-zero (suc k) ∙ sym (leb·suc-zero k)) g)
+      go true (suc i) j f g ih =
+          let one : r x ≡ true = f 0 (suc-le-suc zero-le) ∙ leb·suc-suc 0 i ∙ leb·zero i in
+          rw one (ap {B = List A} (λ l. x ∷ l) (ih i j (λ k lt. f (suc k) (suc-le-suc lt) ∙ leb·suc-suc (suc k) i) g))
+      go false i zero f g ih =
+          let no-one : r x ≡ false = g 0 (suc-le-suc zero-le) ∙ leb·suc-zero 0 in
+          rw no-one (ih i 0 f (λ k lt. g (suc k) (suc-le-suc lt) ∙ leb·suc-zero (suc k) ∙ sym (leb·suc-zero k)))
+      go false i (suc j) f g ih =
+          let one : r x ≡ true = g 0 (suc-le-suc zero-le) ∙ leb·suc-suc 0 j ∙ leb·zero j in
+          rw one (ap {B = List A} (λ l. x ∷ l) (ih i j f (λ k lt. g (suc k) (suc-le-suc lt) ∙ leb·suc-suc (suc k) j)))
+
+  -- Of those that p rejects, a further test leaves what stands from number t on.
+  pub select-rest : (r : A → Bool) (xs : List A) (t : ℕ) → ((k : ℕ) → k < length (reject p xs) → r (getD (reject p xs) k d) ≡ ltb k t)
+      → select (λ x. not (p x) && not (r x)) xs ≡ drop t (reject p xs)
+  unfolding select reject
+  select-rest r [] zero g = refl
+  select-rest r [] (suc t) g = refl
+  select-rest r (x ∷ xs) t g = go (p x) t g (λ t g. select-rest r xs t g)
+    where
+      go : (b : Bool) (t : ℕ) → ((k : ℕ) → k < length (cond b (reject p xs) (x ∷ reject p xs)) → r (getD (cond b (reject p xs) (x ∷ reject p xs)) k d) ≡ ltb k t)
+          → ((t : ℕ) → ((k : ℕ) → k < length (reject p xs) → r (getD (reject p xs) k d) ≡ ltb k t)
+          → select (λ x. not (p x) && not (r x)) xs ≡ drop t (reject p xs))
+          → cond (not b && not (r x)) (x ∷ select (λ x. not (p x) && not (r x)) xs) (select (λ x. not (p x) && not (r x)) xs)
+          ≡ drop t (cond b (reject p xs) (x ∷ reject p xs))
+      go true t g ih = ih t g
+      go false zero g ih =
+          let no-one : r x ≡ false = g 0 (suc-le-suc zero-le) ∙ leb·suc-zero 0 in
+          rw no-one (ap {B = List A} (λ l. x ∷ l) (ih 0 (λ k lt. g (suc k) (suc-le-suc lt) ∙ leb·suc-zero (suc k) ∙ sym (leb·suc-zero k))))
+      go false (suc t) g ih =
+          let one : r x ≡ true = g 0 (suc-le-suc zero-le) ∙ leb·suc-suc 0 t ∙ leb·zero t in
+          rw one (ih t (λ k lt. g (suc k) (suc-le-suc lt) ∙ leb·suc-suc (suc k) t))
+
+  -- one element more in the middle
+  pub select-in : (xs : List A) (x : A) (ys : List A) → p x ≡ true → select p (xs ++ x ∷ ys) ≡ select p xs ++ x ∷ select p ys
+  unfolding select
+  select-in xs x ys e = select-append xs (x ∷ ys) ∙ rw e refl
+
+  pub select-out : (xs : List A) (x : A) (ys : List A) → p x ≡ false → select p (xs ++ x ∷ ys) ≡ select p (xs ++ ys)
+  unfolding select
+  select-out xs x ys e = select-append xs (x ∷ ys) ∙ rw e (sym (select-append xs ys))
+
+  pub reject-in : (xs : List A) (x : A) (ys : List A) → p x ≡ false → reject p (xs ++ x ∷ ys) ≡ reject p xs ++ x ∷ reject p ys
+  unfolding reject
+  reject-in xs x ys e = reject-append xs (x ∷ ys) ∙ rw e refl
+
+  pub reject-out : (xs : List A) (x : A) (ys : List A) → p x ≡ true → reject p (xs ++ x ∷ ys) ≡ reject p (xs ++ ys)
+  unfolding reject
+  reject-out xs x ys e = reject-append xs (x ∷ ys) ∙ rw e (sym (reject-append xs ys))
+
+  -- the point of all of xs, whatever follows
+  pub firsts-prefix : (xs ys : List A) → firsts p (xs ++ ys) (length (select p xs)) (length (reject p xs)) ≡ xs
+  unfolding firsts select reject enter
+  firsts-prefix [] ys = firsts-none ys
+  firsts-prefix (x ∷ xs) ys = go (p x) (firsts-prefix xs ys)
+    where
+      go : (b : Bool) → firsts p (xs ++ ys) (length (select p xs)) (length (reject p xs)) ≡ xs
+          → enter x b (length (cond b (x ∷ select p xs) (select p xs))) (length (cond b (reject p xs) (x ∷ reject p xs))) (λ i′ j′. firsts p (xs ++ ys) i′ j′) ≡ x ∷ xs
+      go true e = ap {B = List A} (λ r. x ∷ r) e
+      go false e = ap {B = List A} (λ r. x ∷ r) e
+
+  -- a property of the first i that pass and the first j that do not
+  pub firsts-every : (Q : A → Type 0) (xs : List A) (i j : ℕ) → ((k : ℕ) → k < i → k < length (select p xs) → Q (getD (select p xs) k d))
+      → ((k : ℕ) → k < j → k < length (reject p xs) → Q (getD (reject p xs) k d)) → All Q (firsts p xs i j)
+  unfolding firsts select reject enter
+  firsts-every Q [] i j f g = tt
+  firsts-every Q (x ∷ xs) i j f g = go (p x) i j f g (λ i j f g. firsts-every Q xs i j f g)
+    where
+      go : (b : Bool) (i j : ℕ) → ((k : ℕ) → k < i → k < length (cond b (x ∷ select p xs) (select p xs)) → Q (getD (cond b (x ∷ select p xs) (select p xs)) k d))
+          → ((k : ℕ) → k < j → k < length (cond b (reject p xs) (x ∷ reject p xs)) → Q (getD (cond b (reject p xs) (x ∷ reject p xs)) k d))
+          → ((i j : ℕ) → ((k : ℕ) → k < i → k < length (select p xs) → Q (getD (select p xs) k d))
+          → ((k : ℕ) → k < j → k < length (reject p xs) → Q (getD (reject p xs) k d)) → All Q (firsts p xs i j))
+          → All Q (enter x b i j (λ i′ j′. firsts p xs i′ j′))
+      go true zero j f g ih = ih 0 j (λ k lt. absurd (not-suc-le-zero lt)) g
+      go true (suc i) j f g ih = (f 0 (suc-le-suc zero-le) (suc-le-suc zero-le), ih i j (λ k lt ln. f (suc k) (suc-le-suc lt) (suc-le-suc ln)) g)
+      go false i zero f g ih = ih i 0 f (λ k lt. absurd (not-suc-le-zero lt))
+      go false i (suc j) f g ih = (g 0 (suc-le-suc zero-le) (suc-le-suc zero-le), ih i j f (λ k lt ln. g (suc k) (suc-le-suc lt) (suc-le-suc ln)))
+
+  -- where the j-th that p rejects stands, and a property of all before it
+  pub record Before (Q : A → Type 0) (xs : List A) (j : ℕ) : Type 0 where
+    pub front : List A
+    pub back : List A
+    pub whole : xs ≡ front ++ getD (reject p xs) j d ∷ back
+    pub every : All Q front
+
+  pub before-rejected : (Q : A → Type 0) (xs : List A) (j : ℕ) → j < length (reject p xs) → ((k : ℕ) → k < length (select p xs) → Q (getD (select p xs) k d))
+      → ((k : ℕ) → k < j → k < length (reject p xs) → Q (getD (reject p xs) k d)) → Before Q xs j
+  unfolding select reject
+  before-rejected Q [] j h f g = absurd (omega arith)
+  before-rejected Q (x ∷ xs) j h f g = go (p x) refl j h f g (λ j h f g. before-rejected Q xs j h f g)
+    where
+      go : (b : Bool) → p x ≡ b → (j : ℕ) → j < length (cond b (reject p xs) (x ∷ reject p xs))
+          → ((k : ℕ) → k < length (cond b (x ∷ select p xs) (select p xs)) → Q (getD (cond b (x ∷ select p xs) (select p xs)) k d))
+          → ((k : ℕ) → k < j → k < length (cond b (reject p xs) (x ∷ reject p xs)) → Q (getD (cond b (reject p xs) (x ∷ reject p xs)) k d))
+          → ((j : ℕ) → j < length (reject p xs) → ((k : ℕ) → k < length (select p xs) → Q (getD (select p xs) k d))
+          → ((k : ℕ) → k < j → k < length (reject p xs) → Q (getD (reject p xs) k d)) → Before Q xs j) → Before Q (x ∷ xs) j
+      go true e j h f g ih =
+          let r = ih j h (λ k lt. f (suc k) (suc-le-suc lt)) g in
+          record { front = x ∷ r .front; back = r .back; whole = rw e (ap {B = List A} (λ l. x ∷ l) (r .whole)); every = (f 0 (suc-le-suc zero-le), r .every) }
+      go false e zero h f g ih = record { front = []; back = xs; whole = rw e refl; every = tt }
+      go false e (suc j) h f g ih =
+          let r = ih j (le-of-suc-le-suc h) f (λ k lt ln. g (suc k) (suc-le-suc lt) (suc-le-suc ln)) in
+          record {
+            front = x ∷ r .front;
+            back = r .back;
+            whole = rw e (ap {B = List A} (λ l. x ∷ l) (r .whole));
+            every = (g 0 (suc-le-suc zero-le) (suc-le-suc zero-le), r .every);
           }

@@ -30,6 +30,8 @@ pub record Laws (𝓐 : Algebra) : Type 0 where
   -- the other edit, transformed, fits the list after the first
   pub square-fits : (l k : ℕ) (a b : 𝓐 .Edit) (d : 𝓐 .Doc) → l ≢ k → T (𝓐 .by l a) → T (𝓐 .by k b) → T (𝓐 .fits a d) → T (𝓐 .fits b d)
       → T (𝓐 .fits (𝓐 .transform a b) (𝓐 .apply b d))
+  -- an edit keeps its line
   pub keeps-line : (l : ℕ) (a b : 𝓐 .Edit) → T (𝓐 .by l a) → T (𝓐 .by l (𝓐 .transform a b))
-  pub grows-less : (a b : 𝓐 .Edit) → 𝓐 .grows (𝓐 .transform a b) ≤ 𝓐 .grows a
+  -- an insert stays an insert, and nothing else becomes one
+  pub keeps-growth : (a b : 𝓐 .Edit) → 𝓐 .grows (𝓐 .transform a b) ≡ 𝓐 .grows a
   pub size-apply : (e : 𝓐 .Edit) (d : 𝓐 .Doc) → 𝓐 .size (𝓐 .apply e d) ≤ 𝓐 .size d + 𝓐 .grows e

@@ -1,7 +1,7 @@
 -- The form of an edit at a set of applied edits (01: "What an edit becomes"). No buffer is mentioned.
 -- A set is the list of its edits in one order: the server's, and behind it the edits that the server has not taken, in order of making.
 use Prim.Native.Nat.{ℕ, zero, suc}
-use mathlib.Core.Bool.{Bool, true, false, cond}
+use mathlib.Core.Bool.{Bool, true, false, not, cond}
 use mathlib.Core.List.{List, [], _∷_, _++_}
 use lib.ListN.{length}
 use Rattle.jupiter.specs.Algebra.{Algebra}
@@ -46,6 +46,10 @@ module _ {𝓐 : Algebra} where
   -- what has been applied, put in the order of `order`
   unfoldable pub inOrder : List (Made 𝓐) → List (Made 𝓐) → List (Made 𝓐)
   inOrder order done = select (λ e. holds (names done) (e .name)) order
+
+  -- what has been applied, less some edits
+  unfoldable pub without : List (Made 𝓐) → List (Made 𝓐) → List (Made 𝓐)
+  without done less = select (λ e. not (holds (names less) (e .name))) done
 
   -- An end that has applied `done` and shows d applies es one after the other: each in its form at what the end has applied so far.
   unfoldable pub replay : List (Made 𝓐) → List (Made 𝓐) → List (Made 𝓐) → 𝓐 .Doc → 𝓐 .Doc

@@ -54,19 +54,40 @@ client-facts c s =
 pub facts-client : (c : Client) → ClientFacts c → soundClient c ≡ true
 unfolding soundClient
 facts-client c f =
-    held (clientTests c)
-    (true-between 1 maxLines (c .n) (f .lines .0) (f .lines .1),
-    (true-between 1 (c .n) (c .line) (f .line .0) (f .line .1),
-    (le-leb (length (c .items)) maxItems (f .items),
-    (le-leb (c .made) maxEdits (f .made),
-    (le-leb (c .taken) maxOthers (f .taken),
-    (le-leb (c .acked) (c .made) (f .acked),
-    (le-leb (c .made - c .acked) maxPending (f .room),
-    (eq-eqb (length (c .pending)) (c .made - c .acked) (f .count),
-    (f .placed,
-    (f .priorities,
-    (le-leb (c .inserts) maxInserts (f .inserts),
-    (le-leb (c .inserts) (c .made) (f .inserts-made), tt))))))))))))
+    held (clientTests c) (
+      true-between 1 maxLines (c .n) (f .lines .0) (f .lines .1),
+      (
+        true-between 1 (c .n) (c .line) (f .line .0) (f .line .1),
+        (
+          le-leb (length (c .items)) maxItems (f .items),
+          (
+            le-leb (c .made) maxEdits (f .made),
+            (
+              le-leb (c .taken) maxOthers (f .taken),
+              (
+                le-leb (c .acked) (c .made) (f .acked),
+                (
+                  le-leb (c .made - c .acked) maxPending (f .room),
+                  (
+                    eq-eqb (length (c .pending)) (c .made - c .acked) (f .count),
+                    (
+                      f .placed,
+                      (
+                        f .priorities,
+                        (
+                          le-leb (c .inserts) maxInserts (f .inserts),
+                          (le-leb (c .inserts) (c .made) (f .inserts-made), tt),
+                        ),
+                      ),
+                    ),
+                  ),
+                ),
+              ),
+            ),
+          ),
+        ),
+      ),
+    )
 
 -- An edit of its own, where no question said no.
 pub edited-sound : (c : Client) (e : Edit) → ClientFacts c → priority (eqb (c .line)) e ≡ true

@@ -2,7 +2,7 @@
 use mathlib.Core.Path.{_≡_, refl, ap, sym, _∙_, subst}
 use mathlib.Core.Bool.{Bool, true, false, not, _&&_}
 use mathlib.Core.List.{List, [], _∷_, _++_, map}
-use Prim.Native.Nat.{ℕ, zero, suc, _+_, _-_, _≤_, _<_}
+use Prim.Native.Nat.{ℕ, zero, suc, _+_, _-_, _*_, _≤_, _<_}
 use native.Mathlib.Omega.{arith}
 use lib.Dec.{leb, ltb, eqb}
 use lib.ListN.{length, getD, drop, replicate, length-append, length-drop, length-map, length-replicate}
@@ -51,16 +51,31 @@ line-facts n sum l v s =
 pub facts-line : (n sum l : ℕ) (v : Line) → LineFacts n sum l v → soundLine n sum l v ≡ true
 unfolding soundLine
 facts-line n sum l v f =
-    held (lineTests n sum l v)
-    (le-leb (v .taken) maxEdits (f .taken),
-    (eq-eqb (v .made) (sum - v .taken) (f .made),
-    (le-leb (v .acked) (v .made) (f .acked),
-    (le-leb (v .made - v .acked) maxPending (f .room),
-    (eq-eqb (length (v .pending)) (v .made - v .acked) (f .count),
-    (f .placed,
-    (f .priorities,
-    (le-leb (v .inserts) maxInserts (f .inserts),
-    (le-leb (v .inserts) (v .taken) (f .inserts-taken), tt)))))))))
+    held (lineTests n sum l v) (
+      le-leb (v .taken) maxEdits (f .taken),
+      (
+        eq-eqb (v .made) (sum - v .taken) (f .made),
+        (
+          le-leb (v .acked) (v .made) (f .acked),
+          (
+            le-leb (v .made - v .acked) maxPending (f .room),
+            (
+              eq-eqb (length (v .pending)) (v .made - v .acked) (f .count),
+              (
+                f .placed,
+                (
+                  f .priorities,
+                  (
+                    le-leb (v .inserts) maxInserts (f .inserts),
+                    (le-leb (v .inserts) (v .taken) (f .inserts-taken), tt),
+                  ),
+                ),
+              ),
+            ),
+          ),
+        ),
+      ),
+    )
 
 -- the facts of each line, from line l on
 abbrev pub LinesFacts : ℕ → ℕ → ℕ → List Line → Type 0
@@ -70,9 +85,10 @@ LinesFacts n sum l (v ∷ vs) = LineFacts n sum l v × LinesFacts n sum (suc l) 
 pub lines-facts : (n sum l : ℕ) (vs : List Line) → soundLines n sum l vs ≡ true → LinesFacts n sum l vs
 unfolding soundLines
 lines-facts n sum l [] s = tt
-lines-facts n sum l (v ∷ vs) s =
-    (line-facts n sum l v (and-left (soundLine n sum l v) (soundLines n sum (suc l) vs) s),
-    lines-facts n sum (suc l) vs (and-right (soundLine n sum l v) (soundLines n sum (suc l) vs) s))
+lines-facts n sum l (v ∷ vs) s = (
+  line-facts n sum l v (and-left (soundLine n sum l v) (soundLines n sum (suc l) vs) s),
+  lines-facts n sum (suc l) vs (and-right (soundLine n sum l v) (soundLines n sum (suc l) vs) s),
+)
 
 pub facts-lines : (n sum l : ℕ) (vs : List Line) → LinesFacts n sum l vs → soundLines n sum l vs ≡ true
 unfolding soundLines
@@ -110,13 +126,22 @@ server-facts s e =
 pub facts-server : (s : Server) → ServerFacts s → soundServer s ≡ true
 unfolding soundServer
 facts-server s f =
-    held (serverTests s)
-    (true-between 1 maxLines (s .n) (f .n .0) (f .n .1),
-    (le-leb (s .initial) maxInitial (f .initial),
-    (le-leb (length (s .items)) maxItems (f .items),
-    (eq-eqb (length (s .lines)) (s .n) (f .count),
-    (facts-lines (s .n) (takenSum (s .lines)) 1 (s .lines) (f .lines),
-    (le-leb (length (s .items)) (s .initial + insertSum (s .lines)) (f .inserted), tt))))))
+    held (serverTests s) (
+      true-between 1 maxLines (s .n) (f .n .0) (f .n .1),
+      (
+        le-leb (s .initial) maxInitial (f .initial),
+        (
+          le-leb (length (s .items)) maxItems (f .items),
+          (
+            eq-eqb (length (s .lines)) (s .n) (f .count),
+            (
+              facts-lines (s .n) (takenSum (s .lines)) 1 (s .lines) (f .lines),
+              (le-leb (length (s .items)) (s .initial + insertSum (s .lines)) (f .inserted), tt),
+            ),
+          ),
+        ),
+      ),
+    )
 
 -- One line of a taking. The line that the edit came on, and any other.
 taken-line : (n sum l seen : ℕ) (e : Edit) (v : Line) → LineFacts n sum l v → v .taken ≤ sum → v .taken < maxEdits → v .acked ≤ seen → seen ≤ v .made
@@ -200,21 +225,24 @@ inserts-one (Insert p x r) = omega arith
 kept-lines : (n sum l : ℕ) (e : Edit) (vs : List Line) → LinesFacts n sum l vs → takenSum vs ≤ sum → every (map roomy vs) ≡ true → placed e ≡ true
     → ((j : ℕ) → l ≤ j → priority (other n j) e ≡ true) → LinesFacts n (suc sum) l (map (lineKeeps e) vs)
 kept-lines n sum l e [] f s r p o = tt
-kept-lines n sum l e (v ∷ vs) f s r p o =
-    (kept-line n sum l e v (f .0) (omega arith) (ltb-true (v .made - v .acked) maxPending (and-left (roomy v) (every (map roomy vs)) r)) p (o l (omega arith)),
-    kept-lines n sum (suc l) e vs (f .1) (omega arith) (and-right (roomy v) (every (map roomy vs)) r) p (λ j h. o j (omega arith)))
+kept-lines n sum l e (v ∷ vs) f s r p o = (
+  kept-line n sum l e v (f .0) (omega arith) (ltb-true (v .made - v .acked) maxPending (and-left (roomy v) (every (map roomy vs)) r)) p (o l (omega arith)),
+  kept-lines n sum (suc l) e vs (f .1) (omega arith) (and-right (roomy v) (every (map roomy vs)) r) p (λ j h. o j (omega arith)),
+)
 
 taken-lines : (n sum l i seen : ℕ) (e c : Edit) (vs : List Line) → i < length vs → LinesFacts n sum l vs → takenSum vs ≤ sum → othersRoomy i vs ≡ true
     → placed c ≡ true → ((j : ℕ) → (j ≡ l + i → ⊥) → priority (other n j) c ≡ true) → Asked seen e (getD vs i noLine)
     → LinesFacts n (suc sum) l (atPlace i (lineTaken seen e) (lineKeeps c) vs)
 unfolding atPlace othersRoomy
 taken-lines n sum l i seen e c [] lt f s r p o q = absurd (omega arith)
-taken-lines n sum l zero seen e c (v ∷ vs) lt f s r p o q =
-    (taken-line n sum l seen e v (f .0) (omega arith) (q .next) (q .low) (q .high) (q .placed) (q .inserts) (inserts-one e),
-    kept-lines n sum (suc l) c vs (f .1) (omega arith) r p (λ j h. o j (λ d. omega arith)))
-taken-lines n sum l (suc i) seen e c (v ∷ vs) lt f s r p o q =
-    (kept-line n sum l c v (f .0) (omega arith) (ltb-true (v .made - v .acked) maxPending (and-left (roomy v) (othersRoomy i vs) r)) p (o l (λ d. omega arith)),
-    taken-lines n sum (suc l) i seen e c vs (omega arith) (f .1) (omega arith) (and-right (roomy v) (othersRoomy i vs) r) p (λ j h. o j (λ d. h (omega arith))) q)
+taken-lines n sum l zero seen e c (v ∷ vs) lt f s r p o q = (
+  taken-line n sum l seen e v (f .0) (omega arith) (q .next) (q .low) (q .high) (q .placed) (q .inserts) (inserts-one e),
+  kept-lines n sum (suc l) c vs (f .1) (omega arith) r p (λ j h. o j (λ d. omega arith)),
+)
+taken-lines n sum l (suc i) seen e c (v ∷ vs) lt f s r p o q = (
+  kept-line n sum l c v (f .0) (omega arith) (ltb-true (v .made - v .acked) maxPending (and-left (roomy v) (othersRoomy i vs) r)) p (o l (λ d. omega arith)),
+  taken-lines n sum (suc l) i seen e c vs (omega arith) (f .1) (omega arith) (and-right (roomy v) (othersRoomy i vs) r) p (λ j h. o j (λ d. h (omega arith))) q,
+)
 
 acked-lines : (n sum l i seen : ℕ) (vs : List Line) → LinesFacts n sum l vs → getD vs i noLine .acked ≤ seen → seen ≤ getD vs i noLine .made
     → LinesFacts n sum l (atPlace i (lineAcked seen) (λ v. v) vs)
@@ -243,20 +271,20 @@ server-taken-sound s line seen e f l1 ln pr q q9 q9′ q12 =
     let c = carried s line seen e in
     let here : line - 1 < length vs = omega (arith, f .count) in
     let sum : takenSum (atPlace (line - 1) (lineTaken seen e) (lineKeeps c) vs) ≡ takenSum vs + 1 =
-          total-atPlace (λ v. v .taken) (lineTaken seen e) (lineKeeps c) 1 (λ v. refl) (λ v. refl) (line - 1) vs here in
+    total-atPlace (λ v. v .taken) (lineTaken seen e) (lineKeeps c) 1 (λ v. refl) (λ v. refl) (line - 1) vs here in
     let more : insertSum (atPlace (line - 1) (lineTaken seen e) (lineKeeps c) vs) ≡ insertSum vs + insertsOf e =
-          total-atPlace (λ v. v .inserts) (lineTaken seen e) (lineKeeps c) (insertsOf e) (λ v. refl) (λ v. refl) (line - 1) vs here in
+    total-atPlace (λ v. v .inserts) (lineTaken seen e) (lineKeeps c) (insertsOf e) (λ v. refl) (λ v. refl) (line - 1) vs here in
     record {
       n = f .n;
       initial = f .initial;
       items = q9′;
       count = length-atPlace (line - 1) (lineTaken seen e) (lineKeeps c) vs ∙ f .count;
       lines =
-        subst (λ (k : ℕ). LinesFacts (s .n) k 1 (atPlace (line - 1) (lineTaken seen e) (lineKeeps c) vs)) (omega (arith, sum))
-        (taken-lines (s .n) (takenSum vs) 1 (line - 1) seen e c vs here (f .lines) (omega arith) q12
-        (fits-placed c (s .items) (f .items) q9 q9′)
-        (λ j d. others j (λ z. d (omega arith)))
-        q);
+          subst (λ (k : ℕ). LinesFacts (s .n) k 1 (atPlace (line - 1) (lineTaken seen e) (lineKeeps c) vs)) (omega (arith, sum))
+          (taken-lines (s .n) (takenSum vs) 1 (line - 1) seen e c vs here (f .lines) (omega arith) q12
+          (fits-placed c (s .items) (f .items) q9 q9′)
+          (λ j d. others j (λ z. d (omega arith)))
+          q);
       inserted = omega (arith, more, f .inserted, size-inserts c (s .items) q9, inserts-past e (unackedOf (lineOf s line) seen));
     }
   where
@@ -267,6 +295,7 @@ server-taken-sound s line seen e f l1 ln pr q q9 q9′ q12 =
     priority-of j (Insert p x r) h t =
         let same : line ≡ r = eqb-true line r t in
         both (between 1 (s .n) r) (not (eqb r j)) (true-between 1 (s .n) r (omega arith) (omega arith)) (rw (ne-eqb r j (λ z. h (omega arith))))
+
     others : (j : ℕ) → (j ≡ line → ⊥) → priority (other (s .n) j) (carried s line seen e) ≡ true
     others j h =
         priority-past (other (s .n) j) e (unackedOf (lineOf s line) seen) ∙ priority-of j e h pr
@@ -277,16 +306,41 @@ server-acked-sound s line seen f l1 ln q7 q8 =
     let vs = s .lines in
     let here : line - 1 < length vs = omega (arith, f .count) in
     let sum : takenSum (atPlace (line - 1) (lineAcked seen) (λ v. v) vs) ≡ takenSum vs + 0 =
-          total-atPlace (λ v. v .taken) (lineAcked seen) (λ v. v) 0 (λ v. omega arith) (λ v. refl) (line - 1) vs here in
+    total-atPlace (λ v. v .taken) (lineAcked seen) (λ v. v) 0 (λ v. omega arith) (λ v. refl) (line - 1) vs here in
     let more : insertSum (atPlace (line - 1) (lineAcked seen) (λ v. v) vs) ≡ insertSum vs + 0 =
-          total-atPlace (λ v. v .inserts) (lineAcked seen) (λ v. v) 0 (λ v. omega arith) (λ v. refl) (line - 1) vs here in
+    total-atPlace (λ v. v .inserts) (lineAcked seen) (λ v. v) 0 (λ v. omega arith) (λ v. refl) (line - 1) vs here in
     record {
       n = f .n;
       initial = f .initial;
       items = f .items;
       count = length-atPlace (line - 1) (lineAcked seen) (λ v. v) vs ∙ f .count;
       lines =
-        subst (λ (k : ℕ). LinesFacts (s .n) k 1 (atPlace (line - 1) (lineAcked seen) (λ v. v) vs)) (omega (arith, sum))
-        (acked-lines (s .n) (takenSum vs) 1 (line - 1) seen vs (f .lines) q7 q8);
+          subst (λ (k : ℕ). LinesFacts (s .n) k 1 (atPlace (line - 1) (lineAcked seen) (λ v. v) vs)) (omega (arith, sum))
+          (acked-lines (s .n) (takenSum vs) 1 (line - 1) seen vs (f .lines) q7 q8);
       inserted = omega (arith, more, f .inserted);
     }
+
+-- the facts of one line
+pub lines-get : (n sum l : ℕ) (vs : List Line) → LinesFacts n sum l vs → (i : ℕ) → i < length vs → LineFacts n sum (l + i) (getD vs i noLine)
+lines-get n sum l [] f i lt = absurd (omega arith)
+lines-get n sum l (v ∷ vs) f zero lt = subst (λ (k : ℕ). LineFacts n sum k v) (omega arith) (f .0)
+lines-get n sum l (v ∷ vs) f (suc i) lt = subst (λ (k : ℕ). LineFacts n sum k (getD vs i noLine)) (omega arith) (lines-get n sum (suc l) vs (f .1) i (omega arith))
+
+pub line-fact : (s : Server) → ServerFacts s → (l : ℕ) → 1 ≤ l → l ≤ s .n → LineFacts (s .n) (takenSum (s .lines)) l (lineOf s l)
+line-fact s f l a b =
+    subst (λ (k : ℕ). LineFacts (s .n) (takenSum (s .lines)) k (lineOf s l)) (omega arith)
+    (lines-get (s .n) (takenSum (s .lines)) 1 (s .lines) (f .lines) (l - 1) (omega (arith, f .count)))
+
+-- all lines but one took at most 400 edits each
+takens-most : (n sum l : ℕ) (vs : List Line) → LinesFacts n sum l vs → takenSum vs ≤ length vs * 400
+takens-most n sum l [] f = omega arith
+takens-most n sum l (v ∷ vs) f = omega (arith, f .0 .taken, takens-most n sum (suc l) vs (f .1))
+
+takens-others : (n sum l : ℕ) (vs : List Line) → LinesFacts n sum l vs → (i : ℕ) → i < length vs → takenSum vs ≤ getD vs i noLine .taken + (length vs - 1) * 400
+takens-others n sum l [] f i lt = absurd (omega arith)
+takens-others n sum l (v ∷ vs) f zero lt = omega (arith, takens-most n sum (suc l) vs (f .1))
+takens-others n sum l (v ∷ vs) f (suc i) lt = omega (arith, f .0 .taken, takens-others n sum (suc l) vs (f .1) i (omega arith))
+
+pub made-most : (s : Server) → ServerFacts s → (l : ℕ) → 1 ≤ l → l ≤ s .n → lineOf s l .made ≤ 2800
+made-most s f l a b =
+    omega (arith, line-fact s f l a b .made, takens-others (s .n) (takenSum (s .lines)) 1 (s .lines) (f .lines) (l - 1) (omega (arith, f .count)), f .count, f .n .1)

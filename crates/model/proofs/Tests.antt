@@ -6,22 +6,12 @@ use Prim.Native.Nat.{ℕ, _≤_}
 use native.Mathlib.Omega.{arith}
 use lib.Dec.{leb, eqb}
 use borrow.Author.Tests.{leb-true, le-leb, eq-eqb, eqb-true}
+pub use Rattle.ot.proofs.Fits.{and-left, and-right}
 use Rattle.model.specs.Questions.{Question, ask, asks, every, between, Answer, answer, Sent, sent}
-
-false-true : {A : Type 0} → false ≡ true → A
-false-true e = absurd (let z : _≡_ {A = ℕ} 0 1 = cc in omega arith)
 
 pub both : (s t : Bool) → s ≡ true → t ≡ true → (s && t) ≡ true
 both true t e f = f
 both false t e f = e
-
-pub and-left : (s t : Bool) → (s && t) ≡ true → s ≡ true
-and-left true t e = refl
-and-left false t e = e
-
-pub and-right : (s t : Bool) → (s && t) ≡ true → t ≡ true
-and-right true t e = e
-and-right false t e = false-true e
 
 -- each test of a list holds
 abbrev pub Hold : List Bool → Type 0

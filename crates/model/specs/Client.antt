@@ -15,7 +15,7 @@ use Rattle.wire.specs.declared.Read.the-variants as read
 use Rattle.wire.specs.Message.{messageOf}
 use Rattle.wire.specs.Bytes.{bytesOf, parsed}
 use Rattle.model.specs.Limits.{maxLines, maxInserts, maxEdits, maxOthers, maxPending, maxItems, maxInitial}
-use Rattle.model.specs.Questions.{ask, asks, every, between, Answer, answer, Sent, sent}
+use Rattle.model.specs.Questions.{Question, ask, asks, every, between, Answer, answer, Sent, sent}
 use Rattle.model.specs.Cross.{past, over, allPlaced, priority, priorities, insertsOf}
 
 pub record Client : Type 0 where
@@ -56,10 +56,14 @@ clientTests c =
 unfoldable pub soundClient : Client → Bool
 soundClient c = every (clientTests c)
 
+abbrev pub openClientQuestions : ℕ → ℕ → List ℕ → List Question
+openClientQuestions n line items =
+    ask 1 (every (between 1 maxLines n ∷ between 1 n line ∷ leb (length items) maxInitial ∷ [])) ∷ []
+
 unfoldable pub openClient : ℕ → ℕ → List ℕ → Answer Client
 openClient n line items =
     answer
-    (asks (ask 1 (every (between 1 maxLines n ∷ between 1 n line ∷ leb (length items) maxInitial ∷ [])) ∷ []))
+    (asks (openClientQuestions n line items))
     noClient
     (record { n = n; line = line; made = 0; taken = 0; acked = 0; inserts = 0; items = items; pending = [] })
     0
@@ -78,16 +82,19 @@ edited c e =
       pending = c .pending ++ (e ∷ []);
     }
 
-unfoldable pub editClient : Client → Edit → Answer Client
-editClient c e =
-    answer
-    (asks
-    (ask 2 (soundClient c)
+abbrev pub editQuestions : Client → Edit → List Question
+editQuestions c e =
+    ask 2 (soundClient c)
     ∷ ask 9 (fits e (length (c .items)) && leb (length (applied e (c .items))) maxItems)
     ∷ ask 10 (leb (c .inserts + insertsOf e) maxInserts)
     ∷ ask 11 (ltb (c .made) maxEdits)
     ∷ ask 12 (ltb (c .made - c .acked) maxPending)
-    ∷ []))
+    ∷ []
+
+unfoldable pub editClient : Client → Edit → Answer Client
+editClient c e =
+    answer
+    (asks (editQuestions c e))
     c
     (edited c e)
     0
@@ -107,22 +114,29 @@ abbrev pub clientMessage : Client → ℕ → Message
 clientMessage c k =
     messageOf (record { line = c .line; direction = 0; number = k; seen = c .taken }) (pendingAt (c .acked) (c .pending) k)
 
-unfoldable pub sendClient : Client → ℕ → ℕ → List ℕ → Sent
-sendClient c line k lent =
-    sent
-    (asks
-    (ask 2 (soundClient c)
+abbrev pub sendClientQuestions : Client → ℕ → ℕ → List ℕ → List Question
+sendClientQuestions c line k lent =
+    ask 2 (soundClient c)
     ∷ ask 4 (eqb line (c .line))
     ∷ ask 13 (between (c .acked + 1) (c .made) k)
     ∷ ask 14 (leb (length (bytesOf (clientMessage c k))) (length lent))
-    ∷ []))
+    ∷ []
+
+unfoldable pub sendClient : Client → ℕ → ℕ → List ℕ → Sent
+sendClient c line k lent =
+    sent
+    (asks (sendClientQuestions c line k lent))
     (bytesOf (clientMessage c k))
     lent
+
+abbrev pub tellClientQuestions : Client → ℕ → List ℕ → List Question
+tellClientQuestions c line lent =
+    ask 2 (soundClient c) ∷ ask 4 (eqb line (c .line)) ∷ ask 14 (leb 5 (length lent)) ∷ []
 
 unfoldable pub tellClient : Client → ℕ → List ℕ → Sent
 tellClient c line lent =
     sent
-    (asks (ask 2 (soundClient c) ∷ ask 4 (eqb line (c .line)) ∷ ask 14 (leb 5 (length lent)) ∷ []))
+    (asks (tellClientQuestions c line lent))
     (bytesOf (message.Ack (c .line) 0 (c .taken)))
     lent
 
@@ -160,11 +174,9 @@ clientTaken c seen e =
 abbrev pub other : ℕ → ℕ → ℕ → Bool
 other n line r = between 1 n r && not (eqb r line)
 
-unfoldable pub clientTakesEdit : Client → Header → Edit → Answer Client
-clientTakesEdit c h e =
-    answer
-    (asks
-    (ask 2 (soundClient c)
+abbrev pub clientEditQuestions : Client → Header → Edit → List Question
+clientEditQuestions c h e =
+    ask 2 (soundClient c)
     ∷ ask 4 (eqb (h .direction) 1 && eqb (h .line) (c .line) && priority (other (c .n) (c .line)) e)
     ∷ ask 5 (ltb (c .taken) (h .number))
     ∷ ask 6 (eqb (h .number) (c .taken + 1))
@@ -173,20 +185,28 @@ clientTakesEdit c h e =
     ∷ ask 9
     (fits (past e (unacked c (h .seen))) (length (c .items)) && allPlaced (over e (unacked c (h .seen)))
     && leb (length (applied (past e (unacked c (h .seen))) (c .items))) maxItems)
-    ∷ []))
+    ∷ []
+
+unfoldable pub clientTakesEdit : Client → Header → Edit → Answer Client
+clientTakesEdit c h e =
+    answer
+    (asks (clientEditQuestions c h e))
     c
     (clientTaken c (h .seen) e)
     (c .made - h .seen)
 
-unfoldable pub clientTakesAck : Client → ℕ → ℕ → ℕ → Answer Client
-clientTakesAck c line direction seen =
-    answer
-    (asks
-    (ask 2 (soundClient c)
+abbrev pub clientAckQuestions : Client → ℕ → ℕ → ℕ → List Question
+clientAckQuestions c line direction seen =
+    ask 2 (soundClient c)
     ∷ ask 4 (eqb direction 1 && eqb line (c .line))
     ∷ ask 7 (leb (c .acked) seen)
     ∷ ask 8 (leb seen (c .made))
-    ∷ []))
+    ∷ []
+
+unfoldable pub clientTakesAck : Client → ℕ → ℕ → ℕ → Answer Client
+clientTakesAck c line direction seen =
+    answer
+    (asks (clientAckQuestions c line direction seen))
     c
     (clientAcked c seen)
     0

@@ -9,3 +9,7 @@ pub mod Log
 pub mod Run
 pub mod Claim
 pub mod Ours
+pub mod Sound
+pub mod Wrong
+pub mod Refusals
+pub mod Marked

@@ -1,41 +1,35 @@
 -- What a list of calls leaves by the definitions (01: "What an edit becomes", "Meeting"). It is computed from the calls and from which of
 -- them were refused, and from nothing else that a sheet answers.
 use Prim.Native.Nat.{ℕ, zero, suc, _+_, _-_}
-use mathlib.Core.Bool.{Bool, true, false, not, _&&_, _||_, cond}
+use mathlib.Core.Bool.{cond}
 use mathlib.Core.Option.{Option, none, some}
 use mathlib.Core.List.{List, [], _∷_, _++_}
-use lib.Dec.{leb, ltb, eqb}
-use lib.ListN.{length, getD, take, getElem?}
+use lib.Dec.{eqb}
+use lib.ListN.{length, getD, getElem?}
 use Rattle.ot.specs.declared.Edit.{Edit}
 use Rattle.ot.specs.declared.Edit.the-variants as edit
 use Rattle.ot.specs.Edit.{applied}
+use Rattle.wire.specs.declared.Message.{Message}
 use Rattle.wire.specs.declared.Message.the-variants as message
 use Rattle.wire.specs.Message.{messageOf}
 use Rattle.wire.specs.Bytes.{bytesOf}
-use Rattle.jupiter.specs.Made.{Name, Made, holds, select, names, isBy, mine, others}
+use Rattle.jupiter.specs.Made.{Made, mine, others}
 use Rattle.jupiter.specs.Form.{form, inOrder}
+use Rattle.jupiter.specs.Point.{blank, ownForm, othForm}
+use Rattle.jupiter.specs.Run.{Letter, up, down, upAck, downAck}
 use Rattle.jupiter.specs.History.{History, noHistory, at, order, madeBy, missing, afterEdit, afterUp, afterDown, newEdit}
 use Rattle.model.specs.Edits.{edits}
 use Rattle.model.specs.Sheet.{Call, insert, delete, send, tell, receive, junk}
 
--- what a message says besides its line, direction and seen
-pub data Content : Type 0 where
-  editing : (number : ℕ) → Edit → Content
-  acknowledging : Content
+-- a letter of the theory as a message; direction 0 goes up to the server, 1 down
+abbrev pub letterMessage : Letter edits → Message
+letterMessage (up l m) = messageOf (record { line = l; direction = 0; number = m .number; seen = m .seen }) (m .edit)
+letterMessage (down l m) = messageOf (record { line = l; direction = 1; number = m .number; seen = m .seen }) (m .edit)
+letterMessage (upAck l seen) = message.Ack l 0 seen
+letterMessage (downAck l seen) = message.Ack l 1 seen
 
--- A message as the definitions have it. Direction 0 goes up to the server, 1 down.
-pub record Letter : Type 0 where
-  pub line : ℕ
-  pub direction : ℕ
-  pub seen : ℕ
-  pub content : Content
-
-abbrev pub contentBytes : ℕ → ℕ → ℕ → Content → List ℕ
-contentBytes l d s (editing k e) = bytesOf (messageOf (record { line = l; direction = d; number = k; seen = s }) e)
-contentBytes l d s acknowledging = bytesOf (message.Ack l d s)
-
-abbrev pub letterBytes : Letter → List ℕ
-letterBytes m = contentBytes (m .line) (m .direction) (m .seen) (m .content)
+abbrev pub letterBytes : Letter edits → List ℕ
+letterBytes x = bytesOf (letterMessage x)
 
 pub record Log : Type 0 where
   -- which edits were made, served and applied
@@ -45,7 +39,7 @@ pub record Log : Type 0 where
   -- the last seen that the server took on each line, 0 before any
   pub heard : ℕ → ℕ
   -- the messages written, and the count of pending edits passed that each editing and taking owes
-  pub letters : List Letter
+  pub letters : List (Letter edits)
   pub passed : List ℕ
 
 abbrev pub noLog : List ℕ → Log
@@ -65,31 +59,25 @@ unfoldable pub takenAt : History edits → ℕ → ℕ → ℕ
 takenAt h zero l = length (mine l (h .served))
 takenAt h (suc a) l = length (others (suc a) (h .applied (suc a)))
 
--- an entry past a list's end
-abbrev pub noEdit : Made edits
-noEdit = record { name = record { line = 0; number = 0 }; edit = edit.Nothing; context = [] }
+-- Number k goes out in its form at what its sender has applied, less the edits that go out on that line from number k on: at the client
+-- the first k - 1 of its own and all that it took; at the server all that it took on the line and the first k - 1 of the others.
+unfoldable pub editLetter : History edits → ℕ → ℕ → ℕ → Letter edits
+editLetter h zero l k =
+    let seen = takenAt h zero l in
+    down l (record { number = k; seen = seen; edit = othForm l (order h l) seen (k - 1) })
+editLetter h (suc a) l k =
+    let seen = takenAt h (suc a) (suc a) in
+    up (suc a) (record { number = k; seen = seen; edit = ownForm (suc a) (order h (suc a)) (k - 1) seen })
 
--- The edits that an end sends on line l, in number order: the client's own, or those that the server took on other lines.
-unfoldable pub outgoing : History edits → ℕ → ℕ → List (Made edits)
-outgoing h zero l = others l (h .served)
-outgoing h (suc a) l = mine (suc a) (order h (suc a))
-
--- Number k goes out in its form at what its sender has applied, less those of the outgoing edits from number k on.
-unfoldable pub sentForm : History edits → ℕ → ℕ → ℕ → Edit
-sentForm h a l k =
-    let out = outgoing h a l in
-    form (getD out (k - 1) noEdit)
-    (select (λ e. not (holds (names out) (e .name)) || holds (names (take (k - 1) out)) (e .name)) (setOf h a))
-
-abbrev pub letterOf : History edits → ℕ → ℕ → Content → Letter
-letterOf h zero l c = record { line = l; direction = 1; seen = takenAt h zero l; content = c }
-letterOf h (suc a) l c = record { line = suc a; direction = 0; seen = takenAt h (suc a) (suc a); content = c }
+unfoldable pub ackLetter : History edits → ℕ → ℕ → Letter edits
+ackLetter h zero l = downAck l (takenAt h zero l)
+ackLetter h (suc a) l = upAck (suc a) (takenAt h (suc a) (suc a))
 
 -- an end applies an edit in its form at what it has applied
 abbrev pub shows : Log → ℕ → Made edits → ℕ → List ℕ
 shows w a e = at a (applied (form e (setOf (w .history) a)) (w .shown a)) (w .shown)
 
-abbrev pub writes : Log → Letter → Log
+abbrev pub writes : Log → Letter edits → Log
 writes w m =
     record { history = w .history; shown = w .shown; heard = w .heard; letters = w .letters ++ (m ∷ []); passed = w .passed }
 
@@ -110,7 +98,7 @@ edited w l e =
 
 -- the first edit of a list, where there is one
 abbrev pub first : List (Made edits) → Made edits
-first es = getD es 0 noEdit
+first es = getD es 0 blank
 
 -- the server takes client l's next edit; client l takes its next one
 abbrev pub tookUp : Log → ℕ → ℕ → Log
@@ -135,21 +123,19 @@ tookDown w l seen =
 
 -- The message is known from the sending that wrote it. One that an end had no right to take (another line's, or going the other way)
 -- leaves the log as it is, whatever the end answered.
-abbrev pub tookContent : Log → Bool → Bool → ℕ → ℕ → Content → Log
-tookContent w up down l seen (editing k e) = cond up (tookUp w l seen) (cond down (tookDown w l seen) (hears w (w .heard)))
-tookContent w up down l seen acknowledging = cond up (hears w (at l seen (w .heard))) (hears w (w .heard))
-
-unfoldable pub took : Log → ℕ → Option Letter → Log
+unfoldable pub took : Log → ℕ → Option (Letter edits) → Log
 took w a none = hears w (w .heard)
-took w a (some m) =
-    tookContent w (eqb a 0 && eqb (m .direction) 0) (eqb a (m .line) && eqb (m .direction) 1) (m .line) (m .seen) (m .content)
+took w a (some (up l m)) = cond (eqb a 0) (tookUp w l (m .seen)) (hears w (w .heard))
+took w a (some (down l m)) = cond (eqb a l) (tookDown w l (m .seen)) (hears w (w .heard))
+took w a (some (upAck l seen)) = cond (eqb a 0) (hears w (at l seen (w .heard))) (hears w (w .heard))
+took w a (some (downAck l seen)) = hears w (w .heard)
 
 -- a call that was not refused
 unfoldable pub logged : Log → Call → Log
 logged w (insert l p x) = edited w l (edit.Insert p x l)
 logged w (delete l p) = edited w l (edit.Delete p)
-logged w (send a l k lent) = writes w (letterOf (w .history) a l (editing k (sentForm (w .history) a l k)))
-logged w (tell a l lent) = writes w (letterOf (w .history) a l acknowledging)
+logged w (send a l k lent) = writes w (editLetter (w .history) a l k)
+logged w (tell a l lent) = writes w (ackLetter (w .history) a l)
 logged w (receive a i) = took w a (getElem? (w .letters) i)
 logged w (junk a bytes) = hears w (w .heard)
 

@@ -4,6 +4,7 @@ use mathlib.Core.Bool.{Bool, true, false, _&&_, cond}
 use mathlib.Core.List.{List, [], _∷_, _++_}
 use lib.Dec.{leb, eqb}
 use lib.ListN.{length, drop}
+pub use Rattle.wire.specs.Message.{between}
 
 pub record Question : Type 0 where
   pub number : ℕ
@@ -21,9 +22,6 @@ asks (q ∷ qs) = cond (q .yes) (asks qs) (q .number)
 abbrev pub every : List Bool → Bool
 every [] = true
 every (b ∷ bs) = b && every bs
-
-abbrev pub between : ℕ → ℕ → ℕ → Bool
-between low high n = leb low n && leb n high
 
 -- What a call that may change its end answers: the refusal's number or 0, the end, and how many pending edits an edit was
 -- transformed past.

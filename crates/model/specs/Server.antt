@@ -15,7 +15,7 @@ use Rattle.wire.specs.declared.Read.the-variants as read
 use Rattle.wire.specs.Message.{messageOf}
 use Rattle.wire.specs.Bytes.{bytesOf, parsed}
 use Rattle.model.specs.Limits.{maxLines, maxInserts, maxEdits, maxPending, maxItems, maxInitial}
-use Rattle.model.specs.Questions.{ask, asks, every, between, Answer, answer, Sent, sent}
+use Rattle.model.specs.Questions.{Question, ask, asks, every, between, Answer, answer, Sent, sent}
 use Rattle.model.specs.Cross.{past, over, allPlaced, priority, priorities, insertsOf}
 use Rattle.model.specs.Client.{other, pendingAt}
 
@@ -88,10 +88,14 @@ serverTests s =
 unfoldable pub soundServer : Server → Bool
 soundServer s = every (serverTests s)
 
+abbrev pub openServerQuestions : ℕ → List ℕ → List Question
+openServerQuestions n items =
+    ask 1 (every (between 1 maxLines n ∷ leb (length items) maxInitial ∷ [])) ∷ []
+
 unfoldable pub openServer : ℕ → List ℕ → Answer Server
 openServer n items =
     answer
-    (asks (ask 1 (every (between 1 maxLines n ∷ leb (length items) maxInitial ∷ [])) ∷ []))
+    (asks (openServerQuestions n items))
     noServer
     (record { n = n; initial = length items; items = items; lines = replicate n noLine })
     0
@@ -101,22 +105,29 @@ serverMessage s line k =
     messageOf (record { line = line; direction = 1; number = k; seen = lineOf s line .taken })
     (pendingAt (lineOf s line .acked) (lineOf s line .pending) k)
 
-unfoldable pub sendServer : Server → ℕ → ℕ → List ℕ → Sent
-sendServer s line k lent =
-    sent
-    (asks
-    (ask 2 (soundServer s)
+abbrev pub sendServerQuestions : Server → ℕ → ℕ → List ℕ → List Question
+sendServerQuestions s line k lent =
+    ask 2 (soundServer s)
     ∷ ask 4 (between 1 (s .n) line)
     ∷ ask 13 (between (lineOf s line .acked + 1) (lineOf s line .made) k)
     ∷ ask 14 (leb (length (bytesOf (serverMessage s line k))) (length lent))
-    ∷ []))
+    ∷ []
+
+unfoldable pub sendServer : Server → ℕ → ℕ → List ℕ → Sent
+sendServer s line k lent =
+    sent
+    (asks (sendServerQuestions s line k lent))
     (bytesOf (serverMessage s line k))
     lent
+
+abbrev pub tellServerQuestions : Server → ℕ → List ℕ → List Question
+tellServerQuestions s line lent =
+    ask 2 (soundServer s) ∷ ask 4 (between 1 (s .n) line) ∷ ask 14 (leb 5 (length lent)) ∷ []
 
 unfoldable pub tellServer : Server → ℕ → List ℕ → Sent
 tellServer s line lent =
     sent
-    (asks (ask 2 (soundServer s) ∷ ask 4 (between 1 (s .n) line) ∷ ask 14 (leb 5 (length lent)) ∷ []))
+    (asks (tellServerQuestions s line lent))
     (bytesOf (message.Ack line 1 (lineOf s line .taken)))
     lent
 
@@ -182,11 +193,9 @@ othersRoomy i [] = true
 othersRoomy zero (v ∷ vs) = every (map roomy vs)
 othersRoomy (suc i) (v ∷ vs) = roomy v && othersRoomy i vs
 
-unfoldable pub serverTakesEdit : Server → Header → Edit → Answer Server
-serverTakesEdit s h e =
-    answer
-    (asks
-    (ask 2 (soundServer s)
+abbrev pub serverEditQuestions : Server → Header → Edit → List Question
+serverEditQuestions s h e =
+    ask 2 (soundServer s)
     ∷ ask 4 (eqb (h .direction) 0 && between 1 (s .n) (h .line) && priority (eqb (h .line)) e)
     ∷ ask 5 (ltb (lineOf s (h .line) .taken) (h .number))
     ∷ ask 6 (eqb (h .number) (lineOf s (h .line) .taken + 1))
@@ -198,20 +207,28 @@ serverTakesEdit s h e =
     && leb (length (applied (carried s (h .line) (h .seen) e) (s .items))) maxItems)
     ∷ ask 10 (leb (lineOf s (h .line) .inserts + insertsOf e) maxInserts)
     ∷ ask 12 (othersRoomy (h .line - 1) (s .lines))
-    ∷ []))
+    ∷ []
+
+unfoldable pub serverTakesEdit : Server → Header → Edit → Answer Server
+serverTakesEdit s h e =
+    answer
+    (asks (serverEditQuestions s h e))
     s
     (serverTaken s (h .line) (h .seen) e)
     (lineOf s (h .line) .made - h .seen)
 
-unfoldable pub serverTakesAck : Server → ℕ → ℕ → ℕ → Answer Server
-serverTakesAck s line direction seen =
-    answer
-    (asks
-    (ask 2 (soundServer s)
+abbrev pub serverAckQuestions : Server → ℕ → ℕ → ℕ → List Question
+serverAckQuestions s line direction seen =
+    ask 2 (soundServer s)
     ∷ ask 4 (eqb direction 0 && between 1 (s .n) line)
     ∷ ask 7 (leb (lineOf s line .acked) seen)
     ∷ ask 8 (leb seen (lineOf s line .made))
-    ∷ []))
+    ∷ []
+
+unfoldable pub serverTakesAck : Server → ℕ → ℕ → ℕ → Answer Server
+serverTakesAck s line direction seen =
+    answer
+    (asks (serverAckQuestions s line direction seen))
     s
     (serverAcked s line seen)
     0

@@ -1,9 +1,11 @@
 -- An edit of a list that stands in an array: what its room says of the numbers, and that unused places stay as they should.
 use mathlib.Core.Path.{_≡_, refl, ap, sym, _∙_, subst}
 use mathlib.Core.Bool.{true}
-use Prim.Native.Nat.{ℕ, zero, suc, _+_, _-_, _≤_, _<_}
+use Prim.Native.Nat.{ℕ, suc, _+_, _-_, _≤_}
 use native.Mathlib.Omega.{arith}
-use mathlib.Core.List.{List, [], _∷_, _++_}
+use mathlib.Core.List.{List, _∷_, _++_}
+use lib.Dec.{leb}
+use borrow.Author.Tests.{leb-true}
 use lib.ListN.{length, take, drop, replicate, take-append-drop}
 use lib.Seq.{take-append-seam, drop-append-seam, drop-drop}
 use Rattle.ot.specs.declared.Edit.{Edit}
@@ -11,6 +13,10 @@ use Rattle.ot.specs.declared.Edit.the-variants.{Nothing, Delete, Insert}
 use Rattle.ot.specs.Edit.{insertedAt, deletedAt, applied, fits}
 use Rattle.ot.specs.Items.{sizeAfter, padded, behind, edited, Room, Edited}
 use Rattle.ot.proofs.Fits.{between-true, length-inserted, length-deleted}
+
+-- the room from its tests: what `fit` and `enough` answer, and that the list stood in the places before
+pub room : (e : Edit) (n m : ℕ) → fits e n ≡ true → n ≤ m → leb (sizeAfter e n) m ≡ true → Room e n m
+room e n m f h t = record { fitting = f; before = h; after = leb-true (sizeAfter e n) m t }
 
 -- ---- by the kind of the edit, which the code knows by an equation
 

@@ -1,17 +1,15 @@
 -- Tests of edits as facts about numbers and back; lengths after an edit.
-use mathlib.Core.Path.{_≡_, refl, ap, sym, _∙_, subst}
-use mathlib.Core.Logic.{_⊎_, inl, inr}
-use mathlib.Core.Bool.{Bool, true, false, not, _&&_}
-use Prim.Native.Nat.{ℕ, zero, suc, _+_, _-_, _≤_, _<_}
+use mathlib.Core.Path.{_≡_, refl}
+use mathlib.Core.Bool.{Bool, true, false, _&&_}
+use Prim.Native.Nat.{ℕ, _+_, _-_, _≤_, _<_}
 use native.Mathlib.Omega.{arith}
-use mathlib.Core.List.{List, [], _∷_, _++_}
-use lib.Dec.{leb, ltb, eqb}
-use lib.ListN.{length, take, drop, length-append, length-take, length-drop}
-use borrow.Author.Tests.{ltb-true, ltb-false, leb-true, le-leb, eqb-false}
+use mathlib.Core.List.{List}
+use lib.Dec.{leb, ltb}
+use lib.ListN.{length, length-append, length-take, length-drop}
+use borrow.Author.Tests.{ltb-true, ltb-false, leb-true, le-leb}
 use Rattle.ot.specs.declared.Edit.{Edit}
 use Rattle.ot.specs.declared.Edit.the-variants.{Nothing, Delete, Insert}
-use Rattle.ot.specs.Edit.{positionOf, insertedAt, deletedAt, applied, fits, transformed}
-use Rattle.ot.specs.Laws.{stamp, distinct, within}
+use Rattle.ot.specs.Edit.{insertedAt, deletedAt, applied, fits}
 use Rattle.ot.specs.Items.{sizeAfter}
 
 -- ---- tests

@@ -1,15 +1,15 @@
 -- The square (TP1): two edits of one list, each transformed past the other, fit and lead to one list.
-use mathlib.Core.Path.{_≡_, refl, ap, sym, _∙_, subst}
-use mathlib.Core.Bool.{Bool, true, false, not, _&&_, cond}
-use Prim.Native.Nat.{ℕ, zero, suc, _+_, _-_, _≤_, _<_}
+use mathlib.Core.Path.{_≡_, refl, ap, sym}
+use mathlib.Core.Bool.{true, not, cond}
+use Prim.Native.Nat.{ℕ, _+_, _-_, _≤_, _<_}
 use native.Mathlib.Omega.{arith}
-use mathlib.Core.List.{List, [], _∷_}
+use mathlib.Core.List.{List}
 use lib.Dec.{leb, ltb, eqb}
 use lib.ListN.{length}
-use borrow.Author.Tests.{ltb-true, ltb-false, leb-true, leb-false, eqb-false, lt-ltb, le-ltb, le-leb, lt-leb, eq-eqb, not-true}
+use borrow.Author.Tests.{ltb-true, leb-true, leb-false, eqb-false, lt-ltb, le-ltb, le-leb, lt-leb, not-true}
 use Rattle.ot.specs.declared.Edit.{Edit}
 use Rattle.ot.specs.declared.Edit.the-variants.{Nothing, Delete, Insert}
-use Rattle.ot.specs.Edit.{insertedAt, deletedAt, applied, fits, transformed}
+use Rattle.ot.specs.Edit.{deletedAt, applied, fits, transformed}
 use Rattle.ot.specs.Laws.{distinct, Closes}
 use Rattle.ot.specs.Items.{sizeAfter}
 use Rattle.ot.proofs.Exchange.{swap-insert-insert, swap-insert-delete, swap-delete-insert, swap-delete-delete}

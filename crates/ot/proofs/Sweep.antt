@@ -1,13 +1,13 @@
 -- A loop that goes up through an array and writes a target list t over what was there, a: at place i the array is `swept t a i`.
 -- And the two targets: one item put in, one taken out.
 use mathlib.Core.Path.{_≡_, refl, ap, sym, _∙_, subst}
-use Prim.Native.Nat.{ℕ, zero, suc, _+_, _-_, _≤_, _<_}
+use Prim.Native.Nat.{ℕ, zero, suc, _+_, _≤_, _<_}
 use native.Mathlib.Nat.{le-of-suc-le-suc, not-suc-le-zero}
 use native.Mathlib.Numerals.{add-one}
 use native.Mathlib.Omega.{arith}
 use mathlib.Core.List.{List, [], _∷_, _++_}
 use lib.ListN.{length, getD, set, take, drop, length-append, length-take, length-drop, length-set, take-append-drop, List·getD-append}
-use lib.Seq.{getD-take, getD-drop, drop-at, take-at, getD-at}
+use lib.Seq.{getD-take, drop-at, getD-at}
 use Rattle.ot.specs.Edit.{insertedAt, deletedAt}
 
 module _ {A : Type 0} where

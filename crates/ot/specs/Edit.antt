@@ -1,6 +1,6 @@
 -- What an edit does to a list, and its form after another edit (01: "Edits and carrying").
 use Prim.Native.Nat.{ℕ, suc, _+_, _-_}
-use mathlib.Core.Bool.{Bool, true, false, _&&_, cond}
+use mathlib.Core.Bool.{Bool, true, _&&_, cond}
 use mathlib.Core.List.{List, _∷_, _++_}
 use lib.Dec.{ltb, leb}
 use lib.ListN.{take, drop}

@@ -1,10 +1,11 @@
 // Edits of a list, and operational transformation: the form of one edit after another.
 ghost use mathlib.Core.Path.{_≡_};
-ghost use Prim.Native.Nat.{_+_, _-_, _<_, _≤_};
+ghost use Prim.Native.Nat.{_+_, _<_, _≤_};
 ghost use mathlib.Core.List.{_∷_, _++_};
 ghost use lib.ListN.{length, take, drop};
-ghost use Rattle.ot.specs.Edit.{positionOf, insertedAt, deletedAt, transformed};
-ghost use Rattle.ot.specs.Items.{capacity, Room, Edited};
+ghost use lib.Dec.{leb};
+ghost use Rattle.ot.specs.Edit.{positionOf, insertedAt, deletedAt, fits, transformed};
+ghost use Rattle.ot.specs.Items.{capacity, sizeAfter, Room, Edited};
 
 // An edit. Positions count from 1.
 // Nothing stands first: an unused place of an array then holds it, and no second value for "empty" is needed.
@@ -79,6 +80,39 @@ pub fn transform(a: Edit, b: Edit) -> Edit
         Edit::Nothing => Edit::Nothing,
         Edit::Delete(p) => transform_delete(p, b),
         Edit::Insert(p, x, r) => transform_insert(p, x, r, b),
+    }
+}
+
+fn wide(x: u16) -> u32
+    ensures { λ r. ⌜ r ≡ x ⌝ }
+{
+    x as u32
+}
+
+// Whether the position of e fits a list of len items.
+pub fn fit(e: Edit, len: u16) -> bool
+    ensures { λ r. ⌜ r ≡ fits e len ⌝ }
+{
+    match e {
+        Edit::Nothing => true,
+        Edit::Delete(p) => (1 <= p) & (p <= len),
+        Edit::Insert(p, _, _) => (1 <= p) & (wide(p) <= wide(len) + 1),
+    }
+}
+
+// Whether a list of len items still has room after e.
+pub fn enough(e: Edit, len: u16) -> bool
+    ensures { λ r. ⌜ r ≡ leb (sizeAfter e len) capacity ⌝ }
+{
+    match e {
+        Edit::Nothing => len <= 512,
+        Edit::Delete(_) => {
+            if len == 0 {
+                return true;
+            }
+            len - 1 <= 512
+        }
+        Edit::Insert(_, _, _) => wide(len) + 1 <= 512,
     }
 }
 

@@ -5,15 +5,15 @@ use native.Mathlib.Numerals.{add-one}
 use native.Mathlib.Omega.{arith}
 use mathlib.Core.Path.{_≡_, refl, ap, _∙_, sym, subst}
 use mathlib.Core.Bool.{Bool, true, _&&_}
-use mathlib.Core.List.{List, [], _∷_, _++_}
+use mathlib.Core.List.{List, [], _∷_}
 use lib.ListN.{length, getD, take, drop, set, length-take, length-drop}
 use lib.Seq.{take-all}
-use borrow.Author.Tests.{leb-true}
 use Rattle.ot.specs.declared.Edit.{Edit}
 use Rattle.ot.specs.declared.Edit.the-variants.{Nothing, Delete, Insert}
 use Rattle.ot.specs.Edit.{positionOf, transformed}
 use Rattle.ot.specs.Laws.{within}
 use Rattle.ot.proofs.Laws.{laws}
+use Rattle.ot.proofs.Sweep.{swept, swept-read, swept-store}
 use Rattle.model.specs.Limits.{maxPending, maxItems}
 use Rattle.model.specs.Cross.{past, over, placed, allPlaced}
 use Rattle.model.proofs.Tests.{and-left, and-right, between-true}
@@ -21,9 +21,8 @@ use Rattle.model.proofs.Cross.{length-over, placed-drop}
 use Rattle.pending.specs.declared.Slot.{Slot}
 use Rattle.pending.specs.declared.Crossed.{Crossed}
 use Rattle.pending.specs.Slots.{slot, usedEdits, filled, steps, crossed, Kept}
-use Rattle.pending.proofs.Sweep.{sweep, sweep-read, sweep-store}
 use Rattle.pending.proofs.Slots.{filled-length, filled-getD, kept-length, used-length, kept-end, used-filled, rest}
-use Rattle.pending.proofs.Whole.{and-true, and-assoc}
+use Rattle.pending.proofs.Whole.{placed-more}
 
 -- One step more of each of the model's recursions.
 past-more : (e : Edit) (es : List Edit) (i : ℕ) → i < length es → past e (take (suc i) es) ≡ transformed (past e (take i es)) (getD es i Nothing)
@@ -37,14 +36,6 @@ unfolding past over
 over-at e [] i h = absurd (not-suc-le-zero h)
 over-at e (p ∷ es) zero h = refl
 over-at e (p ∷ es) (suc i) h = over-at (transformed e p) es i (le-of-suc-le-suc h)
-
-placed-more : (es : List Edit) (i : ℕ) → i < length es → allPlaced (take (suc i) es) ≡ (allPlaced (take i es) && placed (getD es i Nothing))
-unfolding allPlaced
-placed-more [] i h = absurd (not-suc-le-zero h)
-placed-more (e ∷ es) zero h = and-true (placed e)
-placed-more (e ∷ es) (suc i) h =
-    ap (λ (b : Bool). placed e && b) (placed-more es i (le-of-suc-le-suc h))
-    ∙ sym (and-assoc (placed e) (allPlaced (take i es)) (placed (getD es i Nothing)))
 
 placed-position : (e : Edit) → placed e ≡ true → positionOf e ≤ maxItems
 unfolding within
@@ -71,7 +62,7 @@ steps-length e (p ∷ es) = ap suc (steps-length (transformed e p) es)
 -- After i turns: the first i slots hold the later forms, the edit stands past the first i.
 pub record Crossing (count : ℕ) (slots : List Slot) (e : Edit) (i : ℕ) (a : List Slot) (current : Edit) (good : Bool) : Type 0 where
   pub turns : i ≤ count
-  pub array : a ≡ sweep i (filled (over e (usedEdits count slots))) slots
+  pub array : a ≡ swept (filled (over e (usedEdits count slots))) slots i
   pub form : current ≡ past e (take i (usedEdits count slots))
   pub fine : good ≡ allPlaced (take i (over e (usedEdits count slots)))
 
@@ -79,8 +70,9 @@ module _ (count : ℕ) (slots : List Slot) (kept : Kept count slots) (e : Edit) 
   forms-length : length (over e (usedEdits count slots)) ≡ count
   forms-length = length-over e (usedEdits count slots) ∙ used-length count slots kept
 
-  target-length : length (filled (over e (usedEdits count slots))) ≡ maxPending
-  target-length = filled-length (over e (usedEdits count slots)) (omega (arith, forms-length, kept .few))
+  same-length : length (filled (over e (usedEdits count slots))) ≡ length slots
+  same-length =
+      filled-length (over e (usedEdits count slots)) (omega (arith, forms-length, kept .few)) ∙ sym (kept-length count slots kept)
 
   pub crossing-none : Crossing count slots e 0 slots e true
   unfolding past allPlaced
@@ -92,7 +84,7 @@ module _ (count : ℕ) (slots : List Slot) (kept : Kept count slots) (e : Edit) 
     next-edit h =
         ap (λ (l : List Slot). getD l i (slot Nothing) .edit) (now .array)
         ∙ ap (λ (s : Slot). s .edit)
-        (sweep-read i (filled (over e (usedEdits count slots))) slots (slot Nothing) i (omega (arith, target-length, kept .few)) (omega arith)
+        (swept-read (filled (over e (usedEdits count slots))) slots i i (slot Nothing) same-length (omega arith)
         ∙ ap (λ (l : List Slot). getD l i (slot Nothing)) (kept .whole) ∙ filled-getD (usedEdits count slots) i)
 
     -- positions stay far below what 16 bits hold
@@ -117,9 +109,9 @@ module _ (count : ℕ) (slots : List Slot) (kept : Kept count slots) (e : Edit) 
           turns = omega arith;
           array =
               ap (λ (l : List Slot). set l i (slot f)) (now .array)
-              ∙ ap (set (sweep i (filled (over e used)) slots) i) (ap slot f′ ∙ sym (filled-getD (over e used) i))
-              ∙ sweep-store i (filled (over e used)) slots (slot Nothing) (omega (arith, target-length, kept .few))
-              (omega (arith, kept-length count slots kept, kept .few));
+              ∙ ap (set (swept (filled (over e used)) slots i) i) (ap slot f′ ∙ sym (filled-getD (over e used) i))
+              ∙ swept-store (filled (over e used)) slots i (slot Nothing) same-length (omega (arith, kept-length count slots kept, kept .few))
+              ∙ ap (swept (filled (over e used)) slots) (sym (add-one i));
           form =
               en ∙ ap (transformed current) (next-edit h) ∙ ap (λ (x : Edit). transformed x (getD used i Nothing)) (now .form)
               ∙ sym (past-more e used i inside) ∙ ap (λ (k : ℕ). past e (take k used)) (sym (add-one i));
@@ -133,7 +125,7 @@ module _ (count : ℕ) (slots : List Slot) (kept : Kept count slots) (e : Edit) 
         let used = usedEdits count slots in
         let n : length used ≡ count = used-length count slots kept in
         let a′ : a ≡ filled (over e used) =
-        now .array ∙ ap (λ (k : ℕ). sweep k (filled (over e used)) slots) h
+        now .array ∙ ap (λ (k : ℕ). swept (filled (over e used)) slots k) h
         ∙ kept-end count slots kept (over e used) (omega (arith, forms-length)) in
         let c′ : current ≡ past e used = now .form ∙ ap (past e) (take-all i used (omega arith)) in
         let g′ : good ≡ allPlaced (over e used) = now .fine ∙ ap allPlaced (take-all i (over e used) (omega (arith, forms-length))) in

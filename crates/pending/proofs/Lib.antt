@@ -1,5 +1,4 @@
 pub mod Pad
-pub mod Sweep
 pub mod Slots
 pub mod Whole
 pub mod Crossing

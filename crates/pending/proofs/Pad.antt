@@ -2,10 +2,10 @@
 use Prim.Native.Nat.{ℕ, zero, suc, _+_, _-_, _≤_, _<_}
 use native.Mathlib.Omega.{arith}
 use mathlib.Core.Path.{_≡_, refl, ap, _∙_, sym}
-use mathlib.Core.List.{List, [], _∷_, _++_, map}
+use mathlib.Core.List.{List, [], _∷_, _++_}
 use lib.ListN.{length, getD, take, drop, set, replicate, length-append, length-replicate, take-append-drop}
 use lib.Seq.{length-take-le, take-append-seam, drop-append-add, set-append-seam, append-snoc}
-use Rattle.pending.specs.Pad.{padTo}
+use Rattle.ot.specs.Items.{padded}
 
 module _ {A : Type 0} where
   -- reading finds the list's own elements, and z past them
@@ -19,19 +19,19 @@ module _ {A : Type 0} where
   before (x ∷ l) m zero z = refl
   before (x ∷ l) m (suc i) z = before l m i z
 
-  pub pad-getD : (n : ℕ) (z : A) (l : List A) (i : ℕ) → getD (padTo n z l) i z ≡ getD l i z
+  pub pad-getD : (n : ℕ) (z : A) (l : List A) (i : ℕ) → getD (padded z n l) i z ≡ getD l i z
   pad-getD n z l i = before l (n - length l) i z
 
-  pub pad-length : (n : ℕ) (z : A) (l : List A) → length l ≤ n → length (padTo n z l) ≡ n
+  pub pad-length : (n : ℕ) (z : A) (l : List A) → length l ≤ n → length (padded z n l) ≡ n
   pad-length n z l h = simp (length-append, length-replicate) (omega arith)
 
-  pub pad-take : (n : ℕ) (z : A) (l : List A) → take (length l) (padTo n z l) ≡ l
+  pub pad-take : (n : ℕ) (z : A) (l : List A) → take (length l) (padded z n l) ≡ l
   pad-take n z l = take-append-seam l (replicate (n - length l) z)
 
   -- one array for each list of a length
-  pub pad-injective : (n : ℕ) (z : A) (l m : List A) → length l ≡ length m → padTo n z l ≡ padTo n z m → l ≡ m
+  pub pad-injective : (n : ℕ) (z : A) (l m : List A) → length l ≡ length m → padded z n l ≡ padded z n m → l ≡ m
   pad-injective n z l m e p =
-      sym (pad-take n z l) ∙ ap (take (length l)) p ∙ ap (λ (k : ℕ). take k (padTo n z m)) e ∙ pad-take n z m
+      sym (pad-take n z l) ∙ ap (take (length l)) p ∙ ap (λ (k : ℕ). take k (padded z n m)) e ∙ pad-take n z m
 
   drop-zeros : (m k : ℕ) (z : A) → drop k (replicate m z) ≡ replicate (m - k) z
   drop-zeros m zero z =
@@ -45,23 +45,23 @@ module _ {A : Type 0} where
       drop-zeros m k z ∙ ap (λ (j : ℕ). replicate j z) e
 
   -- past the list's end there are zeros only
-  pub pad-drop : (n : ℕ) (z : A) (l : List A) (k : ℕ) → length l ≤ k → drop k (padTo n z l) ≡ replicate (n - k) z
+  pub pad-drop : (n : ℕ) (z : A) (l : List A) (k : ℕ) → length l ≤ k → drop k (padded z n l) ≡ replicate (n - k) z
   pad-drop n z l k h =
       let f : length l + (k - length l) ≡ k = omega arith in
       let g : n - length l - (k - length l) ≡ n - k = omega arith in
-      ap (λ (j : ℕ). drop j (padTo n z l)) (sym f) ∙ drop-append-add l (replicate (n - length l) z) (k - length l)
+      ap (λ (j : ℕ). drop j (padded z n l)) (sym f) ∙ drop-append-add l (replicate (n - length l) z) (k - length l)
       ∙ drop-zeros (n - length l) (k - length l) z
       ∙ ap (λ (j : ℕ). replicate j z) g
 
   -- an array of n places that holds zeros from c on is its first c elements, padded
   pub pad-of : (n : ℕ) (z : A) (l : List A) (c : ℕ) → length l ≡ n → c ≤ n → drop c l ≡ replicate (n - c) z
-      → l ≡ padTo n z (take c l)
+      → l ≡ padded z n (take c l)
   pad-of n z l c e h d =
       let k : length (take c l) ≡ c = length-take-le c l (omega arith) in
       sym (take-append-drop c l) ∙ ap (λ (r : List A). take c l ++ r) d
       ∙ ap (λ (j : ℕ). take c l ++ replicate (n - j) z) (sym k)
 
-  pub pad-snoc : (n : ℕ) (z : A) (l : List A) (x : A) → length l < n → set (padTo n z l) (length l) x ≡ padTo n z (l ++ (x ∷ []))
+  pub pad-snoc : (n : ℕ) (z : A) (l : List A) (x : A) → length l < n → set (padded z n l) (length l) x ≡ padded z n (l ++ (x ∷ []))
   pad-snoc n z l x h =
       let one : n - length l ≡ suc (n - (length l + 1)) = omega arith in
       let more : length (l ++ (x ∷ [])) ≡ length l + 1 = length-append l (x ∷ []) in

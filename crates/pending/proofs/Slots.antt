@@ -1,20 +1,20 @@
 -- Laws of the slots: the array for a list of pending edits, and what the array is once the test has passed.
 use Prim.Native.Nat.{ℕ, zero, suc, _+_, _-_, _≤_, _<_}
 use native.Mathlib.Nat.{add-comm}
+use native.Mathlib.Numerals.{add-one}
 use native.Mathlib.Omega.{arith}
 use mathlib.Core.Path.{_≡_, refl, ap, _∙_, sym}
-use mathlib.Core.Bool.{Bool, true, false, _&&_}
 use mathlib.Core.List.{List, [], _∷_, _++_, map, map-append}
-use lib.ListN.{length, getD, take, drop, set, replicate, length-append, length-take, length-drop, length-map, List·getD-map, List·getD-eq-default}
+use lib.ListN.{length, getD, take, drop, set, replicate, length-take, length-drop, length-map, List·getD-map, List·getD-eq-default}
 use lib.Seq.{getD-drop}
 use Rattle.ot.specs.declared.Edit.{Edit}
-use Rattle.ot.specs.declared.Edit.the-variants.{Nothing, Delete, Insert}
+use Rattle.ot.specs.declared.Edit.the-variants.{Nothing}
+use Rattle.ot.specs.Items.{padded}
+use Rattle.ot.proofs.Sweep.{swept, length-swept, swept-read, swept-store, swept-to}
 use Rattle.model.specs.Limits.{maxPending}
 use Rattle.pending.specs.declared.Slot.{Slot}
-use Rattle.pending.specs.Pad.{padTo}
 use Rattle.pending.specs.Slots.{slot, edits, usedEdits, filled, Kept}
-use Rattle.pending.proofs.Pad.{pad-getD, pad-length, pad-take, pad-injective, pad-drop, pad-of, pad-snoc}
-use Rattle.pending.proofs.Sweep.{sweep, sweep-read, sweep-store, sweep-length, sweep-end}
+use Rattle.pending.proofs.Pad.{pad-getD, pad-length, pad-take, pad-drop, pad-snoc}
 
 -- A slot is its edit, so a list of slots is its list of edits.
 pub slots-edits : (l : List Slot) → map slot (edits l) ≡ l
@@ -60,7 +60,7 @@ unfolding filled
 filled-push es e h =
     ap (λ (k : ℕ). set (filled es) k (slot e)) (sym (length-map es slot))
     ∙ pad-snoc maxPending (slot Nothing) (map slot es) (slot e) (rw length-map h)
-    ∙ ap (padTo maxPending (slot Nothing)) (sym (map-append slot es (e ∷ [])))
+    ∙ ap (padded (slot Nothing) maxPending) (sym (map-append slot es (e ∷ [])))
 
 -- Dropping moves each edit down.
 pub filled-shift : (es : List Edit) (k i : ℕ) → getD (filled (drop k es)) i (slot Nothing) ≡ getD (filled es) (k + i) (slot Nothing)
@@ -92,35 +92,47 @@ module _ (count : ℕ) (slots : List Slot) (kept : Kept count slots) where
       filled-shift (usedEdits count slots) k i ∙ ap (λ (l : List Slot). getD l (k + i) (slot Nothing)) (sym (kept .whole))
 
   -- a loop over the slots in use is done: from count on, any list that is no longer has what the array had there
-  pub kept-end : (es : List Edit) → length es ≤ count → sweep count (filled es) slots ≡ filled es
+  pub kept-end : (es : List Edit) → length es ≤ count → swept (filled es) slots count ≡ filled es
   kept-end es h =
-      sweep-end count (filled es) slots
-      (ap (drop count) (kept .whole) ∙ filled-drop (usedEdits count slots) count (omega (arith, used-length))
-      ∙ sym (filled-drop es count h))
+      swept-to (filled es) slots count
+      (filled-drop es count h ∙ sym (filled-drop (usedEdits count slots) count (omega (arith, used-length)))
+      ∙ ap (drop count) (sym (kept .whole)))
 
   rest-length : (k : ℕ) → length (rest k count slots) ≡ maxPending
   rest-length k = filled-length (drop k (usedEdits count slots)) (simp length-drop (omega (arith, used-length, kept .few)))
 
   -- One turn of the loop that drops the first k: slot i takes what stands k above it.
-  pub rest-turn : (k i : ℕ) (a : List Slot) → i < maxPending → a ≡ sweep i (rest k count slots) slots
-      → set a i (getD a (i + k) (slot Nothing)) ≡ sweep (i + 1) (rest k count slots) slots
+  pub rest-turn : (k i : ℕ) (a : List Slot) → i < maxPending → a ≡ swept (rest k count slots) slots i
+      → set a i (getD a (i + k) (slot Nothing)) ≡ swept (rest k count slots) slots (i + 1)
   rest-turn k i a h e =
       let t : List Slot = rest k count slots in
       let n : length t ≡ maxPending = rest-length k in
       let m : length slots ≡ maxPending = kept-length in
       let v : getD a (i + k) (slot Nothing) ≡ getD t i (slot Nothing) =
       ap (λ (l : List Slot). getD l (i + k) (slot Nothing)) e
-      ∙ sweep-read i t slots (slot Nothing) (i + k) (omega arith) (omega arith)
+      ∙ swept-read t slots i (i + k) (slot Nothing) (n ∙ sym m) (omega arith)
       ∙ ap (λ (j : ℕ). getD slots j (slot Nothing)) (add-comm i k)
       ∙ sym (kept-shift k i) in
-      ap (λ (l : List Slot). set l i (getD a (i + k) (slot Nothing))) e ∙ ap (set (sweep i t slots) i) v
-      ∙ sweep-store i t slots (slot Nothing) (omega arith) (omega arith)
+      ap (λ (l : List Slot). set l i (getD a (i + k) (slot Nothing))) e ∙ ap (set (swept t slots i) i) v
+      ∙ swept-store t slots i (slot Nothing) (n ∙ sym m) (omega arith) ∙ ap (swept t slots) (sym (add-one i))
 
   -- where there is no such slot, that is nothing
-  pub rest-none : (k i : ℕ) (a : List Slot) → i ≤ maxPending → a ≡ sweep i (rest k count slots) slots → maxPending ≤ i + k
+  pub rest-none : (k i : ℕ) (a : List Slot) → i ≤ maxPending → a ≡ swept (rest k count slots) slots i → maxPending ≤ i + k
       → slot Nothing ≡ getD a (i + k) (slot Nothing)
   rest-none k i a h e b =
       let n : length (rest k count slots) ≡ maxPending = rest-length k in
       let m : length slots ≡ maxPending = kept-length in
-      let s : length a ≡ length slots = ap length e ∙ sweep-length i (rest k count slots) slots (n ∙ sym m) (omega arith) in
+      let s : length a ≡ length slots = ap length e ∙ length-swept (rest k count slots) slots i (n ∙ sym m) in
       sym (List·getD-eq-default a (slot Nothing) (omega arith))
+
+  pub rest-end : (k i : ℕ) (a : List Slot) → i ≡ count → a ≡ swept (rest k count slots) slots i → a ≡ rest k count slots
+  rest-end k i a h e =
+      e ∙ ap (swept (rest k count slots) slots) h
+      ∙ kept-end (drop k (usedEdits count slots)) (simp length-drop (omega (arith, used-length)))
+
+  -- reading a slot reads the list of pending edits, past its end too
+  pub kept-at : (i : ℕ) → getD (edits slots) i Nothing ≡ getD (usedEdits count slots) i Nothing
+  kept-at i =
+      List·getD-map (λ (s : Slot). s .edit) slots i (slot Nothing)
+      ∙ ap (λ (l : List Slot). getD l i (slot Nothing) .edit) (kept .whole)
+      ∙ ap (λ (s : Slot). s .edit) (filled-getD (usedEdits count slots) i)

@@ -1,2 +1,1 @@
-pub mod Pad
 pub mod Slots

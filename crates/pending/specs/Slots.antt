@@ -2,19 +2,19 @@
 use Prim.Native.Nat.{ℕ, suc, _≤_}
 use mathlib.Core.Path.{_≡_}
 use mathlib.Core.Bool.{Bool, true, false, _&&_}
-use mathlib.Core.List.{List, [], _∷_, _++_, map}
+use mathlib.Core.List.{List, [], _∷_, map}
 use lib.Dec.{leb, eqb}
 use lib.ListN.{length, take, drop}
 use Rattle.ot.specs.declared.Edit.{Edit}
 use Rattle.ot.specs.declared.Edit.the-variants.{Nothing, Delete, Insert}
 use Rattle.ot.specs.Edit.{transformed}
+use Rattle.ot.specs.Items.{padded}
 use Rattle.model.specs.Limits.{maxPending}
 use Rattle.model.specs.Questions.{every}
-use Rattle.model.specs.Cross.{past, over, placed, allPlaced, priority, priorities}
+use Rattle.model.specs.Cross.{past, over, allPlaced, priorities}
 use Rattle.model.specs.Client.{other}
 use Rattle.pending.specs.declared.Slot.{Slot}
 use Rattle.pending.specs.declared.Crossed.{Crossed}
-use Rattle.pending.specs.Pad.{padTo}
 
 abbrev pub slot : Edit → Slot
 slot e = record { edit = e }
@@ -28,7 +28,7 @@ usedEdits count slots = take count (edits slots)
 
 -- the one array for a list of pending edits: every unused slot holds nothing
 unfoldable pub filled : List Edit → List Slot
-filled es = padTo maxPending (slot Nothing) (map slot es)
+filled es = padded (slot Nothing) maxPending (map slot es)
 
 abbrev pub isNothing : Edit → Bool
 isNothing Nothing = true
@@ -45,9 +45,9 @@ abbrev pub rightPriority : ℕ → ℕ → Bool → ℕ → Bool
 rightPriority n line true = eqb line
 rightPriority n line false = other n line
 
--- one pending edit: position and priority
-abbrev pub rightEdit : (ℕ → Bool) → Edit → Bool
-rightEdit good e = placed e && priority good e
+-- positions and priorities
+abbrev pub rightEdits : (ℕ → Bool) → List Edit → Bool
+rightEdits good es = allPlaced es && priorities good es
 
 -- Question 2 about the pending edits: kept are exactly count edits, at most 64, their positions and priorities right; unused
 -- places are zero.
@@ -63,11 +63,17 @@ soundTests good count slots =
 unfoldable pub soundSlots : (ℕ → Bool) → ℕ → List Slot → Bool
 soundSlots good count slots = every (soundTests good count slots)
 
--- What the other functions may assume of the array that they are handed.
+-- What the functions that change the array ask of it. Every array that passes the test has it.
 pub record Kept (count : ℕ) (slots : List Slot) : Type 0 where
   pub few : count ≤ maxPending
   pub whole : slots ≡ filled (usedEdits count slots)
   pub placed : allPlaced (usedEdits count slots) ≡ true
+
+-- What the test says: its answer, how long the array is, and what is known where the answer is yes.
+pub record Tested (good : ℕ → Bool) (count : ℕ) (slots : List Slot) (r : Bool) : Type 0 where
+  pub answer : r ≡ soundSlots good count slots
+  pub places : length slots ≡ maxPending
+  pub kept : r ≡ true → Kept count slots
 
 -- how many steps the arriving edit takes past the pending ones
 unfoldable pub steps : Edit → List Edit → ℕ

@@ -5,11 +5,11 @@ ghost use mathlib.Core.List.{[], _∷_, _++_};
 ghost use Prim.Native.Nat.{_<_, _≤_};
 ghost use lib.ListN.{length, getD, drop};
 ghost use Rattle.ot.specs.declared.Edit.the-variants as edit;
-ghost use Rattle.model.specs.Limits.{maxItems};
+ghost use Rattle.model.specs.Limits.{maxItems, maxPending};
 ghost use Rattle.model.specs.Questions.{between};
 ghost use Rattle.model.specs.Cross.{placed, priority};
 ghost use Rattle.ot.specs.Edit.{positionOf};
-ghost use Rattle.pending.specs.Slots.{edits, usedEdits, filled, isNothing, rightPriority, soundSlots, crossed, Kept};
+ghost use Rattle.pending.specs.Slots.{edits, usedEdits, filled, isNothing, allNothing, rightPriority, rightEdits, crossed, Kept, Tested};
 use ot::Edit;
 
 // One place of the buffer. An unused one holds Nothing.
@@ -112,19 +112,41 @@ fn is_nothing(e: Edit) -> bool
     }
 }
 
-// Question 2 about the pending edits, for a client of its own (own) and for the server of a line. It looks at every slot
-// whatever it finds, so that the loop has no branch.
-pub fn sound(slots: [Slot; 64], count: usize, n: u8, line: u8, own: bool) -> bool
-    ensures answer { λ r. ⌜ r ≡ soundSlots (rightPriority n line own) count slots ⌝ }
-    ensures kept { λ r. ⌜ (r ≡ true → Kept count slots) ⌝ }
+// The slots in use: no early return and no branch but on the kind of edit.
+fn used_right(slots: [Slot; 64], count: usize, n: u8, line: u8, own: bool) -> bool
+    requires { ⌜ count ≤ maxPending ⌝ }
+    ensures { λ r. ⌜ r ≡ rightEdits (rightPriority n line own) (usedEdits count slots) ⌝ }
 {
-    let mut well = count <= 64;
-    for i in 0..64 {
+    let mut right = true;
+    for i in 0..count {
         let s = slots[i];
         let e = s.edit;
-        well = well & ((is_placed(e) & is_ranked(e, n, line, own)) & ((i < count) | is_nothing(e)));
+        right = right & (is_placed(e) & is_ranked(e, n, line, own));
     }
-    well
+    right
+}
+
+// The slots from count on. A loop of its own: it looks at one byte of each slot, and the compiler makes it wide.
+fn unused_empty(slots: [Slot; 64], count: usize) -> bool
+    ensures { λ r. ⌜ r ≡ allNothing (drop count (edits slots)) ⌝ }
+{
+    let mut empty = true;
+    for i in count..64 {
+        let s = slots[i];
+        let e = s.edit;
+        empty = empty & is_nothing(e);
+    }
+    empty
+}
+
+// Question 2 about the pending edits: those of a client (own), or those that the server keeps for a line.
+pub fn sound(slots: [Slot; 64], count: usize, n: u8, line: u8, own: bool) -> bool
+    ensures { λ r. ⌜ Tested (rightPriority n line own) count slots r ⌝ }
+{
+    if 64 < count {
+        return false;
+    }
+    used_right(slots, count, n, line, own) & unused_empty(slots, count)
 }
 
 // The arriving edit goes past the pending ones in order, and each of these past the arriving edit as it stood before that one.

@@ -1,11 +1,11 @@
 // Messages between a client and the server, and their bytes.
 ghost use mathlib.Core.Path.{_≡_};
 ghost use mathlib.Core.List.{_∷_};
-ghost use Prim.Native.Nat.{_<_};
-ghost use lib.ListN.{length, getD, set};
+ghost use Prim.Native.Nat.{_<_, _≤_};
+ghost use lib.ListN.{length, getD};
 ghost use lib.Seq.{sets};
-ghost use Rattle.wire.specs.Message.{messageOf, between, headerInRange, inRange};
-ghost use Rattle.wire.specs.Bytes.{two, four, header, bytesOf, sizeOfKind, twoAt, fourAt, headerAt, fieldsOf, parsed, Written};
+ghost use Rattle.wire.specs.Message.{messageOf, headerInRange, inRange};
+ghost use Rattle.wire.specs.Bytes.{header, bytesOf, sizeOfKind, twoAt, fourAt, headerAt, fieldsOf, parsed, Written};
 use ot::Edit;
 
 // What every edit message begins with. Direction 0 goes up to the server, 1 down to a client.
@@ -51,31 +51,26 @@ const MAX_UP: u16 = 400;
 
 const MAX_DOWN: u16 = 2800;
 
-fn within(low: u16, high: u16, n: u16) -> bool
-    ensures { λ r. ⌜ r ≡ between low high n ⌝ }
-{
-    (low <= n) & (n <= high)
-}
-
 fn header_in_range(h: Header) -> bool
     ensures { λ r. ⌜ r ≡ headerInRange h ⌝ }
 {
-    let up = (h.direction == 0) & (within(1, MAX_UP, h.number) & (h.seen <= MAX_DOWN));
-    let down = (h.direction == 1) & (within(1, MAX_DOWN, h.number) & (h.seen <= MAX_UP));
-    within(1, 8, h.line as u16) & (up | down)
+    let line = (1 <= h.line) & (h.line <= 8);
+    let up = (h.direction == 0) & ((1 <= h.number) & (h.number <= MAX_UP) & (h.seen <= MAX_DOWN));
+    let down = (h.direction == 1) & ((1 <= h.number) & (h.number <= MAX_DOWN) & (h.seen <= MAX_UP));
+    line & (up | down)
 }
 
 fn in_range(m: Message) -> bool
     ensures { λ r. ⌜ r ≡ inRange m ⌝ }
 {
     match m {
-        Message::Insert(h, p, _, r) => header_in_range(h)
-            & within(1, 512, p)
-            & within(1, 8, r as u16),
-        Message::Delete(h, p) => header_in_range(h) & within(1, 512, p),
+        Message::Insert(h, p, _, r) => {
+            header_in_range(h) & ((1 <= p) & (p <= 512)) & ((1 <= r) & (r <= 8))
+        }
+        Message::Delete(h, p) => header_in_range(h) & ((1 <= p) & (p <= 512)),
         Message::Nothing(h) => header_in_range(h),
         Message::Ack(l, d, s) => {
-            within(1, 8, l as u16) & ((d == 0) & (s <= MAX_DOWN) | (d == 1) & (s <= MAX_UP))
+            ((1 <= l) & (l <= 8)) & ((d == 0) & (s <= MAX_DOWN) | (d == 1) & (s <= MAX_UP))
         }
     }
 }
@@ -169,75 +164,81 @@ pub fn size(m: Message) -> usize
     }
 }
 
-// The byte at i becomes b; past the end nothing changes, so that no writer below has to show that its index is within the buffer.
-fn put(out: &mut [u8], i: usize, b: u8)
-    ensures { λ _. ⌜ now (out .exit) ≡ set (now (out .entry)) i b ⌝ }
-{
-    if i < out.len() {
-        out[i] = b;
-    }
-}
-
-// High byte first.
-fn put_two(out: &mut [u8], i: usize, n: u16)
-    requires { ⌜ i < 16 ⌝ }
-    ensures { λ _. ⌜ now (out .exit) ≡ sets (now (out .entry)) i (two n) ⌝ }
-{
-    put(out, i, (n / 256) as u8);
-    put(out, i + 1, (n % 256) as u8);
-}
-
-fn put_four(out: &mut [u8], i: usize, n: u32)
-    requires { ⌜ i < 14 ⌝ }
-    ensures { λ _. ⌜ now (out .exit) ≡ sets (now (out .entry)) i (four n) ⌝ }
-{
-    put_two(out, i, (n / 65536) as u16);
-    put_two(out, i + 2, (n % 65536) as u16);
-}
-
-// The first seven bytes of an edit message.
+// The first seven bytes of an edit message, high byte first.
 fn put_header(out: &mut [u8], kind: u8, h: Header)
+    requires { ⌜ 7 ≤ length (now out) ⌝ }
     ensures { λ _. ⌜ now (out .exit) ≡ sets (now (out .entry)) 0 (kind ∷ header h) ⌝ }
 {
-    put(out, 0, kind);
-    put(out, 1, h.line);
-    put(out, 2, h.direction);
-    put_two(out, 3, h.number);
-    put_two(out, 5, h.seen);
+    out[0] = kind;
+    out[1] = h.line;
+    out[2] = h.direction;
+    out[3] = (h.number / 256) as u8;
+    out[4] = (h.number % 256) as u8;
+    out[5] = (h.seen / 256) as u8;
+    out[6] = (h.seen % 256) as u8;
 }
 
-fn put_message(out: &mut [u8], m: Message)
-    ensures { λ _. ⌜ now (out .exit) ≡ sets (now (out .entry)) 0 (bytesOf m) ⌝ }
+fn write_insert(h: Header, p: u16, x: u32, r: u8, out: &mut [u8]) -> usize
+    ensures { λ n. ⌜ Written (Message.Insert h p x r) (now (out .entry)) n (now (out .exit)) ⌝ }
 {
-    match m {
-        Message::Insert(h, p, x, r) => {
-            put_header(out, 1, h);
-            put_two(out, 7, p);
-            put_four(out, 9, x);
-            put(out, 13, r);
-        }
-        Message::Delete(h, p) => {
-            put_header(out, 2, h);
-            put_two(out, 7, p);
-        }
-        Message::Nothing(h) => put_header(out, 3, h),
-        Message::Ack(l, d, s) => {
-            put(out, 0, 4);
-            put(out, 1, l);
-            put(out, 2, d);
-            put_two(out, 3, s);
-        }
+    if out.len() < 14 {
+        return 0;
     }
+    put_header(out, 1, h);
+    out[7] = (p / 256) as u8;
+    out[8] = (p % 256) as u8;
+    out[9] = (x / 65536 / 256) as u8;
+    out[10] = (x / 65536 % 256) as u8;
+    out[11] = (x % 65536 / 256) as u8;
+    out[12] = (x % 65536 % 256) as u8;
+    out[13] = r;
+    14
+}
+
+fn write_delete(h: Header, p: u16, out: &mut [u8]) -> usize
+    ensures { λ n. ⌜ Written (Message.Delete h p) (now (out .entry)) n (now (out .exit)) ⌝ }
+{
+    if out.len() < 9 {
+        return 0;
+    }
+    put_header(out, 2, h);
+    out[7] = (p / 256) as u8;
+    out[8] = (p % 256) as u8;
+    9
+}
+
+fn write_nothing(h: Header, out: &mut [u8]) -> usize
+    ensures { λ n. ⌜ Written (Message.Nothing h) (now (out .entry)) n (now (out .exit)) ⌝ }
+{
+    if out.len() < 7 {
+        return 0;
+    }
+    put_header(out, 3, h);
+    7
+}
+
+fn write_ack(line: u8, direction: u8, seen: u16, out: &mut [u8]) -> usize
+    ensures { λ n. ⌜ Written (Message.Ack line direction seen) (now (out .entry)) n (now (out .exit)) ⌝ }
+{
+    if out.len() < 5 {
+        return 0;
+    }
+    out[0] = 4;
+    out[1] = line;
+    out[2] = direction;
+    out[3] = (seen / 256) as u8;
+    out[4] = (seen % 256) as u8;
+    5
 }
 
 // The message at the front of the buffer, and its length; a buffer that is too short stays as it is, and the answer is 0.
 pub fn write(m: Message, out: &mut [u8]) -> usize
-    ensures { λ r. ⌜ Written m (now (out .entry)) r (now (out .exit)) ⌝ }
+    ensures { λ n. ⌜ Written m (now (out .entry)) n (now (out .exit)) ⌝ }
 {
-    let n = size(m);
-    if out.len() < n {
-        return 0;
+    match m {
+        Message::Insert(h, p, x, r) => write_insert(h, p, x, r, out),
+        Message::Delete(h, p) => write_delete(h, p, out),
+        Message::Nothing(h) => write_nothing(h, out),
+        Message::Ack(l, d, s) => write_ack(l, d, s, out),
     }
-    put_message(out, m);
-    n
 }

@@ -1,66 +1,49 @@
+-- `ot::apply` meets its contract: the room says what the two loops ask.
 use native.Mathlib.Omega.{arith}
 use Rattle.ot.proofs.Array.{room-delete, room-insert, edited-nothing, edited-delete, edited-insert}
 use borrow.Author.Needs.{needs}
 use Rattle.ot.proofs.apply.Statement.{statement}
 use Rattle.ot.proofs.apply.Tie as tie
-use Rattle.ot.proofs.apply.Reads as reads
-use Rattle.ot.proofs.apply.Lts as lts
-use Rattle.ot.proofs.delete_at.Reads as delete-at-reads
-use Rattle.ot.proofs.insert_at.Reads as insert-at-reads
 
--- src/lib.rt:123:26
 enum-told : tie.Need-enum-told
 enum-told c = search needs
 
--- src/lib.rt:124:22
 enum-known-e : tie.Need-enum-known-e
 enum-known-e c = search needs
 
--- src/lib.rt:125:45
 sub-delete-at : tie.Need-sub-delete-at
 sub-delete-at c = omega (arith, room-delete (c .before .before .e .given .1) (c .before .before .before .before .pre))
 
--- src/lib.rt:125:44
 cast-delete-at : tie.Need-cast-delete-at
 cast-delete-at c = search needs
 
--- src/lib.rt:125:13
 delete-at-requires : tie.Need-delete-at-requires
 delete-at-requires c κs = let h = room-delete (c .before .before .e .given .1) (c .before .before .before .before .pre) in search needs
 
--- src/lib.rt:126:13
 sub-result : tie.Need-sub-result
 sub-result c = omega (arith, room-delete (c .before .before .before .e .given .1) (c .before .before .before .before .before .pre))
 
--- src/lib.rt:128:22
 enum-known-e-2 : tie.Need-enum-known-e-2
 enum-known-e-2 c = search needs
 
--- src/lib.rt:129:45
 sub-insert-at : tie.Need-sub-insert-at
 sub-insert-at c = omega (arith, room-insert (c .before .before .e2 .given .1) (c .before .before .before .before .pre))
 
--- src/lib.rt:129:44
 cast-insert-at : tie.Need-cast-insert-at
 cast-insert-at c = search needs
 
--- src/lib.rt:129:13
 insert-at-requires : tie.Need-insert-at-requires
 insert-at-requires c κs = let h = room-insert (c .before .before .e2 .given .1) (c .before .before .before .before .pre) in search needs
 
--- src/lib.rt:130:13
 add-result : tie.Need-add-result
 add-result c = omega (arith, room-insert (c .before .before .before .e2 .given .1) (c .before .before .before .before .before .pre))
 
--- src/lib.rt:118:1
 returns : tie.Need-returns
 returns c = edited-nothing (c .enum-told .given .1)
 
--- src/lib.rt:118:1
 returns-2 : tie.Need-returns-2
 returns-2 c = edited-delete (c .before .before .before .e .given .1) (c .delete-at .ensures)
 
--- src/lib.rt:118:1
 returns-3 : tie.Need-returns-3
 returns-3 c = edited-insert (c .before .before .before .e2 .given .1) (c .insert-at .ensures)
 

@@ -2,13 +2,9 @@
 use Prim.Native.Nat.{_-_}
 use native.Mathlib.Omega.{arith}
 use borrow.Author.Needs.{needs}
-use mathlib.Core.Path.{_∙_}
-use lib.ListN.{length-set}
 use Rattle.ot.proofs.Sweep.{Falling, falling-start, falling-turn, falling-end}
 use Rattle.ot.proofs.delete_at.Statement.{statement}
 use Rattle.ot.proofs.delete_at.Tie as tie
-use Rattle.ot.proofs.delete_at.Reads as reads
-use Rattle.ot.proofs.delete_at.Lts as lts
 
 abbrev Inv-loop : tie.InvT-loop
 Inv-loop items₀ len at last i₀ items i = Falling 0 items₀ len last at items i
@@ -16,59 +12,45 @@ Inv-loop items₀ len at last i₀ items i = Falling 0 items₀ len last at item
 abbrev μ-loop : tie.MeasureT-loop
 μ-loop items₀ len at last i₀ items i = last - i
 
--- src/lib.rt:108:16
 sub-last : tie.Need-sub-last Inv-loop μ-loop
 sub-last c = omega arith
 
--- src/lib.rt:110:5
 loop-holds : tie.Need-loop-holds Inv-loop μ-loop
 loop-holds c = falling-start 0 0 (c .args .items .now) (c .args .len) (c .args .len - 1) (c .args .at) (omega arith) (omega arith) (c .pre .1)
 
--- src/lib.rt:111:26
 add-items : tie.Need-add-items Inv-loop μ-loop
 add-items c = omega arith
 
--- src/lib.rt:111:20
 mul-items : tie.Need-mul-items Inv-loop μ-loop
 mul-items c = search needs
 
--- src/lib.rt:111:20
 slice-read-items : tie.Need-slice-read-items Inv-loop μ-loop
 slice-read-items c = omega arith
 
--- src/lib.rt:111:9
 mul-items-2 : tie.Need-mul-items-2 Inv-loop μ-loop
 mul-items-2 c = search needs
 
--- src/lib.rt:111:9
 slice-write-items : tie.Need-slice-write-items Inv-loop μ-loop
 slice-write-items c = omega arith
 
--- src/lib.rt:112:9
 add-i : tie.Need-add-i Inv-loop μ-loop
 add-i c = omega arith
 
--- src/lib.rt:110:5
 loop-less : tie.Need-loop-less Inv-loop μ-loop
 loop-less c = omega arith
 
--- src/lib.rt:110:5
 loop-again : tie.Need-loop-again Inv-loop μ-loop
 loop-again c = falling-turn 0 0 (c .before .before .before .args .items .now) (c .before .before .before .args .len) (c .before .before .before .args .len - 1) (c .before .before .before .args .at) (omega arith) (omega arith) (c .before .before .before .pre .1) (c .before .before .loop .items) (c .before .before .loop .i) (omega arith) (c .before .before .loop .inv)
 
--- src/lib.rt:114:5
 mul-items-3 : tie.Need-mul-items-3 Inv-loop μ-loop
 mul-items-3 c = search needs
 
--- src/lib.rt:114:5
 slice-write-items-2 : tie.Need-slice-write-items-2 Inv-loop μ-loop
 slice-write-items-2 c = omega arith
 
--- src/lib.rt:104:1
 same-length : tie.Need-same-length Inv-loop μ-loop
-same-length c = length-set (c .before .loop .items) (c .before .before .args .len - 1) 0 ∙ c .before .loop .inv .size
+same-length c = search needs
 
--- src/lib.rt:104:1
 returns : tie.Need-returns Inv-loop μ-loop
 returns c = falling-end 0 0 (c .before .before .args .items .now) (c .before .before .args .len) (c .before .before .args .len - 1) (c .before .before .args .at) (omega arith) (omega arith) (c .before .before .pre .1) (c .before .loop .items) (c .before .loop .i) (omega arith) (c .before .loop .inv)
 

@@ -1,57 +1,45 @@
-use borrow.Author.Tests.{lt-ltb, le-ltb, le-leb, lt-leb}
-use Rattle.ot.specs.Edit.{transformed, positionOf}
+-- `ot::transform_delete` meets its contract: each return is a clause of the table, by the tests that led there.
+use borrow.Author.Tests.{lt-ltb, le-ltb}
+use Rattle.ot.specs.Edit.{transformed}
 use borrow.Author.Needs.{needs}
 use Rattle.ot.proofs.transform_delete.Statement.{statement}
 use Rattle.ot.proofs.transform_delete.Tie as tie
-use Rattle.ot.proofs.transform_delete.Reads as reads
-use Rattle.ot.proofs.transform_delete.Lts as lts
 
--- src/lib.rt:23:26
 enum-told : tie.Need-enum-told
 enum-told c = search needs
 
--- src/lib.rt:24:22
 enum-known-b : tie.Need-enum-known-b
 enum-known-b c = search needs
 
--- src/lib.rt:26:17
 returns : tie.Need-returns
 unfolding transformed
 returns c = simp (c .before .before .b .given .1, lt-ltb _ _ (c .if1 .taken))
 
--- src/lib.rt:29:37
 sub-t7 : tie.Need-sub-t7
 sub-t7 c = search needs
 
--- src/lib.rt:29:17
 returns-2 : tie.Need-returns-2
 unfolding transformed
 returns-2 c = simp (c .before .before .before .b .given .1, le-ltb _ _ (c .before .if1 .left), lt-ltb _ _ (c .if2 .taken))
 
--- src/lib.rt:33:22
 enum-known-b-2 : tie.Need-enum-known-b-2
 enum-known-b-2 c = search needs
 
--- src/lib.rt:35:17
 returns-3 : tie.Need-returns-3
 unfolding transformed
 returns-3 c = simp (c .before .before .b2 .given .1, lt-ltb _ _ (c .if3 .taken))
 
--- src/lib.rt:37:26
 add-t9 : tie.Need-add-t9
 add-t9 c = search needs
 
--- src/lib.rt:18:1
 returns-4 : tie.Need-returns-4
 unfolding transformed
 returns-4 c = simp (c .enum-told .given .1)
 
--- src/lib.rt:18:1
 returns-5 : tie.Need-returns-5
 unfolding transformed
 returns-5 c = simp (c .before .before .before .b .given .1, le-ltb _ _ (c .before .if1 .left), le-ltb _ _ (c .if2 .left))
 
--- src/lib.rt:18:1
 returns-6 : tie.Need-returns-6
 unfolding transformed
 returns-6 c = simp (c .before .before .b2 .given .1, le-ltb _ _ (c .if3 .left))

@@ -1,66 +1,52 @@
+-- `ot::transform_insert` meets its contract: each return is a clause of the table, by the tests that led there.
 use borrow.Author.Tests.{lt-ltb, le-ltb, le-leb, lt-leb}
-use Rattle.ot.specs.Edit.{transformed, positionOf}
+use Rattle.ot.specs.Edit.{transformed}
 use borrow.Author.Needs.{needs}
 use Rattle.ot.proofs.transform_insert.Statement.{statement}
 use Rattle.ot.proofs.transform_insert.Tie as tie
-use Rattle.ot.proofs.transform_insert.Reads as reads
-use Rattle.ot.proofs.transform_insert.Lts as lts
 
--- src/lib.rt:48:26
 enum-told : tie.Need-enum-told
 enum-told c = search needs
 
--- src/lib.rt:49:22
 enum-known-b : tie.Need-enum-known-b
 enum-known-b c = search needs
 
--- src/lib.rt:51:17
 returns : tie.Need-returns
 unfolding transformed
 returns c = simp (c .before .before .b .given .1, le-leb _ _ (c .if1 .taken))
 
--- src/lib.rt:53:26
 sub-t10 : tie.Need-sub-t10
 sub-t10 c = search needs
 
--- src/lib.rt:55:22
 enum-known-b-2 : tie.Need-enum-known-b-2
 enum-known-b-2 c = search needs
 
--- src/lib.rt:57:17
 returns-2 : tie.Need-returns-2
 unfolding transformed
 returns-2 c = simp (c .before .before .b2 .given .1, lt-ltb _ _ (c .if2 .taken))
 
--- src/lib.rt:60:37
 add-t12 : tie.Need-add-t12
 add-t12 c = search needs
 
--- src/lib.rt:60:17
 returns-3 : tie.Need-returns-3
 unfolding transformed
 returns-3 c = simp (c .before .before .before .b2 .given .1, le-ltb _ _ (c .before .if2 .left), lt-ltb _ _ (c .if3 .taken))
 
--- src/lib.rt:63:37
 add-t13 : tie.Need-add-t13
 add-t13 c = search needs
 
--- src/lib.rt:63:17
 returns-4 : tie.Need-returns-4
 unfolding transformed
 returns-4 c = simp (c .before .before .before .before .b2 .given .1, le-ltb _ _ (c .before .before .if2 .left), le-ltb _ _ (c .before .if3 .left), lt-ltb _ _ (c .if4 .taken))
 
--- src/lib.rt:43:1
 returns-5 : tie.Need-returns-5
 unfolding transformed
 returns-5 c = simp (c .enum-told .given .1)
 
--- src/lib.rt:43:1
 returns-6 : tie.Need-returns-6
 unfolding transformed
 returns-6 c = simp (c .before .before .b .given .1, lt-leb _ _ (c .if1 .left))
 
--- src/lib.rt:43:1
 returns-7 : tie.Need-returns-7
 unfolding transformed
 returns-7 c = simp (c .before .before .before .before .b2 .given .1, le-ltb _ _ (c .before .before .if2 .left), le-ltb _ _ (c .before .if3 .left), le-ltb _ _ (c .if4 .left))

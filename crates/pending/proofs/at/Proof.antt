@@ -1,29 +1,22 @@
 use native.Mathlib.Omega.{arith}
-use mathlib.Core.Path.{_≡_, refl, ap, _∙_, sym}
-use lib.ListN.{length, length-map, List·getD-map, List·getD-eq-default}
+use mathlib.Core.Path.{sym}
+use lib.ListN.{length-map, List·getD-map, List·getD-eq-default}
 use Rattle.ot.specs.declared.Edit.the-variants.{Nothing}
 use Rattle.pending.specs.declared.Slot.{Slot}
 use Rattle.pending.specs.Slots.{slot, edits}
-use Rattle.pending.proofs.Slots.{kept-push}
 use borrow.Author.Needs.{needs}
 use Rattle.pending.proofs.at.Statement.{statement}
 use Rattle.pending.proofs.at.Tie as tie
-use Rattle.pending.proofs.at.Reads as reads
-use Rattle.pending.proofs.at.Lts as lts
 
--- src/lib.rt:21:17
 mul-s : tie.Need-mul-s
 mul-s c = search needs
 
--- src/lib.rt:21:17
 array-copy-out-s : tie.Need-array-copy-out-s
 array-copy-out-s c = search needs
 
--- src/lib.rt:22:9
 returns : tie.Need-returns
 returns c = sym (List·getD-map (λ (s : Slot). s .edit) (c .before .before .args .t1) (c .before .before .args .i) (slot Nothing))
 
--- src/lib.rt:17:1
 returns-2 : tie.Need-returns-2
 returns-2 c = sym (List·getD-eq-default (edits (c .before .args .t1)) Nothing (omega (arith, length-map (c .before .args .t1) (λ (s : Slot). s .edit), c .before .good .0 .1 .0 .1)))
 

@@ -1,4 +1,4 @@
-use mathlib.Core.Path.{_≡_, ap, _∙_, sym, subst}
+use mathlib.Core.Path.{ap, _∙_, sym, subst}
 use mathlib.Core.List.{List}
 use Prim.Native.Nat.{_-_}
 use Rattle.pending.specs.declared.Slot.{Slot}
@@ -7,24 +7,16 @@ use Rattle.pending.proofs.Crossing.{rest-kept, rest-used}
 use borrow.Author.Needs.{needs}
 use Rattle.pending.proofs.cross.Statement.{statement}
 use Rattle.pending.proofs.cross.Tie as tie
-use Rattle.pending.proofs.cross.Reads as reads
-use Rattle.pending.proofs.cross.Lts as lts
-use Rattle.pending.proofs.acked.Reads as acked-reads
-use Rattle.pending.proofs.cross_all.Reads as cross-all-reads
 
--- src/lib.rt:161:9
 acked-requires : tie.Need-acked-requires
 acked-requires c κs = search needs
 
--- src/lib.rt:162:21
 sub-cross-all : tie.Need-sub-cross-all
 sub-cross-all c = search needs
 
--- src/lib.rt:162:5
 cross-all-requires : tie.Need-cross-all-requires
 cross-all-requires c κs = (c .before .pre .1 .0, subst (λ (l : List Slot). Kept (c .before .args .count - c .before .args .gone) l) (sym (c .acked .ensures)) (rest-kept (c .before .args .count) (c .before .args .slots) (c .before .pre .1 .1) (c .before .args .gone)))
 
--- src/lib.rt:157:1
 returns : tie.Need-returns
 returns c = c .cross-all .ensures ∙ ap (crossed (c .before .before .args .e)) (ap (usedEdits (c .before .before .args .count - c .before .before .args .gone)) (c .before .acked .ensures) ∙ rest-used (c .before .before .args .count) (c .before .before .args .slots) (c .before .before .pre .1 .1) (c .before .before .args .gone))
 

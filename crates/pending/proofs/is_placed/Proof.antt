@@ -2,41 +2,30 @@ use Rattle.ot.specs.Laws.{within}
 use borrow.Author.Needs.{needs}
 use Rattle.pending.proofs.is_placed.Statement.{statement}
 use Rattle.pending.proofs.is_placed.Tie as tie
-use Rattle.pending.proofs.is_placed.Reads as reads
-use Rattle.pending.proofs.is_placed.Lts as lts
-use Rattle.pending.proofs.in_list.Reads as in-list-reads
 
--- src/lib.rt:89:26
 enum-told : tie.Need-enum-told
 enum-told c = search needs
 
--- src/lib.rt:90:22
 enum-known-e : tie.Need-enum-known-e
 enum-known-e c = search needs
 
--- src/lib.rt:90:28
 in-list-requires : tie.Need-in-list-requires
 in-list-requires c κs = search needs
 
--- src/lib.rt:91:22
 enum-known-e-2 : tie.Need-enum-known-e-2
 enum-known-e-2 c = search needs
 
--- src/lib.rt:91:34
 in-list-requires-2 : tie.Need-in-list-requires-2
 in-list-requires-2 c κs = search needs
 
--- src/lib.rt:85:1
 returns : tie.Need-returns
 unfolding within
 returns c = simp (c .enum-told .given .1)
 
--- src/lib.rt:85:1
 returns-2 : tie.Need-returns-2
 unfolding within
 returns-2 c = rw (c .before .before .e .given .1) (c .in-list .ensures)
 
--- src/lib.rt:85:1
 returns-3 : tie.Need-returns-3
 unfolding within
 returns-3 c = rw (c .before .before .e2 .given .1) (c .in-list2 .ensures)

@@ -2,66 +2,46 @@ use borrow.Author.Tests.{ne-eqb}
 use borrow.Author.Needs.{needs}
 use Rattle.wire.proofs.fields.Statement.{statement}
 use Rattle.wire.proofs.fields.Tie as tie
-use Rattle.wire.proofs.fields.Reads as reads
-use Rattle.wire.proofs.fields.Lts as lts
-use Rattle.wire.proofs.byte_at.Reads as byte-at-reads
-use Rattle.wire.proofs.four_at.Reads as four-at-reads
-use Rattle.wire.proofs.header_at.Reads as header-at-reads
-use Rattle.wire.proofs.two_at.Reads as two-at-reads
 
--- src/lib.rt:133:30
 header-at-requires : tie.Need-header-at-requires
 header-at-requires c κs = search needs
 
--- src/lib.rt:133:44
 two-at-requires : tie.Need-two-at-requires
 two-at-requires c κs = search needs
 
--- src/lib.rt:133:58
 four-at-requires : tie.Need-four-at-requires
 four-at-requires c κs = search needs
 
--- src/lib.rt:133:73
 byte-at-requires : tie.Need-byte-at-requires
 byte-at-requires c κs = search needs
 
--- src/lib.rt:134:30
 header-at-requires-2 : tie.Need-header-at-requires-2
 header-at-requires-2 c κs = search needs
 
--- src/lib.rt:134:44
 two-at-requires-2 : tie.Need-two-at-requires-2
 two-at-requires-2 c κs = search needs
 
--- src/lib.rt:135:31
 header-at-requires-3 : tie.Need-header-at-requires-3
 header-at-requires-3 c κs = search needs
 
--- src/lib.rt:136:27
 byte-at-requires-2 : tie.Need-byte-at-requires-2
 byte-at-requires-2 c κs = search needs
 
--- src/lib.rt:136:42
 byte-at-requires-3 : tie.Need-byte-at-requires-3
 byte-at-requires-3 c κs = search needs
 
--- src/lib.rt:136:57
 two-at-requires-3 : tie.Need-two-at-requires-3
 two-at-requires-3 c κs = search needs
 
--- src/lib.rt:129:1
 returns : tie.Need-returns
 returns c = simp (c .before .before .before .before .match .keys1, c .before .before .before .header-at .ensures, c .before .before .two-at .ensures, c .before .four-at .ensures, c .byte-at .ensures)
 
--- src/lib.rt:129:1
 returns-2 : tie.Need-returns-2
 returns-2 c = simp (c .before .before .match .keys2, c .before .header-at2 .ensures, c .two-at2 .ensures)
 
--- src/lib.rt:129:1
 returns-3 : tie.Need-returns-3
 returns-3 c = simp (c .before .match .keys3, c .header-at3 .ensures)
 
--- src/lib.rt:129:1
 returns-4 : tie.Need-returns-4
 returns-4 c = let r = c .before .before .before .match .rest in
     simp (ne-eqb _ _ (r .0 .0 .1), ne-eqb _ _ (r .0 .1), ne-eqb _ _ (r .1), c .before .before .byte-at2 .ensures, c .before .byte-at3 .ensures, c .two-at3 .ensures)

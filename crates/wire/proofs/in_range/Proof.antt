@@ -6,83 +6,44 @@ use Rattle.wire.specs.Message.{inRange}
 use borrow.Author.Needs.{needs}
 use Rattle.wire.proofs.in_range.Statement.{statement}
 use Rattle.wire.proofs.in_range.Tie as tie
-use Rattle.wire.proofs.in_range.Reads as reads
-use Rattle.wire.proofs.in_range.Lts as lts
-use Rattle.wire.proofs.header_in_range.Reads as header-in-range-reads
-use Rattle.wire.proofs.within.Reads as within-reads
 
--- src/lib.rt:71:25
 enum-known-m : tie.Need-enum-known-m
 enum-known-m c = search needs
 
--- src/lib.rt:71:40
 header-in-range-requires : tie.Need-header-in-range-requires
 header-in-range-requires c κs = search needs
 
--- src/lib.rt:71:61
-within-requires : tie.Need-within-requires
-within-requires c κs = search needs
-
--- src/lib.rt:71:94
-cast-within : tie.Need-cast-within
-cast-within c = search needs
-
--- src/lib.rt:71:81
-within-requires-2 : tie.Need-within-requires-2
-within-requires-2 c κs = search needs
-
--- src/lib.rt:72:25
 enum-known-m-2 : tie.Need-enum-known-m-2
 enum-known-m-2 c = search needs
 
--- src/lib.rt:72:34
 header-in-range-requires-2 : tie.Need-header-in-range-requires-2
 header-in-range-requires-2 c κs = search needs
 
--- src/lib.rt:72:55
-within-requires-3 : tie.Need-within-requires-3
-within-requires-3 c κs = search needs
-
--- src/lib.rt:73:26
 enum-known-m-3 : tie.Need-enum-known-m-3
 enum-known-m-3 c = search needs
 
--- src/lib.rt:73:32
 header-in-range-requires-3 : tie.Need-header-in-range-requires-3
 header-in-range-requires-3 c κs = search needs
 
--- src/lib.rt:74:22
 enum-known-m-4 : tie.Need-enum-known-m-4
 enum-known-m-4 c = search needs
 
--- src/lib.rt:75:26
-cast-within-2 : tie.Need-cast-within-2
-cast-within-2 c = search needs
-
--- src/lib.rt:75:13
-within-requires-4 : tie.Need-within-requires-4
-within-requires-4 c κs = search needs
-
--- src/lib.rt:67:1
 returns : tie.Need-returns
 unfolding inRange
-returns c = let fits : c .before .before .before .before .m .given .0 .1 .1 .0 ≤ 4294967295 = omega (arith, c .before .before .before .known-told .given .1 .1 .0 .1) in
-    simp (c .before .before .header-in-range .ensures, c .before .within .ensures, c .within2 .ensures, c .before .before .before .before .m .given .1, le-leb _ _ fits, and-true)
+returns c = let fits : c .before .before .m .given .0 .1 .1 .0 ≤ 4294967295 = omega (arith, c .before .known-told .given .1 .1 .0 .1) in
+    simp (c .header-in-range .ensures, c .before .before .m .given .1, le-leb _ _ fits, and-true)
 
--- src/lib.rt:67:1
 returns-2 : tie.Need-returns-2
 unfolding inRange
-returns-2 c = simp (c .before .header-in-range2 .ensures, c .within3 .ensures, c .before .before .before .m2 .given .1)
+returns-2 c = simp (c .header-in-range2 .ensures, c .before .before .m2 .given .1)
 
--- src/lib.rt:67:1
 returns-3 : tie.Need-returns-3
 unfolding inRange
 returns-3 c = simp (c .header-in-range3 .ensures, c .before .before .m3 .given .1)
 
--- src/lib.rt:67:1
 returns-4 : tie.Need-returns-4
 unfolding inRange
-returns-4 c = simp (c .within4 .ensures, c .before .before .m4 .given .1)
+returns-4 c = simp (c .before .m4 .given .1)
 
 pub in-range-spec : {M : Type 1} → statement M
 in-range-spec =
@@ -90,17 +51,11 @@ in-range-spec =
     (tie.spec
     enum-known-m
     header-in-range-requires
-    within-requires
-    cast-within
-    within-requires-2
     enum-known-m-2
     header-in-range-requires-2
-    within-requires-3
     enum-known-m-3
     header-in-range-requires-3
     enum-known-m-4
-    cast-within-2
-    within-requires-4
     returns
     returns-2
     returns-3

@@ -1,47 +1,62 @@
+use lib.ListN.{length-set}
+use native.Mathlib.Omega.{arith}
 use borrow.Author.Needs.{needs}
 use Rattle.wire.proofs.put_header.Statement.{statement}
 use Rattle.wire.proofs.put_header.Tie as tie
-use Rattle.wire.proofs.put_header.Reads as reads
-use Rattle.wire.proofs.put_header.Lts as lts
-use Rattle.wire.proofs.put.Reads as put-reads
-use Rattle.wire.proofs.put_two.Reads as put-two-reads
 
--- src/lib.rt:200:5
-put-requires : tie.Need-put-requires
-put-requires c κs = search needs
+slice-write-out : tie.Need-slice-write-out
+slice-write-out c = search needs
 
--- src/lib.rt:201:5
-put-requires-2 : tie.Need-put-requires-2
-put-requires-2 c κs = search needs
+slice-write-out-2 : tie.Need-slice-write-out-2
+slice-write-out-2 c = simp length-set (omega arith)
 
--- src/lib.rt:202:5
-put-requires-3 : tie.Need-put-requires-3
-put-requires-3 c κs = search needs
+slice-write-out-3 : tie.Need-slice-write-out-3
+slice-write-out-3 c = simp length-set (omega arith)
 
--- src/lib.rt:203:5
-put-two-requires : tie.Need-put-two-requires
-put-two-requires c κs = search needs
+cast-out : tie.Need-cast-out
+cast-out c = search needs
 
--- src/lib.rt:204:5
-put-two-requires-2 : tie.Need-put-two-requires-2
-put-two-requires-2 c κs = search needs
+slice-write-out-4 : tie.Need-slice-write-out-4
+slice-write-out-4 c = simp length-set (omega arith)
 
--- src/lib.rt:197:1
+cast-out-2 : tie.Need-cast-out-2
+cast-out-2 c = search needs
+
+slice-write-out-5 : tie.Need-slice-write-out-5
+slice-write-out-5 c = simp length-set (omega arith)
+
+cast-out-3 : tie.Need-cast-out-3
+cast-out-3 c = search needs
+
+slice-write-out-6 : tie.Need-slice-write-out-6
+slice-write-out-6 c = simp length-set (omega arith)
+
+cast-out-4 : tie.Need-cast-out-4
+cast-out-4 c = search needs
+
+slice-write-out-7 : tie.Need-slice-write-out-7
+slice-write-out-7 c = simp length-set (omega arith)
+
 same-length : tie.Need-same-length
 same-length c = search needs
 
--- src/lib.rt:197:1
 returns : tie.Need-returns
-returns c = cc
+returns c = search needs
 
 pub put-header-spec : {M : Type 1} → statement M
 put-header-spec =
     tie.close
     (tie.spec
-    put-requires
-    put-requires-2
-    put-requires-3
-    put-two-requires
-    put-two-requires-2
+    slice-write-out
+    slice-write-out-2
+    slice-write-out-3
+    cast-out
+    slice-write-out-4
+    cast-out-2
+    slice-write-out-5
+    cast-out-3
+    slice-write-out-6
+    cast-out-4
+    slice-write-out-7
     same-length
     returns)

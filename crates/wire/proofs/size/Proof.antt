@@ -2,44 +2,34 @@ use Rattle.wire.specs.Bytes.{bytesOf}
 use borrow.Author.Needs.{needs}
 use Rattle.wire.proofs.size.Statement.{statement}
 use Rattle.wire.proofs.size.Tie as tie
-use Rattle.wire.proofs.size.Reads as reads
-use Rattle.wire.proofs.size.Lts as lts
 
--- src/lib.rt:163:40
 enum-told : tie.Need-enum-told
 enum-told c = search needs
 
--- src/lib.rt:164:34
 enum-told-2 : tie.Need-enum-told-2
 enum-told-2 c = search needs
 
--- src/lib.rt:165:32
 enum-told-3 : tie.Need-enum-told-3
 enum-told-3 c = search needs
 
--- src/lib.rt:166:34
 enum-told-4 : tie.Need-enum-told-4
 enum-told-4 c = search needs
 
--- src/lib.rt:159:1
 returns : tie.Need-returns
 unfolding bytesOf
-returns c = cc
+returns c = simp (c .enum-told .given .1)
 
--- src/lib.rt:159:1
 returns-2 : tie.Need-returns-2
 unfolding bytesOf
-returns-2 c = cc
+returns-2 c = simp (c .enum-told2 .given .1)
 
--- src/lib.rt:159:1
 returns-3 : tie.Need-returns-3
 unfolding bytesOf
-returns-3 c = cc
+returns-3 c = simp (c .enum-told3 .given .1)
 
--- src/lib.rt:159:1
 returns-4 : tie.Need-returns-4
 unfolding bytesOf
-returns-4 c = cc
+returns-4 c = simp (c .enum-told4 .given .1)
 
 pub size-spec : {M : Type 1} → statement M
 size-spec =

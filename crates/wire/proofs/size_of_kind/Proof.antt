@@ -1,26 +1,19 @@
 use borrow.Author.Tests.{ne-eqb}
 use Rattle.wire.proofs.size_of_kind.Statement.{statement}
 use Rattle.wire.proofs.size_of_kind.Tie as tie
-use Rattle.wire.proofs.size_of_kind.Reads as reads
-use Rattle.wire.proofs.size_of_kind.Lts as lts
 
--- src/lib.rt:116:1
 returns : tie.Need-returns
-returns c = cc
+returns c = simp (c .match .keys1)
 
--- src/lib.rt:116:1
 returns-2 : tie.Need-returns-2
-returns-2 c = cc
+returns-2 c = simp (c .match .keys2)
 
--- src/lib.rt:116:1
 returns-3 : tie.Need-returns-3
-returns-3 c = cc
+returns-3 c = simp (c .match .keys3)
 
--- src/lib.rt:116:1
 returns-4 : tie.Need-returns-4
-returns-4 c = cc
+returns-4 c = simp (c .match .keys4)
 
--- src/lib.rt:116:1
 returns-5 : tie.Need-returns-5
 returns-5 c = let r = c .match .rest in
     simp (ne-eqb _ _ (r .0 .0 .0 .1), ne-eqb _ _ (r .0 .0 .1), ne-eqb _ _ (r .0 .1), ne-eqb _ _ (r .1))

@@ -1,32 +1,72 @@
-use denote.Ref.{now}
-use Rattle.wire.proofs.Buffer.{fitting, too-long}
 use borrow.Author.Needs.{needs}
 use Rattle.wire.proofs.write.Statement.{statement}
 use Rattle.wire.proofs.write.Tie as tie
-use Rattle.wire.proofs.write.Reads as reads
-use Rattle.wire.proofs.write.Lts as lts
-use Rattle.wire.proofs.put_message.Reads as put-message-reads
-use Rattle.wire.proofs.size.Reads as size-reads
 
--- src/lib.rt:235:9
-size-requires : tie.Need-size-requires
-size-requires c κs = search needs
+enum-known-m : tie.Need-enum-known-m
+enum-known-m c = search needs
 
--- src/lib.rt:237:9
-returns : tie.Need-returns
-returns c = too-long (c .before .before .before .args .m) (now (c .before .before .before .args .out)) (c .before .size .result) (c .before .size .ensures) (c .if1 .taken)
+write-insert-requires : tie.Need-write-insert-requires
+write-insert-requires c κs = search needs
 
--- src/lib.rt:239:5
-put-message-requires : tie.Need-put-message-requires
-put-message-requires c κs = search needs
+enum-known-m-2 : tie.Need-enum-known-m-2
+enum-known-m-2 c = search needs
 
--- src/lib.rt:232:1
+write-delete-requires : tie.Need-write-delete-requires
+write-delete-requires c κs = search needs
+
+enum-known-m-3 : tie.Need-enum-known-m-3
+enum-known-m-3 c = search needs
+
+write-nothing-requires : tie.Need-write-nothing-requires
+write-nothing-requires c κs = search needs
+
+enum-known-m-4 : tie.Need-enum-known-m-4
+enum-known-m-4 c = search needs
+
+write-ack-requires : tie.Need-write-ack-requires
+write-ack-requires c κs = search needs
+
 same-length : tie.Need-same-length
 same-length c = search needs
 
--- src/lib.rt:232:1
+returns : tie.Need-returns
+returns c = rw (c .before .before .before .before .before .m .given .1) (c .before .before .write-insert .ensures)
+
+same-length-2 : tie.Need-same-length-2
+same-length-2 c = search needs
+
 returns-2 : tie.Need-returns-2
-returns-2 c = fitting (c .before .before .before .before .before .before .before .args .m) (now (c .before .before .before .before .before .before .before .args .out)) (c .before .before .before .before .before .size .result) (c .before .before .before .before .before .size .ensures) (c .before .before .put-message .last .0) (c .before .before .before .before .if1 .left) (c .before .before .put-message .ensures)
+returns-2 c = rw (c .before .before .before .before .before .m2 .given .1) (c .before .before .write-delete .ensures)
+
+same-length-3 : tie.Need-same-length-3
+same-length-3 c = search needs
+
+returns-3 : tie.Need-returns-3
+returns-3 c = rw (c .before .before .before .before .before .m3 .given .1) (c .before .before .write-nothing .ensures)
+
+same-length-4 : tie.Need-same-length-4
+same-length-4 c = search needs
+
+returns-4 : tie.Need-returns-4
+returns-4 c = rw (c .before .before .before .before .before .m4 .given .1) (c .before .before .write-ack .ensures)
 
 pub write-spec : {M : Type 1} → statement M
-write-spec = tie.close (tie.spec size-requires returns put-message-requires same-length returns-2)
+write-spec =
+    tie.close
+    (tie.spec
+    enum-known-m
+    write-insert-requires
+    enum-known-m-2
+    write-delete-requires
+    enum-known-m-3
+    write-nothing-requires
+    enum-known-m-4
+    write-ack-requires
+    same-length
+    returns
+    same-length-2
+    returns-2
+    same-length-3
+    returns-3
+    same-length-4
+    returns-4)

@@ -1,0 +1,177 @@
+-- A sheet that follows another, call by call, converges where the other does.
+use mathlib.Core.Path.{_≡_, refl, ap, ap₂, sym, _∙_, subst}
+use mathlib.Core.Bool.{Bool, true, false, _&&_, cond}
+use mathlib.Core.Option.{Option, none, some}
+use mathlib.Core.List.{List, [], _∷_, _++_}
+use Prim.Native.Nat.{ℕ, zero, suc, _≤_}
+use native.Mathlib.Omega.{arith}
+use lib.Dec.{eqb, leb, ltb}
+use lib.ListN.{length, take, getElem?}
+use borrow.Author.Tests.{eqb-true, leb-true}
+use Rattle.wire.specs.Bytes.{parsed}
+use Rattle.jupiter.specs.Form.{replay}
+use Rattle.jupiter.specs.History.{History, at, order, missing}
+use Rattle.model.specs.Questions.{Answer, Sent, between}
+use Rattle.model.specs.Sheet.{Sheet, Call, insert, delete, send, tell, receive, junk}
+use Rattle.model.specs.Log.{Log, noLog, log}
+use Rattle.model.specs.Run.{State, areBytes, areItems, unreadable, callable, answered, written, handed, call, run, opened, start}
+use Rattle.model.specs.Claim.{Delivered, Full, OnLine, Holds, Converges}
+use Rattle.model.proofs.Tests.{and-left, and-right, between-true}
+use Rattle.model.proofs.Sound.{three}
+
+module _ (S T : Sheet) (R : S .End → T .End → Type 0) where
+  pub record Alike (a : Answer (S .End)) (b : Answer (T .End)) : Type 0 where
+    pub refusal : a .refusal ≡ b .refusal
+    pub passed : a .passed ≡ b .passed
+    pub ends : R (a .end) (b .end)
+
+  pub record Follows : Type 0 where
+    pub items : (a : S .End) (b : T .End) → R a b → S .items a ≡ T .items b
+    pub made : (a : S .End) (b : T .End) → R a b → (l : ℕ) → S .made a l ≡ T .made b l
+    pub taken : (a : S .End) (b : T .End) → R a b → (l : ℕ) → S .taken a l ≡ T .taken b l
+    pub server-refusal : (n : ℕ) (xs : List ℕ) → S .openServer n xs .refusal ≡ T .openServer n xs .refusal
+    pub server-opens : (n : ℕ) (xs : List ℕ) → T .openServer n xs .refusal ≡ 0 → R (S .openServer n xs .end) (T .openServer n xs .end)
+    pub client-refusal : (n l : ℕ) (xs : List ℕ) → S .openClient n l xs .refusal ≡ T .openClient n l xs .refusal
+    pub client-opens : (n l : ℕ) (xs : List ℕ) → T .openClient n l xs .refusal ≡ 0 → R (S .openClient n l xs .end) (T .openClient n l xs .end)
+    pub inserts : (a : S .End) (b : T .End) → R a b → (p x : ℕ) → Alike (S .insert a p x) (T .insert b p x)
+    pub deletes : (a : S .End) (b : T .End) → R a b → (p : ℕ) → Alike (S .delete a p) (T .delete b p)
+    pub takes : (a : S .End) (b : T .End) → R a b → (bytes : List ℕ) → Alike (S .take a bytes) (T .take b bytes)
+    pub sends : (a : S .End) (b : T .End) → R a b → (l k : ℕ) (lent : List ℕ) → S .send a l k lent ≡ T .send b l k lent
+    pub tells : (a : S .End) (b : T .End) → R a b → (l : ℕ) (lent : List ℕ) → S .tell a l lent ≡ T .tell b l lent
+
+  module _ (f : Follows) (n : ℕ) where
+    pub record Same (s : State S) (t : State T) : Type 0 where
+      pub ends : (a : ℕ) → a ≤ n → R (s .ends a) (t .ends a)
+      pub messages : s .messages ≡ t .messages
+      pub passed : s .passed ≡ t .passed
+      pub recorded : s .recorded ≡ t .recorded
+
+    same-answered : (s : State S) (t : State T) → Same s t → (a : ℕ) (c : Call) (x : Answer (S .End)) (y : Answer (T .End)) → Alike x y → Same (answered S s a c x) (answered T t a c y)
+    same-answered s t m a c x y k =
+        record {
+          ends = λ j h. go j h (eqb a j);
+          messages = m .messages;
+          passed = ap₂ (λ (ks : List ℕ) (i : ℕ). ks ++ (i ∷ [])) (m .passed) (k .passed);
+          recorded = ap₂ (λ (w : Log) (r : ℕ). log w c r) (m .recorded) (k .refusal);
+        }
+      where
+        go : (j : ℕ) → j ≤ n → (b : Bool) → R (cond b (x .end) (s .ends j)) (cond b (y .end) (t .ends j))
+        go j h true = k .ends
+        go j h false = m .ends j h
+
+    same-written : (s : State S) (t : State T) → Same s t → (c : Call) (x y : Sent) → x ≡ y → Same (written S s c x) (written T t c y)
+    same-written s t m c x y e =
+        record {
+          ends = m .ends;
+          messages = ap₂ (λ (ms : List (List ℕ)) (r : Sent). cond (eqb (r .refusal) 0) (ms ++ (take (r .written) (r .buffer) ∷ [])) ms) (m .messages) e;
+          passed = m .passed;
+          recorded = ap₂ (λ (w : Log) (r : Sent). log w c (r .refusal)) (m .recorded) e;
+        }
+
+    same-call : (s : State S) (t : State T) → Same s t → (c : Call) → callable n c ≡ true → Same (call S s c) (call T t c)
+    unfolding call callable handed
+    same-call s t m (insert l p x) ok =
+        let h = between-true 1 n l (three (between 1 n l) (ltb p 65536) (ltb x 4294967296) ok .0) in
+        same-answered s t m l (insert l p x) (S .insert (s .ends l) p x) (T .insert (t .ends l) p x) (f .inserts (s .ends l) (t .ends l) (m .ends l (h .1)) p x)
+    same-call s t m (delete l p) ok =
+        let h = between-true 1 n l (and-left (between 1 n l) (ltb p 65536) ok) in
+        same-answered s t m l (delete l p) (S .delete (s .ends l) p) (T .delete (t .ends l) p) (f .deletes (s .ends l) (t .ends l) (m .ends l (h .1)) p)
+    same-call s t m (send a l k lent) ok =
+        let h = leb-true a n (three (leb a n) (ltb l 256) (ltb k 65536) (and-left (leb a n && ltb l 256 && ltb k 65536) (areBytes lent) ok) .0) in
+        same-written s t m (send a l k lent) (S .send (s .ends a) l k lent) (T .send (t .ends a) l k lent) (f .sends (s .ends a) (t .ends a) (m .ends a h) l k lent)
+    same-call s t m (tell a l lent) ok =
+        let h = leb-true a n (three (leb a n) (ltb l 256) (areBytes lent) ok .0) in
+        same-written s t m (tell a l lent) (S .tell (s .ends a) l lent) (T .tell (t .ends a) l lent) (f .tells (s .ends a) (t .ends a) (m .ends a h) l lent)
+    same-call s t m (receive a i) ok =
+        subst (λ (ms : List (List ℕ)). Same (handed S s a (receive a i) (getElem? ms i)) (handed T t a (receive a i) (getElem? (t .messages) i))) (sym (m .messages)) (go (getElem? (t .messages) i))
+      where
+        go : (b : Option (List ℕ)) → Same (handed S s a (receive a i) b) (handed T t a (receive a i) b)
+        go none = m
+        go (some b) = same-answered s t m a (receive a i) (S .take (s .ends a) b) (T .take (t .ends a) b) (f .takes (s .ends a) (t .ends a) (m .ends a (leb-true a n ok)) b)
+    same-call s t m (junk a bytes) ok =
+        let h = leb-true a n (three (leb a n) (areBytes bytes) (unreadable (parsed bytes)) ok .0) in
+        same-answered s t m a (junk a bytes) (S .take (s .ends a) bytes) (T .take (t .ends a) bytes) (f .takes (s .ends a) (t .ends a) (m .ends a h) bytes)
+
+    same-run : (calls : List Call) (s : State S) (t : State T) → Same s t → Same (run S n s calls) (run T n t calls)
+    unfolding run
+    same-run [] s t m = m
+    same-run (c ∷ cs) s t m = same-run cs (cond (callable n c) (call S s c) s) (cond (callable n c) (call T t c) t) (go (callable n c) refl)
+      where
+        go : (b : Bool) → callable n c ≡ b → Same (cond b (call S s c) s) (cond b (call T t c) t)
+        go true e = same-call s t m c e
+        go false e = m
+
+    -- ---- the claim
+    delivered : (a a′ : S .End) (b b′ : T .End) → R a b → R a′ b′ → (l k : ℕ) (lent : List ℕ) → Delivered T b b′ l k lent → Delivered S a a′ l k lent
+    delivered a a′ b b′ r r′ l k lent d =
+        let same = f .sends a b r l k lent in
+        let bytes = take (T .send b l k lent .written) (T .send b l k lent .buffer) in
+        record {
+          sends = ap (λ (x : Sent). x .refusal) same ∙ d .sends;
+          takes = ap (λ (x : Sent). S .take a′ (take (x .written) (x .buffer)) .refusal) same ∙ f .takes a′ b′ r′ bytes .refusal ∙ d .takes;
+          rises = ap (λ (x : Sent). S .taken (S .take a′ (take (x .written) (x .buffer)) .end) l) same
+              ∙ f .taken (S .take a′ bytes .end) (T .take b′ bytes .end) (f .takes a′ b′ r′ bytes .ends) l ∙ d .rises ∙ ap suc (sym (f .taken a′ b′ r′ l));
+        }
+
+    module _ (ends : ℕ → S .End) (t : State T) (related : (a : ℕ) → a ≤ n → R (ends a) (t .ends a)) where
+      abbrev beside : State S
+      beside = record { ends = ends; messages = t .messages; passed = t .passed; recorded = t .recorded }
+
+      holds-line : (l : ℕ) → 1 ≤ l → l ≤ n → OnLine T n t l → OnLine S n beside l
+      holds-line l lo hi o =
+          let hub = related 0 (omega arith) in
+          let here = related l hi in
+          let h : History _ = t .recorded .history in
+          record {
+            client-made = f .made (ends l) (t .ends l) here l ∙ o .client-made;
+            client-taken = f .taken (ends l) (t .ends l) here l ∙ o .client-taken;
+            server-made = f .made (ends 0) (t .ends 0) hub l ∙ o .server-made;
+            server-taken = f .taken (ends 0) (t .ends 0) hub l ∙ o .server-taken;
+            meeting = ap (replay (order h l) (h .applied l) (missing h l)) (f .items (ends l) (t .ends l) here) ∙ o .meeting
+                ∙ ap (replay (order h l) (h .served) (h .untaken l)) (sym (f .items (ends 0) (t .ends 0) hub));
+            equal = λ p q.
+                f .items (ends l) (t .ends l) here
+                ∙ o .equal (sym (f .made (ends l) (t .ends l) here l) ∙ p ∙ f .taken (ends 0) (t .ends 0) hub l) (sym (f .taken (ends l) (t .ends l) here l) ∙ q ∙ f .made (ends 0) (t .ends 0) hub l)
+                ∙ sym (f .items (ends 0) (t .ends 0) hub);
+            next-down = λ lent b long more.
+                subst (λ (k : ℕ). Delivered S (ends 0) (ends l) l (suc k) lent) (sym (f .taken (ends l) (t .ends l) here l))
+                (delivered (ends 0) (ends l) (t .ends 0) (t .ends l) hub here l (suc (T .taken (t .ends l) l)) lent (o .next-down lent b long more));
+            next-up = λ lent b long more free.
+                subst (λ (k : ℕ). Delivered S (ends l) (ends 0) l (suc k) lent) (sym (f .taken (ends 0) (t .ends 0) hub l))
+                (delivered (ends l) (ends 0) (t .ends l) (t .ends 0) here hub l (suc (T .taken (t .ends 0) l)) lent
+                (o .next-up lent b long more (λ j x y z full. free j x y z (f .made (ends 0) (t .ends 0) hub j ∙ full))));
+          }
+
+      holds-beside : Holds T n t → Holds S n beside
+      holds-beside o =
+          record {
+            lists = λ a h. f .items (ends a) (t .ends a) (related a h) ∙ o .lists a h;
+            messages = o .messages;
+            passed = o .passed;
+            lines = λ l lo hi. holds-line l lo hi (o .lines l lo hi);
+          }
+
+    holds-same : (s : State S) (t : State T) → Same s t → Holds T n t → Holds S n s
+    holds-same s t m o =
+        let path : beside (s .ends) t (m .ends) ≡ s =
+              λ i. record { ends = s .ends; messages = sym (m .messages) i; passed = sym (m .passed) i; recorded = sym (m .recorded) i } in
+        subst (Holds S n) path (holds-beside (s .ends) t (m .ends) o)
+
+    starts : (items : List ℕ) → T .openServer n items .refusal ≡ 0 → ((l : ℕ) → 1 ≤ l → l ≤ n → T .openClient n l items .refusal ≡ 0) → Same (start S n items) (start T n items)
+    starts items a b = record { ends = go; messages = refl; passed = refl; recorded = refl }
+      where
+        go : (l : ℕ) → l ≤ n → R (opened S n items l) (opened T n items l)
+        go zero h = f .server-opens n items a
+        go (suc l) h = f .client-opens n (suc l) items (b (suc l) (omega arith) h)
+
+  pub carries : Follows → Converges T → Converges S
+  carries f c =
+      record {
+        opens-server = λ n items a b d e. f .server-refusal n items ∙ c .opens-server n items a b d e;
+        opens-client = λ n l items a b d e g i. f .client-refusal n l items ∙ c .opens-client n l items a b d e g i;
+        holds = λ n items few o os calls.
+            let o′ = sym (f .server-refusal n items) ∙ o in
+            let os′ : (l : ℕ) → 1 ≤ l → l ≤ n → T .openClient n l items .refusal ≡ 0 = λ l a b. sym (f .client-refusal n l items) ∙ os l a b in
+            holds-same f n (run S n (start S n items) calls) (run T n (start T n items) calls) (same-run f n calls (start S n items) (start T n items) (starts f n items o′ os′))
+            (c .holds n items few o′ os′ calls);
+      }

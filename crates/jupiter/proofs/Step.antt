@@ -1,0 +1,318 @@
+-- The step that each accepted call is, for whoever goes through the protocol call by call: the invariant holds behind it, and everything
+-- that was known stays as it was (`Later`). Messages are carried by `UpMessage` and `DownMessage`, which sending gives and `Later` keeps.
+use Prim.Native.Nat.{ℕ, zero, suc, _+_, _-_, _≤_, _<_, suc-le-suc, zero-le}
+use native.Mathlib.Nat.{le-of-suc-le-suc, not-suc-le-zero, le-refl, le-trans}
+use native.Mathlib.Omega.{arith}
+use mathlib.Core.Path.{_≡_, refl, sym, ap, _∙_, subst}
+use mathlib.Core.Logic.{_≢_, _⊎_, inl, inr}
+use mathlib.Core.Bool.{Bool, true, false, not, cond, true≢false, _&&_, _||_}
+use mathlib.Core.List.{List, [], _∷_, _++_, append-assoc, append-nil}
+use lib.Dec.{T, ltb, leb, eqb, leb→le, le→leb}
+use lib.ListN.{length, getD, drop, length-append}
+use Rattle.jupiter.specs.Algebra.{Algebra, Laws}
+use Rattle.jupiter.specs.Made.{Name, Made, same, holds, select, reject, names, isBy, mine, others}
+use Rattle.jupiter.specs.Form.{form, grown, listAt, inOrder, replay}
+use Rattle.jupiter.specs.Point.{point, blank, own, oth, ownForm, othForm}
+use Rattle.jupiter.specs.History.{at, History, noHistory, order, madeBy, missing, newEdit, afterEdit, serves, afterUp, applies, afterDown}
+use Rattle.jupiter.specs.Ends.{End, Message, Ends, opened, keeps, unacked, acks, takes, arrived, canSend, message, current, canTake, editing, takingUp, takingDown, ackingUp, ackingDown}
+use Rattle.jupiter.proofs.Lists as L
+use Rattle.jupiter.proofs.Lists.{All}
+use Rattle.jupiter.proofs.Segment.{segment, segment-none}
+use Rattle.jupiter.proofs.Grid.{is-true, to-T, eqb-eq, eqb-same, ltb-true, ltb-lt, Edge, seenOf, lagOf, Grows, grows-refl, grows-trans, Contexts, Good, docAt, OwnEdge, OthEdge, Grid}
+use Rattle.jupiter.proofs.Line.{UpOk, DownOk, up-on, down-on, LineAt, set-is, client-good, server-good, send-up, send-down, up-made, up-arrives, up-edge, down-made, down-arrives, down-edge}
+use Rattle.jupiter.proofs.World.{named, edit-new, first-untaken, up-inv, up-grows, up-bound, o-new, o-new-to, Bounded, mine-served, others-served, LineInv, taken, Inv, inv-edit, grows-edit, inv-ack-up, inv-ack-down, inv-down, grows-down, first-missing, inv-up}
+use Rattle.jupiter.proofs.Replay.{and-left, and-right, is-false, holds-more, inOrder-insert}
+
+-- ---- what stays
+module _ {𝓐 : Algebra} where
+  pub record Later (E : Ends 𝓐) (h : History 𝓐) (E′ : Ends 𝓐) (h′ : History 𝓐) : Type 0 where
+    pub grows : (l : ℕ) → Grows l (order h l) (order h′ l)
+    pub c-later : (l : ℕ) → E .clients l .taken ≤ E′ .clients l .taken
+    pub v-later : (l : ℕ) → E .lines l .taken ≤ E′ .lines l .taken
+    -- what an end had applied it still has applied, and in order it is the list that it was
+    pub kept : (l : ℕ) (x : Name) → holds (names (h .applied l)) x ≡ true → holds (names (h′ .applied l)) x ≡ true
+    pub set-same : (l : ℕ) → inOrder (order h′ l) (h .applied l) ≡ inOrder (order h l) (h .applied l)
+    pub served-kept : (x : Name) → holds (names (h .served)) x ≡ true → holds (names (h′ .served)) x ≡ true
+    pub served-same : inOrder (h′ .served) (h .served) ≡ inOrder (h .served) (h .served)
+
+  pub later-refl : (E : Ends 𝓐) (h : History 𝓐) → Later E h E h
+  later-refl E h =
+      record {
+        grows = λ l. grows-refl l (order h l);
+        c-later = λ l. le-refl _;
+        v-later = λ l. le-refl _;
+        kept = λ l x t. t;
+        set-same = λ l. refl;
+        served-kept = λ x t. t;
+        served-same = refl;
+      }
+
+  -- a smaller set is selected from the larger one's list
+  smaller : (w A B : List (Made 𝓐)) → ((x : Name) → holds (names A) x ≡ true → holds (names B) x ≡ true) → inOrder (inOrder w B) A ≡ inOrder w A
+  unfolding inOrder select
+  smaller [] A B le = refl
+  smaller (e ∷ w) A B le = go (holds (names B) (e .name)) refl (holds (names A) (e .name)) refl (smaller w A B le)
+    where
+      go : (b : Bool) → holds (names B) (e .name) ≡ b → (c : Bool) → holds (names A) (e .name) ≡ c
+          → select (λ y. holds (names A) (y .name)) (select (λ y. holds (names B) (y .name)) w) ≡ select (λ y. holds (names A) (y .name)) w
+          → select (λ y. holds (names A) (y .name)) (cond b (e ∷ select (λ y. holds (names B) (y .name)) w) (select (λ y. holds (names B) (y .name)) w))
+          ≡ cond c (e ∷ select (λ y. holds (names A) (y .name)) w) (select (λ y. holds (names A) (y .name)) w)
+      go true q true r ih = rw r (ap {B = List (Made 𝓐)} (λ s. e ∷ s) ih)
+      go true q false r ih = rw r ih
+      go false q true r ih = absurd (true≢false (sym (le (e .name) r) ∙ q))
+      go false q false r ih = ih
+
+  same-set : (w w′ A B : List (Made 𝓐)) → ((x : Name) → holds (names A) x ≡ true → holds (names B) x ≡ true) → inOrder w′ B ≡ inOrder w B → inOrder w′ A ≡ inOrder w A
+  same-set w w′ A B le e = sym (smaller w′ A B le) ∙ ap (λ r. inOrder r A) e ∙ smaller w A B le
+
+  pub later-trans : (E : Ends 𝓐) (h : History 𝓐) (E′ : Ends 𝓐) (h′ : History 𝓐) (E″ : Ends 𝓐) (h″ : History 𝓐) → Later E h E′ h′ → Later E′ h′ E″ h″ → Later E h E″ h″
+  later-trans E h E′ h′ E″ h″ f g =
+      record {
+        grows = λ l. grows-trans l (order h l) (order h′ l) (order h″ l) (f .grows l) (g .grows l);
+        c-later = λ l. le-trans (f .c-later l) (g .c-later l);
+        v-later = λ l. le-trans (f .v-later l) (g .v-later l);
+        kept = λ l x t. g .kept l x (f .kept l x t);
+        set-same = λ l. same-set (order h′ l) (order h″ l) (h .applied l) (h′ .applied l) (f .kept l) (g .set-same l) ∙ f .set-same l;
+        served-kept = λ x t. g .served-kept x (f .served-kept x t);
+        served-same = same-set (h′ .served) (h″ .served) (h .served) (h′ .served) (f .served-kept) (g .served-same) ∙ f .served-same;
+      }
+
+module _ {𝓐 : Algebra} (d : 𝓐 .Doc) where
+  -- a step from one state to the next
+  pub record Step (E : Ends 𝓐) (h : History 𝓐) (E′ : Ends 𝓐) (h′ : History 𝓐) : Type 0 where
+    pub inv : Inv d E′ h′
+    pub later : Later E h E′ h′
+
+  -- ---- opening
+  pub opens : Inv {𝓐 = 𝓐} d (opened d) noHistory
+  unfolding listAt grown select reject holds replay
+  opens =
+      record {
+        doc-is = refl′;
+        hub-shown = shown′;
+        closed = record { order-closed = λ l. tt; applied-within = λ l n t. absurd (none-held n t); applied-closed = λ l. tt };
+        served-bound = λ k x t. absurd (none-held (named k x) t);
+        lines = λ l. record {
+          line = record {
+            grid = record {
+              contexts = record {
+                own-number = λ i h. absurd (not-suc-le-zero h);
+                oth-inj = λ j k h. absurd (not-suc-le-zero h);
+                ctx-own = λ i k h. absurd (not-suc-le-zero h);
+                ctx-oth = λ i j h. absurd (not-suc-le-zero h);
+                oth-ctx = λ j x h. absurd (not-suc-le-zero h);
+                seen-le = λ i h. absurd (not-suc-le-zero h);
+                causal = λ i j h. absurd (not-suc-le-zero h);
+                own-by = λ i h. absurd (not-suc-le-zero h);
+                oth-by = λ j h. absurd (not-suc-le-zero h);
+              };
+              own-edge = λ i j g h. absurd (not-suc-le-zero h);
+              oth-edge = λ i j g h. absurd (not-suc-le-zero h);
+            };
+            c-made = refl;
+            v-made = refl;
+            v-taken = zero-le;
+            c-taken = zero-le;
+            c-acked = zero-le;
+            v-acked = zero-le;
+            served-at = L.firsts-none (isBy {𝓐 = 𝓐} l) blank [];
+            lag-le = λ k h. absurd (not-suc-le-zero h);
+            seen-le = λ i h. absurd (not-suc-le-zero h);
+            c-lag = λ k h. absurd (not-suc-le-zero h);
+            v-seen = λ k h. absurd (not-suc-le-zero h);
+            applied-own = λ i h. absurd (not-suc-le-zero h);
+            applied-oth = λ j h. absurd (not-suc-le-zero h);
+            applied-mine = λ x t. absurd (none-held (named l x) t);
+            applied-count = refl;
+            c-pending = sym (segment-none (λ i. ownForm {𝓐 = 𝓐} l [] i 0) 0);
+            v-pending = sym (segment-none (λ j. othForm {𝓐 = 𝓐} l [] 0 j) 0);
+            c-doc = refl′ ∙ ap (listAt d) (sym (L.firsts-none (isBy {𝓐 = 𝓐} l) blank []));
+            shown = shown′;
+          };
+          untaken-own = tt;
+          v-count = refl;
+          applied-bound = λ k x q t. absurd (none-held (named k x) t);
+          context-bound = λ i h. absurd (not-suc-le-zero h);
+          oth-bound = λ j h. absurd (not-suc-le-zero h);
+        };
+      }
+    where
+      none-held : (x : Name) → holds [] x ≡ true → ⊥
+      none-held x t = true≢false (sym t)
+
+      refl′ : d ≡ listAt {𝓐 = 𝓐} d []
+      refl′ = refl
+
+      shown′ : replay {𝓐 = 𝓐} [] [] [] d ≡ d
+      shown′ = refl
+
+  -- ---- a client makes an edit
+  pub step-edit : Laws 𝓐 → (E : Ends 𝓐) (h : History 𝓐) → Inv d E h → (l : ℕ) (e : 𝓐 .Edit) → T (𝓐 .by l e) → T (𝓐 .fits e (E .docs l)) → Step E h (editing l e E) (afterEdit l e h)
+  unfolding afterEdit
+  step-edit laws E h inv l e by-l ok =
+      record {
+        inv = inv-edit d laws E h inv l e by-l ok;
+        later = record {
+          grows = grows-edit d laws E h inv l e by-l ok;
+          c-later = λ k. c-le k (eqb l k) refl;
+          v-later = λ k. le-refl _;
+          kept = λ k x. kept′ k x (eqb l k) refl;
+          set-same = λ k. set-same′ k (eqb l k) refl;
+          served-kept = λ x t. t;
+          served-same = refl;
+        };
+      }
+    where
+      c-le : (k : ℕ) (b : Bool) → eqb l k ≡ b → E .clients k .taken ≤ cond b (keeps e (E .clients l)) (E .clients k) .taken
+      c-le k true q = subst (λ r. E .clients r .taken ≤ E .clients l .taken) (eqb-eq l k q) (le-refl _)
+      c-le k false q = le-refl _
+
+      kept′ : (k : ℕ) (x : Name) (b : Bool) → eqb l k ≡ b → holds (names (h .applied k)) x ≡ true
+          → holds (names (cond b (h .applied l ++ (newEdit h l e ∷ [])) (h .applied k))) x ≡ true
+      kept′ k x true q t = holds-more (h .applied l) (newEdit h l e) x (subst (λ r. holds (names (h .applied r)) x ≡ true) (sym (eqb-eq l k q)) t)
+      kept′ k x false q t = t
+
+      set-same′ : (k : ℕ) (b : Bool) → eqb l k ≡ b
+          → inOrder (h .served ++ cond b (h .untaken l ++ (newEdit h l e ∷ [])) (h .untaken k)) (h .applied k) ≡ inOrder (h .served ++ h .untaken k) (h .applied k)
+      set-same′ k true q =
+          subst (λ r. inOrder (h .served ++ (h .untaken l ++ (newEdit h l e ∷ []))) (h .applied r) ≡ inOrder (h .served ++ h .untaken r) (h .applied r)) (eqb-eq l k q)
+          (ap (λ r. inOrder r (h .applied l)) (sym (append-assoc (h .served) (h .untaken l) (newEdit h l e ∷ [])))
+          ∙ inOrder-insert (order h l) (newEdit h l e) [] (h .applied l) (edit-new d laws E h inv l e by-l ok) ∙ ap (λ r. inOrder r (h .applied l)) (append-nil (order h l)))
+      set-same′ k false q = refl
+
+  -- ---- the server takes the next edit of a line
+  pub step-up : Laws 𝓐 → (E : Ends 𝓐) (h : History 𝓐) → Inv d E h → (l : ℕ) (x : Message 𝓐) → UpOk l (order h l) (E .clients l .taken) x
+      → x .number ≡ suc (E .lines l .taken) → E .lines l .acked ≤ x .seen → Step E h (takingUp l x E) (afterUp l h)
+  unfolding serves
+  step-up laws E h inv l x ok next cur = first-untaken d laws E h inv l x ok next cur (h .untaken l) refl (λ r. Step E h (takingUp l x E) (serves l r h)) go
+    where
+      go : (o : Made 𝓐) (us : List (Made 𝓐)) → h .untaken l ≡ o ∷ us → Step E h (takingUp l x E) (serves l (o ∷ us) h)
+      go o us split =
+          record {
+            inv = up-inv d laws E h inv l x ok next cur o us split;
+            later = record {
+              grows = up-grows d laws E h inv l x ok next cur o us split;
+              c-later = λ k. le-refl _;
+              v-later = up-bound d laws E h inv l x ok next cur o us split;
+              kept = λ k y t. t;
+              set-same = λ k. set-same′ k (eqb l k) refl;
+              served-kept = λ y t. holds-more (h .served) o y t;
+              served-same = inOrder-insert (h .served) o [] (h .served) (o-new d laws E h inv l x ok next cur o us split) ∙ ap (λ r. inOrder r (h .served)) (append-nil (h .served));
+            };
+          }
+        where
+          set-same′ : (k : ℕ) (b : Bool) → eqb l k ≡ b
+              → inOrder ((h .served ++ (o ∷ [])) ++ cond b us (h .untaken k)) (h .applied k) ≡ inOrder (h .served ++ h .untaken k) (h .applied k)
+          set-same′ k true q =
+              subst (λ r. inOrder ((h .served ++ (o ∷ [])) ++ us) (h .applied r) ≡ inOrder (h .served ++ h .untaken r) (h .applied r)) (eqb-eq l k q)
+              (ap (λ r. inOrder r (h .applied l)) (append-assoc (h .served) (o ∷ []) us ∙ ap (λ r. h .served ++ r) (sym split)))
+          set-same′ k false q =
+              ap (λ r. inOrder r (h .applied k)) (append-assoc (h .served) (o ∷ []) (h .untaken k))
+              ∙ inOrder-insert (h .served) o (h .untaken k) (h .applied k)
+              (o-new-to d laws E h inv l x ok next cur o us split k (λ e. true≢false (sym (eqb-same l) ∙ ap (eqb l) e ∙ q)))
+
+  -- ---- a client takes its next edit
+  pub step-down : (E : Ends 𝓐) (h : History 𝓐) → Inv d E h → (l : ℕ) (x : Message 𝓐) → DownOk l (order h l) (E .lines l .taken) x
+      → x .number ≡ suc (E .clients l .taken) → E .clients l .acked ≤ x .seen → Step E h (takingDown l x E) (afterDown l h)
+  unfolding applies
+  step-down E h inv l x ok next cur =
+      record {
+        inv = inv-down d E h inv l x ok next cur;
+        later = subst (λ M. Later E h (takingDown l x E) (applies l M h)) (sym (first-missing d E h inv l x ok next cur)) (record {
+          grows = λ k. grows-refl k (order h k);
+          c-later = λ k. c-le k (eqb l k) refl;
+          v-later = λ k. le-refl _;
+          kept = λ k y. kept′ k y (eqb l k) refl;
+          set-same = λ k. refl;
+          served-kept = λ y t. t;
+          served-same = refl;
+        });
+      }
+    where
+      c-le : (k : ℕ) (b : Bool) → eqb l k ≡ b → E .clients k .taken ≤ cond b (takes x (E .clients l)) (E .clients k) .taken
+      c-le k true q = subst (λ r. E .clients r .taken ≤ suc (E .clients l .taken)) (eqb-eq l k q) (omega arith)
+      c-le k false q = le-refl _
+
+      kept′ : (k : ℕ) (y : Name) (b : Bool) → eqb l k ≡ b → holds (names (h .applied k)) y ≡ true
+          → holds (names (cond b (h .applied l ++ (oth l (order h l) (E .clients l .taken) ∷ [])) (h .applied k))) y ≡ true
+      kept′ k y true q t =
+          holds-more (h .applied l) (oth l (order h l) (E .clients l .taken)) y (subst (λ r. holds (names (h .applied r)) y ≡ true) (sym (eqb-eq l k q)) t)
+      kept′ k y false q t = t
+
+  -- ---- acknowledgements
+  pub step-ack-up : (E : Ends 𝓐) (h : History 𝓐) → Inv d E h → (l s : ℕ) → E .lines l .acked ≤ s → s ≤ E .clients l .taken → Step E h (ackingUp l s E) h
+  step-ack-up E h inv l s a b =
+      record {
+        inv = inv-ack-up d E h inv l s a b;
+        later = record {
+          grows = λ k. grows-refl k (order h k);
+          c-later = λ k. le-refl _;
+          v-later = λ k. v-le k (eqb l k) refl;
+          kept = λ k y t. t;
+          set-same = λ k. refl;
+          served-kept = λ y t. t;
+          served-same = refl;
+        };
+      }
+    where
+      v-le : (k : ℕ) (b : Bool) → eqb l k ≡ b → E .lines k .taken ≤ cond b (acks s (E .lines l)) (E .lines k) .taken
+      v-le k true q = subst (λ r. E .lines r .taken ≤ E .lines l .taken) (eqb-eq l k q) (le-refl _)
+      v-le k false q = le-refl _
+
+  pub step-ack-down : (E : Ends 𝓐) (h : History 𝓐) → Inv d E h → (l s : ℕ) → E .clients l .acked ≤ s → s ≤ E .lines l .taken → Step E h (ackingDown l s E) h
+  step-ack-down E h inv l s a b =
+      record {
+        inv = inv-ack-down d E h inv l s a b;
+        later = record {
+          grows = λ k. grows-refl k (order h k);
+          c-later = λ k. c-le k (eqb l k) refl;
+          v-later = λ k. le-refl _;
+          kept = λ k y t. t;
+          set-same = λ k. refl;
+          served-kept = λ y t. t;
+          served-same = refl;
+        };
+      }
+    where
+      c-le : (k : ℕ) (b : Bool) → eqb l k ≡ b → E .clients k .taken ≤ cond b (acks s (E .clients l)) (E .clients k) .taken
+      c-le k true q = subst (λ r. E .clients r .taken ≤ E .clients l .taken) (eqb-eq l k q) (le-refl _)
+      c-le k false q = le-refl _
+
+  -- ---- messages
+  -- what a message on line l must be, whenever it is taken
+  abbrev pub UpMessage : Ends 𝓐 → History 𝓐 → ℕ → Message 𝓐 → Type 0
+  UpMessage E h l x = UpOk l (order h l) (E .clients l .taken) x
+
+  abbrev pub DownMessage : Ends 𝓐 → History 𝓐 → ℕ → Message 𝓐 → Type 0
+  DownMessage E h l x = DownOk l (order h l) (E .lines l .taken) x
+
+  pub up-message : (E : Ends 𝓐) (h : History 𝓐) → Inv d E h → (l k : ℕ) → E .clients l .acked < k → k ≤ E .clients l .made → UpMessage E h l (message k (E .clients l))
+  up-message E h inv l = send-up d l (order h l) (h .served) (h .applied l) (E .clients l) (E .lines l) (E .docs l) (inv .lines l .line)
+
+  pub down-message : (E : Ends 𝓐) (h : History 𝓐) → Inv d E h → (l k : ℕ) → E .lines l .acked < k → k ≤ E .lines l .made → DownMessage E h l (message k (E .lines l))
+  down-message E h inv l = send-down d l (order h l) (h .served) (h .applied l) (E .clients l) (E .lines l) (E .docs l) (inv .lines l .line)
+
+  pub up-later : (E : Ends 𝓐) (h : History 𝓐) (E′ : Ends 𝓐) (h′ : History 𝓐) → Inv d E h → Later E h E′ h′ → (l : ℕ) (x : Message 𝓐) → UpMessage E h l x → UpMessage E′ h′ l x
+  up-later E h E′ h′ inv f l x ok = up-on l (order h l) (order h′ l) (f .grows l) _ _ (inv .lines l .line .c-taken) (f .c-later l) x ok
+
+  pub down-later : (E : Ends 𝓐) (h : History 𝓐) (E′ : Ends 𝓐) (h′ : History 𝓐) → Inv d E h → Later E h E′ h′ → (l : ℕ) (x : Message 𝓐) → DownMessage E h l x → DownMessage E′ h′ l x
+  down-later E h E′ h′ inv f l x ok = down-on l (order h l) (order h′ l) (f .grows l) _ _ (inv .lines l .line .v-taken) (f .v-later l) x ok
+
+  -- ---- what arrives fits, and is the form at what the taker has applied
+  pub down-fits : (E : Ends 𝓐) (h : History 𝓐) → Inv d E h → (l : ℕ) (x : Message 𝓐) → DownMessage E h l x
+      → x .number ≡ suc (E .clients l .taken) → E .clients l .acked ≤ x .seen → T (𝓐 .fits (arrived x (E .clients l)) (E .docs l))
+  down-fits E h inv l x ok next cur =
+      let line = inv .lines l .line in
+      let edge = down-edge d l (order h l) (h .served) (h .applied l) (E .clients l) (E .lines l) (E .docs l) line x ok next cur in
+      let is = down-arrives d l (order h l) (h .served) (h .applied l) (E .clients l) (E .lines l) (E .docs l) line x ok next cur in
+      subst (λ e. T (𝓐 .fits e (E .docs l))) (sym is)
+      (subst (λ r. T (𝓐 .fits (othForm l (order h l) (length (mine l (order h l))) (E .clients l .taken)) r)) (sym (line .c-doc)) (edge .fits))
+
+  pub up-fits : (E : Ends 𝓐) (h : History 𝓐) → Inv d E h → (l : ℕ) (x : Message 𝓐) → UpMessage E h l x
+      → x .number ≡ suc (E .lines l .taken) → E .lines l .acked ≤ x .seen → T (𝓐 .fits (arrived x (E .lines l)) (E .doc))
+  up-fits E h inv l x ok next cur =
+      let line = inv .lines l .line in
+      let edge = up-edge d l (order h l) (h .served) (h .applied l) (E .clients l) (E .lines l) (E .docs l) line x ok next cur in
+      let is = up-arrives d l (order h l) (h .served) (h .applied l) (E .clients l) (E .lines l) (E .docs l) line x ok next cur in
+      subst (λ e. T (𝓐 .fits e (E .doc))) (sym is)
+      (subst (λ r. T (𝓐 .fits (ownForm l (order h l) (E .lines l .taken) (length (others l (order h l)))) r)) (sym (inv .doc-is ∙ ap (listAt d) (sym (line .served-at)))) (edge .fits))

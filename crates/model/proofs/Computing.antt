@@ -1,0 +1,19 @@
+-- To compute a run of calls every definition on the way is opened: `unfolding computing` opens them all.
+use Rattle.ot.specs.Edit.{applied, fits, transformed}
+use Rattle.ot.specs.Laws.{within}
+use Rattle.wire.specs.Message.{inRange}
+use Rattle.wire.specs.Bytes.{bytesOf, parsed}
+use Rattle.jupiter.specs.Made.{holds, select, reject}
+use Rattle.jupiter.specs.Form.{further, lastOutside, formBy, formIn, form, inOrder}
+use Rattle.jupiter.specs.Point.{enter, firsts}
+use Rattle.jupiter.specs.History.{missing, afterEdit, serves, applies}
+use Rattle.model.specs.Questions.{answer, sent}
+use Rattle.model.specs.Cross.{past, over, allPlaced, priorities}
+use Rattle.model.specs.Client.{soundClient, openClient, editClient, sendClient, tellClient, clientTakesEdit, clientTakesAck, takeClient}
+use Rattle.model.specs.Server.{soundLine, soundLines, soundServer, openServer, sendServer, tellServer, atPlace, othersRoomy, serverTakesEdit, serverTakesAck, takeServer}
+use Rattle.model.specs.Log.{setOf, madeAt, takenAt, editLetter, ackLetter, took, logged, refusedLog, log}
+use Rattle.model.specs.Run.{areBytes, areItems, callable, handed, call, run}
+
+unfoldable pub computing : Unit {0}
+unfolding applied fits transformed within inRange bytesOf parsed answer sent past over allPlaced priorities soundClient openClient editClient sendClient tellClient clientTakesEdit clientTakesAck takeClient soundLine soundLines soundServer openServer sendServer tellServer atPlace othersRoomy serverTakesEdit serverTakesAck takeServer holds select reject further lastOutside formBy formIn form inOrder enter firsts missing afterEdit serves applies setOf madeAt takenAt editLetter ackLetter took logged refusedLog log areBytes areItems callable handed call run
+computing = tt

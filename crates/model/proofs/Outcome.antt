@@ -1,0 +1,36 @@
+-- A call was refused, or it was not: what its answer then is.
+use mathlib.Core.Path.{_≡_, refl, ap, sym, _∙_, subst}
+use mathlib.Core.Bool.{Bool, true, false, cond}
+use mathlib.Core.List.{List, [], _∷_, _++_}
+use Prim.Native.Nat.{ℕ}
+use lib.Dec.{eqb}
+use lib.ListN.{length, drop, take}
+use lib.Seq.{take-append-seam}
+use borrow.Author.Tests.{eqb-true, eqb-false, ne-eqb}
+use Rattle.model.specs.Questions.{Answer, answer, Sent, sent}
+
+pub data Outcome {E : Type 0} (r : ℕ) (old new : E) (k : ℕ) : Answer E → Type 0 where
+  no : (r ≡ 0 → ⊥) → Outcome r old new k (record { refusal = r; end = old; passed = 0 })
+  yes : r ≡ 0 → Outcome r old new k (record { refusal = 0; end = new; passed = k })
+
+pub outcome : {E : Type 0} (r : ℕ) (old new : E) (k : ℕ) → Outcome r old new k (answer r old new k)
+unfolding answer
+outcome {E} r old new k = go (eqb r 0) refl
+  where
+    go : (b : Bool) → eqb r 0 ≡ b
+        → Outcome r old new k (cond {A = Answer E} b (record { refusal = 0; end = new; passed = k }) (record { refusal = r; end = old; passed = 0 }))
+    go true e = Outcome.yes (eqb-true r 0 e)
+    go false e = Outcome.no (eqb-false r 0 e)
+
+pub data Posted (r : ℕ) (bytes lent : List ℕ) : Sent → Type 0 where
+  no : (r ≡ 0 → ⊥) → Posted r bytes lent (record { refusal = r; written = 0; buffer = lent })
+  yes : r ≡ 0 → Posted r bytes lent (record { refusal = 0; written = length bytes; buffer = bytes ++ drop (length bytes) lent })
+
+pub posted : (r : ℕ) (bytes lent : List ℕ) → Posted r bytes lent (sent r bytes lent)
+unfolding sent
+posted r bytes lent = go (eqb r 0) refl
+  where
+    go : (b : Bool) → eqb r 0 ≡ b
+        → Posted r bytes lent (cond {A = Sent} b (record { refusal = 0; written = length bytes; buffer = bytes ++ drop (length bytes) lent }) (record { refusal = r; written = 0; buffer = lent }))
+    go true e = Posted.yes (eqb-true r 0 e)
+    go false e = Posted.no (eqb-false r 0 e)

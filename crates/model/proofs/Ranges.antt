@@ -1,0 +1,79 @@
+-- What a sound end writes is in range.
+use mathlib.Core.Path.{_≡_, refl, ap, sym, _∙_, subst}
+use mathlib.Core.Bool.{Bool, true, false, not, _&&_, _||_}
+use mathlib.Core.List.{List, [], _∷_}
+use Prim.Native.Nat.{ℕ, zero, suc, _+_, _-_, _≤_, _<_}
+use native.Mathlib.Omega.{arith}
+use lib.Dec.{leb, eqb}
+use lib.ListN.{length, getD}
+use borrow.Author.Tests.{le-leb, leb-true, eqb-true}
+use Rattle.ot.specs.declared.Edit.{Edit}
+use Rattle.ot.specs.declared.Edit.the-variants.{Nothing, Delete, Insert}
+use Rattle.ot.specs.Laws.{within}
+use Rattle.wire.specs.declared.Header.{Header}
+use Rattle.wire.specs.declared.Message.{Message}
+use Rattle.wire.specs.declared.Message.the-variants as message
+use Rattle.wire.specs.Message.{messageOf, headerInRange, inRange, maxUp, maxDown, between}
+use Rattle.wire.specs.Bytes.{bytesOf}
+use Rattle.jupiter.proofs.Lists.{All}
+use Rattle.model.specs.Limits.{maxItems}
+use Rattle.model.specs.Cross.{placed, allPlaced, priority, priorities}
+use Rattle.model.proofs.Tests.{both, and-left, and-right, between-true, true-between}
+use Rattle.model.proofs.Small.{Small}
+
+-- an edit that an end keeps: its position, its priority and its item
+pub fits-range : (h : Header) (e : Edit) (good : ℕ → Bool) → headerInRange h ≡ true → placed e ≡ true → priority good e ≡ true
+    → ((r : ℕ) → good r ≡ true → (1 ≤ r) × (r ≤ 8)) → Small e → inRange (messageOf h e) ≡ true
+unfolding inRange within
+fits-range h Nothing good a b c d f = a
+fits-range h (Delete p) good a b c d f = both (headerInRange h) (between 1 512 p) a b
+fits-range h (Insert p x r) good a b c d f =
+    both (headerInRange h && between 1 512 p && leb x 4294967295) (between 1 8 r)
+    (both (headerInRange h && between 1 512 p) (leb x 4294967295) (both (headerInRange h) (between 1 512 p) a b) f)
+    (true-between 1 8 r (d r c .0) (d r c .1))
+
+pub placed-get : (es : List Edit) (i : ℕ) → i < length es → allPlaced es ≡ true → placed (getD es i Nothing) ≡ true
+unfolding allPlaced
+placed-get [] i lt a = absurd (omega arith)
+placed-get (e ∷ es) zero lt a = and-left (placed e) (allPlaced es) a
+placed-get (e ∷ es) (suc i) lt a = placed-get es i (omega arith) (and-right (placed e) (allPlaced es) a)
+
+pub priority-get : (good : ℕ → Bool) (es : List Edit) (i : ℕ) → i < length es → priorities good es ≡ true → priority good (getD es i Nothing) ≡ true
+unfolding priorities
+priority-get good [] i lt a = absurd (omega arith)
+priority-get good (e ∷ es) zero lt a = and-left (priority good e) (priorities good es) a
+priority-get good (e ∷ es) (suc i) lt a = priority-get good es i (omega arith) (and-right (priority good e) (priorities good es) a)
+
+or-left : (a b : Bool) → a ≡ true → (a || b) ≡ true
+or-left true b e = refl
+or-left false b e = absurd (let z : _≡_ {A = ℕ} 0 1 = cc in omega arith)
+
+or-right : (a b : Bool) → b ≡ true → (a || b) ≡ true
+or-right true b e = refl
+or-right false b e = e
+
+pub up-range : (l k s : ℕ) → 1 ≤ l → l ≤ 8 → 1 ≤ k → k ≤ maxUp → s ≤ maxDown → headerInRange (record { line = l; direction = 0; number = k; seen = s }) ≡ true
+up-range l k s a b c d e =
+    both (between 1 8 l) (between 1 maxUp k && leb s maxDown || false) (true-between 1 8 l a b)
+    (or-left (between 1 maxUp k && leb s maxDown) false (both (between 1 maxUp k) (leb s maxDown) (true-between 1 maxUp k c d) (le-leb s maxDown e)))
+
+pub down-range : (l k s : ℕ) → 1 ≤ l → l ≤ 8 → 1 ≤ k → k ≤ maxDown → s ≤ maxUp → headerInRange (record { line = l; direction = 1; number = k; seen = s }) ≡ true
+down-range l k s a b c d e =
+    both (between 1 8 l) (between 1 maxDown k && leb s maxUp) (true-between 1 8 l a b)
+    (both (between 1 maxDown k) (leb s maxUp) (true-between 1 maxDown k c d) (le-leb s maxUp e))
+
+pub up-ack-range : (l s : ℕ) → 1 ≤ l → l ≤ 8 → s ≤ maxDown → inRange (message.Ack l 0 s) ≡ true
+unfolding inRange
+up-ack-range l s a b c = both (between 1 8 l) (leb s maxDown || false) (true-between 1 8 l a b) (or-left (leb s maxDown) false (le-leb s maxDown c))
+
+pub down-ack-range : (l s : ℕ) → 1 ≤ l → l ≤ 8 → s ≤ maxUp → inRange (message.Ack l 1 s) ≡ true
+unfolding inRange
+down-ack-range l s a b c = both (between 1 8 l) (leb s maxUp) (true-between 1 8 l a b) (le-leb s maxUp c)
+
+-- no message is longer than 14 bytes
+pub short : (m : Message) → length (bytesOf m) ≤ 14
+unfolding bytesOf
+short (message.Insert h p x r) = omega arith
+short (message.Delete h p) = omega arith
+short (message.Nothing h) = omega arith
+short (message.Ack l d s) = omega arith

@@ -1,0 +1,162 @@
+-- The sheet follows the theory: its ends are the theory's ends with 01's limits, and its log is the theory's history.
+use mathlib.Core.Path.{_≡_, refl, ap, ap₂, sym, _∙_, subst}
+use mathlib.Core.Bool.{Bool, true, false, cond}
+use mathlib.Core.List.{List, [], _∷_, _++_, map, append-nil, append-assoc}
+use Prim.Native.Nat.{ℕ, zero, suc, _+_, _-_, _≤_, _<_}
+use native.Mathlib.Numerals.{add-one}
+use native.Mathlib.Omega.{arith}
+use lib.Dec.{T, eqb}
+use lib.ListN.{length, getD, drop}
+use borrow.Author.Tests.{eqb-true, ne-eqb, eq-eqb}
+use Rattle.ot.specs.declared.Edit.{Edit}
+use Rattle.ot.specs.Edit.{applied}
+use Rattle.wire.specs.Message.{inRange}
+use Rattle.jupiter.specs.Made.{Made, select, reject, isBy, mine, others}
+use Rattle.jupiter.specs.History.{History, at, order, newEdit, afterEdit, afterUp, afterDown}
+use Rattle.jupiter.specs.Ends as ends
+use Rattle.jupiter.specs.Ends.{Ends, Message, keeps, acks, takes, arrived, editing, takingUp, takingDown, ackingUp, ackingDown}
+use Rattle.jupiter.specs.Run.{Letter}
+use Rattle.jupiter.specs.Claims.{inserts}
+use Rattle.jupiter.proofs.Lists.{All, all-append, all-map}
+use Rattle.jupiter.proofs.World.{Inv}
+use Rattle.jupiter.proofs.Step.{Later, Step}
+use Rattle.jupiter.proofs.Runs.{Fine, fine-later}
+use Rattle.model.specs.Questions.{Answer, answer}
+use Rattle.model.specs.Cross.{past, over, insertsOf}
+use Rattle.model.specs.Client.{Client, soundClient, edited, unacked, clientTaken, clientAcked}
+use Rattle.model.specs.Server.{Line, Server, noLine, lineOf, soundServer, unackedOf, carried, lineTaken, lineKeeps, lineAcked, atPlace, serverTaken, serverAcked}
+use Rattle.model.specs.Edits.{edits}
+use Rattle.model.specs.Sheet.{Call}
+use Rattle.model.specs.Log.{Log, letterMessage, letterBytes, hears, refusedLog, log, logged}
+use Rattle.model.specs.Run.{State, answered}
+use Rattle.model.specs.Ours.{End, client, server, ours}
+use Rattle.model.proofs.Table.{table, table-cong, table-get, table-at, cond-eq, cond-ne}
+use Rattle.model.proofs.Instance.{past-same, over-same}
+use Rattle.model.proofs.Small.{Small}
+
+-- the theory's end of a line, as the client's end, and as what the server keeps of the line
+abbrev pub clientFrom : ℕ → ℕ → ends.End edits → List ℕ → ℕ → Client
+clientFrom n l v items i =
+    record { n = n; line = l; made = v .made; taken = v .taken; acked = v .acked; inserts = i; items = items; pending = v .pending }
+
+abbrev pub lineFrom : ends.End edits → ℕ → Line
+lineFrom v i = record { made = v .made; taken = v .taken; acked = v .acked; inserts = i; pending = v .pending }
+
+abbrev pub serverFrom : ℕ → ℕ → List ℕ → (ℕ → ends.End edits) → (ℕ → ℕ) → Server
+serverFrom n initial items vs is = record { n = n; initial = initial; items = items; lines = table (λ j. lineFrom (vs j) (is j)) 1 n }
+
+-- a message that was written: it can be taken at any time, and its fields are in range
+abbrev pub LetterOk : List ℕ → Ends edits → History edits → Letter edits → Type 0
+LetterOk items E h x = Fine items E h x × (inRange (letterMessage x) ≡ true)
+
+abbrev pub OfLines : ℕ → Made edits → Type 0
+OfLines n e = (1 ≤ e .name .line) × (e .name .line ≤ n)
+
+pub record Sim (n : ℕ) (items : List ℕ) (s : State ours) : Type 0 where
+  -- the theory's ends, and the inserts that the client and the server count on each line
+  pub E : Ends edits
+  pub ci : ℕ → ℕ
+  pub si : ℕ → ℕ
+  pub inv : Inv items E (s .recorded .history)
+  pub server-is : s .ends 0 ≡ server (serverFrom n (length items) (E .doc) (E .lines) si)
+  pub client-is : (l : ℕ) → 1 ≤ l → l ≤ n → s .ends l ≡ client (clientFrom n l (E .clients l) (E .docs l) (ci l))
+  pub server-sound : soundServer (serverFrom n (length items) (E .doc) (E .lines) si) ≡ true
+  pub client-sound : (l : ℕ) → 1 ≤ l → l ≤ n → soundClient (clientFrom n l (E .clients l) (E .docs l) (ci l)) ≡ true
+  pub server-shown : s .recorded .shown 0 ≡ E .doc
+  pub client-shown : (l : ℕ) → 1 ≤ l → l ≤ n → s .recorded .shown l ≡ E .docs l
+  pub heard : (l : ℕ) → s .recorded .heard l ≡ E .lines l .acked
+  pub messages : s .messages ≡ map letterBytes (s .recorded .letters)
+  pub letters : All (LetterOk items E (s .recorded .history)) (s .recorded .letters)
+  pub passed : s .passed ≡ s .recorded .passed
+  pub taken : (l : ℕ) → length (others l (s .recorded .history .applied l)) ≡ E .clients l .taken
+  pub served-lines : All (OfLines n) (s .recorded .history .served)
+  pub ci-is : (l : ℕ) → ci l ≡ inserts (mine l (order (s .recorded .history) l))
+  pub si-is : (l : ℕ) → si l ≡ inserts (mine l (s .recorded .history .served))
+  pub client-small : (l : ℕ) → All Small (E .clients l .pending)
+  pub server-small : (l : ℕ) → All Small (E .lines l .pending)
+
+-- ---- one line changed, the others as they were
+module _ {A B C D : Type 0} (R : ℕ → A → B → C → D → Type 0) (l : ℕ) (v : A) (w : B) (x : C) (y : D) (f : ℕ → A) (g : ℕ → B) (h : ℕ → C) (k : ℕ → D) where
+  pub at-line : (j : ℕ) → R l v w x y → R j (f j) (g j) (h j) (k j) → R j (at l v f j) (at l w g j) (at l x h j) (at l y k j)
+  at-line j here there = go (eqb l j) refl
+    where
+      go : (b : Bool) → eqb l j ≡ b → R j (cond b v (f j)) (cond b w (g j)) (cond b x (h j)) (cond b y (k j))
+      go true e = subst (λ (i : ℕ). R i v w x y) (eqb-true l j e) here
+      go false e = there
+
+pub at-other : {A : Type 0} (l : ℕ) (v : A) (f : ℕ → A) (j : ℕ) → (l ≡ j → ⊥) → at l v f j ≡ f j
+at-other l v f j h = cond-ne l j v (f j) h
+
+-- ---- the ends after a call, as the theory's
+
+pub edited-from : (n l : ℕ) (v : ends.End edits) (items : List ℕ) (i : ℕ) (e : Edit) → edited (clientFrom n l v items i) e ≡ clientFrom n l (keeps e v) (applied e items) (i + insertsOf e)
+edited-from n l v items i e = rw (add-one (v .made))
+
+pub taken-from : (n l : ℕ) (v : ends.End edits) (items : List ℕ) (i : ℕ) (x : Message edits)
+    → clientTaken (clientFrom n l v items i) (x .seen) (x .edit) ≡ clientFrom n l (takes x v) (applied (arrived x v) items) i
+taken-from n l v items i x =
+    rw (add-one (v .taken), past-same (x .edit) (drop (x .seen - v .acked) (v .pending)), over-same (x .edit) (drop (x .seen - v .acked) (v .pending)))
+
+pub acked-from : (n l : ℕ) (v : ends.End edits) (items : List ℕ) (i seen : ℕ) → clientAcked (clientFrom n l v items i) seen ≡ clientFrom n l (acks seen v) items i
+acked-from n l v items i seen = refl
+
+-- the line l of the server
+pub line-from : (n initial : ℕ) (items : List ℕ) (vs : ℕ → ends.End edits) (is : ℕ → ℕ) (l : ℕ) → 1 ≤ l → l ≤ n
+    → lineOf (serverFrom n initial items vs is) l ≡ lineFrom (vs l) (is l)
+line-from n initial items vs is l a b =
+    let f : ℕ → Line = λ j. lineFrom (vs j) (is j) in
+    table-get f noLine 1 n (l - 1) (omega arith) ∙ ap f (omega arith)
+
+pub carried-from : (n initial : ℕ) (items : List ℕ) (vs : ℕ → ends.End edits) (is : ℕ → ℕ) (l : ℕ) → 1 ≤ l → l ≤ n → (x : Message edits)
+    → carried (serverFrom n initial items vs is) l (x .seen) (x .edit) ≡ arrived x (vs l)
+carried-from n initial items vs is l a b x =
+    ap (λ (v : Line). past (x .edit) (unackedOf v (x .seen))) (line-from n initial items vs is l a b) ∙ past-same (x .edit) (drop (x .seen - vs l .acked) (vs l .pending))
+
+pub server-taken-from : (n initial : ℕ) (items : List ℕ) (vs : ℕ → ends.End edits) (is : ℕ → ℕ) (l : ℕ) → 1 ≤ l → l ≤ n → (x : Message edits)
+    → serverTaken (serverFrom n initial items vs is) l (x .seen) (x .edit)
+    ≡ serverFrom n initial (applied (arrived x (vs l)) items) (at l (takes x (vs l)) (λ k. keeps (arrived x (vs l)) (vs k))) (at l (is l + insertsOf (x .edit)) is)
+server-taken-from n initial items vs is l a b x =
+    let s = serverFrom n initial items vs is in
+    let c = carried s l (x .seen) (x .edit) in
+    let t = arrived x (vs l) in
+    let same : c ≡ t = carried-from n initial items vs is l a b x in
+    λ i. record {
+      n = n;
+      initial = initial;
+      items = applied (same i) items;
+      lines = lines c same i;
+    }
+  where
+    one : (j : ℕ) (c : Edit) → c ≡ arrived x (vs l) → (y : Bool) → eqb l j ≡ y
+        → cond y (lineTaken (x .seen) (x .edit) (lineFrom (vs j) (is j))) (lineKeeps c (lineFrom (vs j) (is j)))
+        ≡ lineFrom (cond y (takes x (vs l)) (keeps (arrived x (vs l)) (vs j))) (cond y (is l + insertsOf (x .edit)) (is j))
+    one j c q true e =
+        subst (λ (k : ℕ). lineTaken (x .seen) (x .edit) (lineFrom (vs k) (is k)) ≡ lineFrom (takes x (vs l)) (is l + insertsOf (x .edit))) (eqb-true l j e)
+        (rw (add-one (vs l .taken), over-same (x .edit) (drop (x .seen - vs l .acked) (vs l .pending))))
+    one j c q false e = rw (add-one (vs j .made), q)
+    lines : (c : Edit) → c ≡ arrived x (vs l)
+        → atPlace (l - 1) (lineTaken (x .seen) (x .edit)) (lineKeeps c) (table (λ j. lineFrom (vs j) (is j)) 1 n)
+        ≡ table (λ j. lineFrom (at l (takes x (vs l)) (λ k. keeps (arrived x (vs l)) (vs k)) j) (at l (is l + insertsOf (x .edit)) is j)) 1 n
+    lines c q =
+        let f : ℕ → Line = λ j. lineFrom (vs j) (is j) in
+        table-at (lineTaken (x .seen) (x .edit)) (lineKeeps c) f 1 n (l - 1)
+        ∙ ap (λ (m : ℕ). table (λ j. cond (eqb m j) (lineTaken (x .seen) (x .edit) (f j)) (lineKeeps c (f j))) 1 n) (omega arith)
+        ∙ table-cong (λ j. cond (eqb l j) (lineTaken (x .seen) (x .edit) (f j)) (lineKeeps c (f j)))
+        (λ j. lineFrom (at l (takes x (vs l)) (λ k. keeps (arrived x (vs l)) (vs k)) j) (at l (is l + insertsOf (x .edit)) is j)) 1 n
+        (λ j lo hi. one j c q (eqb l j) refl)
+
+pub server-acked-from : (n initial : ℕ) (items : List ℕ) (vs : ℕ → ends.End edits) (is : ℕ → ℕ) (l : ℕ) → 1 ≤ l → l ≤ n → (seen : ℕ)
+    → serverAcked (serverFrom n initial items vs is) l seen ≡ serverFrom n initial items (at l (acks seen (vs l)) vs) is
+server-acked-from n initial items vs is l a b seen = λ i. record { n = n; initial = initial; items = items; lines = lines i }
+  where
+    one : (j : ℕ) (y : Bool) → eqb l j ≡ y
+        → cond y (lineAcked seen (lineFrom (vs j) (is j))) (lineFrom (vs j) (is j)) ≡ lineFrom (cond y (acks seen (vs l)) (vs j)) (is j)
+    one j true e = subst (λ (k : ℕ). lineAcked seen (lineFrom (vs k) (is k)) ≡ lineFrom (acks seen (vs l)) (is k)) (eqb-true l j e) refl
+    one j false e = refl
+    lines : atPlace (l - 1) (lineAcked seen) (λ v. v) (table (λ j. lineFrom (vs j) (is j)) 1 n)
+        ≡ table (λ j. lineFrom (at l (acks seen (vs l)) vs j) (is j)) 1 n
+    lines =
+        let f : ℕ → Line = λ j. lineFrom (vs j) (is j) in
+        table-at (lineAcked seen) (λ v. v) f 1 n (l - 1)
+        ∙ ap (λ (m : ℕ). table (λ j. cond (eqb m j) (lineAcked seen (f j)) (f j)) 1 n) (omega arith)
+        ∙ table-cong (λ j. cond (eqb l j) (lineAcked seen (f j)) (f j)) (λ j. lineFrom (at l (acks seen (vs l)) vs j) (is j)) 1 n (λ j lo hi. one j (eqb l j) refl)

@@ -1,0 +1,248 @@
+-- Question 2 is kept by every call.
+use mathlib.Core.Path.{_≡_, refl, ap, sym, _∙_, subst}
+use mathlib.Core.Bool.{Bool, true, false, not, _&&_, _||_}
+use mathlib.Core.List.{List, [], _∷_, _++_}
+use Prim.Native.Nat.{ℕ, zero, suc, _+_, _-_, _≤_, _<_}
+use native.Mathlib.Omega.{arith}
+use lib.Dec.{leb, ltb, eqb}
+use lib.ListN.{length, replicate, length-replicate}
+use borrow.Author.Tests.{leb-true, le-leb, ltb-true, eq-eqb, eqb-true}
+use Rattle.ot.specs.declared.Edit.{Edit}
+use Rattle.ot.specs.declared.Edit.the-variants.{Nothing, Delete, Insert}
+use Rattle.ot.specs.Edit.{applied, fits}
+use Rattle.wire.specs.declared.Header.{Header}
+use Rattle.wire.specs.declared.Message.{Message}
+use Rattle.wire.specs.declared.Message.the-variants as message
+use Rattle.wire.specs.declared.Read.{Read}
+use Rattle.wire.specs.declared.Read.the-variants as read
+use Rattle.wire.specs.Message.{inRange, headerInRange, maxUp, maxDown}
+use Rattle.wire.specs.Bytes.{parsed}
+use Rattle.wire.proofs.Ranges.{header-bounds, insert-bounds, delete-bounds}
+use Rattle.wire.proofs.Codec.{codec}
+use Rattle.model.specs.Limits.{maxLines, maxInserts, maxEdits, maxOthers, maxPending, maxItems, maxInitial}
+use Rattle.model.specs.Questions.{ask, asks, every, between, Answer, answer}
+use Rattle.model.specs.Cross.{past, over, allPlaced, priority, priorities, insertsOf}
+use Rattle.model.specs.Client.{Client, noClient, soundClient, openClientQuestions, openClient, edited, editQuestions, editClient, other, unacked, clientTaken, clientAcked, clientEditQuestions, clientTakesEdit, clientAckQuestions, clientTakesAck, clientReads, clientTakes, takeClient}
+use Rattle.model.specs.Server.{Line, Server, noLine, noServer, lineOf, total, soundServer, soundLine, soundLines, openServerQuestions, openServer, unackedOf, carried, serverTaken, serverAcked, othersRoomy, serverEditQuestions, serverTakesEdit, serverAckQuestions, serverTakesAck, serverReads, serverTakes, takeServer}
+use Rattle.model.specs.Sound.{KeepsSound}
+use Rattle.model.proofs.Tests.{both, and-left, and-right, hold, Yes, Numbered, yes-all, answer-keeps, between-true, true-between}
+use Rattle.model.proofs.SoundClient.{ClientFacts, client-facts, facts-client, edited-sound, taken-sound, acked-sound}
+use Rattle.model.proofs.SoundServer.{LineFacts, LinesFacts, ServerFacts, server-facts, facts-server, takenSum, insertSum, Asked, inserts-one, server-taken-sound, server-acked-sound}
+
+-- An answer with refusal 0 hands out the new end.
+pub accepted : {E : Type 0} (r : ℕ) (old new : E) (k : ℕ) → (answer r old new k) .refusal ≡ 0 → r ≡ 0
+unfolding answer
+accepted {E} r old new k e = go (eqb r 0) refl e
+  where
+    go : (b : Bool) → eqb r 0 ≡ b → (mathlib.Core.Bool.cond {A = Answer E} b (record { refusal = 0; end = new; passed = k }) (record { refusal = r; end = old; passed = 0 })) .refusal ≡ 0 → r ≡ 0
+    go true h e′ = eqb-true r 0 h
+    go false h e′ = e′
+
+pub new-end : {E : Type 0} (r : ℕ) (old new : E) (k : ℕ) → r ≡ 0 → answer r old new k ≡ record { refusal = 0; end = new; passed = k }
+unfolding answer
+new-end r old new k e = rw e
+
+pub opens-client : (n line : ℕ) (items : List ℕ) → openClient n line items .refusal ≡ 0 → soundClient (openClient n line items .end) ≡ true
+unfolding openClient allPlaced priorities
+opens-client n line items e =
+    let c : Client = record { n = n; line = line; made = 0; taken = 0; acked = 0; inserts = 0; items = items; pending = [] } in
+    let r = asks (openClientQuestions n line items) in
+    let z : r ≡ 0 = accepted r noClient c 0 e in
+    let h = hold (between 1 maxLines n ∷ between 1 n line ∷ leb (length items) maxInitial ∷ []) (yes-all (openClientQuestions n line items) (omega arith) z .0) in
+    subst (λ (a : Answer Client). soundClient (a .end) ≡ true) (sym (new-end r noClient c 0 z))
+    (facts-client c
+    (record {
+      lines = between-true 1 maxLines n (h .0);
+      line = between-true 1 n line (h .1 .0);
+      items = omega (arith, leb-true (length items) maxInitial (h .1 .1 .0));
+      made = omega arith;
+      taken = omega arith;
+      acked = omega arith;
+      room = omega arith;
+      count = refl;
+      placed = refl;
+      priorities = refl;
+      inserts = omega arith;
+      inserts-made = omega arith;
+    }))
+
+-- An edit of the client's own: its priority, where it has one, is the line.
+pub edits-sound : (c : Client) (e : Edit) → priority (eqb (c .line)) e ≡ true → soundClient c ≡ true → soundClient (editClient c e .end) ≡ true
+unfolding editClient
+edits-sound c e p s =
+    answer-keeps (λ d. soundClient d ≡ true) (asks (editQuestions c e)) c (edited c e) 0 s
+    (λ z.
+    let y = yes-all (editQuestions c e) (omega arith) z in
+    let q9 = y .1 .0 in
+    facts-client (edited c e)
+    (edited-sound c e (client-facts c s) p
+    (and-left (fits e (length (c .items))) (leb (length (applied e (c .items))) maxItems) q9)
+    (leb-true (length (applied e (c .items))) maxItems (and-right (fits e (length (c .items))) (leb (length (applied e (c .items))) maxItems) q9))
+    (leb-true (c .inserts + insertsOf e) maxInserts (y .1 .1 .0))
+    (ltb-true (c .made) maxEdits (y .1 .1 .1 .0))
+    (ltb-true (c .made - c .acked) maxPending (y .1 .1 .1 .1 .0))
+    (inserts-one e)))
+
+-- three tests in a row
+pub three : (a b d : Bool) → (a && b && d) ≡ true → (a ≡ true) × (b ≡ true) × (d ≡ true)
+three a b d e = (and-left a b (and-left (a && b) d e), and-right a b (and-left (a && b) d e), and-right (a && b) d e)
+
+pub client-takes-edit : (c : Client) (h : Header) (e : Edit) → headerInRange h ≡ true → soundClient c ≡ true → soundClient (clientTakesEdit c h e .end) ≡ true
+unfolding clientTakesEdit
+client-takes-edit c h e range s =
+    answer-keeps (λ d. soundClient d ≡ true) (asks (clientEditQuestions c h e)) c (clientTaken c (h .seen) e) (c .made - h .seen) s
+    (λ z.
+    let y = yes-all (clientEditQuestions c h e) (omega arith) z in
+    let number : h .number ≡ c .taken + 1 = eqb-true (h .number) (c .taken + 1) (y .1 .1 .1 .0) in
+    let q9 =
+    three (fits (past e (unacked c (h .seen))) (length (c .items))) (allPlaced (over e (unacked c (h .seen))))
+    (leb (length (applied (past e (unacked c (h .seen))) (c .items))) maxItems) (y .1 .1 .1 .1 .1 .1 .0) in
+    facts-client (clientTaken c (h .seen) e)
+    (taken-sound c (h .seen) e (client-facts c s)
+    (omega (arith, header-bounds h range .number-high))
+    (leb-true (c .acked) (h .seen) (y .1 .1 .1 .1 .0))
+    (leb-true (h .seen) (c .made) (y .1 .1 .1 .1 .1 .0))
+    (q9 .1)
+    (leb-true (length (applied (past e (unacked c (h .seen))) (c .items))) maxItems (q9 .2))))
+
+pub client-takes-ack : (c : Client) (l d seen : ℕ) → soundClient c ≡ true → soundClient (clientTakesAck c l d seen .end) ≡ true
+unfolding clientTakesAck
+client-takes-ack c l d seen s =
+    answer-keeps (λ x. soundClient x ≡ true) (asks (clientAckQuestions c l d seen)) c (clientAcked c seen) 0 s
+    (λ z.
+    let y = yes-all (clientAckQuestions c l d seen) (omega arith) z in
+    facts-client (clientAcked c seen)
+    (acked-sound c seen (client-facts c s) (leb-true (c .acked) seen (y .1 .1 .0)) (leb-true seen (c .made) (y .1 .1 .1 .0))))
+
+client-reads : (c : Client) (m : Read) → ((x : Message) → m ≡ read.Message x → inRange x ≡ true) → soundClient c ≡ true → soundClient (clientReads c m .end) ≡ true
+unfolding inRange
+client-reads c read.Refused r s =
+    answer-keeps (λ d. soundClient d ≡ true) (asks (ask 2 (soundClient c) ∷ ask 3 false ∷ [])) c c 0 s (λ z. s)
+client-reads c (read.Message (message.Insert h p x q)) r s =
+    client-takes-edit c h (Insert p x q) (insert-bounds h p x q (r (message.Insert h p x q) refl) .header-in-range) s
+client-reads c (read.Message (message.Delete h p)) r s =
+    client-takes-edit c h (Delete p) (delete-bounds h p (r (message.Delete h p) refl) .header-in-range) s
+client-reads c (read.Message (message.Nothing h)) r s = client-takes-edit c h Nothing (r (message.Nothing h) refl) s
+client-reads c (read.Message (message.Ack l d k)) r s = client-takes-ack c l d k s
+
+pub client-takes : (c : Client) (bytes : List ℕ) → soundClient c ≡ true → soundClient (takeClient c bytes .end) ≡ true
+unfolding takeClient
+client-takes c bytes s = client-reads c (parsed bytes) (λ m e. codec .read-in-range bytes m e) s
+
+-- ---- the server
+
+fresh-lines : (n l k : ℕ) → LinesFacts n 0 l (replicate k noLine)
+unfolding allPlaced priorities
+fresh-lines n l zero = tt
+fresh-lines n l (suc k) = (
+  record {
+    taken = omega arith;
+    made = refl;
+    acked = omega arith;
+    room = omega arith;
+    count = refl;
+    placed = refl;
+    priorities = refl;
+    inserts = omega arith;
+    inserts-taken = omega arith;
+  },
+  fresh-lines n (suc l) k,
+)
+
+fresh-total : (f : Line → ℕ) → f noLine ≡ 0 → (k : ℕ) → total f (replicate k noLine) ≡ 0
+fresh-total f e zero = refl
+fresh-total f e (suc k) = omega (arith, e, fresh-total f e k)
+
+pub opens-server : (n : ℕ) (items : List ℕ) → openServer n items .refusal ≡ 0 → soundServer (openServer n items .end) ≡ true
+unfolding openServer
+opens-server n items e =
+    let s : Server = record { n = n; initial = length items; items = items; lines = replicate n noLine } in
+    let r = asks (openServerQuestions n items) in
+    let z : r ≡ 0 = accepted r noServer s 0 e in
+    let h = hold (between 1 maxLines n ∷ leb (length items) maxInitial ∷ []) (yes-all (openServerQuestions n items) (omega arith) z .0) in
+    let most = leb-true (length items) maxInitial (h .1 .0) in
+    subst (λ (a : Answer Server). soundServer (a .end) ≡ true) (sym (new-end r noServer s 0 z))
+    (facts-server s
+    (record {
+      n = between-true 1 maxLines n (h .0);
+      initial = most;
+      items = omega arith;
+      count = length-replicate n noLine;
+      lines = subst (λ (k : ℕ). LinesFacts n k 1 (replicate n noLine)) (sym (fresh-total (λ v. v .taken) refl n)) (fresh-lines n 1 n);
+      inserted = omega arith;
+    }))
+
+-- going up, a number is at most 400
+up-number : (h : Header) → headerInRange h ≡ true → h .direction ≡ 0 → h .number ≤ maxEdits
+up-number h range d =
+    let tests = and-right (between 1 8 (h .line)) (eqb (h .direction) 0 && (between 1 maxUp (h .number) && leb (h .seen) maxDown) || eqb (h .direction) 1 && (between 1 maxDown (h .number) && leb (h .seen) maxUp)) range in
+    go (eqb (h .direction) 0) (between 1 maxUp (h .number) && leb (h .seen) maxDown) (eqb (h .direction) 1) (between 1 maxDown (h .number) && leb (h .seen) maxUp) refl refl
+    (eq-eqb (h .direction) 0 d) tests
+  where
+    go : (a b x y : Bool) → (between 1 maxUp (h .number) && leb (h .seen) maxDown) ≡ b → eqb (h .direction) 1 ≡ x → a ≡ true → (a && b || x && y) ≡ true → h .number ≤ maxEdits
+    go true true x y eb ex ea t = between-true 1 maxUp (h .number) (and-left (between 1 maxUp (h .number)) (leb (h .seen) maxDown) eb) .1
+    go true false true y eb ex ea t = absurd (omega (arith, d, eqb-true (h .direction) 1 ex))
+    go true false false y eb ex ea t = absurd (let w : _≡_ {A = ℕ} 0 1 = cc in omega arith)
+    go false b x y eb ex ea t = absurd (let w : _≡_ {A = ℕ} 0 1 = cc in omega arith)
+
+pub server-takes-edit : (s : Server) (h : Header) (e : Edit) → headerInRange h ≡ true → soundServer s ≡ true → soundServer (serverTakesEdit s h e .end) ≡ true
+unfolding serverTakesEdit
+server-takes-edit s h e range t =
+    answer-keeps (λ d. soundServer d ≡ true) (asks (serverEditQuestions s h e)) s (serverTaken s (h .line) (h .seen) e) (lineOf s (h .line) .made - h .seen) t
+    (λ z.
+    let y = yes-all (serverEditQuestions s h e) (omega arith) z in
+    let v = lineOf s (h .line) in
+    let q4 = three (eqb (h .direction) 0) (between 1 (s .n) (h .line)) (priority (eqb (h .line)) e) (y .1 .0) in
+    let lines = between-true 1 (s .n) (h .line) (q4 .1) in
+    let number : h .number ≡ v .taken + 1 = eqb-true (h .number) (v .taken + 1) (y .1 .1 .1 .0) in
+    let q9 =
+    three (fits (carried s (h .line) (h .seen) e) (length (s .items))) (allPlaced (over e (unackedOf v (h .seen))))
+    (leb (length (applied (carried s (h .line) (h .seen) e) (s .items))) maxItems) (y .1 .1 .1 .1 .1 .1 .0) in
+    facts-server (serverTaken s (h .line) (h .seen) e)
+    (server-taken-sound s (h .line) (h .seen) e (server-facts s t) (lines .0) (lines .1) (q4 .2)
+    (record {
+      next = omega (arith, up-number h range (eqb-true (h .direction) 0 (q4 .0)));
+      low = leb-true (v .acked) (h .seen) (y .1 .1 .1 .1 .0);
+      high = leb-true (h .seen) (v .made) (y .1 .1 .1 .1 .1 .0);
+      placed = q9 .1;
+      inserts = leb-true (v .inserts + insertsOf e) maxInserts (y .1 .1 .1 .1 .1 .1 .1 .0);
+    })
+    (q9 .0)
+    (leb-true (length (applied (carried s (h .line) (h .seen) e) (s .items))) maxItems (q9 .2))
+    (y .1 .1 .1 .1 .1 .1 .1 .1 .0)))
+
+pub server-takes-ack : (s : Server) (l d seen : ℕ) → soundServer s ≡ true → soundServer (serverTakesAck s l d seen .end) ≡ true
+unfolding serverTakesAck
+server-takes-ack s l d seen t =
+    answer-keeps (λ x. soundServer x ≡ true) (asks (serverAckQuestions s l d seen)) s (serverAcked s l seen) 0 t
+    (λ z.
+    let y = yes-all (serverAckQuestions s l d seen) (omega arith) z in
+    let lines = between-true 1 (s .n) l (and-right (eqb d 0) (between 1 (s .n) l) (y .1 .0)) in
+    facts-server (serverAcked s l seen)
+    (server-acked-sound s l seen (server-facts s t) (lines .0) (lines .1) (leb-true (lineOf s l .acked) seen (y .1 .1 .0)) (leb-true seen (lineOf s l .made) (y .1 .1 .1 .0))))
+
+server-reads : (s : Server) (m : Read) → ((x : Message) → m ≡ read.Message x → inRange x ≡ true) → soundServer s ≡ true → soundServer (serverReads s m .end) ≡ true
+unfolding inRange
+server-reads s read.Refused r t =
+    answer-keeps (λ d. soundServer d ≡ true) (asks (ask 2 (soundServer s) ∷ ask 3 false ∷ [])) s s 0 t (λ z. t)
+server-reads s (read.Message (message.Insert h p x q)) r t =
+    server-takes-edit s h (Insert p x q) (insert-bounds h p x q (r (message.Insert h p x q) refl) .header-in-range) t
+server-reads s (read.Message (message.Delete h p)) r t =
+    server-takes-edit s h (Delete p) (delete-bounds h p (r (message.Delete h p) refl) .header-in-range) t
+server-reads s (read.Message (message.Nothing h)) r t = server-takes-edit s h Nothing (r (message.Nothing h) refl) t
+server-reads s (read.Message (message.Ack l d k)) r t = server-takes-ack s l d k t
+
+pub server-takes : (s : Server) (bytes : List ℕ) → soundServer s ≡ true → soundServer (takeServer s bytes .end) ≡ true
+unfolding takeServer
+server-takes s bytes t = server-reads s (parsed bytes) (λ m e. codec .read-in-range bytes m e) t
+
+pub keeps-sound : KeepsSound
+keeps-sound =
+    record {
+      opens-client = opens-client;
+      inserts = λ c p x s. edits-sound c (Insert p x (c .line)) (eq-eqb (c .line) (c .line) refl) s;
+      deletes = λ c p s. edits-sound c (Delete p) refl s;
+      client-takes = client-takes;
+      opens-server = opens-server;
+      server-takes = server-takes;
+    }

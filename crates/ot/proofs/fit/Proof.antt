@@ -1,0 +1,49 @@
+-- `ot::fit` meets its contract.
+use Rattle.ot.specs.Edit.{fits}
+use borrow.Author.Needs.{needs}
+use Rattle.ot.proofs.fit.Statement.{statement}
+use Rattle.ot.proofs.fit.Tie as tie
+
+enum-told : tie.Need-enum-told
+enum-told c = search needs
+
+enum-known-e : tie.Need-enum-known-e
+enum-known-e c = search needs
+
+enum-known-e-2 : tie.Need-enum-known-e-2
+enum-known-e-2 c = search needs
+
+wide-requires : tie.Need-wide-requires
+wide-requires c κs = search needs
+
+wide-requires-2 : tie.Need-wide-requires-2
+wide-requires-2 c κs = search needs
+
+add-result : tie.Need-add-result
+add-result c = search needs
+
+returns : tie.Need-returns
+unfolding fits
+returns c = simp (c .enum-told .given .1)
+
+returns-2 : tie.Need-returns-2
+unfolding fits
+returns-2 c = simp (c .before .e .given .1)
+
+returns-3 : tie.Need-returns-3
+unfolding fits
+returns-3 c = simp (c .before .before .before .e2 .given .1, c .before .wide .ensures, c .wide2 .ensures)
+
+pub fit-spec : {M : Type 1} → statement M
+fit-spec =
+    tie.close
+    (tie.spec
+    enum-told
+    enum-known-e
+    enum-known-e-2
+    wide-requires
+    wide-requires-2
+    add-result
+    returns
+    returns-2
+    returns-3)

@@ -1,0 +1,117 @@
+//! Edits, packed into one 64-bit word, and carrying one past another without branches.
+
+pub const NOTHING: u8 = 0;
+pub const DELETE: u8 = 1;
+pub const INSERT: u8 = 2;
+
+/// An edit: from the top, kind (8 bits), position (16), priority (8), item (32). What a kind does not use is zero, so that an unused place is the
+/// word 0. Position and priority stand side by side: one comparison of 24 bits decides who moves.
+#[derive(Clone, Copy, PartialEq, Eq, Default)]
+#[repr(transparent)]
+pub struct Edit(u64);
+
+const STEP: u32 = 40;
+
+impl Edit {
+    pub const NOTHING: Edit = Edit(0);
+
+    #[inline]
+    pub fn delete(position: u16) -> Edit {
+        Edit((DELETE as u64) << 56 | (position as u64) << STEP)
+    }
+
+    #[inline]
+    pub fn insert(position: u16, item: u32, priority: u8) -> Edit {
+        Edit((INSERT as u64) << 56 | (position as u64) << STEP | (priority as u64) << 32 | item as u64)
+    }
+
+    #[inline]
+    pub fn kind(self) -> u8 {
+        (self.0 >> 56) as u8
+    }
+
+    #[inline]
+    pub fn position(self) -> u16 {
+        (self.0 >> STEP) as u16
+    }
+
+    #[inline]
+    pub fn priority(self) -> u8 {
+        (self.0 >> 32) as u8
+    }
+
+    #[inline]
+    pub fn item(self) -> u32 {
+        self.0 as u32
+    }
+
+    /// Zero exactly for an unused place.
+    #[inline]
+    pub fn word(self) -> u64 {
+        self.0
+    }
+
+    /// The same edit at another position.
+    #[inline]
+    pub fn at(self, position: u16) -> Edit {
+        Edit(self.0 & !(0xFFFF << STEP) | (position as u64) << STEP)
+    }
+
+    /// Position and priority in one number.
+    #[inline]
+    fn key(self) -> u32 {
+        (self.0 >> 32) as u32 & 0xFF_FFFF
+    }
+
+    /// This edit's form after `other`.
+    /// An insert moves up behind an insert at a smaller position, or at its own with a smaller priority; a delete also moves up behind an
+    /// insert at its own position, which the tie value 255, above the priorities 1 to 8, says.
+    #[inline]
+    pub fn past(self, other: Edit) -> Edit {
+        let (kind, other_kind) = (self.kind(), other.kind());
+        let key = self.key() | if kind == INSERT { 0 } else { 255 };
+        let there = kind != NOTHING;
+        let up = there & (other_kind == INSERT) & (key > other.key());
+        let later = self.position() > other.position();
+        let down = there & (other_kind == DELETE) & later;
+        let gone = (kind == DELETE) & (other_kind == DELETE) & (self.position() == other.position());
+        let moved = self.0.wrapping_add((up as u64) << STEP).wrapping_sub((down as u64) << STEP);
+        Edit(if gone { 0 } else { moved })
+    }
+
+    /// Whether the edit fits a list of `length` items and leaves at most `limit`.
+    #[inline]
+    pub fn fits(self, length: u16, limit: u16) -> bool {
+        let position = self.position();
+        match self.kind() {
+            INSERT => 1 <= position && position <= length + 1 && length < limit,
+            DELETE => 1 <= position && position <= length,
+            _ => true,
+        }
+    }
+
+    /// Applies an edit that fits; the place a delete leaves at the end becomes zero.
+    #[inline]
+    pub fn apply(self, items: &mut [u32], length: &mut u16) {
+        let (at, end) = (self.position() as usize, *length as usize);
+        match self.kind() {
+            INSERT => {
+                items.copy_within(at - 1..end, at);
+                items[at - 1] = self.item();
+                *length += 1;
+            }
+            DELETE => {
+                items.copy_within(at..end, at - 1);
+                items[end - 1] = 0;
+                *length -= 1;
+            }
+            _ => {}
+        }
+    }
+}
+
+impl std::fmt::Debug for Edit {
+    fn fmt(&self, f: &mut std::fmt::Formatter) -> std::fmt::Result {
+        write!(f, "kind {} position {} priority {} item {}", self.kind(), self.position(), self.priority(), self.item())
+    }
+}

@@ -1,0 +1,149 @@
+//! Mistakes that can be switched on, one at a time, to show that the harness notices each of them.
+//! `Right` never slips and costs nothing: the compiler removes every question it is asked. `Wrong` slips as `set` says.
+
+use std::sync::atomic::{AtomicUsize, Ordering};
+
+pub trait Rules {
+    fn slips(slip: Slip) -> bool;
+}
+
+pub struct Right;
+
+impl Rules for Right {
+    #[inline(always)]
+    fn slips(_: Slip) -> bool {
+        false
+    }
+}
+
+pub struct Wrong;
+
+static NOW: AtomicUsize = AtomicUsize::new(usize::MAX);
+
+pub fn set(slip: Slip) {
+    NOW.store(slip as usize, Ordering::Relaxed);
+}
+
+/// The slip of that name.
+pub fn named(name: &str) -> Option<Slip> {
+    ALL.iter().map(|row| row.0).find(|slip| format!("{slip:?}").eq_ignore_ascii_case(name))
+}
+
+impl Rules for Wrong {
+    #[inline]
+    fn slips(slip: Slip) -> bool {
+        NOW.load(Ordering::Relaxed) == slip as usize
+    }
+}
+
+/// How a slip can be noticed.
+#[derive(Clone, Copy, PartialEq, Eq, Debug)]
+pub enum Seen {
+    /// On reachable ends: the history, the graph and the definition alone have to notice it.
+    History,
+    /// Only on bytes or ends that no run of calls gives: the comparison with the right implementation has to notice it.
+    Comparison,
+    /// In the run program alone.
+    Script,
+}
+
+macro_rules! slips {
+    ($($name:ident $seen:ident $text:literal,)*) => {
+        #[derive(Clone, Copy, PartialEq, Eq, Debug)]
+        pub enum Slip { $($name,)* }
+        pub const ALL: &[(Slip, Seen, &str)] = &[$((Slip::$name, Seen::$seen, $text),)*];
+    };
+}
+
+slips! {
+    // the rule book's slips at the bench
+    PendingLeft History "carries the arriving edit and leaves the pending ones as they were",
+    NoSeven History "takes a message whose seen was overtaken (no question 7)",
+    RefusedSeen History "a refused or repeated message's seen drops pending edits",
+    NothingThrown History "throws away an edit that became nothing",
+    // the sheets that promise c names
+    ListLeft History "leaves the list be while its counts rise",
+    ListRepeated History "repeats an earlier list while its counts rise",
+    FirstOnly History "carries past the first pending edit and copies the rest",
+    AllRefused History "turns every message down",
+    CountMadeUp History "makes up the passed count (pending before the drop)",
+    CountZero History "always says that nothing was passed",
+    TwelveAtOne History "a client says 12 with one edit pending",
+    TwelveAt63 History "a client says 12 with 63 edits pending",
+    ServerTwelveAt63 History "the server says 12 with 63 edits pending on another line",
+    // carrying
+    TieReversed History "at equal positions the larger priority stays",
+    TieBoth History "at equal positions both inserts move up",
+    InsertDeleteEqual History "an insert at a deleted position moves down",
+    DeleteInsertEqual History "a delete at an insert's position stays",
+    DeleteTwice History "two deletes of one item both stay",
+    // the protocol
+    AckIgnored History "an acknowledgement drops nothing",
+    AckCounted History "an acknowledgement counts edits passed",
+    SeenIgnored History "an edit message's seen drops nothing",
+    KeepsArrived History "the server keeps the edit as it arrived, not as carried",
+    KeepsForMaker History "the server keeps the edit for its maker's line as well",
+    SeenOfAcked History "sending writes acked in the place of taken",
+    TwelveOwnLine History "the server asks 12 of the arriving line too",
+    PriorityOne History "an edit's insert has priority 1 whatever the line",
+    // limits and order of the questions
+    Insert49 History "a client makes insert 49",
+    Edit401 History "a client makes edit 401",
+    Item513 History "question 9 does not ask for at most 512 items",
+    GapFirst History "a gap gives 5 and a repeat 6",
+    TwelveBeforeEleven History "12 is asked before 11",
+    TenBeforeNine History "10 is asked before 9",
+    FiveBeforeFour History "5 is asked before 4",
+    DeletePastEnd History "a delete may stand at length + 1",
+    InsertPastEnd History "an insert may not stand at length + 1",
+    // what a refusal and a sending leave alone
+    TailLeft History "a delete leaves a copy of the last item in the unused place",
+    PendingTailLeft History "dropping pending edits leaves copies in the unused places",
+    BytesPast History "sending clears the bytes past the message",
+    RefusedWrites History "sending into a short buffer writes what fits",
+    LengthAtRefusal History "a refused sending gives the message's length",
+    // messages that no end writes
+    ServerNoTen Comparison "the server does not ask 10",
+    NoEight Comparison "question 8 is not asked",
+    TrailingBytes Comparison "bytes after a message are passed over",
+    KindByLength Comparison "the length of the bytes fixes the kind",
+    NumberRange Comparison "numbers up to 2,800 are read going up",
+    SeenRange Comparison "any seen is read",
+    PositionRange Comparison "position 0 and positions above 512 are read",
+    PriorityRange Comparison "any priority is read",
+    LineRange Comparison "any line is read",
+    DirectionRange Comparison "any direction is read",
+    OwnPriorityDown Comparison "an insert of one's own priority comes down",
+    OtherPriorityUp Comparison "an insert of another's priority goes up",
+    PendingPast512 Comparison "question 9 does not look at the pending forms",
+    // question 2, conjunct by conjunct
+    SoundN Comparison "n is not asked",
+    SoundLine Comparison "the line is not asked",
+    SoundLength Comparison "the list's length is not asked",
+    SoundMade Comparison "a client's made is not asked",
+    SoundTaken Comparison "taken is not asked",
+    SoundAcked Comparison "acked at most made is not asked",
+    SoundPending Comparison "at most 64 pending is not asked",
+    SoundPosition Comparison "the pending edits' positions are not asked",
+    SoundPriority Comparison "the pending inserts' priorities are not asked",
+    SoundInserts Comparison "at most 48 inserts is not asked",
+    SoundInsertsMade Comparison "inserts at most the client's edits is not asked",
+    SoundItemsZero Comparison "unused items are not asked",
+    SoundPendingZero Comparison "unused pending places are not asked",
+    SoundInitial Comparison "the count of opening items is not asked",
+    SoundSum Comparison "the server's sums are not asked",
+    SoundListBound Comparison "the server's list against opening and inserts is not asked",
+    SoundPastN Comparison "lines past n are not asked",
+    // opening
+    Open129 Comparison "129 items open",
+    OpenNine Comparison "n = 9 opens a server",
+    OpenLineZero Comparison "line 0 opens a client",
+    // the run program
+    ScriptWide Script "a number too wide for its field loses its high bits",
+    ScriptSpaces Script "two spaces are read as one",
+    ScriptZeros Script "a number with leading zeros is not read",
+    ScriptLastLine Script "a last line without byte 10 does not count",
+    ScriptLong Script "65,536 bytes are long already",
+    ScriptRefusalOfTaking Script "up and down print the taking's refusal alone",
+    ScriptEmptyList Script "an empty list has a space after its name",
+}
