@@ -47,8 +47,8 @@ returns c =
     let n = c .before .before .before .before .before .before .args .n in
     let sum = c .before .before .before .before .before .before .args .sum in
     let i = c .before .before .before .before .before .before .args .i in
-    let r = rw (c .before .before .before .before .pending-count .ensures, add-one i) at (c .before .before .before .sound .ensures .0) in
-    let k = rw (c .before .before .before .before .pending-count .ensures) at (c .before .before .before .sound .ensures .1) in (
+    let r = rw (c .before .before .before .before .pending-count .ensures, add-one i) at (c .before .before .before .sound .ensures .answer) in
+    let k = rw (c .before .before .before .before .pending-count .ensures) at (c .before .before .before .sound .ensures .kept) in (
       rw (c .pick .ensures, r, c .before .before .counts-sound .ensures, c .before .counts-zero .ensures) (place-sound n sum i v),
       λ y. k (and-right (c .pick .result) (c .before .before .before .sound .result) y),
     )
