@@ -1,0 +1,116 @@
+-- Editing: the code's questions are the model's, and what it makes of a sound end is the store of what the model makes.
+use Prim.Native.Nat.{ℕ, _+_, _-_, _≤_, _<_}
+use native.Mathlib.Omega.{arith}
+use mathlib.Core.Path.{_≡_, refl, ap, _∙_, sym}
+use mathlib.Core.Bool.{Bool, true, false, _&&_}
+use mathlib.Core.List.{List, [], _∷_, _++_}
+use lib.Dec.{leb, ltb, eqb}
+use lib.ListN.{length, take}
+use borrow.Author.Tests.{eqb-false, ltb-true, leb-true}
+use Rattle.ot.specs.declared.Edit.{Edit}
+use Rattle.ot.specs.declared.Edit.the-variants.{Nothing, Delete, Insert}
+use Rattle.ot.specs.Edit.{applied, fits}
+use Rattle.ot.specs.Items.{Room, Edited}
+use Rattle.model.specs.Limits.{maxInserts, maxEdits, maxPending, maxItems}
+use Rattle.model.specs.Cross.{insertsOf}
+use Rattle.model.specs.Questions.{Question, ask, asks, Answer, answer}
+use Rattle.model.specs.Client.{soundClient, editClient}
+use Rattle.model.specs.Client as client
+use Rattle.model.proofs.Tests.{Yes, yes-all}
+use Rattle.model.proofs.SoundClient.{ClientFacts, client-facts}
+use Rattle.pending.specs.declared.Slot.{Slot}
+use Rattle.pending.specs.Slots.{usedEdits, filled, Kept}
+use Rattle.endpoint.specs.Items.{stored, roomy}
+use Rattle.endpoint.proofs.Room.{roomy-model, roomy-room, room-stored, room-length}
+use Rattle.client.specs.declared.Client.{Client}
+use Rattle.client.specs.declared.Answer as code
+use Rattle.client.specs.Store.{pendingCount, view, store, sound, Sound}
+use Rattle.client.specs.Answers.{refusedWith, doneWith, guarded, editAsked, edited}
+use Rattle.client.proofs.Answers.{refused, done}
+
+-- the counts with other values
+abbrev pub counted : Client → ℕ → ℕ → ℕ → List ℕ → List Slot → Client
+counted c made inserts len items pending =
+    record {
+      n = c .n;
+      line = c .line;
+      made = made;
+      taken = c .taken;
+      acked = c .acked;
+      inserts = inserts;
+      len = len;
+      items = items;
+      pending = pending;
+    }
+
+module _ (c : Client) (s : Sound c) where
+  pub facts : ClientFacts (view c)
+  facts = client-facts (view c) (s .model)
+
+  pub len-few : c .len ≤ maxItems
+  len-few = omega (arith, facts .items, s .size)
+
+  pub items-stored : c .items ≡ stored (view c .items)
+  items-stored = ap (λ (d : Client). d .items) (s .whole)
+
+module _ (c : Client) (s : Sound c) (e : Edit) where
+  -- 10 to 12, which the model asks in the same words
+  abbrev later : List Question
+  later =
+      ask 10 (leb (c .inserts + insertsOf e) maxInserts) ∷ ask 11 (ltb (c .made) maxEdits) ∷ ask 12 (ltb (pendingCount c) maxPending) ∷ []
+
+  abbrev nine : Bool
+  nine = fits e (length (view c .items)) && leb (length (applied e (view c .items))) maxItems
+
+  same-questions : asks (ask 2 (soundClient (view c)) ∷ ask 9 nine ∷ later) ≡ asks (editAsked c e)
+  same-questions =
+      ap (λ (b : Bool). asks (ask 2 b ∷ ask 9 nine ∷ later)) (s .model)
+      ∙ ap (λ (b : Bool). asks (ask 9 b ∷ later))
+      (sym (roomy-model e (view c .items) (facts c s .items)) ∙ ap (roomy e) (s .size))
+
+  pub edit-refused : (r : ℕ) → r ≡ asks (editAsked c e) → (r ≡ 0 → ⊥) → refusedWith r c ≡ edited c e
+  unfolding editClient
+  edit-refused r er n =
+      refused c r 0 (client.edited (view c) e) (s .yes) n
+      ∙ ap (λ (k : ℕ). guarded c (answer k (view c) (client.edited (view c) e) 0)) (er ∙ sym same-questions)
+
+  pub edit-done : asks (editAsked c e) ≡ 0 → doneWith 0 (client.edited (view c) e) ≡ edited c e
+  unfolding editClient
+  edit-done z = done c (asks (ask 2 (soundClient (view c)) ∷ ask 9 nine ∷ later)) 0 (client.edited (view c) e) (s .yes) (same-questions ∙ z)
+
+  module _ (z : asks (editAsked c e) ≡ 0) where
+    answered-yes : Yes (editAsked c e)
+    answered-yes =
+        yes-all (editAsked c e)
+        (eqb-false 9 0 refl, (eqb-false 10 0 refl, (eqb-false 11 0 refl, (eqb-false 12 0 refl, tt)))) z
+
+    pub edit-room : Room e (c .len) maxItems
+    edit-room = roomy-room e (c .len) (len-few c s) (answered-yes .0)
+
+    pub edit-inserts : c .inserts + insertsOf e ≤ maxInserts
+    edit-inserts = leb-true (c .inserts + insertsOf e) maxInserts (answered-yes .1 .0)
+
+    pub edit-made : c .made < maxEdits
+    edit-made = ltb-true (c .made) maxEdits (answered-yes .1 .1 .0)
+
+    pub edit-pending : pendingCount c < maxPending
+    edit-pending = ltb-true (pendingCount c) maxPending (answered-yes .1 .1 .1 .0)
+
+    pub edited-is : (k len : ℕ) (after : List ℕ) (slots : List Slot) → k ≡ insertsOf e → Edited e (c .len) (c .items) after len
+        → slots ≡ filled (usedEdits (pendingCount c) (c .pending) ++ (e ∷ []))
+        → record { refusal = 0; passed = 0; client = counted c (c .made + 1) (c .inserts + k) len after slots } ≡ doneWith 0 (client.edited (view c) e)
+    edited-is k len after slots ek ed es =
+        let room : Room e (c .len) maxItems = edit-room in
+        let items : after ≡ stored (applied e (view c .items)) =
+        ed .items ∙ room-stored e (c .len) (c .items) (view c .items) (items-stored c s) (s .size) room in
+        let size : len ≡ length (applied e (view c .items)) = ed .length ∙ room-length e (c .len) (view c .items) (s .size) room in
+        ap (λ (d : Client). record { refusal = 0; passed = 0; client = d })
+        (ap (λ (j : ℕ). counted c (c .made + 1) (c .inserts + j) len after slots) ek
+        ∙ ap (λ (j : ℕ). counted c (c .made + 1) (c .inserts + insertsOf e) j after slots) size
+        ∙ ap (λ (a : List ℕ). counted c (c .made + 1) (c .inserts + insertsOf e) (length (applied e (view c .items))) a slots) items
+        ∙ ap (counted c (c .made + 1) (c .inserts + insertsOf e) (length (applied e (view c .items))) (stored (applied e (view c .items)))) es)
+
+pub inserts-few : (e : Edit) → insertsOf e ≤ 1
+inserts-few Nothing = omega arith
+inserts-few (Delete p) = omega arith
+inserts-few (Insert p x r) = omega arith

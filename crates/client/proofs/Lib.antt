@@ -1,0 +1,5 @@
+pub mod Sound
+pub mod Answers
+pub mod Messages
+pub mod Edits
+pub mod Takes

@@ -1,0 +1,140 @@
+// The client's end of a sheet: its state, opening, and question 2.
+ghost use mathlib.Core.Path.{_≡_};
+ghost use mathlib.Core.Bool.{true};
+ghost use Prim.Native.Nat.{_-_};
+ghost use Rattle.client.specs.Store.{fresh, countTests, sound, Sound};
+ghost use Rattle.client.specs.Answers.{opened, refusedWith};
+ghost use Rattle.model.specs.Questions.{every};
+
+mod editing;
+mod sending;
+mod taking;
+
+use ot::Edit;
+use pending::Slot;
+
+// All state of a client. Unused places are zero.
+pub struct Client {
+    // how many clients the sheet has, and which this one is
+    pub n: u8,
+    pub line: u8,
+    // edits made here, edits taken, and how many of those made the server has acknowledged
+    pub made: u16,
+    pub taken: u16,
+    pub acked: u16,
+    // how many of those made are inserts
+    pub inserts: u16,
+    // how many items the list has, and the items
+    pub len: u16,
+    pub items: [u32; Client::ITEMS],
+    // edits acked + 1 to made, in their present form
+    pub pending: [Slot; Client::PENDING],
+}
+
+// What a call answers: 0 or the number of the question that said no, how many pending edits the edit was transformed past, and
+// the client.
+pub struct Answer {
+    pub refusal: u8,
+    pub passed: u16,
+    pub client: Client,
+}
+
+// a - b, and 0 where b is larger: so that the counts of any end whatever have a difference.
+fn less(a: u16, b: u16) -> u16
+    ensures { λ r. ⌜ r ≡ a - b ⌝ }
+{
+    if b < a { a - b } else { 0 }
+}
+
+impl Client {
+    pub const LINES: u8 = 8;
+
+    pub const INSERTS: u16 = 48;
+
+    pub const EDITS: u16 = 400;
+
+    pub const OTHERS: u16 = 2800;
+
+    pub const PENDING: usize = 64;
+
+    pub const ITEMS: usize = 512;
+
+    pub const INITIAL: usize = 128;
+
+    // Question 2, what the counts say of it.
+    fn counts_sound(self) -> bool
+        ensures { λ r. ⌜ r ≡ every (countTests self) ⌝ }
+    {
+        let lines = (1 <= self.n) & (self.n <= Client::LINES);
+        let line = (1 <= self.line) & (self.line <= self.n);
+        let counts = (self.made <= Client::EDITS)
+            & (self.taken <= Client::OTHERS)
+            & (self.acked <= self.made);
+        let inserts = (self.inserts <= Client::INSERTS) & (self.inserts <= self.made);
+        lines & line & counts & inserts & (self.len as usize <= Client::ITEMS)
+    }
+
+    // Question 2. Every test is made whatever the others find.
+    fn is_sound(self) -> bool
+        ensures answer { λ r. ⌜ r ≡ sound self ⌝ }
+        ensures facts { λ r. ⌜ (r ≡ true → Sound self) ⌝ }
+    {
+        let count = less(self.made, self.acked) as usize;
+        let slots = self.pending;
+        let zeros = endpoint::zero_from(&self.items, self.len as usize);
+        self.counts_sound() & zeros & pending::sound(slots, count, self.n, self.line, true)
+    }
+
+    // The end as it came, with the number of the question that said no.
+    fn refused(self, refusal: u8) -> Answer
+        ensures { λ r. ⌜ r ≡ refusedWith refusal self ⌝ }
+    {
+        Answer {
+            refusal,
+            passed: 0,
+            client: self,
+        }
+    }
+
+    // A client that has made and taken nothing.
+    fn fresh(n: u8, line: u8, len: u16, items: [u32; 512]) -> Client
+        ensures { λ r. ⌜ r ≡ fresh n line len items ⌝ }
+    {
+        let pending = [Slot {
+            edit: Edit::Nothing,
+        }; 64];
+        Client {
+            n,
+            line,
+            made: 0,
+            taken: 0,
+            acked: 0,
+            inserts: 0,
+            len,
+            items,
+            pending,
+        }
+    }
+
+    // A client of line `line` of n, with the initial list. Refused, it is all zeros.
+    pub fn open(n: u8, line: u8, items: &[u32]) -> Answer
+        ensures { λ r. ⌜ r ≡ opened n line (now (items .entry)) ⌝ }
+    {
+        let lines = (1 <= n) & (n <= Client::LINES);
+        let own = (1 <= line) & (line <= n);
+        if lines & own & (items.len() <= Client::INITIAL) {
+            let client = Client::fresh(n, line, items.len() as u16, endpoint::initial(items));
+            return Answer {
+                refusal: 0,
+                passed: 0,
+                client,
+            };
+        }
+        let client = Client::fresh(0, 0, 0, [0; 512]);
+        Answer {
+            refusal: 1,
+            passed: 0,
+            client,
+        }
+    }
+}

@@ -1,0 +1,4 @@
+pub mod Items
+pub mod Room
+pub mod Line
+pub mod Sending

@@ -1,0 +1,33 @@
+-- What each call answers, whatever struct it is handed. Of an unsound one: refusal 2, and the struct as it came. Of a sound one: the
+-- answer of the same call at its meaning.
+use Prim.Native.Nat.{ℕ}
+use mathlib.Core.Bool.{Bool, cond}
+use mathlib.Core.List.{List, []}
+use lib.Dec.{eqb}
+use Rattle.model.specs.Questions as model
+use Rattle.model.specs.Server as end
+use Rattle.server.specs.declared.Server.{Server}
+use Rattle.server.specs.declared.Answer.{Answer}
+use Rattle.server.specs.View.{view, store}
+use Rattle.server.specs.Sound.{soundStruct}
+
+abbrev pub refused : Server → ℕ → Answer
+refused s r = record { refusal = r; passed = 0; server = s }
+
+-- the answer a about the struct s: the one struct for the new end, or the struct as it came
+unfoldable pub answered : Server → model.Answer end.Server → Answer
+answered s a =
+    record { refusal = a .refusal; passed = a .passed; server = cond (eqb (a .refusal) 0) (store (a .end)) s }
+
+-- Opening is handed no struct; a refusal returns one that is all zeros.
+unfoldable pub opened : ℕ → List ℕ → Answer
+opened n items = answered (store end.noServer) (end.openServer n items)
+
+unfoldable pub sends : Server → ℕ → ℕ → List ℕ → model.Sent
+sends s line k lent = cond (soundStruct s) (end.sendServer (view s) line k lent) (model.sent 2 [] lent)
+
+unfoldable pub tells : Server → ℕ → List ℕ → model.Sent
+tells s line lent = cond (soundStruct s) (end.tellServer (view s) line lent) (model.sent 2 [] lent)
+
+unfoldable pub takes : Server → List ℕ → Answer
+takes s bytes = cond (soundStruct s) (answered s (end.takeServer (view s) bytes)) (refused s 2)
