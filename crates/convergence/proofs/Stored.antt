@@ -79,11 +79,16 @@ module _ (m : model.Client) (s : model.soundClient m ≡ true) where
   pub client-stored : clients.sound (clients.store m) ≡ true
   unfolding clients.sound
   client-stored =
-      held (clients.soundTests (clients.store m))
-      (ap model.soundClient client-view ∙ s,
-      (le-leb (length (m .items)) maxItems (f .items),
-      (items-unused (m .items),
-      (slots-unused (m .pending) (m .made - m .acked) (f .count), tt))))
+      held (clients.soundTests (clients.store m)) (
+        ap model.soundClient client-view ∙ s,
+        (
+          le-leb (length (m .items)) maxItems (f .items),
+          (
+            items-unused (m .items),
+            (slots-unused (m .pending) (m .made - m .acked) (f .count), tt),
+          ),
+        ),
+      )
 
 -- ---- the server
 
@@ -137,9 +142,16 @@ module _ (m : models.Server) (s : models.soundServer m ≡ true) where
   pub server-stored : soundStruct (servers.store m) ≡ true
   unfolding soundStruct servers.store
   server-stored =
-      held (structTests (servers.store m))
-      (ap models.soundServer server-view ∙ s,
-      (le-leb (length (m .items)) maxItems (g .items),
-      (items-unused (m .items),
-      (ap (λ vs. every (map tidyLine vs)) lines-used ∙ lines-tidy (m .n) (takenSum (m .lines)) 1 (m .lines) (g .lines),
-      (ap (λ vs. every (map zeroLine vs)) lines-unused ∙ lines-zero (maxLines - m .n), tt)))))
+      held (structTests (servers.store m)) (
+        ap models.soundServer server-view ∙ s,
+        (
+          le-leb (length (m .items)) maxItems (g .items),
+          (
+            items-unused (m .items),
+            (
+              ap (λ vs. every (map tidyLine vs)) lines-used ∙ lines-tidy (m .n) (takenSum (m .lines)) 1 (m .lines) (g .lines),
+              (ap (λ vs. every (map zeroLine vs)) lines-unused ∙ lines-zero (maxLines - m .n), tt),
+            ),
+          ),
+        ),
+      )
