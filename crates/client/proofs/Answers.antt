@@ -1,20 +1,17 @@
 -- The ways in which a call ends: the end is not sound, a question says no, the call is done.
 use Prim.Native.Nat.{ℕ, _≤_}
-use native.Mathlib.Omega.{arith}
-use mathlib.Core.Path.{_≡_, refl, ap, _∙_, sym}
-use mathlib.Core.Bool.{Bool, true, false, _&&_, cond}
+use mathlib.Core.Path.{_≡_, ap, _∙_, sym}
+use mathlib.Core.Bool.{Bool, true, false, _&&_}
 use mathlib.Core.List.{List, [], _∷_}
-use lib.Dec.{eqb, leb}
-use lib.ListN.{length, take, replicate}
+use lib.Dec.{leb}
+use lib.ListN.{length, replicate}
 use lib.Seq.{take-all}
 use borrow.Author.Tests.{ne-eqb, leb-true}
 use Rattle.model.specs.Limits.{maxLines, maxInitial}
 use Rattle.model.specs.Questions as model
 use Rattle.model.specs.Client as client
 use Rattle.model.proofs.Tests.{and-right}
-use Rattle.pending.specs.declared.Slot.{Slot}
-use Rattle.pending.specs.Slots.{filled}
-use Rattle.pending.proofs.Whole.{and-true, and-assoc}
+use Rattle.endpoint.proofs.Bools.{and-true, and-assoc}
 use Rattle.endpoint.specs.Items.{stored, initialItems}
 use Rattle.client.specs.declared.Client.{Client}
 use Rattle.client.specs.declared.Answer.{Answer}

@@ -2,10 +2,10 @@
 use Prim.Native.Nat.{ℕ, _+_, _-_, _≤_, _<_}
 use native.Mathlib.Omega.{arith}
 use mathlib.Core.Path.{_≡_, refl, ap, _∙_, sym}
-use mathlib.Core.Bool.{Bool, true, false, _&&_}
+use mathlib.Core.Bool.{Bool, _&&_}
 use mathlib.Core.List.{List, [], _∷_, _++_}
-use lib.Dec.{leb, ltb, eqb}
-use lib.ListN.{length, take}
+use lib.Dec.{leb, ltb}
+use lib.ListN.{length}
 use borrow.Author.Tests.{eqb-false, ltb-true, leb-true}
 use Rattle.ot.specs.declared.Edit.{Edit}
 use Rattle.ot.specs.declared.Edit.the-variants.{Nothing, Delete, Insert}
@@ -13,17 +13,16 @@ use Rattle.ot.specs.Edit.{applied, fits}
 use Rattle.ot.specs.Items.{Room, Edited}
 use Rattle.model.specs.Limits.{maxInserts, maxEdits, maxPending, maxItems}
 use Rattle.model.specs.Cross.{insertsOf}
-use Rattle.model.specs.Questions.{Question, ask, asks, Answer, answer}
+use Rattle.model.specs.Questions.{Question, ask, asks, answer}
 use Rattle.model.specs.Client.{soundClient, editClient}
 use Rattle.model.specs.Client as client
 use Rattle.model.proofs.Tests.{Yes, yes-all}
 use Rattle.model.proofs.SoundClient.{ClientFacts, client-facts}
 use Rattle.pending.specs.declared.Slot.{Slot}
-use Rattle.pending.specs.Slots.{usedEdits, filled, Kept}
+use Rattle.pending.specs.Slots.{usedEdits, filled}
 use Rattle.endpoint.specs.Items.{stored, roomy}
 use Rattle.endpoint.proofs.Room.{roomy-model, roomy-room, room-stored, room-length}
 use Rattle.client.specs.declared.Client.{Client}
-use Rattle.client.specs.declared.Answer as code
 use Rattle.client.specs.Store.{pendingCount, view, store, sound, Sound}
 use Rattle.client.specs.Answers.{refusedWith, doneWith, guarded, editAsked, edited}
 use Rattle.client.proofs.Answers.{refused, done}

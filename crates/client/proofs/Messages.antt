@@ -2,10 +2,10 @@
 use Prim.Native.Nat.{ℕ, _+_, _-_}
 use native.Mathlib.Omega.{arith}
 use mathlib.Core.Path.{_≡_, refl, ap, _∙_, sym}
-use mathlib.Core.Bool.{Bool, true, false, cond}
+use mathlib.Core.Bool.{Bool, false, cond}
 use mathlib.Core.List.{List, [], _∷_, _++_}
-use lib.Dec.{leb, eqb}
-use lib.ListN.{length, getD, List·getD-map}
+use lib.Dec.{leb}
+use lib.ListN.{length, getD}
 use borrow.Author.Tests.{eqb-false}
 use Rattle.ot.specs.declared.Edit.{Edit}
 use Rattle.ot.specs.declared.Edit.the-variants.{Nothing}
@@ -14,10 +14,9 @@ use Rattle.wire.specs.declared.Message.the-variants as message
 use Rattle.wire.specs.Message.{messageOf}
 use Rattle.wire.specs.Bytes.{bytesOf}
 use Rattle.model.specs.Questions as model
-use Rattle.model.specs.Client.{soundClient, clientMessage, sendClient, tellClient}
-use Rattle.pending.specs.declared.Slot.{Slot}
-use Rattle.pending.specs.Slots.{slot, edits, usedEdits, filled}
-use Rattle.pending.proofs.Slots.{filled-getD}
+use Rattle.model.specs.Client.{clientMessage, sendClient, tellClient}
+use Rattle.pending.specs.Slots.{edits}
+use Rattle.pending.proofs.Slots.{kept-at}
 use Rattle.endpoint.specs.Sending.{finished}
 use Rattle.endpoint.proofs.Line.{asks-append}
 use Rattle.client.specs.declared.Client.{Client}
@@ -29,16 +28,10 @@ pub unsound-sending : (c : Client) (a : model.Sent) (lent : List ℕ) → sound 
 unfolding guardedSending
 unsound-sending c a lent h = rw h
 
--- the slots past the pending edits hold nothing, so that any number has the model's message
-slot-view : (c : Client) → Sound c → (i : ℕ) → getD (edits (c .pending)) i Nothing ≡ getD (view c .pending) i Nothing
-slot-view c s i =
-    List·getD-map (λ (x : Slot). x .edit) (c .pending) i (slot Nothing)
-    ∙ ap (λ (l : List Slot). getD l i (slot Nothing) .edit) (s .kept .whole)
-    ∙ ap (λ (x : Slot). x .edit) (filled-getD (usedEdits (pendingCount c) (c .pending)) i)
-
+-- every slot past the pending edits holds nothing, so that any number has the model's message
 pub message-view : (c : Client) → Sound c → (k : ℕ) → messageAt c k ≡ clientMessage (view c) k
 message-view c s k =
-    ap (messageOf (record { line = c .line; direction = 0; number = k; seen = c .taken })) (slot-view c s (k - (c .acked + 1)))
+    ap (messageOf (record { line = c .line; direction = 0; number = k; seen = c .taken })) (kept-at (pendingCount c) (c .pending) (s .kept) (k - (c .acked + 1)))
 
 module _ (c : Client) (s : Sound c) (line : ℕ) (lent : List ℕ) (r : ℕ) (m : Message) where
   pub sent-edit : (k : ℕ) → r ≡ model.asks (sendQuestions c line k) → m ≡ messageAt c k → finished r m lent ≡ sentEdit c line k lent

@@ -1,20 +1,21 @@
 -- The struct's question 2: what the code tests is the definition, and what a sound struct is.
 use Prim.Native.Nat.{ℕ, _-_, _≤_}
 use native.Mathlib.Omega.{arith}
-use mathlib.Core.Path.{_≡_, refl, ap, _∙_, sym, subst}
-use mathlib.Core.Bool.{Bool, true, false, _&&_}
-use mathlib.Core.List.{List, [], _∷_}
-use lib.Dec.{leb, eqb}
+use mathlib.Core.Path.{_≡_, ap, _∙_, sym, subst}
+use mathlib.Core.Bool.{Bool, true, _&&_}
+use mathlib.Core.List.{List}
+use lib.Dec.{eqb}
 use lib.ListN.{length, take, drop, length-take}
 use borrow.Author.Tests.{leb-true, le-leb}
-use Rattle.model.specs.Limits.{maxItems, maxPending}
+use Rattle.model.specs.Limits.{maxItems}
 use Rattle.model.specs.Questions.{every}
 use Rattle.model.specs.Client.{clientTests, soundClient}
 use Rattle.model.proofs.Tests.{both, and-left, and-right, hold, held}
-use Rattle.pending.specs.Slots.{edits, usedEdits, filled, allNothing, Kept, soundSlots}
+use Rattle.pending.specs.Slots.{usedEdits, filled, Kept, soundSlots}
 use Rattle.pending.specs.Slots as slots
 use Rattle.pending.specs.declared.Slot.{Slot}
 use Rattle.endpoint.specs.Items.{stored, allZero}
+use Rattle.endpoint.proofs.Bools.{bool-ext}
 use Rattle.endpoint.proofs.Items.{stored-of}
 use Rattle.client.specs.declared.Client.{Client}
 use Rattle.client.specs.Store.{pendingCount, view, store, soundTests, countTests, sound, Sound}
@@ -33,12 +34,6 @@ holding c len items pending =
       items = items;
       pending = pending;
     }
-
--- two tests that follow from each other are equal
-same : (s t : Bool) → (s ≡ true → t ≡ true) → (t ≡ true → s ≡ true) → s ≡ t
-same true t f g = sym (f refl)
-same false true f g = g refl
-same false false f g = refl
 
 -- what the code tests
 abbrev pub tested : Client → Bool
@@ -122,7 +117,7 @@ module _ (c : Client) (full : length (c .items) ≡ maxItems) where
       (m .1 .1 .1 .1 .1 .1 .0, (m .1 .1 .1 .1 .1 .1 .1 .0, (m .1 .1 .1 .1 .1 .1 .1 .1 .0, (m .1 .1 .1 .1 .1 .1 .1 .1 .1 .0, (f .1 .1 .1 .0, tt))))))
 
   pub tested-is : tested c ≡ sound c
-  tested-is = same (tested c) (sound c) tested-sound sound-tested
+  tested-is = bool-ext (tested c) (sound c) tested-sound sound-tested
 
   pub sound-facts : sound c ≡ true → Kept (pendingCount c) (c .pending) → Sound c
   unfolding sound

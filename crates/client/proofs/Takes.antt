@@ -1,11 +1,11 @@
 -- Taking: the code's questions are the model's, and what it makes of a sound end is the store of what the model makes.
-use Prim.Native.Nat.{ℕ, _+_, _-_, _≤_, _<_}
+use Prim.Native.Nat.{ℕ, _+_, _-_, _≤_}
 use native.Mathlib.Omega.{arith}
 use mathlib.Core.Path.{_≡_, refl, ap, _∙_, sym}
 use mathlib.Core.Bool.{Bool, true, false, _&&_, cond}
 use mathlib.Core.List.{List, [], _∷_, _++_}
-use lib.Dec.{leb, ltb, eqb}
-use lib.ListN.{length, take, drop}
+use lib.Dec.{leb}
+use lib.ListN.{length, drop}
 use borrow.Author.Tests.{eqb-false, ne-eqb, leb-true}
 use Rattle.ot.specs.declared.Edit.{Edit}
 use Rattle.ot.specs.Edit.{applied, fits}
@@ -19,16 +19,16 @@ use Rattle.wire.specs.Message.{inRange}
 use Rattle.wire.specs.Bytes.{parsed}
 use Rattle.wire.proofs.Ranges.{insert-bounds, delete-bounds}
 use Rattle.model.specs.Limits.{maxItems}
-use Rattle.model.specs.Cross.{past, over, allPlaced, priority}
+use Rattle.model.specs.Cross.{past, over, allPlaced}
 use Rattle.model.specs.Questions.{Question, ask, asks, Answer, answer}
 use Rattle.model.specs.Client as client
-use Rattle.model.proofs.Tests.{Yes, yes-all, and-left, and-right}
+use Rattle.model.proofs.Tests.{Yes, yes-all}
 use Rattle.pending.specs.declared.Slot.{Slot}
 use Rattle.pending.specs.declared.Crossed.{Crossed}
 use Rattle.pending.specs.Slots.{usedEdits, filled, steps, crossed}
 use Rattle.pending.proofs.Crossing.{rest-steps}
 use Rattle.endpoint.specs.Items.{stored, roomy}
-use Rattle.endpoint.specs.Line.{thenAsked, seenQuestions, editQuestions}
+use Rattle.endpoint.specs.Line.{thenAsked}
 use Rattle.endpoint.proofs.Line.{asks-append}
 use Rattle.endpoint.proofs.Room.{roomy-model, roomy-room, room-stored, room-length}
 use Rattle.client.specs.declared.Client.{Client}

@@ -3,19 +3,19 @@ use Prim.Native.Nat.{ℕ, suc, _+_, _-_, _≤_, _<_}
 use native.Mathlib.Numerals.{add-one}
 use native.Mathlib.Omega.{arith}
 use mathlib.Core.Path.{_≡_, refl, ap, _∙_, sym}
-use mathlib.Core.Bool.{Bool, true, false, _&&_}
-use mathlib.Core.List.{List, [], _∷_, _++_}
+use mathlib.Core.Bool.{Bool, true, _&&_}
+use mathlib.Core.List.{List, [], _∷_}
 use lib.Dec.{eqb}
 use lib.ListN.{length, getD, take, drop, set, replicate, length-take, length-drop, length-replicate, drop-of-length-le}
 use lib.Seq.{drop-cons, getD-take}
 use borrow.Author.Tests.{eqb-true}
 use Rattle.model.specs.Limits.{maxItems}
 use Rattle.model.proofs.Tests.{and-left, and-right}
-use Rattle.pending.specs.Pad.{padTo}
+use Rattle.ot.specs.Items.{padded}
 use Rattle.pending.proofs.Pad.{pad-getD, pad-length, pad-drop, pad-of}
-use Rattle.pending.proofs.Sweep.{sweep, sweep-store, sweep-end}
-use Rattle.pending.proofs.Whole.{and-true, and-assoc}
+use Rattle.ot.proofs.Sweep.{swept, swept-store, swept-to}
 use Rattle.endpoint.specs.Items.{stored, allZero}
+use Rattle.endpoint.proofs.Bools.{and-true, and-assoc}
 
 -- ---- unused places
 
@@ -52,17 +52,21 @@ module _ (n m : ℕ) (l : List ℕ) (room : m ≤ n) where
   short : length (take m l) ≤ n
   short = simp length-take (omega arith)
 
-  pub initial-turn : (i v : ℕ) (a : List ℕ) → i < m → a ≡ sweep i (padTo n 0 (take m l)) (replicate n 0) → v ≡ getD l i 0
-      → set a i v ≡ sweep (i + 1) (padTo n 0 (take m l)) (replicate n 0)
-  initial-turn i v a h e w =
-      let g : v ≡ getD (padTo n 0 (take m l)) i 0 = w ∙ sym (getD-take m l i 0 h) ∙ sym (pad-getD n 0 (take m l) i) in
-      ap (λ (b : List ℕ). set b i v) e ∙ ap (set (sweep i (padTo n 0 (take m l)) (replicate n 0)) i) g
-      ∙ sweep-store i (padTo n 0 (take m l)) (replicate n 0) 0 (omega (arith, pad-length n 0 (take m l) short))
-      (omega (arith, length-replicate {A = ℕ} n 0))
+  same : length (padded 0 n (take m l)) ≡ length (replicate {A = ℕ} n 0)
+  same = pad-length n 0 (take m l) short ∙ sym (length-replicate {A = ℕ} n 0)
 
-  pub initial-end : (i : ℕ) (a : List ℕ) → i ≡ m → a ≡ sweep i (padTo n 0 (take m l)) (replicate n 0) → a ≡ padTo n 0 (take m l)
+  pub initial-turn : (i v : ℕ) (a : List ℕ) → i < m → a ≡ swept (padded 0 n (take m l)) (replicate n 0) i → v ≡ getD l i 0
+      → set a i v ≡ swept (padded 0 n (take m l)) (replicate n 0) (i + 1)
+  initial-turn i v a h e w =
+      let g : v ≡ getD (padded 0 n (take m l)) i 0 = w ∙ sym (getD-take m l i 0 h) ∙ sym (pad-getD n 0 (take m l) i) in
+      ap (λ (b : List ℕ). set b i v) e ∙ ap (set (swept (padded 0 n (take m l)) (replicate n 0) i) i) g
+      ∙ swept-store (padded 0 n (take m l)) (replicate n 0) i 0 same (omega (arith, length-replicate {A = ℕ} n 0))
+      ∙ ap (swept (padded 0 n (take m l)) (replicate n 0)) (sym (add-one i))
+
+  pub initial-end : (i : ℕ) (a : List ℕ) → i ≡ m → a ≡ swept (padded 0 n (take m l)) (replicate n 0) i → a ≡ padded 0 n (take m l)
   initial-end i a k e =
       let whole : n ≡ n - 0 = omega arith in
-      e ∙ ap (λ (j : ℕ). sweep j (padTo n 0 (take m l)) (replicate n 0)) k
-      ∙ sweep-end m (padTo n 0 (take m l)) (replicate n 0)
-      (ap (λ (j : ℕ). drop m (replicate j 0)) whole ∙ pad-drop n 0 [] m (omega arith) ∙ sym (pad-drop n 0 (take m l) m (simp length-take (omega arith))))
+      e ∙ ap (λ (j : ℕ). swept (padded 0 n (take m l)) (replicate n 0) j) k
+      ∙ swept-to (padded 0 n (take m l)) (replicate n 0) m
+      (pad-drop n 0 (take m l) m (simp length-take (omega arith))
+      ∙ sym (ap (λ (j : ℕ). drop m (replicate j 0)) whole ∙ pad-drop n 0 [] m (omega arith)))

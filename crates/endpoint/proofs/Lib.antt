@@ -1,3 +1,4 @@
+pub mod Bools
 pub mod Items
 pub mod Room
 pub mod Line

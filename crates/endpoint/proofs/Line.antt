@@ -1,12 +1,10 @@
 -- Questions in two parts: the first part's refusal stands, else the second part gives its own.
 use Prim.Native.Nat.{ℕ}
-use native.Mathlib.Omega.{arith}
-use mathlib.Core.Path.{_≡_, refl, ap, _∙_, sym}
+use mathlib.Core.Path.{_≡_, refl, ap, sym}
 use mathlib.Core.Bool.{Bool, true, false, cond}
 use mathlib.Core.List.{List, [], _∷_, _++_}
-use lib.Dec.{eqb}
 use borrow.Author.Tests.{ne-eqb, eqb-false}
-use Rattle.model.specs.Questions.{Question, ask, asks}
+use Rattle.model.specs.Questions.{Question, asks}
 use Rattle.model.proofs.Tests.{Numbered}
 use Rattle.endpoint.specs.Line.{seenQuestions, editQuestions, thenAsked}
 

@@ -5,7 +5,7 @@ use mathlib.Core.Path.{_≡_, refl, ap, _∙_, sym, subst}
 use mathlib.Core.Bool.{Bool, true, false, _&&_}
 use mathlib.Core.List.{List}
 use lib.Dec.{leb}
-use lib.ListN.{length, take}
+use lib.ListN.{length}
 use borrow.Author.Tests.{leb-true, le-leb}
 use Rattle.ot.specs.declared.Edit.{Edit}
 use Rattle.ot.specs.declared.Edit.the-variants.{Nothing, Delete, Insert}

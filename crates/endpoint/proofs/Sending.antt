@@ -1,17 +1,16 @@
 -- The three ways in which a sending ends.
 use Prim.Native.Nat.{ℕ, _≤_}
 use native.Mathlib.Omega.{arith}
-use mathlib.Core.Path.{_≡_, refl, ap, _∙_, sym, subst}
+use mathlib.Core.Path.{_≡_, refl}
 use mathlib.Core.Bool.{Bool, true, false, cond}
-use mathlib.Core.List.{List, [], _∷_, _++_}
-use lib.Dec.{leb, eqb}
+use mathlib.Core.List.{List, _++_}
+use lib.Dec.{leb}
 use lib.ListN.{length, drop}
 use borrow.Author.Tests.{ne-eqb}
 use Rattle.wire.specs.declared.Message.{Message}
 use Rattle.wire.specs.declared.Message.the-variants.{Insert, Delete, Nothing, Ack}
 use Rattle.wire.specs.Bytes.{bytesOf, Written}
 use Rattle.model.specs.Questions.{sent}
-use Rattle.endpoint.specs.declared.Sent.{Sent}
 use Rattle.endpoint.specs.Sending.{answered, finished}
 
 some-bytes : (m : Message) → 1 ≤ length (bytesOf m)

@@ -6,13 +6,13 @@ use lib.Dec.{eqb, leb}
 use lib.ListN.{take}
 use Rattle.ot.specs.declared.Edit.{Edit}
 use Rattle.ot.specs.Edit.{fits}
+use Rattle.ot.specs.Items.{padded}
 use Rattle.model.specs.Limits.{maxItems, maxInitial}
 use Rattle.model.specs.Cross.{insertsOf}
-use Rattle.pending.specs.Pad.{padTo}
 
 -- a list of items in the array of an end
 abbrev pub stored : List ℕ → List ℕ
-stored l = padTo maxItems 0 l
+stored l = padded 0 maxItems l
 
 -- a longer list is cut, so that any list has an answer
 abbrev pub initialItems : List ℕ → List ℕ

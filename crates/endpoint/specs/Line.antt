@@ -3,7 +3,7 @@ use Prim.Native.Nat.{ℕ, _+_}
 use mathlib.Core.Bool.{cond}
 use mathlib.Core.List.{List, [], _∷_, _++_}
 use lib.Dec.{leb, ltb, eqb}
-use Rattle.model.specs.Questions.{Question, ask, asks}
+use Rattle.model.specs.Questions.{Question, ask}
 
 -- edits only: the number is the next one
 abbrev pub numberQuestions : ℕ → ℕ → List Question

@@ -1,7 +1,6 @@
 // What the two kinds of end do alike.
 ghost use mathlib.Core.Path.{_≡_};
 ghost use lib.ListN.{drop, getD};
-ghost use Rattle.ot.specs.Edit.{fits};
 ghost use Rattle.model.specs.Questions.{asks};
 ghost use Rattle.model.specs.Cross.{insertsOf};
 ghost use Rattle.endpoint.specs.Items.{initialItems, allZero, roomy};
@@ -60,22 +59,11 @@ pub fn inserts_of(e: Edit) -> u16
     }
 }
 
-// Does the edit's position fit a list of len items? The sum is made wider than a position, so that it cannot wrap.
-fn in_list(e: Edit, len: u16) -> bool
-    ensures { λ r. ⌜ r ≡ fits e len ⌝ }
-{
-    match e {
-        Edit::Nothing => true,
-        Edit::Delete(p) => (1 <= p) & (p <= len),
-        Edit::Insert(p, _, _) => (1 <= p) & (p as u32 <= len as u32 + 1),
-    }
-}
-
 // Question 9 of an edit and the length of the list that it is applied to.
 pub fn has_room(e: Edit, len: u16) -> bool
     ensures { λ r. ⌜ r ≡ roomy e len ⌝ }
 {
-    in_list(e, len) & (len as u32 + inserts_of(e) as u32 <= 512)
+    ot::fit(e, len) & (len as u32 + inserts_of(e) as u32 <= 512)
 }
 
 // ---- questions 5 to 8

@@ -1,32 +1,24 @@
-use Prim.Native.Nat.{ℕ, _+_, _<_}
-use mathlib.Core.Path.{_≡_, refl, ap, _∙_, sym}
+use Prim.Native.Nat.{_+_}
+use mathlib.Core.Path.{_≡_}
 use native.Mathlib.Omega.{arith}
 use borrow.Author.Tests.{le-ltb, lt-ltb, ne-eqb, eq-eqb}
 use borrow.Author.Needs.{needs}
 use Rattle.endpoint.proofs.ask_edit.Statement.{statement}
 use Rattle.endpoint.proofs.ask_edit.Tie as tie
-use Rattle.endpoint.proofs.ask_edit.Reads as reads
-use Rattle.endpoint.proofs.ask_edit.Lts as lts
-use Rattle.endpoint.proofs.ask_seen.Reads as ask-seen-reads
 
--- src/lib.rt:69:9
 returns : tie.Need-returns
 returns c = simp (le-ltb _ _ (c .if1 .taken))
 
--- src/lib.rt:71:12
 sub-if2 : tie.Need-sub-if2
 sub-if2 c = search needs
 
--- src/lib.rt:72:9
 returns-2 : tie.Need-returns-2
 returns-2 c = let g : (c .before .before .args .number ≡ c .before .before .args .taken + 1 → ⊥) = (λ e. omega arith) in
     simp (lt-ltb _ _ (c .before .if1 .left), ne-eqb _ _ g)
 
--- src/lib.rt:74:5
 ask-seen-requires : tie.Need-ask-seen-requires
 ask-seen-requires c κs = search needs
 
--- src/lib.rt:65:1
 returns-3 : tie.Need-returns-3
 returns-3 c = let g : c .before .before .before .args .number ≡ c .before .before .before .args .taken + 1 = omega arith in
     simp (lt-ltb _ _ (c .before .before .if1 .left), eq-eqb _ _ g) (c .ask-seen .ensures)

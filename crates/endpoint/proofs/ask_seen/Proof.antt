@@ -1,18 +1,13 @@
 use borrow.Author.Tests.{le-leb, lt-leb}
 use Rattle.endpoint.proofs.ask_seen.Statement.{statement}
 use Rattle.endpoint.proofs.ask_seen.Tie as tie
-use Rattle.endpoint.proofs.ask_seen.Reads as reads
-use Rattle.endpoint.proofs.ask_seen.Lts as lts
 
--- src/lib.rt:56:9
 returns : tie.Need-returns
 returns c = simp (lt-leb _ _ (c .if1 .taken))
 
--- src/lib.rt:59:9
 returns-2 : tie.Need-returns-2
 returns-2 c = simp (le-leb _ _ (c .before .if1 .left), lt-leb _ _ (c .if2 .taken))
 
--- src/lib.rt:52:1
 returns-3 : tie.Need-returns-3
 returns-3 c = simp (le-leb _ _ (c .before .if1 .left), le-leb _ _ (c .if2 .left))
 

@@ -1,25 +1,19 @@
-use lib.ListN.{getD, List·getD-eq-default}
+use lib.ListN.{List·getD-eq-default}
 use mathlib.Core.Path.{sym}
 use denote.Ref.{now}
 use borrow.Author.Needs.{needs}
 use Rattle.endpoint.proofs.item_at.Statement.{statement}
 use Rattle.endpoint.proofs.item_at.Tie as tie
-use Rattle.endpoint.proofs.item_at.Reads as reads
-use Rattle.endpoint.proofs.item_at.Lts as lts
 
--- src/lib.rt:22:26
 mul-result : tie.Need-mul-result
 mul-result c = search needs
 
--- src/lib.rt:22:26
 shared-slice-read-result : tie.Need-shared-slice-read-result
 shared-slice-read-result c = search needs
 
--- src/lib.rt:19:1
 returns : tie.Need-returns
 returns c = search needs
 
--- src/lib.rt:19:1
 returns-2 : tie.Need-returns-2
 returns-2 c = sym (List·getD-eq-default (now (c .before .args .items)) 0 (c .if1 .left))
 

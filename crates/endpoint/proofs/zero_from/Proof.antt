@@ -1,16 +1,13 @@
-use Prim.Native.Nat.{ℕ, _+_, _-_, _≤_, _<_, _*_}
+use Prim.Native.Nat.{_-_}
 use native.Mathlib.Omega.{arith}
-use mathlib.Core.Path.{_≡_, refl, ap, _∙_, sym}
-use mathlib.Core.Bool.{Bool, true, _&&_}
-use lib.ListN.{length, drop, getD}
+use mathlib.Core.Path.{_≡_, refl, _∙_}
+use mathlib.Core.Bool.{_&&_}
+use lib.ListN.{length, drop}
 use denote.Ref.{now}
-use borrow.Author.Needs.{needs}
 use Rattle.endpoint.specs.Items.{allZero}
 use Rattle.endpoint.proofs.Items.{zero-turn, zero-end}
 use Rattle.endpoint.proofs.zero_from.Statement.{statement}
 use Rattle.endpoint.proofs.zero_from.Tie as tie
-use Rattle.endpoint.proofs.zero_from.Reads as reads
-use Rattle.endpoint.proofs.zero_from.Lts as lts
 
 abbrev Inv-loop : tie.InvT-loop
 Inv-loop items len well₀ i₀ well i = (well && allZero (drop i items)) ≡ allZero (drop len items)
@@ -18,31 +15,24 @@ Inv-loop items len well₀ i₀ well i = (well && allZero (drop i items)) ≡ al
 abbrev μ-loop : tie.MeasureT-loop
 μ-loop items len well₀ i₀ well i = length items - i
 
--- src/lib.rt:42:5
 loop-holds : tie.Need-loop-holds Inv-loop μ-loop
 loop-holds c = refl
 
--- src/lib.rt:43:24
 mul-well : tie.Need-mul-well Inv-loop μ-loop
 mul-well c = omega (arith, c .before .before .good)
 
--- src/lib.rt:43:24
 shared-slice-read-well : tie.Need-shared-slice-read-well Inv-loop μ-loop
 shared-slice-read-well c = omega arith
 
--- src/lib.rt:44:9
 add-i : tie.Need-add-i Inv-loop μ-loop
 add-i c = omega arith
 
--- src/lib.rt:42:5
 loop-less : tie.Need-loop-less Inv-loop μ-loop
 loop-less c = omega arith
 
--- src/lib.rt:42:5
 loop-again : tie.Need-loop-again Inv-loop μ-loop
 loop-again c = zero-turn (now (c .before .before .before .args .items)) (c .before .before .loop .i) (c .before .before .loop .well) (c .before .loop-test .taken) ∙ c .before .before .loop .inv
 
--- src/lib.rt:37:1
 returns : tie.Need-returns Inv-loop μ-loop
 returns c = zero-end (now (c .before .before .args .items)) (c .before .loop .i) (c .before .loop .well) (c .loop-test .left) ∙ c .before .loop .inv
 

@@ -5,19 +5,13 @@ use Rattle.client.proofs.Takes.{asked-yes, asked-no}
 use borrow.Author.Needs.{needs}
 use Rattle.client.proofs.Client.ask_ack.Statement.{statement}
 use Rattle.client.proofs.Client.ask_ack.Tie as tie
-use Rattle.client.proofs.Client.ask_ack.Reads as reads
-use Rattle.client.proofs.Client.ask_ack.Lts as lts
-use Rattle.endpoint.proofs.ask_seen.Reads as ask-seen-reads
 
--- src/taking.rt:39:13
 ask-seen-requires : tie.Need-ask-seen-requires
 ask-seen-requires c κs = search needs
 
--- src/taking.rt:39:13
 returns : tie.Need-returns
 returns c = asked-yes 4 (eqb (c .before .before .before .args .direction) 1 && eqb (c .before .before .before .args .line) (c .before .before .before .args .self .line)) (seenQuestions (c .before .before .before .args .seen) (c .before .before .before .args .self .acked) (c .before .before .before .args .self .made)) (c .ask-seen .result) (c .before .if1 .taken) (c .ask-seen .ensures)
 
--- src/taking.rt:35:5
 returns-2 : tie.Need-returns-2
 returns-2 c = asked-no 4 (eqb (c .before .before .args .direction) 1 && eqb (c .before .before .args .line) (c .before .before .args .self .line)) (seenQuestions (c .before .before .args .seen) (c .before .before .args .self .acked) (c .before .before .args .self .made)) (c .if1 .left)
 

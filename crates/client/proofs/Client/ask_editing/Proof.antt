@@ -1,6 +1,6 @@
-use Prim.Native.Nat.{ℕ, _+_, _-_, _≤_, _<_}
+use Prim.Native.Nat.{_+_, _-_, _≤_, _<_}
 use native.Mathlib.Omega.{arith}
-use mathlib.Core.Path.{_∙_, sym, ap, _≡_}
+use mathlib.Core.Path.{_∙_, sym, _≡_}
 use mathlib.Core.Bool.{true, false}
 use borrow.Author.Tests.{lt-leb, le-leb, lt-ltb, le-ltb}
 use Rattle.model.specs.Cross.{insertsOf}
@@ -9,56 +9,42 @@ use Rattle.client.proofs.Edits.{facts, inserts-few}
 use borrow.Author.Needs.{needs}
 use Rattle.client.proofs.Client.ask_editing.Statement.{statement}
 use Rattle.client.proofs.Client.ask_editing.Tie as tie
-use Rattle.client.proofs.Client.ask_editing.Reads as reads
-use Rattle.client.proofs.Client.ask_editing.Lts as lts
-use Rattle.endpoint.proofs.has_room.Reads as has-room-reads
-use Rattle.endpoint.proofs.inserts_of.Reads as inserts-of-reads
 
--- src/editing.rt:28:12
 has-room-requires : tie.Need-has-room-requires
 has-room-requires c κs = search needs
 
--- src/editing.rt:29:49
 inserts-of-requires : tie.Need-inserts-of-requires
 inserts-of-requires c κs = search needs
 
--- src/editing.rt:29:34
 add-if2 : tie.Need-add-if2
 add-if2 c = omega (arith, facts (c .before .before .before .before .args .self) (c .before .before .before .before .pre) .inserts, inserts-few (c .before .before .before .before .args .e), c .before .inserts-of .ensures)
 
--- src/editing.rt:30:17
 returns : tie.Need-returns
 returns c = let r : roomy (c .before .before .before .before .before .args .e) (c .before .before .before .before .before .args .self .len) ≡ true = sym (c .before .before .before .before .has-room .ensures) ∙ c .before .before .before .if1 .taken in
     let k : 48 < c .before .before .before .before .before .args .self .inserts + insertsOf (c .before .before .before .before .before .args .e) = omega (arith, c .before .before .inserts-of .ensures) in
     simp (r, lt-leb _ _ k)
 
--- src/editing.rt:33:17
 returns-2 : tie.Need-returns-2
 returns-2 c = let r : roomy (c .before .before .before .before .before .before .before .args .e) (c .before .before .before .before .before .before .before .args .self .len) ≡ true = sym (c .before .before .before .before .before .before .has-room .ensures) ∙ c .before .before .before .before .before .if1 .taken in
     let k : c .before .before .before .before .before .before .before .args .self .inserts + insertsOf (c .before .before .before .before .before .before .before .args .e) ≤ 48 = omega (arith, c .before .before .before .before .inserts-of .ensures) in
     simp (r, le-leb _ _ k, le-ltb _ _ (c .if3 .taken))
 
--- src/editing.rt:35:36
 sub-if4 : tie.Need-sub-if4
 sub-if4 c = omega (arith, facts (c .before .before .before .before .before .before .before .before .args .self) (c .before .before .before .before .before .before .before .before .pre) .acked)
 
--- src/editing.rt:35:35
 cast-if4 : tie.Need-cast-if4
 cast-if4 c = search needs
 
--- src/editing.rt:36:17
 returns-3 : tie.Need-returns-3
 returns-3 c = let r : roomy (c .before .before .before .before .before .before .before .before .before .args .e) (c .before .before .before .before .before .before .before .before .before .args .self .len) ≡ true = sym (c .before .before .before .before .before .before .before .before .has-room .ensures) ∙ c .before .before .before .before .before .before .before .if1 .taken in
     let k : c .before .before .before .before .before .before .before .before .before .args .self .inserts + insertsOf (c .before .before .before .before .before .before .before .before .before .args .e) ≤ 48 = omega (arith, c .before .before .before .before .before .before .inserts-of .ensures) in
     simp (r, le-leb _ _ k, lt-ltb _ _ (c .before .before .if3 .left), le-ltb _ _ (c .if4 .taken))
 
--- src/editing.rt:38:13
 returns-4 : tie.Need-returns-4
 returns-4 c = let r : roomy (c .before .before .before .before .before .before .before .before .before .args .e) (c .before .before .before .before .before .before .before .before .before .args .self .len) ≡ true = sym (c .before .before .before .before .before .before .before .before .has-room .ensures) ∙ c .before .before .before .before .before .before .before .if1 .taken in
     let k : c .before .before .before .before .before .before .before .before .before .args .self .inserts + insertsOf (c .before .before .before .before .before .before .before .before .before .args .e) ≤ 48 = omega (arith, c .before .before .before .before .before .before .inserts-of .ensures) in
     simp (r, le-leb _ _ k, lt-ltb _ _ (c .before .before .if3 .left), lt-ltb _ _ (c .if4 .left))
 
--- src/editing.rt:24:5
 returns-5 : tie.Need-returns-5
 returns-5 c = let r : roomy (c .before .before .args .e) (c .before .before .args .self .len) ≡ false = sym (c .before .has-room .ensures) ∙ c .if1 .left in
     simp r

@@ -1,14 +1,10 @@
 use borrow.Author.Tests.{eq-eqb, ne-eqb}
 use Rattle.client.proofs.Client.ask_line.Statement.{statement}
 use Rattle.client.proofs.Client.ask_line.Tie as tie
-use Rattle.client.proofs.Client.ask_line.Reads as reads
-use Rattle.client.proofs.Client.ask_line.Lts as lts
 
--- src/sending.rt:16:5
 returns : tie.Need-returns
 returns c = simp (eq-eqb _ _ (c .if1 .taken))
 
--- src/sending.rt:16:5
 returns-2 : tie.Need-returns-2
 returns-2 c = simp (ne-eqb _ _ (c .if1 .left))
 

@@ -8,27 +8,19 @@ use Rattle.client.proofs.Takes.{asked-yes, asked-no}
 use borrow.Author.Needs.{needs}
 use Rattle.client.proofs.Client.ask_taking.Statement.{statement}
 use Rattle.client.proofs.Client.ask_taking.Tie as tie
-use Rattle.client.proofs.Client.ask_taking.Reads as reads
-use Rattle.client.proofs.Client.ask_taking.Lts as lts
-use Rattle.client.proofs.taking.from_other.Reads as from-other-reads
-use Rattle.endpoint.proofs.ask_edit.Reads as ask-edit-reads
 
--- src/taking.rt:76:57
 from-other-requires : tie.Need-from-other-requires
 from-other-requires c κs = search needs
 
--- src/taking.rt:77:13
 ask-edit-requires : tie.Need-ask-edit-requires
 ask-edit-requires c κs = search needs
 
--- src/taking.rt:77:13
 returns : tie.Need-returns
 returns c = let a = c .before .before .before .before .before .before .args .self in
     let h = c .before .before .before .before .before .before .args .h in
     let b : Bool = eqb (h .direction) 1 && eqb (h .line) (a .line) in
     asked-yes 4 (b && priority (client.other (a .n) (a .line)) (c .before .before .before .before .before .before .args .e)) (editQuestions (h .number) (h .seen) (a .taken) (a .acked) (a .made)) (c .ask-edit .result) (ap (λ (t : Bool). b && t) (sym (c .before .before .from-other .ensures)) ∙ c .before .if1 .taken) (c .ask-edit .ensures)
 
--- src/taking.rt:73:5
 returns-2 : tie.Need-returns-2
 returns-2 c = let a = c .before .before .before .before .before .args .self in
     let h = c .before .before .before .before .before .args .h in

@@ -4,19 +4,13 @@ use Rattle.client.proofs.Edits.{facts, len-few}
 use Rattle.client.proofs.Takes.{crossed-is}
 use Rattle.client.proofs.Client.crossed_with.Statement.{statement}
 use Rattle.client.proofs.Client.crossed_with.Tie as tie
-use Rattle.client.proofs.Client.crossed_with.Reads as reads
-use Rattle.client.proofs.Client.crossed_with.Lts as lts
-use Rattle.ot.proofs.apply.Reads as apply-reads
 
--- src/taking.rt:91:20
 apply-requires : tie.Need-apply-requires
 apply-requires c κs = roomy-room (c .before .args .x .edit) (c .before .args .t1 .len) (len-few (c .before .args .t1) (c .before .pre .0)) (c .before .pre .1)
 
--- src/taking.rt:94:22
 add-self : tie.Need-add-self
 add-self c = omega (arith, facts (c .before .before .before .args .t1) (c .before .before .before .pre .0) .taken)
 
--- src/taking.rt:84:5
 returns : tie.Need-returns
 returns c = crossed-is (c .before .before .before .args .t1) (c .before .before .before .pre .0) (c .before .before .before .args .seen) (c .before .before .before .args .x) (c .before .before .before .pre .1) (c .before .apply .result) (c .before .apply .last .0) (c .before .apply .ensures)
 

@@ -2,10 +2,7 @@ use mathlib.Core.Path.{refl}
 use Rattle.pending.specs.Slots.{filled}
 use Rattle.client.proofs.Client.fresh.Statement.{statement}
 use Rattle.client.proofs.Client.fresh.Tie as tie
-use Rattle.client.proofs.Client.fresh.Reads as reads
-use Rattle.client.proofs.Client.fresh.Lts as lts
 
--- src/lib.rt:84:5
 returns : tie.Need-returns
 unfolding filled
 returns c = refl

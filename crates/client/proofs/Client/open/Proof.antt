@@ -1,41 +1,25 @@
 use denote.Ref.{now}
 use native.Mathlib.Omega.{arith}
-use mathlib.Core.Path.{ap, _∙_, sym, _≡_, subst}
-use mathlib.Core.Bool.{true, false}
-use borrow.Author.Tests.{leb-true}
-use mathlib.Core.List.{List}
-use Rattle.model.proofs.Tests.{and-right}
-use Rattle.client.specs.declared.Client.{Client}
 use Rattle.client.proofs.Answers.{open-short, open-yes, open-no}
 use borrow.Author.Needs.{needs}
 use Rattle.client.proofs.Client.open.Statement.{statement}
 use Rattle.client.proofs.Client.open.Tie as tie
-use Rattle.client.proofs.Client.open.Reads as reads
-use Rattle.client.proofs.Client.open.Lts as lts
-use Rattle.client.proofs.Client.fresh.Reads as fresh-reads
-use Rattle.endpoint.proofs.initial.Reads as initial-reads
 
--- src/lib.rt:110:49
 cast-fresh : tie.Need-cast-fresh
 cast-fresh c = omega (arith, open-short (c .before .before .args .n) (c .before .before .args .line) (now (c .before .before .args .items)) (c .if1 .taken))
 
--- src/lib.rt:110:69
 initial-requires : tie.Need-initial-requires
 initial-requires c κs = search needs
 
--- src/lib.rt:110:17
 fresh-requires : tie.Need-fresh-requires
 fresh-requires c κs = search needs
 
--- src/lib.rt:111:13
 returns : tie.Need-returns
 returns c = open-yes (c .before .before .before .before .args .n) (c .before .before .before .before .args .line) (now (c .before .before .before .before .args .items)) (c .before .initial .result) (c .fresh .result) (c .before .before .if1 .taken) (c .before .initial .ensures) (c .fresh .ensures)
 
--- src/lib.rt:117:13
 fresh-requires-2 : tie.Need-fresh-requires-2
 fresh-requires-2 c κs = search needs
 
--- src/lib.rt:104:5
 returns-2 : tie.Need-returns-2
 returns-2 c = open-no (c .before .before .before .args .n) (c .before .before .before .args .line) (now (c .before .before .before .args .items)) (c .fresh2 .result) (c .before .if1 .left) (c .fresh2 .ensures)
 

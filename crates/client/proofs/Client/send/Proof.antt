@@ -6,38 +6,25 @@ use Rattle.client.proofs.Messages.{unsound-sending, sent-edit}
 use borrow.Author.Needs.{needs}
 use Rattle.client.proofs.Client.send.Statement.{statement}
 use Rattle.client.proofs.Client.send.Tie as tie
-use Rattle.client.proofs.Client.send.Reads as reads
-use Rattle.client.proofs.Client.send.Lts as lts
-use Rattle.client.proofs.Client.ask_sending.Reads as ask-sending-reads
-use Rattle.client.proofs.Client.is_sound.Reads as is-sound-reads
-use Rattle.client.proofs.Client.message.Reads as message-reads
-use Rattle.endpoint.proofs.finish.Reads as finish-reads
 
--- src/sending.rt:57:12
 is-sound-requires : tie.Need-is-sound-requires
 is-sound-requires c κs = search needs
 
--- src/sending.rt:58:17
 ask-sending-requires : tie.Need-ask-sending-requires
 ask-sending-requires c κs = search needs
 
--- src/sending.rt:59:46
 message-requires : tie.Need-message-requires
 message-requires c κs = search needs
 
--- src/sending.rt:59:13
 finish-requires : tie.Need-finish-requires
 finish-requires c κs = search needs
 
--- src/sending.rt:59:13
 same-length : tie.Need-same-length
 same-length c = search needs
 
--- src/sending.rt:59:13
 returns : tie.Need-returns
 returns c = c .before .before .finish .ensures ∙ sent-edit (c .before .before .before .before .before .before .before .before .before .args .self) (c .before .before .before .before .before .before .before .is-sound .ensures .1 (c .before .before .before .before .before .before .if1 .taken)) (c .before .before .before .before .before .before .before .before .before .args .line) (now (c .before .before .before .before .before .before .before .before .before .args .out)) (c .before .before .before .before .before .ask-sending .result) (c .before .before .before .before .message .result) (c .before .before .before .before .before .before .before .before .before .args .k) (c .before .before .before .before .before .ask-sending .ensures) (c .before .before .before .before .message .ensures)
 
--- src/sending.rt:54:5
 returns-2 : tie.Need-returns-2
 returns-2 c = unsound-sending (c .before .before .before .args .self) (sendClient (view (c .before .before .before .args .self)) (c .before .before .before .args .line) (c .before .before .before .args .k) (now (c .before .before .before .args .out))) (now (c .before .before .before .args .out)) (sym (c .before .is-sound .ensures .0) ∙ c .if1 .left)
 

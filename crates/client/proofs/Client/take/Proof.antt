@@ -8,50 +8,34 @@ use Rattle.client.proofs.Takes.{read-refused, read-message}
 use borrow.Author.Needs.{needs}
 use Rattle.client.proofs.Client.take.Statement.{statement}
 use Rattle.client.proofs.Client.take.Tie as tie
-use Rattle.client.proofs.Client.take.Reads as reads
-use Rattle.client.proofs.Client.take.Lts as lts
-use Rattle.client.proofs.Client.is_sound.Reads as is-sound-reads
-use Rattle.client.proofs.Client.refused.Reads as refused-reads
-use Rattle.client.proofs.Client.take_message.Reads as take-message-reads
-use Rattle.wire.proofs.parse.Reads as parse-reads
 
--- src/taking.rt:143:12
 is-sound-requires : tie.Need-is-sound-requires
 is-sound-requires c κs = search needs
 
--- src/taking.rt:144:36
 parse-requires : tie.Need-parse-requires
 parse-requires c κs = search needs
 
--- src/taking.rt:144:31
 enum-known-m : tie.Need-enum-known-m
 enum-known-m c = search needs
 
--- src/taking.rt:145:17
 enum-told : tie.Need-enum-told
 enum-told c = search needs
 
--- src/taking.rt:145:17
 refused-requires : tie.Need-refused-requires
 refused-requires c κs = search needs
 
--- src/taking.rt:145:17
 returns : tie.Need-returns
 returns c = c .refused .ensures ∙ read-refused (c .before .before .before .before .before .before .before .args .self) (c .before .before .before .before .before .is-sound .ensures .1 (c .before .before .before .before .if1 .taken)) (now (c .before .before .before .before .before .before .before .args .bytes)) (sym (c .before .before .before .parse .ensures) ∙ c .before .enum-told .given .1)
 
--- src/taking.rt:147:13
 take-message-requires : tie.Need-take-message-requires
 take-message-requires c κs = (c .before .before .before .before .before .is-sound .ensures .1 (c .before .before .before .before .if1 .taken), codec .read-in-range (now (c .before .before .before .before .before .before .before .args .bytes)) _ (sym (c .before .before .before .parse .ensures) ∙ c .before .m .given .1))
 
--- src/taking.rt:147:13
 returns-2 : tie.Need-returns-2
 returns-2 c = c .take-message .ensures ∙ read-message (c .before .before .before .before .before .before .before .before .args .self) (now (c .before .before .before .before .before .before .before .before .args .bytes)) _ (sym (c .before .before .before .before .parse .ensures) ∙ c .before .before .m .given .1)
 
--- src/taking.rt:149:9
 refused-requires-2 : tie.Need-refused-requires-2
 refused-requires-2 c κs = search needs
 
--- src/taking.rt:140:5
 returns-3 : tie.Need-returns-3
 returns-3 c = c .refused2 .ensures ∙ unsound (c .before .before .before .before .args .self) (takeClient (view (c .before .before .before .before .args .self)) (now (c .before .before .before .before .args .bytes))) (sym (c .before .before .is-sound .ensures .0) ∙ c .before .if1 .left)
 
