@@ -31,7 +31,7 @@ use Rattle.server.specs.Sound.{tidyLine, zeroLine, structTests, soundStr
 line-means : (n sum l : ℕ) (v : model.Line) → LineFacts n sum l v → viewLine (storeLine v) ≡ v
 line-means n sum l v f =
     let p : usedEdits (v .made - v .acked) (filled (v .pending)) ≡ v .pending =
-        ap (λ (k : ℕ). usedEdits k (filled (v .pending))) (sym (f .count)) ∙ used-filled (v .pending) in
+    ap (λ (k : ℕ). usedEdits k (filled (v .pending))) (sym (f .count)) ∙ used-filled (v .pending) in
     λ i. record { made = v .made; taken = v .taken; acked = v .acked; inserts = v .inserts; pending = p i }
 
 line-tidy : (n sum l : ℕ) (v : model.Line) → LineFacts n sum l v → tidyLine (storeLine v) ≡ true
@@ -39,7 +39,7 @@ unfolding soundSlots
 line-tidy n sum l v f =
     let few : length (v .pending) ≤ maxPending = omega (arith, f .count, f .room) in
     let t = hold (soundTests (other n l) (length (v .pending)) (filled (v .pending)))
-        (sound-filled (other n l) (v .pending) few (f .placed) (f .priorities)) in
+    (sound-filled (other n l) (v .pending) few (f .placed) (f .priorities)) in
     ap (λ (k : ℕ). allNothing (drop k (edits (filled (v .pending))))) (sym (f .count)) ∙ t .1 .1 .1 .1 .0
 
 unused-zero : zeroLine (storeLine model.noLine) ≡ true
@@ -86,18 +86,27 @@ module _ (m : model.Server) (s : model.soundServer m ≡ true) where
   view-store =
       let items : take (length (m .items)) (padded 0 maxItems (m .items)) ≡ m .items = pad-take maxItems 0 (m .items) in
       let lines : map viewLine (take (m .n) (padded (storeLine model.noLine) maxLines (map storeLine (m .lines)))) ≡ m .lines =
-          ap (map viewLine) in-use ∙ lines-mean (m .n) (model.total (λ v. v .taken) (m .lines)) 1 (m .lines) (facts .lines) in
+      ap (map viewLine) in-use ∙ lines-mean (m .n) (model.total (λ v. v .taken) (m .lines)) 1 (m .lines) (facts .lines) in
       λ i. record { n = m .n; initial = m .initial; items = items i; lines = lines i }
 
   pub store-sound : soundStruct (store m) ≡ true
   unfolding soundStruct store
   store-sound =
-      held (structTests (store m))
-      (ap model.soundServer view-store ∙ s,
-      (le-leb (length (m .items)) maxItems (facts .items),
-      (ap allZero (pad-drop maxItems 0 (m .items) (length (m .items)) (le-refl (length (m .items)))) ∙ all-zero (maxItems - length (m .items)),
-      (ap (λ (l : List Line). every (map tidyLine l)) in-use
-      ∙ lines-tidy (m .n) (model.total (λ v. v .taken) (m .lines)) 1 (m .lines) (facts .lines),
-      (ap (λ (l : List Line). every (map zeroLine l)) (pad-drop maxLines (storeLine model.noLine) (map storeLine (m .lines)) (m .n) (omega (arith, stored-count)))
-      ∙ all-unused (maxLines - m .n),
-      tt)))))
+      held (structTests (store m)) (
+        ap model.soundServer view-store ∙ s,
+        (
+          le-leb (length (m .items)) maxItems (facts .items),
+          (
+            ap allZero (pad-drop maxItems 0 (m .items) (length (m .items)) (le-refl (length (m .items)))) ∙ all-zero (maxItems - length (m .items)),
+            (
+              ap (λ (l : List Line). every (map tidyLine l)) in-use
+                  ∙ lines-tidy (m .n) (model.total (λ v. v .taken) (m .lines)) 1 (m .lines) (facts .lines),
+              (
+                ap (λ (l : List Line). every (map zeroLine l)) (pad-drop maxLines (storeLine model.noLine) (map storeLine (m .lines)) (m .n) (omega (arith, stored-count)))
+                    ∙ all-unused (maxLines - m .n),
+                tt,
+              ),
+            ),
+          ),
+        ),
+      )
