@@ -6,3 +6,4 @@ pub mod Answers
 pub mod Roomy
 pub mod Keeping
 pub mod Taking
+pub mod Stored

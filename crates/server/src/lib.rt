@@ -47,7 +47,7 @@ pub struct Server {
 }
 
 // What all lines in use took.
-pub struct Sums {
+struct Sums {
     pub taken: u32,
     pub inserts: u32,
 }
@@ -122,6 +122,7 @@ impl Server {
 
     pub const INITIAL: usize = 128;
 
+    // Question 1. Opening is handed no end; refused, it returns one that is all zeros.
     pub fn open(n: u8, items: &[u32]) -> Answer
         ensures { λ r. ⌜ r ≡ opened n (now (items .entry)) ⌝ }
     {
@@ -146,6 +147,7 @@ impl Server {
         unopened()
     }
 
+    // The number of the question that said no, with the end as handed in.
     fn refuse(self, number: u8) -> Answer
         ensures { λ r. ⌜ r ≡ refused self number ⌝ }
     {
@@ -156,6 +158,7 @@ impl Server {
         }
     }
 
+    // Questions 4, 13 and 14.
     fn send_sound(self, line: u8, k: u16, out: &mut [u8]) -> Sent
         requires { ⌜ Sound self ⌝ }
         ensures { λ r. ⌜ sentAs r (now (out .exit)) ≡ sendServer (view self) line k (now (out .entry)) ⌝ }
@@ -201,6 +204,7 @@ impl Server {
         }
     }
 
+    // Questions 4 and 14.
     fn tell_sound(self, line: u8, out: &mut [u8]) -> Sent
         requires { ⌜ Sound self ⌝ }
         ensures { λ r. ⌜ sentAs r (now (out .exit)) ≡ tellServer (view self) line (now (out .entry)) ⌝ }
@@ -231,7 +235,7 @@ impl Server {
         }
     }
 
-    // An acknowledgement only drops pending edits.
+    // Questions 4, 7 and 8; an acknowledgement only drops pending edits.
     fn take_ack(mut self, line: u8, direction: u8, seen: u16) -> Answer
         requires { ⌜ Sound self ⌝ }
         ensures { λ r. ⌜ r ≡ answered self (serverTakesAck (view self) line direction seen) ⌝ }
