@@ -32,7 +32,8 @@ use Rattle.server.specs.Sound.{soundStruct}
 use Rattle.server.specs.Calls as server
 use Rattle.convergence.specs.Built.{End, ofClient, ofServer, clientAnswer, serverAnswer, built, Claimed}
 use Rattle.convergence.proofs.Carry.{Alike, Follows, carries}
-use Rattle.convergence.proofs.Stored.{client-view, client-stored, server-view, server-stored}
+use Rattle.server.proofs.Stored.{view-store, store-sound}
+use Rattle.convergence.proofs.Stored.{client-view, client-stored}
 
 -- the struct is the one for a sound end of the model
 abbrev Stands : End → ours.End → Type 0
@@ -107,19 +108,19 @@ server-taking : (m : models.Server) (bytes : List ℕ) → models.soundServer m 
 unfolding server.takes server.answered models.takeServer
 server-taking m bytes s =
     subst (λ (x : servers.Answer). Alike built ours Stands (serverAnswer x) (ours.answerAs ours.server (models.takeServer m bytes)))
-    (sym (ap (λ (b : Bool). cond b (server.answered (view.store m) (models.takeServer (view.view (view.store m)) bytes)) (server.refused (view.store m) 2)) (server-stored m s)
-    ∙ ap (λ (v : models.Server). server.answered (view.store m) (models.takeServer v bytes)) (server-view m s)))
+    (sym (ap (λ (b : Bool). cond b (server.answered (view.store m) (models.takeServer (view.view (view.store m)) bytes)) (server.refused (view.store m) 2)) (store-sound m s)
+    ∙ ap (λ (v : models.Server). server.answered (view.store m) (models.takeServer v bytes)) (view-store m s)))
     (record { refusal = refl; passed = refl; ends = (server-end m (models.takeServer m bytes) (server-hands m (parsed bytes)), keeps-sound .server-takes m bytes s) })
 
 server-sending : (m : models.Server) (l k : ℕ) (lent : List ℕ) → models.soundServer m ≡ true → server.sends (view.store m) l k lent ≡ models.sendServer m l k lent
 unfolding server.sends
 server-sending m l k lent s =
-    ap (λ (b : Bool). cond b (models.sendServer (view.view (view.store m)) l k lent) (sent 2 [] lent)) (server-stored m s) ∙ ap (λ (v : models.Server). models.sendServer v l k lent) (server-view m s)
+    ap (λ (b : Bool). cond b (models.sendServer (view.view (view.store m)) l k lent) (sent 2 [] lent)) (store-sound m s) ∙ ap (λ (v : models.Server). models.sendServer v l k lent) (view-store m s)
 
 server-telling : (m : models.Server) (l : ℕ) (lent : List ℕ) → models.soundServer m ≡ true → server.tells (view.store m) l lent ≡ models.tellServer m l lent
 unfolding server.tells
 server-telling m l lent s =
-    ap (λ (b : Bool). cond b (models.tellServer (view.view (view.store m)) l lent) (sent 2 [] lent)) (server-stored m s) ∙ ap (λ (v : models.Server). models.tellServer v l lent) (server-view m s)
+    ap (λ (b : Bool). cond b (models.tellServer (view.view (view.store m)) l lent) (sent 2 [] lent)) (store-sound m s) ∙ ap (λ (v : models.Server). models.tellServer v l lent) (view-store m s)
 
 -- ---- all calls
 
@@ -134,13 +135,13 @@ made-same : (a : End) (b : ours.End) → Stands a b → (l : ℕ) → built .mad
 made-same (ofClient c) (ours.client m) r l = ap (λ (x : Client). x .made) (r .0)
 made-same (ofClient c) (ours.server m) r l = absurd r
 made-same (ofServer s) (ours.client m) r l = absurd r
-made-same (ofServer s) (ours.server m) r l = ap (λ (x : Server). models.lineOf (view.view x) l .made) (r .0) ∙ ap (λ (v : models.Server). models.lineOf v l .made) (server-view m (r .1))
+made-same (ofServer s) (ours.server m) r l = ap (λ (x : Server). models.lineOf (view.view x) l .made) (r .0) ∙ ap (λ (v : models.Server). models.lineOf v l .made) (view-store m (r .1))
 
 taken-same : (a : End) (b : ours.End) → Stands a b → (l : ℕ) → built .taken a l ≡ ours .taken b l
 taken-same (ofClient c) (ours.client m) r l = ap (λ (x : Client). x .taken) (r .0)
 taken-same (ofClient c) (ours.server m) r l = absurd r
 taken-same (ofServer s) (ours.client m) r l = absurd r
-taken-same (ofServer s) (ours.server m) r l = ap (λ (x : Server). models.lineOf (view.view x) l .taken) (r .0) ∙ ap (λ (v : models.Server). models.lineOf v l .taken) (server-view m (r .1))
+taken-same (ofServer s) (ours.server m) r l = ap (λ (x : Server). models.lineOf (view.view x) l .taken) (r .0) ∙ ap (λ (v : models.Server). models.lineOf v l .taken) (view-store m (r .1))
 
 alike-refl : (a : End) (b : ours.End) → Stands a b → Alike built ours Stands (record { refusal = 2; end = a; passed = 0 }) (record { refusal = 2; end = b; passed = 0 })
 alike-refl a b r = record { refusal = refl; passed = refl; ends = r }

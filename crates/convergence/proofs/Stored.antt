@@ -1,32 +1,24 @@
--- The struct of a sound end is sound, and means that end.
+-- The struct of a sound client is sound, and means that client. (Of the server's the crate server proves it.)
 use mathlib.Core.Path.{_≡_, refl, ap, ap₂, sym, _∙_, subst}
 use mathlib.Core.Bool.{Bool, true, false, _&&_}
 use mathlib.Core.List.{List, [], _∷_, _++_, map}
 use Prim.Native.Nat.{ℕ, zero, suc, _+_, _-_, _≤_, _<_}
 use native.Mathlib.Omega.{arith}
 use lib.Dec.{leb}
-use lib.ListN.{length, take, drop, replicate, length-map}
+use lib.ListN.{length, take, drop, replicate}
 use borrow.Author.Tests.{le-leb}
 use Rattle.ot.specs.declared.Edit.{Edit}
 use Rattle.ot.specs.declared.Edit.the-variants.{Nothing}
-use Rattle.ot.specs.Items.{padded}
-use Rattle.model.specs.Limits.{maxLines, maxItems, maxPending}
-use Rattle.model.specs.Questions.{every}
+use Rattle.model.specs.Limits.{maxItems, maxPending}
 use Rattle.model.specs.Client as model
-use Rattle.model.specs.Server as models
-use Rattle.model.proofs.Tests.{both, held}
+use Rattle.model.proofs.Tests.{held}
 use Rattle.model.proofs.SoundClient.{ClientFacts, client-facts}
-use Rattle.model.proofs.SoundServer.{LineFacts, LinesFacts, ServerFacts, server-facts, takenSum}
 use Rattle.pending.specs.declared.Slot.{Slot}
 use Rattle.pending.specs.Slots.{slot, edits, usedEdits, filled, allNothing}
 use Rattle.pending.proofs.Pad.{pad-take, pad-drop}
 use Rattle.pending.proofs.Slots.{used-filled, filled-drop}
 use Rattle.endpoint.specs.Items.{stored, allZero}
 use Rattle.client.specs.Store as clients
-use Rattle.server.specs.declared.Line.{Line}
-use Rattle.server.specs.View as servers
-use Rattle.server.specs.View.{viewLine, storeLine}
-use Rattle.server.specs.Sound.{tidyLine, zeroLine, structTests, soundStruct}
 
 -- ---- unused places
 
@@ -86,72 +78,6 @@ module _ (m : model.Client) (s : model.soundClient m ≡ true) where
           (
             items-unused (m .items),
             (slots-unused (m .pending) (m .made - m .acked) (f .count), tt),
-          ),
-        ),
-      )
-
--- ---- the server
-
-line-view : (n sum l : ℕ) (v : models.Line) → LineFacts n sum l v → viewLine (storeLine v) ≡ v
-line-view n sum l v f = λ i. record {
-  made = v .made;
-  taken = v .taken;
-  acked = v .acked;
-  inserts = v .inserts;
-  pending = slots-used (v .pending) (v .made - v .acked) (f .count) i;
-}
-
-lines-view : (n sum l : ℕ) (vs : List models.Line) → LinesFacts n sum l vs → map viewLine (map storeLine vs) ≡ vs
-lines-view n sum l [] f = refl
-lines-view n sum l (v ∷ vs) f = ap₂ _∷_ (line-view n sum l v (f .0)) (lines-view n sum (suc l) vs (f .1))
-
-lines-tidy : (n sum l : ℕ) (vs : List models.Line) → LinesFacts n sum l vs → every (map tidyLine (map storeLine vs)) ≡ true
-lines-tidy n sum l [] f = refl
-lines-tidy n sum l (v ∷ vs) f =
-    both (tidyLine (storeLine v)) (every (map tidyLine (map storeLine vs))) (slots-unused (v .pending) (v .made - v .acked) (f .0 .count)) (lines-tidy n sum (suc l) vs (f .1))
-
-lines-zero : (k : ℕ) → every (map zeroLine (replicate k (storeLine models.noLine))) ≡ true
-lines-zero zero = refl
-lines-zero (suc k) = both (zeroLine (storeLine models.noLine)) (every (map zeroLine (replicate k (storeLine models.noLine)))) (slots-unused [] 0 refl) (lines-zero k)
-
-module _ (m : models.Server) (s : models.soundServer m ≡ true) where
-  abbrev g : ServerFacts m
-  g = server-facts m s
-
-  abbrev lines : List Line
-  lines = padded (storeLine models.noLine) maxLines (map storeLine (m .lines))
-
-  count : length (map storeLine (m .lines)) ≡ m .n
-  count = length-map (m .lines) storeLine ∙ g .count
-
-  lines-used : take (m .n) lines ≡ map storeLine (m .lines)
-  lines-used = ap (λ (k : ℕ). take k lines) (sym count) ∙ pad-take maxLines (storeLine models.noLine) (map storeLine (m .lines))
-
-  lines-unused : drop (m .n) lines ≡ replicate (maxLines - m .n) (storeLine models.noLine)
-  lines-unused = pad-drop maxLines (storeLine models.noLine) (map storeLine (m .lines)) (m .n) (omega (arith, count))
-
-  pub server-view : servers.view (servers.store m) ≡ m
-  unfolding servers.view servers.store
-  server-view = λ i. record {
-    n = m .n;
-    initial = m .initial;
-    items = items-used (m .items) i;
-    lines = (ap (map viewLine) lines-used ∙ lines-view (m .n) (takenSum (m .lines)) 1 (m .lines) (g .lines)) i;
-  }
-
-  pub server-stored : soundStruct (servers.store m) ≡ true
-  unfolding soundStruct servers.store
-  server-stored =
-      held (structTests (servers.store m)) (
-        ap models.soundServer server-view ∙ s,
-        (
-          le-leb (length (m .items)) maxItems (g .items),
-          (
-            items-unused (m .items),
-            (
-              ap (λ vs. every (map tidyLine vs)) lines-used ∙ lines-tidy (m .n) (takenSum (m .lines)) 1 (m .lines) (g .lines),
-              (ap (λ vs. every (map zeroLine vs)) lines-unused ∙ lines-zero (maxLines - m .n), tt),
-            ),
           ),
         ),
       )
