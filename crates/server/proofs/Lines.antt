@@ -1,10 +1,12 @@
 -- What is known of the lines of a sound struct.
+
+-- ---- lists
 use mathlib.Core.Path.{_≡_, refl, ap, sym, _∙_, subst}
-use mathlib.Core.Bool.{Bool, true, false, _&&_}
+use mathlib.Core.Bool.{true}
 use mathlib.Core.List.{List, [], _∷_, _++_, map, map-id}
 use Prim.Native.Nat.{ℕ, zero, suc, _+_, _-_, _≤_, _<_}
 use native.Mathlib.Omega.{arith}
-use lib.ListN.{length, getD, take, drop, set, replicate, length-map, length-set, List·getD-map, List·getD-append}
+use lib.ListN.{length, getD, take, set, replicate, length-map, length-set, List·getD-map, List·getD-append}
 use lib.Seq.{getD-take, set-append-left}
 use Rattle.ot.specs.Items.{padded}
 use Rattle.model.specs.Limits.{maxLines}
@@ -19,8 +21,6 @@ use Rattle.server.specs.View.{viewLine, view, storeLine, store}
 use Rattle.server.specs.Sound.{structTests, soundStruct, Sound, KeptLine}
 use Rattle.server.proofs.Places.{blank}
 use Rattle.server.proofs.Whole.{used}
-
--- ---- lists
 
 module _ {A : Type 0} where
   pub getD-default : (l : List A) (i : ℕ) (d e : A) → i < length l → getD l i d ≡ getD l i e

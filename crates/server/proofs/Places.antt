@@ -1,8 +1,10 @@
 -- Question 2 about the places of the lines: what the code computes for one place is its definition, and one turn of each loop.
+
+-- what lies past an array's end
 use mathlib.Core.Path.{_≡_, refl, ap, sym, _∙_, subst}
 use mathlib.Core.Bool.{Bool, true, false, _&&_, cond}
 use mathlib.Core.List.{List, [], _∷_, _++_, map, map-append}
-use Prim.Native.Nat.{ℕ, zero, suc, _+_, _-_, _≤_, _<_, min}
+use Prim.Native.Nat.{ℕ, suc, _+_, _-_, _≤_, _<_, min}
 use native.Mathlib.Numerals.{add-one}
 use native.Mathlib.Omega.{arith}
 use lib.Dec.{leb, ltb, eqb}
@@ -21,7 +23,6 @@ use Rattle.server.specs.View.{viewLine}
 use Rattle.server.specs.Sound.{tidyLine, countsSound, countsZero, zeroLine, soundPlace, soundPlaces, KeptLine, KeptLines}
 use Rattle.server.proofs.Bools.{bool-ext, and-assoc, and-true}
 
--- what lies past an array's end
 abbrev pub blank : Line
 blank = record { made = 0; taken = 0; acked = 0; inserts = 0; pending = [] }
 
@@ -82,6 +83,15 @@ module _ (n sum i : ℕ) (v : Line) where
       go : (b : Bool) → (cond b sound zeros && slots (v .made - v .acked)) ≡ cond b (model.soundLine n sum (suc i) (viewLine v) && tidyLine v) (zeroLine v)
       go true = in-use
       go false = not-in-use
+
+  -- as the code joins them
+  pub place-code : (p counts none-used kept : Bool) → counts ≡ sound → none-used ≡ zeros → kept ≡ slots (v .made - v .acked)
+      → p ≡ cond (ltb i n) counts none-used → (p && kept) ≡ soundPlace n sum i v
+  place-code p counts none-used kept a b d e =
+      ap (λ (x : Bool). x && kept) e ∙ ap (λ (x : Bool). cond (ltb i n) x none-used && kept) a
+      ∙ ap (λ (x : Bool). cond (ltb i n) sound x && kept) b
+      ∙ ap (λ (x : Bool). cond (ltb i n) sound zeros && x) d
+      ∙ place-sound
 
 -- the same, by what is asked: the first k places are in use
 abbrev parts : ℕ → ℕ → ℕ → ℕ → List Line → Bool

@@ -1,11 +1,13 @@
 -- Question 12: the loop over the lines, and what it says of one of them.
-use mathlib.Core.Path.{_≡_, refl, ap, sym, _∙_, subst}
-use mathlib.Core.Bool.{Bool, true, false, _&&_, _||_}
+
+-- the lines from place i on, but for the one at place at
+use mathlib.Core.Path.{_≡_, refl, ap, sym, _∙_}
+use mathlib.Core.Bool.{Bool, true, _&&_, _||_}
 use mathlib.Core.List.{List, [], _∷_, map}
 use Prim.Native.Nat.{ℕ, zero, suc, _+_, _-_, _≤_, _<_}
 use native.Mathlib.Numerals.{add-one}
 use native.Mathlib.Omega.{arith}
-use lib.Dec.{ltb, eqb}
+use lib.Dec.{eqb}
 use lib.ListN.{length, getD, drop, drop-of-length-le}
 use lib.Seq.{drop-cons}
 use borrow.Author.Tests.{eq-eqb, ne-eqb, ltb-true}
@@ -15,7 +17,6 @@ use Rattle.model.specs.Server as model
 use Rattle.model.proofs.Tests.{and-left, and-right}
 use Rattle.server.proofs.Bools.{and-assoc, and-true}
 
--- the lines from place i on, but for the one at place at
 unfoldable pub roomyFrom : ℕ → ℕ → List model.Line → Bool
 roomyFrom at i [] = true
 roomyFrom at i (v ∷ vs) = (eqb i at || model.roomy v) && roomyFrom at (suc i) vs

@@ -1,8 +1,10 @@
 -- Question 2 about the server's struct: its meaning is sound, and the places that are not in use are zero.
-use Prim.Native.Nat.{ℕ, suc, _+_, _-_, _≤_}
+
+-- the slots of a line that are not in use hold nothing
 use mathlib.Core.Path.{_≡_}
 use mathlib.Core.Bool.{Bool, true, _&&_, cond}
 use mathlib.Core.List.{List, [], _∷_, map}
+use Prim.Native.Nat.{ℕ, suc, _-_, _≤_}
 use lib.Dec.{leb, ltb, eqb}
 use lib.ListN.{take, drop}
 use Rattle.model.specs.Limits.{maxInserts, maxEdits, maxItems}
@@ -15,7 +17,6 @@ use Rattle.server.specs.declared.Server.{Server}
 use Rattle.server.specs.declared.Sums.{Sums}
 use Rattle.server.specs.View.{viewLine, view, store}
 
--- the slots of a line that are not in use hold nothing
 abbrev pub tidyLine : Line → Bool
 tidyLine v = allNothing (drop (v .made - v .acked) (edits (v .pending)))
 

@@ -1,6 +1,8 @@
 -- What the server's struct means as an end over lists, and the one struct for such an end.
-use Prim.Native.Nat.{ℕ, _-_}
-use mathlib.Core.List.{List, map}
+
+-- the pending edits stand in the first made - acked slots
+use mathlib.Core.List.{map}
+use Prim.Native.Nat.{_-_}
 use lib.ListN.{length, take}
 use Rattle.ot.specs.Items.{padded}
 use Rattle.model.specs.Limits.{maxLines, maxItems}
@@ -9,7 +11,6 @@ use Rattle.pending.specs.Slots.{usedEdits, filled}
 use Rattle.server.specs.declared.Line.{Line}
 use Rattle.server.specs.declared.Server.{Server}
 
--- the pending edits stand in the first made - acked slots
 abbrev pub viewLine : Line → model.Line
 viewLine v =
     record {
