@@ -154,7 +154,7 @@ module _ (S T : Sheet) (R : S .End → T .End → Type 0) where
     holds-same : (s : State S) (t : State T) → Same s t → Holds T n t → Holds S n s
     holds-same s t m o =
         let path : beside (s .ends) t (m .ends) ≡ s =
-              λ i. record { ends = s .ends; messages = sym (m .messages) i; passed = sym (m .passed) i; recorded = sym (m .recorded) i } in
+        λ i. record { ends = s .ends; messages = sym (m .messages) i; passed = sym (m .passed) i; recorded = sym (m .recorded) i } in
         subst (Holds S n) path (holds-beside (s .ends) t (m .ends) o)
 
     starts : (items : List ℕ) → T .openServer n items .refusal ≡ 0 → ((l : ℕ) → 1 ≤ l → l ≤ n → T .openClient n l items .refusal ≡ 0) → Same (start S n items) (start T n items)

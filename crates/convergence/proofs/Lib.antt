@@ -1,1 +1,3 @@
 pub mod Carry
+pub mod Stored
+pub mod Built

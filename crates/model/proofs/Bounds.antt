@@ -66,8 +66,8 @@ module _ (n : ℕ) (items : List ℕ) (s : State ours) (sim : Sim n items s) (fe
   inserts-most l a b =
       let own = sim .inv .lines l .untaken-own in
       let of-lines : All (OfLines n) (order h l) =
-            all-append (OfLines n) (h .served) (h .untaken l) (sim .served-lines)
-            (all-map (λ y. isBy l y ≡ true) (OfLines n) (h .untaken l) (λ y e. let z : l ≡ y .name .line = eqb-true l (y .name .line) e in (omega arith, omega arith)) own) in
+      all-append (OfLines n) (h .served) (h .untaken l) (sim .served-lines)
+      (all-map (λ y. isBy l y ≡ true) (OfLines n) (h .untaken l) (λ y e. let z : l ≡ y .name .line = eqb-true l (y .name .line) e in (omega arith, omega arith)) own) in
       omega (arith, lines-most, inserts-total n (order h l) of-lines, sumTo-bound (λ k. inserts (mine k (order h l))) 48 n (λ k c d. each k c d (eqb l k) refl))
     where
       each : (k : ℕ) → 1 ≤ k → k ≤ n → (t : Bool) → eqb l k ≡ t → inserts (mine k (order h l)) ≤ 48
@@ -75,8 +75,8 @@ module _ (n : ℕ) (items : List ℕ) (s : State ours) (sim : Sim n items s) (fe
           subst (λ (i : ℕ). inserts (mine i (order h l)) ≤ 48) (eqb-true l k e) (omega (arith, client-most l a b, sim .ci-is l))
       each k c d false e =
           let same : mine k (order h l) ≡ mine k (h .served) =
-                L.select-append (isBy k) blank (h .served) (h .untaken l) ∙ ap (λ (r : List (Made edits)). mine k (h .served) ++ r) (mine-none l k e (h .untaken l) (sim .inv .lines l .untaken-own))
-                ∙ append-nil (mine k (h .served)) in
+          L.select-append (isBy k) blank (h .served) (h .untaken l) ∙ ap (λ (r : List (Made edits)). mine k (h .served) ++ r) (mine-none l k e (h .untaken l) (sim .inv .lines l .untaken-own))
+          ∙ append-nil (mine k (h .served)) in
           omega (arith, ap inserts same, server-most k c d, sim .si-is k)
 
 -- ---- lists at points, and the pending edits there
@@ -99,15 +99,15 @@ module _ (items : List ℕ) (l : ℕ) (w served applied′ : List (Made edits)) 
       let len : length (c .pending) ≡ length (mine l w) - c .acked = ap length (line .c-pending) ∙ segment-length f (c .acked) (length (mine l w)) in
       placed-all (c .pending)
       (λ i lt.
-        let k : ℕ = c .acked + i in
-        let km : k < length (mine l w) = omega arith in
-        let is : getD (c .pending) i Nothing ≡ f k =
-              ap (λ (es : List Edit). getD es i Nothing) (line .c-pending) ∙ ap (λ (j : ℕ). getD (Rattle.jupiter.proofs.Segment.segment f (c .acked) (length (mine l w))) j Nothing) (omega arith)
-              ∙ segment-get f Nothing (c .acked) (length (mine l w)) k (omega arith) km in
-        ap placed is
-        ∙ edge-placed (f k) (docAt items l w k (c .taken)) (docAt items l w (suc k) (c .taken))
-        (line .grid .own-edge k (c .taken) (pending-good-c items l w served applied′ c v doc line k (omega arith) (omega arith)) km (line .seen-le k km))
-        (doc-most items w m l k (c .taken)) (doc-most items w m l (suc k) (c .taken)))
+      let k : ℕ = c .acked + i in
+      let km : k < length (mine l w) = omega arith in
+      let is : getD (c .pending) i Nothing ≡ f k =
+      ap (λ (es : List Edit). getD es i Nothing) (line .c-pending) ∙ ap (λ (j : ℕ). getD (Rattle.jupiter.proofs.Segment.segment f (c .acked) (length (mine l w))) j Nothing) (omega arith)
+      ∙ segment-get f Nothing (c .acked) (length (mine l w)) k (omega arith) km in
+      ap placed is
+      ∙ edge-placed (f k) (docAt items l w k (c .taken)) (docAt items l w (suc k) (c .taken))
+      (line .grid .own-edge k (c .taken) (pending-good-c items l w served applied′ c v doc line k (omega arith) (omega arith)) km (line .seen-le k km))
+      (doc-most items w m l k (c .taken)) (doc-most items w m l (suc k) (c .taken)))
 
   pub server-placed : allPlaced (v .pending) ≡ true
   server-placed =
@@ -115,12 +115,12 @@ module _ (items : List ℕ) (l : ℕ) (w served applied′ : List (Made edits)) 
       let len : length (v .pending) ≡ length (others l w) - v .acked = ap length (line .v-pending) ∙ segment-length f (v .acked) (length (others l w)) in
       placed-all (v .pending)
       (λ i lt.
-        let k : ℕ = v .acked + i in
-        let km : k < length (others l w) = omega arith in
-        let is : getD (v .pending) i Nothing ≡ f k =
-              ap (λ (es : List Edit). getD es i Nothing) (line .v-pending) ∙ ap (λ (j : ℕ). getD (Rattle.jupiter.proofs.Segment.segment f (v .acked) (length (others l w))) j Nothing) (omega arith)
-              ∙ segment-get f Nothing (v .acked) (length (others l w)) k (omega arith) km in
-        ap placed is
-        ∙ edge-placed (f k) (docAt items l w (v .taken) k) (docAt items l w (v .taken) (suc k))
-        (line .grid .oth-edge (v .taken) k (pending-good-v items l w served applied′ c v doc line k (omega arith) (omega arith)) km (line .lag-le k km))
-        (doc-most items w m l (v .taken) k) (doc-most items w m l (v .taken) (suc k)))
+      let k : ℕ = v .acked + i in
+      let km : k < length (others l w) = omega arith in
+      let is : getD (v .pending) i Nothing ≡ f k =
+      ap (λ (es : List Edit). getD es i Nothing) (line .v-pending) ∙ ap (λ (j : ℕ). getD (Rattle.jupiter.proofs.Segment.segment f (v .acked) (length (others l w))) j Nothing) (omega arith)
+      ∙ segment-get f Nothing (v .acked) (length (others l w)) k (omega arith) km in
+      ap placed is
+      ∙ edge-placed (f k) (docAt items l w (v .taken) k) (docAt items l w (v .taken) (suc k))
+      (line .grid .oth-edge (v .taken) k (pending-good-v items l w served applied′ c v doc line k (omega arith) (omega arith)) km (line .lag-le k km))
+      (doc-most items w m l (v .taken) k) (doc-most items w m l (v .taken) (suc k)))

@@ -232,7 +232,7 @@ module _ (n : ℕ) (items : List ℕ) (s : State ours) (sim : Sim n items s) whe
       let there = between-true 1 n k (q4 .1) in
       let same = line-of k (there .0) (there .1) in
       let number : m .number ≡ suc (E .lines k .taken) =
-            eqb-true (m .number) (lineOf S k .taken + 1) (y .1 .1 .1 .0) ∙ add-one (lineOf S k .taken) ∙ ap (λ (v : Line). suc (v .taken)) same in
+      eqb-true (m .number) (lineOf S k .taken + 1) (y .1 .1 .1 .0) ∙ add-one (lineOf S k .taken) ∙ ap (λ (v : Line). suc (v .taken)) same in
       let low : E .lines k .acked ≤ m .seen = subst (λ (v : Line). v .acked ≤ m .seen) same (leb-true (lineOf S k .acked) (m .seen) (y .1 .1 .1 .1 .0)) in
       subst (λ (v : Line). Sim n items (record { ends = at 0 (server (serverTaken S k (m .seen) (m .edit))) (s .ends); messages = s .messages; passed = s .passed ++ ((v .made - m .seen) ∷ []); recorded = logged w c }))
       (sym same)
@@ -314,14 +314,15 @@ module _ (n : ℕ) (items : List ℕ) (s : State ours) (sim : Sim n items s) whe
 
       pub up-ok : LetterOk items E h (up l (ends.message k (E .clients l)))
       up-ok =
-          let place : k - suc (E .clients l .acked) < length (E .clients l .pending) = omega (arith, F .count) in
-          (up-message items E h (sim .inv) l k low high,
-          fits-range (record { line = l; direction = 0; number = k; seen = E .clients l .taken }) (getD (E .clients l .pending) (k - suc (E .clients l .acked)) Nothing) (eqb l)
-          (up-range l k (E .clients l .taken) lo (omega (arith, F .lines .1)) (omega arith) (omega (arith, F .made)) (F .taken))
-          (placed-get (E .clients l .pending) (k - suc (E .clients l .acked)) place (F .placed))
-          (priority-get (eqb l) (E .clients l .pending) (k - suc (E .clients l .acked)) place (F .priorities))
-          (λ r e. let z : l ≡ r = eqb-true l r e in (omega arith, omega (arith, F .lines .1)))
-          (all-get Small (E .clients l .pending) (k - suc (E .clients l .acked)) Nothing place (sim .client-small l)))
+          let place : k - suc (E .clients l .acked) < length (E .clients l .pending) = omega (arith, F .count) in (
+            up-message items E h (sim .inv) l k low high,
+            fits-range (record { line = l; direction = 0; number = k; seen = E .clients l .taken }) (getD (E .clients l .pending) (k - suc (E .clients l .acked)) Nothing) (eqb l)
+                (up-range l k (E .clients l .taken) lo (omega (arith, F .lines .1)) (omega arith) (omega (arith, F .made)) (F .taken))
+                (placed-get (E .clients l .pending) (k - suc (E .clients l .acked)) place (F .placed))
+                (priority-get (eqb l) (E .clients l .pending) (k - suc (E .clients l .acked)) place (F .priorities))
+                (λ r e. let z : l ≡ r = eqb-true l r e in (omega arith, omega (arith, F .lines .1)))
+                (all-get Small (E .clients l .pending) (k - suc (E .clients l .acked)) Nothing place (sim .client-small l)),
+          )
 
     client-sends : (line k : ℕ) (lent : List ℕ) → Sim n items (written ours s (send l line k lent) (sendClient (clientFrom n l (E .clients l) (E .docs l) (sim .ci l)) line k lent))
     unfolding sendClient logged refusedLog
@@ -329,10 +330,10 @@ module _ (n : ℕ) (items : List ℕ) (s : State ours) (sim : Sim n items s) whe
         let C = clientFrom n l (E .clients l) (E .docs l) (sim .ci l) in
         post (send l line k lent) (asks (sendClientQuestions C line k lent)) (bytesOf (clientMessage C k)) lent (editLetter h l line k) refl refl
         (λ z.
-          let y = yes-all (sendClientQuestions C line k lent) (omega arith) z in
-          let q13 = between-true (E .clients l .acked + 1) (E .clients l .made) k (y .1 .1 .0) in
-          let low : E .clients l .acked < k = omega arith in
-          (subst (LetterOk items E h) (sym (up-is k low (q13 .1) line)) (up-ok k low (q13 .1)), up-bytes k low (q13 .1) ∙ ap letterBytes (sym (up-is k low (q13 .1) line))))
+        let y = yes-all (sendClientQuestions C line k lent) (omega arith) z in
+        let q13 = between-true (E .clients l .acked + 1) (E .clients l .made) k (y .1 .1 .0) in
+        let low : E .clients l .acked < k = omega arith in
+        (subst (LetterOk items E h) (sym (up-is k low (q13 .1) line)) (up-ok k low (q13 .1)), up-bytes k low (q13 .1) ∙ ap letterBytes (sym (up-is k low (q13 .1) line))))
         (sendClient C line k lent) (posted (asks (sendClientQuestions C line k lent)) (bytesOf (clientMessage C k)) lent)
 
     client-tells : (line : ℕ) (lent : List ℕ) → Sim n items (written ours s (tell l line lent) (tellClient (clientFrom n l (E .clients l) (E .docs l) (sim .ci l)) line lent))
@@ -341,9 +342,10 @@ module _ (n : ℕ) (items : List ℕ) (s : State ours) (sim : Sim n items s) whe
         let C = clientFrom n l (E .clients l) (E .docs l) (sim .ci l) in
         let is = client-ack-letter h l line (E .clients l .taken) lo (sim .taken l) in
         post (tell l line lent) (asks (tellClientQuestions C line lent)) (bytesOf (message.Ack l 0 (E .clients l .taken))) lent (ackLetter h l line) refl refl
-        (λ z.
-          (subst (LetterOk items E h) (sym is) (le-refl (E .clients l .taken), up-ack-range l (E .clients l .taken) lo (omega (arith, F .lines .1)) (F .taken)),
-          ap letterBytes (sym is)))
+        (λ z. (
+          subst (LetterOk items E h) (sym is) (le-refl (E .clients l .taken), up-ack-range l (E .clients l .taken) lo (omega (arith, F .lines .1)) (F .taken)),
+          ap letterBytes (sym is),
+        ))
         (tellClient C line lent) (posted (asks (tellClientQuestions C line lent)) (bytesOf (message.Ack l 0 (E .clients l .taken))) lent)
 
   -- the server sends edit number k to client l
@@ -369,14 +371,15 @@ module _ (n : ℕ) (items : List ℕ) (s : State ours) (sim : Sim n items s) whe
 
       pub down-ok : LetterOk items E h (down l (ends.message k (E .lines l)))
       down-ok =
-          let place : k - suc (E .lines l .acked) < length (E .lines l .pending) = omega (arith, K .count) in
-          (down-message items E h (sim .inv) l k low high,
-          fits-range (record { line = l; direction = 1; number = k; seen = E .lines l .taken }) (getD (E .lines l .pending) (k - suc (E .lines l .acked)) Nothing) (other n l)
-          (down-range l k (E .lines l .taken) lo (omega (arith, G .n .1)) (omega arith) (omega (arith, subst (λ (v : Line). v .made ≤ 2800) (line-of l lo hi) (made-most S G l lo hi))) (K .taken))
-          (placed-get (E .lines l .pending) (k - suc (E .lines l .acked)) place (K .placed))
-          (priority-get (other n l) (E .lines l .pending) (k - suc (E .lines l .acked)) place (K .priorities))
-          (λ r e. let z = between-true 1 n r (and-left (between 1 n r) (not (eqb r l)) e) in (z .0, omega (arith, G .n .1)))
-          (all-get Small (E .lines l .pending) (k - suc (E .lines l .acked)) Nothing place (sim .server-small l)))
+          let place : k - suc (E .lines l .acked) < length (E .lines l .pending) = omega (arith, K .count) in (
+            down-message items E h (sim .inv) l k low high,
+            fits-range (record { line = l; direction = 1; number = k; seen = E .lines l .taken }) (getD (E .lines l .pending) (k - suc (E .lines l .acked)) Nothing) (other n l)
+                (down-range l k (E .lines l .taken) lo (omega (arith, G .n .1)) (omega arith) (omega (arith, subst (λ (v : Line). v .made ≤ 2800) (line-of l lo hi) (made-most S G l lo hi))) (K .taken))
+                (placed-get (E .lines l .pending) (k - suc (E .lines l .acked)) place (K .placed))
+                (priority-get (other n l) (E .lines l .pending) (k - suc (E .lines l .acked)) place (K .priorities))
+                (λ r e. let z = between-true 1 n r (and-left (between 1 n r) (not (eqb r l)) e) in (z .0, omega (arith, G .n .1)))
+                (all-get Small (E .lines l .pending) (k - suc (E .lines l .acked)) Nothing place (sim .server-small l)),
+          )
 
     server-sends : (k : ℕ) (lent : List ℕ) → asks (sendServerQuestions S l k lent) ≡ 0 → LetterOk items E h (editLetter h 0 l k) × (bytesOf (serverMessage S l k) ≡ letterBytes (editLetter h 0 l k))
     server-sends k lent z =
@@ -388,17 +391,18 @@ module _ (n : ℕ) (items : List ℕ) (s : State ours) (sim : Sim n items s) whe
 
     server-tells : LetterOk items E h (ackLetter h 0 l) × (bytesOf (message.Ack l 1 (lineOf S l .taken)) ≡ letterBytes (ackLetter h 0 l))
     server-tells =
-        let is = server-ack-letter h l (E .lines l .taken) (sym (sim .inv .lines l .v-count)) in
-        (subst (LetterOk items E h) (sym is) (le-refl (E .lines l .taken), down-ack-range l (E .lines l .taken) lo (omega (arith, G .n .1)) (K .taken)),
-        ap (λ (v : Line). bytesOf (message.Ack l 1 (v .taken))) (line-of l lo hi) ∙ ap letterBytes (sym is))
+        let is = server-ack-letter h l (E .lines l .taken) (sym (sim .inv .lines l .v-count)) in (
+          subst (LetterOk items E h) (sym is) (le-refl (E .lines l .taken), down-ack-range l (E .lines l .taken) lo (omega (arith, G .n .1)) (K .taken)),
+          ap (λ (v : Line). bytesOf (message.Ack l 1 (v .taken))) (line-of l lo hi) ∙ ap letterBytes (sym is),
+        )
 
   server-posts : (line k : ℕ) (lent : List ℕ) → Sim n items (written ours s (send 0 line k lent) (sendServer S line k lent))
   unfolding sendServer logged refusedLog
   server-posts line k lent =
       post (send 0 line k lent) (asks (sendServerQuestions S line k lent)) (bytesOf (serverMessage S line k)) lent (editLetter h 0 line k) refl refl
       (λ z.
-        let there = between-true 1 n line (yes-all (sendServerQuestions S line k lent) (omega arith) z .1 .0) in
-        server-sends line (there .0) (there .1) k lent z)
+      let there = between-true 1 n line (yes-all (sendServerQuestions S line k lent) (omega arith) z .1 .0) in
+      server-sends line (there .0) (there .1) k lent z)
       (sendServer S line k lent) (posted (asks (sendServerQuestions S line k lent)) (bytesOf (serverMessage S line k)) lent)
 
   server-acks : (line : ℕ) (lent : List ℕ) → Sim n items (written ours s (tell 0 line lent) (tellServer S line lent))
@@ -406,8 +410,8 @@ module _ (n : ℕ) (items : List ℕ) (s : State ours) (sim : Sim n items s) whe
   server-acks line lent =
       post (tell 0 line lent) (asks (tellServerQuestions S line lent)) (bytesOf (message.Ack line 1 (lineOf S line .taken))) lent (ackLetter h 0 line) refl refl
       (λ z.
-        let there = between-true 1 n line (yes-all (tellServerQuestions S line lent) (omega arith) z .1 .0) in
-        server-tells line (there .0) (there .1))
+      let there = between-true 1 n line (yes-all (tellServerQuestions S line lent) (omega arith) z .1 .0) in
+      server-tells line (there .0) (there .1))
       (tellServer S line lent) (posted (asks (tellServerQuestions S line lent)) (bytesOf (message.Ack line 1 (lineOf S line .taken))) lent)
 
 -- ---- any call

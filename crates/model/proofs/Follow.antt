@@ -373,6 +373,7 @@ module _ (n : ℕ) (items : List ℕ) (s : State ours) (sim : Sim n items s) whe
                 sim .ci-is j
                 ∙ ap inserts (sym (L.select-out (isBy j) blank (h .served) o (h .untaken j) (o-not j e)))
                 ∙ ap (λ (r : List (Made edits)). inserts (mine j r)) (sym (append-assoc (h .served) (o ∷ []) (h .untaken j)))
+
             server-inserts : (j : ℕ) (b : Bool) → eqb l j ≡ b → cond b (sim .si l + insertsOf (x .edit)) (sim .si j) ≡ inserts (mine j (h .served ++ (o ∷ [])))
             server-inserts j true e =
                 subst (λ (i : ℕ). sim .si l + insertsOf (x .edit) ≡ inserts (mine i (h .served ++ (o ∷ [])))) (eqb-true l j e)

@@ -138,25 +138,41 @@ module _ (n : ℕ) (items : List ℕ) (s : State ours) (sim : Sim n items s) (fe
     unfolding sendServer
     down-sent =
         sent-all (asks (sendServerQuestions S l k lent)) (bytesOf (serverMessage S l k)) lent
-        (all-yes (sendServerQuestions S l k lent)
-        (sim .server-sound,
-        (true-between 1 n l lo hi,
-        (subst (λ (u : Line). between (u .acked + 1) (u .made) k ≡ true) (sym same-line) (true-between (v .acked + 1) (v .made) k (omega (arith, line .v-acked)) more),
-        (le-leb (length (bytesOf (serverMessage S l k))) (length lent) (omega (arith, short (serverMessage S l k))), tt)))))
+        (all-yes (sendServerQuestions S l k lent) (
+          sim .server-sound,
+          (
+            true-between 1 n l lo hi,
+            (
+              subst (λ (u : Line). between (u .acked + 1) (u .made) k ≡ true) (sym same-line) (true-between (v .acked + 1) (v .made) k (omega (arith, line .v-acked)) more),
+              (le-leb (length (bytesOf (serverMessage S l k))) (length lent) (omega (arith, short (serverMessage S l k))), tt),
+            ),
+          ),
+        ))
 
     down-priority : priority (other n l) (x .edit) ≡ true
     down-priority = priority-get (other n l) (v .pending) (k - suc (v .acked)) (omega (arith, K .count, line .v-acked)) (K .priorities)
 
     down-asks : asks (clientEditQuestions C hd (x .edit)) ≡ 0
     down-asks =
-        all-yes (clientEditQuestions C hd (x .edit))
-        (sim .client-sound l lo hi,
-        (both (eqb l l) (priority (other n l) (x .edit)) (eq-eqb l l refl) down-priority,
-        (lt-ltb (c .taken) k (le-refl k),
-        (eq-eqb k (c .taken + 1) (sym (add-one (c .taken))),
-        (le-leb (c .acked) (v .taken) (line .c-acked),
-        (down-8 x ok refl (line .c-acked),
-        (down-9 x ok refl (line .c-acked), tt)))))))
+        all-yes (clientEditQuestions C hd (x .edit)) (
+          sim .client-sound l lo hi,
+          (
+            both (eqb l l) (priority (other n l) (x .edit)) (eq-eqb l l refl) down-priority,
+            (
+              lt-ltb (c .taken) k (le-refl k),
+              (
+                eq-eqb k (c .taken + 1) (sym (add-one (c .taken))),
+                (
+                  le-leb (c .acked) (v .taken) (line .c-acked),
+                  (
+                    down-8 x ok refl (line .c-acked),
+                    (down-9 x ok refl (line .c-acked), tt),
+                  ),
+                ),
+              ),
+            ),
+          ),
+        )
 
     -- what was written reads as the message, and the client takes it
     down-taken : takeClient C (take (length (bytesOf (serverMessage S l k))) (bytesOf (serverMessage S l k) ++ drop (length (bytesOf (serverMessage S l k))) lent))
@@ -203,11 +219,13 @@ module _ (n : ℕ) (items : List ℕ) (s : State ours) (sim : Sim n items s) (fe
     up-inserts =
         first-untaken items edit-laws E h (sim .inv) l y okay following current (h .untaken l) refl (λ r. sim .si l + insertsOf (y .edit) ≤ maxInserts)
         (λ o us split.
-          omega (arith,
+        omega (
+          arith,
           client-more n items s sim few l,
           client-most n items s sim few l lo hi,
           ap inserts split ∙ inserts-cons o us,
-          first-inserts n items s sim l lo hi y okay following o us split))
+          first-inserts n items s sim l lo hi y okay following o us split,
+        ))
 
     pub up-8 : leb (y .seen) (lineOf S l .made) ≡ true
     up-8 = on-line (λ u. leb (y .seen) (u .made) ≡ true) (le-leb (y .seen) (v .made) (omega (arith, okay .seen-le, line .c-taken, line .v-made)))
@@ -250,11 +268,16 @@ module _ (n : ℕ) (items : List ℕ) (s : State ours) (sim : Sim n items s) (fe
     unfolding sendClient
     up-sent =
         sent-all (asks (sendClientQuestions C l up-k lent)) (bytesOf (clientMessage C up-k)) lent
-        (all-yes (sendClientQuestions C l up-k lent)
-        (sim .client-sound l lo hi,
-        (eq-eqb l l refl,
-        (true-between (c .acked + 1) (c .made) up-k (omega (arith, line .c-acked)) more,
-        (le-leb (length (bytesOf (clientMessage C up-k))) (length lent) (omega (arith, short (clientMessage C up-k))), tt)))))
+        (all-yes (sendClientQuestions C l up-k lent) (
+          sim .client-sound l lo hi,
+          (
+            eq-eqb l l refl,
+            (
+              true-between (c .acked + 1) (c .made) up-k (omega (arith, line .c-acked)) more,
+              (le-leb (length (bytesOf (clientMessage C up-k))) (length lent) (omega (arith, short (clientMessage C up-k))), tt),
+            ),
+          ),
+        ))
 
     up-roomy : othersRoomy (l - 1) (S .lines) ≡ true
     up-roomy =
@@ -263,17 +286,32 @@ module _ (n : ℕ) (items : List ℕ) (s : State ours) (sim : Sim n items s) (fe
 
     up-asks : asks (serverEditQuestions S up-hd (y .edit)) ≡ 0
     up-asks =
-        all-yes (serverEditQuestions S up-hd (y .edit))
-        (sim .server-sound,
-        (both (between 1 n l) (priority (eqb l) (y .edit)) (true-between 1 n l lo hi)
-        (priority-get (eqb l) (c .pending) (up-k - suc (c .acked)) (omega (arith, F .count, line .c-acked)) (F .priorities)),
-        (on-line (λ u. ltb (u .taken) up-k ≡ true) (lt-ltb (v .taken) up-k (le-refl up-k)),
-        (on-line (λ u. eqb up-k (u .taken + 1) ≡ true) (eq-eqb up-k (v .taken + 1) (sym (add-one (v .taken)))),
-        (on-line (λ u. leb (u .acked) (c .taken) ≡ true) (le-leb (v .acked) (c .taken) (line .v-acked)),
-        (up-8 y okay refl (line .v-acked),
-        (up-9 y okay refl (line .v-acked),
-        (up-10 y okay refl (line .v-acked),
-        (up-roomy, tt)))))))))
+        all-yes (serverEditQuestions S up-hd (y .edit)) (
+          sim .server-sound,
+          (
+            both (between 1 n l) (priority (eqb l) (y .edit)) (true-between 1 n l lo hi)
+                (priority-get (eqb l) (c .pending) (up-k - suc (c .acked)) (omega (arith, F .count, line .c-acked)) (F .priorities)),
+            (
+              on-line (λ u. ltb (u .taken) up-k ≡ true) (lt-ltb (v .taken) up-k (le-refl up-k)),
+              (
+                on-line (λ u. eqb up-k (u .taken + 1) ≡ true) (eq-eqb up-k (v .taken + 1) (sym (add-one (v .taken)))),
+                (
+                  on-line (λ u. leb (u .acked) (c .taken) ≡ true) (le-leb (v .acked) (c .taken) (line .v-acked)),
+                  (
+                    up-8 y okay refl (line .v-acked),
+                    (
+                      up-9 y okay refl (line .v-acked),
+                      (
+                        up-10 y okay refl (line .v-acked),
+                        (up-roomy, tt),
+                      ),
+                    ),
+                  ),
+                ),
+              ),
+            ),
+          ),
+        )
 
     up-taken : takeServer S (take (length (bytesOf (clientMessage C up-k))) (bytesOf (clientMessage C up-k) ++ drop (length (bytesOf (clientMessage C up-k))) lent))
         ≡ record { refusal = 0; end = serverTaken S l (c .taken) (y .edit); passed = lineOf S l .made - c .taken }
@@ -296,8 +334,8 @@ module _ (n : ℕ) (items : List ℕ) (s : State ours) (sim : Sim n items s) (fe
     pub delivers-up : Delivered ours (client C) (server S) l (suc (lineOf S l .taken)) lent
     delivers-up =
         subst (λ (u : Line). Delivered ours (client C) (server S) l (suc (u .taken)) lent) (sym same-line)
-          (record {
-            sends = ap (λ (r : Sent). r .refusal) up-sent;
-            takes = ap (λ (r : Sent). takeServer S (take (r .written) (r .buffer)) .refusal) up-sent ∙ ap (λ (r : Answer Server). r .refusal) up-taken;
-            rises = ap (λ (r : Sent). lineOf (takeServer S (take (r .written) (r .buffer)) .end) l .taken) up-sent ∙ ap (λ (r : Answer Server). lineOf (r .end) l .taken) up-taken ∙ up-rises;
-          })
+        (record {
+          sends = ap (λ (r : Sent). r .refusal) up-sent;
+          takes = ap (λ (r : Sent). takeServer S (take (r .written) (r .buffer)) .refusal) up-sent ∙ ap (λ (r : Answer Server). r .refusal) up-taken;
+          rises = ap (λ (r : Sent). lineOf (takeServer S (take (r .written) (r .buffer)) .end) l .taken) up-sent ∙ ap (λ (r : Answer Server). lineOf (r .end) l .taken) up-taken ∙ up-rises;
+        })

@@ -90,28 +90,44 @@ module _ (n : ℕ) (items : List ℕ) (s : State ours) (sim : Sim n items s) (fe
         → Allowed (asks (clientEditQuestions C (record { line = k; direction = direction; number = m .number; seen = m .seen }) (m .edit)))
     unfolding among
     edit-refusals k direction m fine =
-        only (clientEditQuestions C (record { line = k; direction = direction; number = m .number; seen = m .seen }) (m .edit))
-        (surely (soundClient C) (sim .client-sound l lo hi), λ y2.
-        (λ f. refl, λ y4.
-        (λ f. refl, λ y5.
-        (λ f. refl, λ y6.
-        (λ f. refl, λ y7.
-          let q4 = three (eqb direction 1) (eqb k l) (priority (other n l) (m .edit)) y4 in
-          let ok : DownMessage items E h l m = subst (λ (i : ℕ). DownMessage items E h i m) (eqb-true k l (q4 .1)) (fine (eqb-true direction 1 (q4 .0))) in
-          let next : m .number ≡ suc (E .clients l .taken) = eqb-true (m .number) (E .clients l .taken + 1) y6 ∙ add-one (E .clients l .taken) in
-          let cur = leb-true (E .clients l .acked) (m .seen) y7 in
-          (surely (leb (m .seen) (E .clients l .made)) (down-8 n items s sim few l lo hi m ok next cur), λ y8. (surely _ (down-9 n items s sim few l lo hi m ok next cur), λ y9. tt)))))))
+        only (clientEditQuestions C (record { line = k; direction = direction; number = m .number; seen = m .seen }) (m .edit)) (
+          surely (soundClient C) (sim .client-sound l lo hi),
+          λ y2. (
+            λ f. refl,
+            λ y4. (
+              λ f. refl,
+              λ y5. (
+                λ f. refl,
+                λ y6. (
+                  λ f. refl,
+                  λ y7.
+                      let q4 = three (eqb direction 1) (eqb k l) (priority (other n l) (m .edit)) y4 in
+                      let ok : DownMessage items E h l m = subst (λ (i : ℕ). DownMessage items E h i m) (eqb-true k l (q4 .1)) (fine (eqb-true direction 1 (q4 .0))) in
+                      let next : m .number ≡ suc (E .clients l .taken) = eqb-true (m .number) (E .clients l .taken + 1) y6 ∙ add-one (E .clients l .taken) in
+                      let cur = leb-true (E .clients l .acked) (m .seen) y7 in
+                      (surely (leb (m .seen) (E .clients l .made)) (down-8 n items s sim few l lo hi m ok next cur), λ y8. (surely _ (down-9 n items s sim few l lo hi m ok next cur), λ y9. tt)),
+                ),
+              ),
+            ),
+          ),
+        )
 
     ack-refusals : (k direction seen : ℕ) → (direction ≡ 1 → seen ≤ E .lines k .taken) → Allowed (asks (clientAckQuestions C k direction seen))
     unfolding among
     ack-refusals k direction seen fine =
-        only (clientAckQuestions C k direction seen)
-        (surely (soundClient C) (sim .client-sound l lo hi), λ y2.
-        (λ f. refl, λ y4.
-        (λ f. refl, λ y7.
-          let same : k ≡ l = eqb-true k l (and-right (eqb direction 1) (eqb k l) y4) in
-          let most : seen ≤ E .lines l .taken = subst (λ (i : ℕ). seen ≤ E .lines i .taken) same (fine (eqb-true direction 1 (and-left (eqb direction 1) (eqb k l) y4))) in
-          (surely (leb seen (E .clients l .made)) (le-leb seen (E .clients l .made) (omega (arith, sim .inv .lines l .line .v-taken, sim .inv .lines l .line .c-made))), λ y8. tt))))
+        only (clientAckQuestions C k direction seen) (
+          surely (soundClient C) (sim .client-sound l lo hi),
+          λ y2. (
+            λ f. refl,
+            λ y4. (
+              λ f. refl,
+              λ y7.
+                  let same : k ≡ l = eqb-true k l (and-right (eqb direction 1) (eqb k l) y4) in
+                  let most : seen ≤ E .lines l .taken = subst (λ (i : ℕ). seen ≤ E .lines i .taken) same (fine (eqb-true direction 1 (and-left (eqb direction 1) (eqb k l) y4))) in
+                  (surely (leb seen (E .clients l .made)) (le-leb seen (E .clients l .made) (omega (arith, sim .inv .lines l .line .v-taken, sim .inv .lines l .line .c-made))), λ y8. tt),
+            ),
+          ),
+        )
 
     letter-refusals : (x : Letter edits) → LetterOk items E h x → Allowed (clientTakes C (letterMessage x) .refusal)
     unfolding clientTakesEdit clientTakesAck
@@ -137,34 +153,56 @@ module _ (n : ℕ) (items : List ℕ) (s : State ours) (sim : Sim n items s) (fe
       → Allowed (asks (serverEditQuestions S (record { line = k; direction = direction; number = m .number; seen = m .seen }) (m .edit)))
   unfolding among
   serve-refusals k direction m fine =
-      only (serverEditQuestions S (record { line = k; direction = direction; number = m .number; seen = m .seen }) (m .edit))
-      (surely (soundServer S) (sim .server-sound), λ y2.
-      (λ f. refl, λ y4.
-      (λ f. refl, λ y5.
-      (λ f. refl, λ y6.
-      (λ f. refl, λ y7.
-        let q4 = three (eqb direction 0) (between 1 n k) (priority (eqb k) (m .edit)) y4 in
-        let there = between-true 1 n k (q4 .1) in
-        let same = line-of k (there .0) (there .1) in
-        let ok = fine (eqb-true direction 0 (q4 .0)) in
-        let next : m .number ≡ suc (E .lines k .taken) = eqb-true (m .number) (lineOf S k .taken + 1) y6 ∙ add-one (lineOf S k .taken) ∙ ap (λ (v : Line). suc (v .taken)) same in
-        let cur : E .lines k .acked ≤ m .seen = subst (λ (v : Line). v .acked ≤ m .seen) same (leb-true (lineOf S k .acked) (m .seen) y7) in
-        (surely _ (up-8 n items s sim few k (there .0) (there .1) m ok next cur), λ y8.
-        (surely _ (up-9 n items s sim few k (there .0) (there .1) m ok next cur), λ y9.
-        (surely _ (up-10 n items s sim few k (there .0) (there .1) m ok next cur), λ y10. (λ f. refl, λ y12. tt)))))))))
+      only (serverEditQuestions S (record { line = k; direction = direction; number = m .number; seen = m .seen }) (m .edit)) (
+        surely (soundServer S) (sim .server-sound),
+        λ y2. (
+          λ f. refl,
+          λ y4. (
+            λ f. refl,
+            λ y5. (
+              λ f. refl,
+              λ y6. (
+                λ f. refl,
+                λ y7.
+                    let q4 = three (eqb direction 0) (between 1 n k) (priority (eqb k) (m .edit)) y4 in
+                    let there = between-true 1 n k (q4 .1) in
+                    let same = line-of k (there .0) (there .1) in
+                    let ok = fine (eqb-true direction 0 (q4 .0)) in
+                    let next : m .number ≡ suc (E .lines k .taken) = eqb-true (m .number) (lineOf S k .taken + 1) y6 ∙ add-one (lineOf S k .taken) ∙ ap (λ (v : Line). suc (v .taken)) same in
+                    let cur : E .lines k .acked ≤ m .seen = subst (λ (v : Line). v .acked ≤ m .seen) same (leb-true (lineOf S k .acked) (m .seen) y7) in (
+                      surely _ (up-8 n items s sim few k (there .0) (there .1) m ok next cur),
+                      λ y8. (
+                        surely _ (up-9 n items s sim few k (there .0) (there .1) m ok next cur),
+                        λ y9.
+                            (surely _ (up-10 n items s sim few k (there .0) (there .1) m ok next cur), λ y10. (λ f. refl, λ y12. tt)),
+                      ),
+                    ),
+              ),
+            ),
+          ),
+        ),
+      )
 
   serve-ack-refusals : (k direction seen : ℕ) → (direction ≡ 0 → seen ≤ E .clients k .taken) → Allowed (asks (serverAckQuestions S k direction seen))
   unfolding among
   serve-ack-refusals k direction seen fine =
-      only (serverAckQuestions S k direction seen)
-      (surely (soundServer S) (sim .server-sound), λ y2.
-      (λ f. refl, λ y4.
-      (λ f. refl, λ y7.
-        let there = between-true 1 n k (and-right (eqb direction 0) (between 1 n k) y4) in
-        let most = fine (eqb-true direction 0 (and-left (eqb direction 0) (between 1 n k) y4)) in
-        (surely (leb seen (lineOf S k .made))
-        (subst (λ (v : Line). leb seen (v .made) ≡ true) (sym (line-of k (there .0) (there .1)))
-        (le-leb seen (E .lines k .made) (omega (arith, sim .inv .lines k .line .c-taken, sim .inv .lines k .line .v-made)))), λ y8. tt))))
+      only (serverAckQuestions S k direction seen) (
+        surely (soundServer S) (sim .server-sound),
+        λ y2. (
+          λ f. refl,
+          λ y4. (
+            λ f. refl,
+            λ y7.
+                let there = between-true 1 n k (and-right (eqb direction 0) (between 1 n k) y4) in
+                let most = fine (eqb-true direction 0 (and-left (eqb direction 0) (between 1 n k) y4)) in (
+                  surely (leb seen (lineOf S k .made))
+                      (subst (λ (v : Line). leb seen (v .made) ≡ true) (sym (line-of k (there .0) (there .1)))
+                      (le-leb seen (E .lines k .made) (omega (arith, sim .inv .lines k .line .c-taken, sim .inv .lines k .line .v-made)))),
+                  λ y8. tt,
+                ),
+          ),
+        ),
+      )
 
   serve-letter-refusals : (x : Letter edits) → LetterOk items E h x → Allowed (serverTakes S (letterMessage x) .refusal)
   unfolding serverTakesEdit serverTakesAck

@@ -134,6 +134,7 @@ server-taken-from n initial items vs is l a b x =
         subst (λ (k : ℕ). lineTaken (x .seen) (x .edit) (lineFrom (vs k) (is k)) ≡ lineFrom (takes x (vs l)) (is l + insertsOf (x .edit))) (eqb-true l j e)
         (rw (add-one (vs l .taken), over-same (x .edit) (drop (x .seen - vs l .acked) (vs l .pending))))
     one j c q false e = rw (add-one (vs j .made), q)
+
     lines : (c : Edit) → c ≡ arrived x (vs l)
         → atPlace (l - 1) (lineTaken (x .seen) (x .edit)) (lineKeeps c) (table (λ j. lineFrom (vs j) (is j)) 1 n)
         ≡ table (λ j. lineFrom (at l (takes x (vs l)) (λ k. keeps (arrived x (vs l)) (vs k)) j) (at l (is l + insertsOf (x .edit)) is j)) 1 n
@@ -153,6 +154,7 @@ server-acked-from n initial items vs is l a b seen = λ i. record { n = n; initi
         → cond y (lineAcked seen (lineFrom (vs j) (is j))) (lineFrom (vs j) (is j)) ≡ lineFrom (cond y (acks seen (vs l)) (vs j)) (is j)
     one j true e = subst (λ (k : ℕ). lineAcked seen (lineFrom (vs k) (is k)) ≡ lineFrom (acks seen (vs l)) (is k)) (eqb-true l j e) refl
     one j false e = refl
+
     lines : atPlace (l - 1) (lineAcked seen) (λ v. v) (table (λ j. lineFrom (vs j) (is j)) 1 n)
         ≡ table (λ j. lineFrom (at l (acks seen (vs l)) vs j) (is j)) 1 n
     lines =
