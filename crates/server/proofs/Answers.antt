@@ -1,6 +1,4 @@
 -- The answers of each call: what the code returns at each of its ends is what the definition says.
-
--- ---- questions
 use mathlib.Core.Path.{_≡_, refl, ap, sym, _∙_}
 use mathlib.Core.Bool.{Bool, true, false, _&&_, cond}
 use mathlib.Core.List.{List, [], _∷_, _++_, map}
@@ -36,6 +34,8 @@ use Rattle.server.specs.Calls.{refused, answered, opened, sends, tells}
 use Rattle.server.proofs.Places.{blank}
 use Rattle.server.proofs.Whole.{used}
 use Rattle.server.proofs.Lines.{place-set, place-id, means, lines-count, items-are, len-is, at-view, store-line, place-used, line-of}
+
+-- ---- questions
 
 pub asks-yes : (k : ℕ) (b : Bool) (rest : List Question) → b ≡ true → asks (ask k b ∷ rest) ≡ asks rest
 asks-yes k b rest e = ap (λ (t : Bool). cond t (asks rest) k) e

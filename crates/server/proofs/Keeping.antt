@@ -1,6 +1,4 @@
 -- The server keeps an edit for every line but one: the loop over the lines.
-
--- the struct with other lines
 use mathlib.Core.Path.{_≡_, ap, sym, _∙_, subst}
 use mathlib.Core.Bool.{true}
 use mathlib.Core.List.{List, [], _∷_, _++_, map}
@@ -28,6 +26,7 @@ use Rattle.server.proofs.Whole.{used}
 use Rattle.server.proofs.Lines.{getD-default, place-same, place-other, facts, lines-few, lines-count, lines-are, items-are, len-is, lines-eight, at-view, at-store, at-facts, at-kept}
 use Rattle.server.proofs.Roomy.{room-at}
 
+-- the struct with other lines
 abbrev pub withLines : Server → List Line → Server
 withLines s l = record { n = s .n; initial = s .initial; len = s .len; items = s .items; lines = l }
 

@@ -1,6 +1,4 @@
 -- What is known of the lines of a sound struct.
-
--- ---- lists
 use mathlib.Core.Path.{_≡_, refl, ap, sym, _∙_, subst}
 use mathlib.Core.Bool.{true}
 use mathlib.Core.List.{List, [], _∷_, _++_, map, map-id}
@@ -21,6 +19,8 @@ use Rattle.server.specs.View.{viewLine, view, storeLine, store}
 use Rattle.server.specs.Sound.{structTests, soundStruct, Sound, KeptLine}
 use Rattle.server.proofs.Places.{blank}
 use Rattle.server.proofs.Whole.{used}
+
+-- ---- lists
 
 module _ {A : Type 0} where
   pub getD-default : (l : List A) (i : ℕ) (d e : A) → i < length l → getD l i d ≡ getD l i e

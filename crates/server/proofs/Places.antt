@@ -1,6 +1,4 @@
 -- Question 2 about the places of the lines: what the code computes for one place is its definition, and one turn of each loop.
-
--- what lies past an array's end
 use mathlib.Core.Path.{_≡_, refl, ap, sym, _∙_, subst}
 use mathlib.Core.Bool.{Bool, true, false, _&&_, cond}
 use mathlib.Core.List.{List, [], _∷_, _++_, map, map-append}
@@ -23,6 +21,7 @@ use Rattle.server.specs.View.{viewLine}
 use Rattle.server.specs.Sound.{tidyLine, countsSound, countsZero, zeroLine, soundPlace, soundPlaces, KeptLine, KeptLines}
 use Rattle.server.proofs.Bools.{bool-ext, and-assoc, and-true}
 
+-- what lies past an array's end
 abbrev pub blank : Line
 blank = record { made = 0; taken = 0; acked = 0; inserts = 0; pending = [] }
 

@@ -1,6 +1,4 @@
 -- Question 12: the loop over the lines, and what it says of one of them.
-
--- the lines from place i on, but for the one at place at
 use mathlib.Core.Path.{_≡_, refl, ap, sym, _∙_}
 use mathlib.Core.Bool.{Bool, true, _&&_, _||_}
 use mathlib.Core.List.{List, [], _∷_, map}
@@ -17,6 +15,7 @@ use Rattle.model.specs.Server as model
 use Rattle.model.proofs.Tests.{and-left, and-right}
 use Rattle.server.proofs.Bools.{and-assoc, and-true}
 
+-- the lines from place i on, but for the one at place at
 unfoldable pub roomyFrom : ℕ → ℕ → List model.Line → Bool
 roomyFrom at i [] = true
 roomyFrom at i (v ∷ vs) = (eqb i at || model.roomy v) && roomyFrom at (suc i) vs

@@ -1,6 +1,4 @@
 -- The struct for a sound end is sound, and means that end: what carries a run of the model over to the structs.
-
--- ---- one line
 use mathlib.Core.Path.{_≡_, refl, ap, sym, _∙_}
 use mathlib.Core.Bool.{true}
 use mathlib.Core.List.{List, [], _∷_, map}
@@ -25,6 +23,8 @@ use Rattle.server.specs.declared.Line.{Line}
 use Rattle.server.specs.declared.Server.{Server}
 use Rattle.server.specs.View.{viewLine, view, storeLine, store}
 use Rattle.server.specs.Sound.{tidyLine, zeroLine, structTests, soundStruct}
+
+-- ---- one line
 
 line-means : (n sum l : ℕ) (v : model.Line) → LineFacts n sum l v → viewLine (storeLine v) ≡ v
 line-means n sum l v f =

@@ -1,6 +1,4 @@
 -- What the code of question 2 computes is its definition, and a struct that passes it is the one for its meaning.
-
--- the lines in use
 use mathlib.Core.Path.{_≡_, refl, ap, sym, _∙_}
 use mathlib.Core.Bool.{Bool, true, _&&_}
 use mathlib.Core.List.{List, [], _∷_, map}
@@ -26,6 +24,7 @@ use Rattle.server.specs.Sound.{tidyLine, countsZero, zeroLine, soundPlac
 use Rattle.server.proofs.Bools.{bool-ext, and-assoc, and-true}
 use Rattle.server.proofs.Places.{all-places}
 
+-- the lines in use
 abbrev pub used : Server → List model.Line
 used s = map viewLine (take (s .n) (s .lines))
 

@@ -1,6 +1,4 @@
 -- Question 2 about the server's struct: its meaning is sound, and the places that are not in use are zero.
-
--- the slots of a line that are not in use hold nothing
 use mathlib.Core.Path.{_≡_}
 use mathlib.Core.Bool.{Bool, true, _&&_, cond}
 use mathlib.Core.List.{List, [], _∷_, map}
@@ -17,6 +15,7 @@ use Rattle.server.specs.declared.Server.{Server}
 use Rattle.server.specs.declared.Sums.{Sums}
 use Rattle.server.specs.View.{viewLine, view, store}
 
+-- the slots of a line that are not in use hold nothing
 abbrev pub tidyLine : Line → Bool
 tidyLine v = allNothing (drop (v .made - v .acked) (edits (v .pending)))
 

@@ -1,6 +1,4 @@
 -- What the parts of taking an edit may assume, and what they give.
-
--- every line but the one at place at, counted from 0, keeps the edit
 use mathlib.Core.Path.{_≡_}
 use mathlib.Core.Bool.{true, _&&_}
 use Prim.Native.Nat.{ℕ, _+_, _-_, _≤_}
@@ -19,6 +17,7 @@ use Rattle.server.specs.declared.Server.{Server}
 use Rattle.server.specs.View.{view}
 use Rattle.server.specs.Sound.{Sound}
 
+-- every line but the one at place at, counted from 0, keeps the edit
 abbrev pub keptBy : model.Server → ℕ → Edit → model.Server
 keptBy m at e =
     record { n = m .n; initial = m .initial; items = m .items; lines = model.atPlace at (λ v. v) (model.lineKeeps e) (m .lines) }

@@ -1,6 +1,4 @@
 -- What the server's struct means as an end over lists, and the one struct for such an end.
-
--- the pending edits stand in the first made - acked slots
 use mathlib.Core.List.{map}
 use Prim.Native.Nat.{_-_}
 use lib.ListN.{length, take}
@@ -11,6 +9,7 @@ use Rattle.pending.specs.Slots.{usedEdits, filled}
 use Rattle.server.specs.declared.Line.{Line}
 use Rattle.server.specs.declared.Server.{Server}
 
+-- the pending edits stand in the first made - acked slots
 abbrev pub viewLine : Line → model.Line
 viewLine v =
     record {
