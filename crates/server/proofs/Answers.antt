@@ -1,5 +1,5 @@
 -- The answers of each call: what the code returns at each of its ends is what the definition says.
-use mathlib.Core.Path.{_≡_, refl, ap, sym, _∙_, subst}
+use mathlib.Core.Path.{_≡_, refl, ap, sym, _∙_}
 use mathlib.Core.Bool.{Bool, true, false, _&&_, cond}
 use mathlib.Core.List.{List, [], _∷_, _++_, map}
 use Prim.Native.Nat.{ℕ, zero, suc, _+_, _-_, _≤_, _<_}
@@ -11,16 +11,16 @@ use lib.Seq.{getD-take, take-all}
 use borrow.Author.Tests.{ne-eqb, eqb-false, leb-true, ltb-true}
 use Rattle.ot.specs.declared.Edit.{Edit}
 use Rattle.ot.specs.declared.Edit.the-variants.{Nothing}
+use Rattle.ot.specs.Items.{padded}
 use Rattle.wire.specs.declared.Message.{Message}
 use Rattle.wire.specs.declared.Message.the-variants as message
 use Rattle.wire.specs.Message.{messageOf}
 use Rattle.wire.specs.Bytes.{bytesOf}
-use Rattle.ot.specs.Items.{padded}
 use Rattle.model.specs.Limits.{maxLines, maxItems, maxInitial}
 use Rattle.model.specs.Questions.{Question, ask, asks, every, between, Answer, answer, sent}
 use Rattle.model.specs.Client.{pendingAt}
 use Rattle.model.specs.Server as model
-use Rattle.model.proofs.Tests.{both, and-left, and-right, yes-all, between-true}
+use Rattle.model.proofs.Tests.{and-left, and-right, yes-all}
 use Rattle.pending.specs.declared.Slot.{Slot}
 use Rattle.pending.specs.Slots.{edits, usedEdits, filled}
 use Rattle.endpoint.specs.Items.{initialItems}
@@ -28,13 +28,12 @@ use Rattle.endpoint.specs.Line.{seenQuestions}
 use Rattle.endpoint.specs.Sending.{answered as sentAs, finished}
 use Rattle.server.specs.declared.Line.{Line}
 use Rattle.server.specs.declared.Server.{Server}
-use Rattle.server.specs.declared.Answer as struct
 use Rattle.server.specs.View.{viewLine, view, storeLine, store}
 use Rattle.server.specs.Sound.{soundStruct, Sound}
-use Rattle.server.specs.Calls.{refused, answered, opened, sends, tells, takes}
+use Rattle.server.specs.Calls.{refused, answered, opened, sends, tells}
 use Rattle.server.proofs.Places.{blank}
 use Rattle.server.proofs.Whole.{used}
-use Rattle.server.proofs.Lines.{place-set, place-id, means, lines-count, lines-are, items-are, len-is, at-view, store-line, place-used, line-of}
+use Rattle.server.proofs.Lines.{place-set, place-id, means, lines-count, items-are, len-is, at-view, store-line, place-used, line-of}
 
 -- ---- questions
 

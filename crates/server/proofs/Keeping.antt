@@ -1,11 +1,11 @@
 -- The server keeps an edit for every line but one: the loop over the lines.
-use mathlib.Core.Path.{_≡_, refl, ap, sym, _∙_, subst}
-use mathlib.Core.Bool.{Bool, true}
+use mathlib.Core.Path.{_≡_, ap, sym, _∙_, subst}
+use mathlib.Core.Bool.{true}
 use mathlib.Core.List.{List, [], _∷_, _++_, map}
-use Prim.Native.Nat.{ℕ, zero, suc, _+_, _-_, _*_, _≤_, _<_, min}
+use Prim.Native.Nat.{ℕ, suc, _+_, _-_, _*_, _≤_, _<_, min}
 use native.Mathlib.Numerals.{add-one}
 use native.Mathlib.Omega.{arith}
-use lib.ListN.{length, getD, take, drop, set, replicate, length-map, List·getD-map, List·getD-append}
+use lib.ListN.{length, getD, drop, set, replicate, length-map, List·getD-map, List·getD-append}
 use lib.Seq.{set-getD}
 use Rattle.ot.specs.declared.Edit.{Edit}
 use Rattle.ot.proofs.Sweep.{swept, swept-read, swept-store, swept-to}
@@ -20,7 +20,7 @@ use Rattle.server.specs.declared.Line.{Line}
 use Rattle.server.specs.declared.Server.{Server}
 use Rattle.server.specs.View.{viewLine, view, storeLine, store}
 use Rattle.server.specs.Sound.{Sound, KeptLine}
-use Rattle.server.specs.Taking.{keptBy, Keeps}
+use Rattle.server.specs.Taking.{keptBy}
 use Rattle.server.proofs.Places.{blank}
 use Rattle.server.proofs.Whole.{used}
 use Rattle.server.proofs.Lines.{getD-default, place-same, place-other, facts, lines-few, lines-count, lines-are, items-are, len-is, lines-eight, at-view, at-store, at-facts, at-kept}

@@ -1,10 +1,10 @@
 -- What is known of the lines of a sound struct.
 use mathlib.Core.Path.{_≡_, refl, ap, sym, _∙_, subst}
-use mathlib.Core.Bool.{Bool, true, false, _&&_}
+use mathlib.Core.Bool.{true}
 use mathlib.Core.List.{List, [], _∷_, _++_, map, map-id}
 use Prim.Native.Nat.{ℕ, zero, suc, _+_, _-_, _≤_, _<_}
 use native.Mathlib.Omega.{arith}
-use lib.ListN.{length, getD, take, drop, set, replicate, length-map, length-set, List·getD-map, List·getD-append}
+use lib.ListN.{length, getD, take, set, replicate, length-map, length-set, List·getD-map, List·getD-append}
 use lib.Seq.{getD-take, set-append-left}
 use Rattle.ot.specs.Items.{padded}
 use Rattle.model.specs.Limits.{maxLines}

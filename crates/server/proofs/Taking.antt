@@ -2,16 +2,16 @@
 use mathlib.Core.Path.{_≡_, refl, ap, sym, _∙_, subst}
 use mathlib.Core.Bool.{Bool, true, false, _&&_, cond}
 use mathlib.Core.List.{List, [], _∷_, _++_, map}
-use Prim.Native.Nat.{ℕ, zero, suc, _+_, _-_, _≤_, _<_}
+use Prim.Native.Nat.{ℕ, zero, _+_, _-_, _≤_, _<_}
 use native.Mathlib.Omega.{arith}
-use lib.Dec.{leb, ltb, eqb}
+use lib.Dec.{leb, eqb}
 use lib.ListN.{length, getD, take, drop, set, length-map, length-drop}
 use borrow.Author.Tests.{eqb-false, ne-eqb, leb-true, le-leb, lt-leb}
 use Rattle.ot.specs.declared.Edit.{Edit}
 use Rattle.ot.specs.declared.Edit.the-variants.{Nothing, Delete, Insert}
 use Rattle.ot.specs.Edit.{positionOf, applied, fits}
 use Rattle.ot.specs.Laws.{within}
-use Rattle.ot.specs.Items.{sizeAfter, edited, Room, Edited, padded}
+use Rattle.ot.specs.Items.{Room, Edited, padded}
 use Rattle.wire.specs.declared.Header.{Header}
 use Rattle.wire.specs.declared.Message.{Message}
 use Rattle.wire.specs.declared.Message.the-variants as message
@@ -22,17 +22,17 @@ use Rattle.wire.specs.Bytes.{parsed}
 use Rattle.wire.proofs.Ranges.{insert-bounds, delete-bounds}
 use Rattle.wire.proofs.Codec.{codec}
 use Rattle.model.specs.Limits.{maxLines, maxItems, maxInserts}
-use Rattle.model.specs.Questions.{Question, ask, asks, between, answer}
-use Rattle.model.specs.Cross.{past, over, placed, allPlaced, priority, insertsOf}
+use Rattle.model.specs.Questions.{Question, ask, asks, between}
+use Rattle.model.specs.Cross.{over, placed, allPlaced, priority, insertsOf}
 use Rattle.model.specs.Server as model
-use Rattle.model.proofs.Tests.{both, and-left, and-right, yes-all, true-between}
+use Rattle.model.proofs.Tests.{and-left, and-right, yes-all, true-between}
 use Rattle.model.proofs.SoundServer.{length-atPlace}
 use Rattle.pending.specs.declared.Slot.{Slot}
 use Rattle.pending.specs.declared.Crossed.{Crossed}
-use Rattle.pending.specs.Slots.{usedEdits, filled, steps, crossed, Kept}
+use Rattle.pending.specs.Slots.{usedEdits, filled, crossed}
 use Rattle.pending.proofs.Crossing.{steps-length}
 use Rattle.endpoint.specs.Items.{stored, roomy}
-use Rattle.endpoint.specs.Line.{seenQuestions, editQuestions, thenAsked}
+use Rattle.endpoint.specs.Line.{editQuestions, thenAsked}
 use Rattle.endpoint.proofs.Line.{edit-then}
 use Rattle.endpoint.proofs.Room.{roomy-model, roomy-room, room-stored, room-length}
 use Rattle.server.specs.declared.Line.{Line}
@@ -44,7 +44,7 @@ use Rattle.server.specs.Calls.{refused, answered, takes}
 use Rattle.server.specs.Taking.{keptBy, Keeps, Next, Accepted}
 use Rattle.server.proofs.Places.{blank}
 use Rattle.server.proofs.Whole.{used}
-use Rattle.server.proofs.Lines.{pad-set, set-map, place-set, means, facts, lines-few, lines-count, lines-are, items-are, len-is, at-view, at-facts, at-kept, line-low, place-used, place-eight, line-of}
+use Rattle.server.proofs.Lines.{pad-set, set-map, place-set, means, facts, lines-count, len-is, at-view, at-facts, at-kept, line-low, place-used, place-eight, line-of}
 use Rattle.server.proofs.Answers.{asks-yes, asks-no, second-yes, second-no, yes-answer, no-answer}
 
 pub placed-position : (e : Edit) → placed e ≡ true → positionOf e ≤ maxItems

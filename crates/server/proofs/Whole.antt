@@ -1,19 +1,18 @@
 -- What the code of question 2 computes is its definition, and a struct that passes it is the one for its meaning.
-use mathlib.Core.Path.{_≡_, refl, ap, sym, _∙_, subst}
-use mathlib.Core.Bool.{Bool, true, false, _&&_}
-use mathlib.Core.List.{List, [], _∷_, _++_, map}
-use Prim.Native.Nat.{ℕ, zero, suc, _+_, _-_, _≤_, _<_}
+use mathlib.Core.Path.{_≡_, refl, ap, sym, _∙_}
+use mathlib.Core.Bool.{Bool, true, _&&_}
+use mathlib.Core.List.{List, [], _∷_, map}
+use Prim.Native.Nat.{ℕ, zero, suc, _+_, _-_, _≤_}
 use native.Mathlib.Omega.{arith}
 use lib.Dec.{leb, eqb}
 use lib.ListN.{length, take, drop, replicate, length-take, length-drop, length-map}
 use lib.Seq.{length-take-le}
 use borrow.Author.Tests.{leb-true, le-leb, eq-eqb, eqb-true}
-use Rattle.ot.specs.declared.Edit.{Edit}
 use Rattle.ot.specs.Items.{padded}
-use Rattle.model.specs.Limits.{maxLines, maxItems, maxInitial}
-use Rattle.model.specs.Questions.{every, between}
+use Rattle.model.specs.Limits.{maxLines, maxItems}
+use Rattle.model.specs.Questions.{every}
 use Rattle.model.specs.Server as model
-use Rattle.model.proofs.Tests.{both, and-left, and-right, hold, held, true-between, between-true}
+use Rattle.model.proofs.Tests.{both, and-left, and-right, hold, held}
 use Rattle.pending.specs.Slots.{edits, usedEdits, filled, allNothing}
 use Rattle.pending.proofs.Pad.{pad-of}
 use Rattle.endpoint.specs.Items.{allZero}

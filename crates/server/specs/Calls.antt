@@ -1,8 +1,8 @@
 -- What each call answers, whatever struct it is handed. Of an unsound one: refusal 2, and the struct as it came. Of a sound one: the
 -- answer of the same call at its meaning.
-use Prim.Native.Nat.{ℕ}
-use mathlib.Core.Bool.{Bool, cond}
+use mathlib.Core.Bool.{cond}
 use mathlib.Core.List.{List, []}
+use Prim.Native.Nat.{ℕ}
 use lib.Dec.{eqb}
 use Rattle.model.specs.Questions as model
 use Rattle.model.specs.Server as end

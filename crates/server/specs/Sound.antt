@@ -1,8 +1,8 @@
 -- Question 2 about the server's struct: its meaning is sound, and the places that are not in use are zero.
-use Prim.Native.Nat.{ℕ, suc, _+_, _-_, _≤_}
 use mathlib.Core.Path.{_≡_}
 use mathlib.Core.Bool.{Bool, true, _&&_, cond}
 use mathlib.Core.List.{List, [], _∷_, map}
+use Prim.Native.Nat.{ℕ, suc, _-_, _≤_}
 use lib.Dec.{leb, ltb, eqb}
 use lib.ListN.{take, drop}
 use Rattle.model.specs.Limits.{maxInserts, maxEdits, maxItems}

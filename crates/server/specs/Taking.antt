@@ -1,8 +1,7 @@
 -- What the parts of taking an edit may assume, and what they give.
-use Prim.Native.Nat.{ℕ, _+_, _-_, _≤_}
 use mathlib.Core.Path.{_≡_}
 use mathlib.Core.Bool.{true, _&&_}
-use mathlib.Core.List.{[], _∷_, _++_}
+use Prim.Native.Nat.{ℕ, _+_, _-_, _≤_}
 use lib.Dec.{eqb}
 use Rattle.ot.specs.declared.Edit.{Edit}
 use Rattle.wire.specs.declared.Header.{Header}

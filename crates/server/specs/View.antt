@@ -1,6 +1,6 @@
 -- What the server's struct means as an end over lists, and the one struct for such an end.
-use Prim.Native.Nat.{ℕ, _-_}
-use mathlib.Core.List.{List, map}
+use mathlib.Core.List.{map}
+use Prim.Native.Nat.{_-_}
 use lib.ListN.{length, take}
 use Rattle.ot.specs.Items.{padded}
 use Rattle.model.specs.Limits.{maxLines, maxItems}

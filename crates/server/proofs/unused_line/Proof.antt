@@ -2,10 +2,7 @@ use mathlib.Core.Path.{refl}
 use Rattle.pending.specs.Slots.{filled}
 use Rattle.server.proofs.unused_line.Statement.{statement}
 use Rattle.server.proofs.unused_line.Tie as tie
-use Rattle.server.proofs.unused_line.Reads as reads
-use Rattle.server.proofs.unused_line.Lts as lts
 
--- src/lib.rt:57:1
 returns : tie.Need-returns
 unfolding filled
 returns c = refl

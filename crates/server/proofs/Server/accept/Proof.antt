@@ -1,64 +1,44 @@
-use Rattle.server.proofs.Taking.{accept-low, accept-eight, accept-keeps, accept-taken, accept-inserts, accept-room, accept-done}
-use Rattle.server.specs.declared.Server.{Server}
-use Rattle.server.proofs.Places.{blank}
-use lib.ListN.{length, getD, take, drop, set}
-use mathlib.Core.Path.{_≡_, refl, ap, _∙_, sym, subst}
+use mathlib.Core.Path.{ap}
 use native.Mathlib.Omega.{arith}
-use Prim.Native.Nat.{ℕ, _+_, _-_, _≤_, _<_, min}
 use borrow.Author.Needs.{needs}
+use Rattle.server.specs.declared.Server.{Server}
+use Rattle.server.proofs.Taking.{accept-low, accept-eight, accept-keeps, accept-taken, accept-inserts, accept-room, accept-done}
 use Rattle.server.proofs.Server.accept.Statement.{statement}
 use Rattle.server.proofs.Server.accept.Tie as tie
-use Rattle.server.proofs.Server.accept.Reads as reads
-use Rattle.server.proofs.Server.accept.Lts as lts
-use Rattle.endpoint.proofs.inserts_of.Reads as inserts-of-reads
-use Rattle.ot.proofs.apply.Reads as apply-reads
-use Rattle.server.proofs.Server.keep.Reads as keep-reads
 
--- src/lib.rt:306:18
 sub-i : tie.Need-sub-i
 sub-i c = accept-low (c .args .t1) (c .args .line) (c .args .seen) (c .args .e) (c .args .c) (c .pre)
 
--- src/lib.rt:306:17
 cast-i : tie.Need-cast-i
 cast-i c = search needs
 
--- src/lib.rt:307:17
 mul-v : tie.Need-mul-v
 mul-v c = search needs
 
--- src/lib.rt:307:17
 element-copy-out-v : tie.Need-element-copy-out-v
 element-copy-out-v c = accept-eight (c .args .t1) (c .args .line) (c .args .seen) (c .args .e) (c .args .c) (c .pre)
 
--- src/lib.rt:310:24
 keep-requires : tie.Need-keep-requires
 keep-requires c κs = accept-keeps (c .before .before .args .t1) (c .before .before .args .line) (c .before .before .args .seen) (c .before .before .args .e) (c .before .before .args .c) (c .before .before .pre)
 
--- src/lib.rt:313:20
 add-t21 : tie.Need-add-t21
 add-t21 c = omega (arith, accept-taken (c .before .before .before .before .args .t1) (c .before .before .before .before .args .line) (c .before .before .before .before .args .seen) (c .before .before .before .before .args .e) (c .before .before .before .before .args .c) (c .before .before .before .before .pre))
 
--- src/lib.rt:315:34
 inserts-of-requires : tie.Need-inserts-of-requires
 inserts-of-requires c κs = search needs
 
--- src/lib.rt:315:22
 add-t23 : tie.Need-add-t23
 add-t23 c = omega (arith, accept-inserts (c .before .before .before .before .before .before .args .t1) (c .before .before .before .before .before .before .args .line) (c .before .before .before .before .before .before .args .seen) (c .before .before .before .before .before .before .args .e) (c .before .before .before .before .before .before .args .c) (c .before .before .before .before .before .before .pre) (c .before .inserts-of .result) (c .before .inserts-of .ensures))
 
--- src/lib.rt:311:9
 mul-t15 : tie.Need-mul-t15
 mul-t15 c = search needs
 
--- src/lib.rt:311:9
 element-set-from-next : tie.Need-element-set-from-next
 element-set-from-next c = accept-eight (c .before .before .before .before .before .before .args .t1) (c .before .before .before .before .before .before .args .line) (c .before .before .before .before .before .before .args .seen) (c .before .before .before .before .before .before .args .e) (c .before .before .before .before .before .before .args .c) (c .before .before .before .before .before .before .pre)
 
--- src/lib.rt:319:13
 apply-requires : tie.Need-apply-requires
 apply-requires c κs = accept-room (c .before .before .before .before .before .before .before .args .t1) (c .before .before .before .before .before .before .before .args .line) (c .before .before .before .before .before .before .before .args .seen) (c .before .before .before .before .before .before .before .args .e) (c .before .before .before .before .before .before .before .args .c) (c .before .before .before .before .before .before .before .pre) (c .before .before .before .before .keep .result) (c .before .before .before .before .keep .ensures)
 
--- src/lib.rt:302:5
 returns : tie.Need-returns
 returns c = ap (λ (t : Server). record { refusal = 0; passed = c .before .before .before .before .before .before .before .before .args .c .passed; server = t })
     (accept-done (c .before .before .before .before .before .before .before .before .args .t1) (c .before .before .before .before .before .before .before .before .args .line) (c .before .before .before .before .before .before .before .before .args .seen) (c .before .before .before .before .before .before .before .before .args .e) (c .before .before .before .before .before .before .before .before .args .c) (c .before .before .before .before .before .before .before .before .pre) (c .before .before .before .before .before .keep .result) (c .before .before .before .inserts-of .result) (c .apply .result) (c .apply .last .0) (c .before .before .before .before .before .keep .ensures) (c .before .before .before .inserts-of .ensures) (c .apply .ensures))

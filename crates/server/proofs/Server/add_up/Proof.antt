@@ -1,8 +1,8 @@
-use Prim.Native.Nat.{ℕ, _+_, _-_, _*_, _≤_, _<_, min}
-use native.Mathlib.Omega.{arith}
-use mathlib.Core.Path.{_≡_, refl, ap, _∙_, sym}
+use mathlib.Core.Path.{_≡_, refl, ap, _∙_}
 use mathlib.Core.List.{List, map}
-use lib.ListN.{length, getD, take, drop}
+use Prim.Native.Nat.{ℕ, _-_, _*_, _≤_, _<_, min}
+use native.Mathlib.Omega.{arith}
+use lib.ListN.{length, take}
 use borrow.Author.Needs.{needs}
 use Rattle.model.specs.Server as model
 use Rattle.server.specs.declared.Line.{Line}
@@ -10,10 +10,6 @@ use Rattle.server.specs.View.{viewLine}
 use Rattle.server.proofs.Places.{blank, total-turn, take-min, length-mapped}
 use Rattle.server.proofs.Server.add_up.Statement.{statement}
 use Rattle.server.proofs.Server.add_up.Tie as tie
-use Rattle.server.proofs.Server.add_up.Reads as reads
-use Rattle.server.proofs.Server.add_up.Lts as lts
-use Rattle.server.proofs.question2.used.Reads as used-reads
-use Rattle.server.proofs.question2.wide.Reads as wide-reads
 
 abbrev Inv-loop : tie.InvT-loop
 Inv-loop self taken₀ inserts₀ m i₀ taken inserts i =
@@ -23,47 +19,36 @@ Inv-loop self taken₀ inserts₀ m i₀ taken inserts i =
 abbrev μ-loop : tie.MeasureT-loop
 μ-loop self taken₀ inserts₀ m i₀ taken inserts i = m - i
 
--- src/question2.rt:88:13
 used-requires : tie.Need-used-requires Inv-loop μ-loop
 used-requires c κs = search needs
 
--- src/question2.rt:89:9
 loop-holds : tie.Need-loop-holds Inv-loop μ-loop
 loop-holds c = (omega arith, (omega (arith, c .used .ensures), (omega arith, (omega arith, (refl, refl)))))
 
--- src/question2.rt:90:21
 mul-v : tie.Need-mul-v Inv-loop μ-loop
 mul-v c = search needs
 
--- src/question2.rt:90:21
 element-copy-out-v : tie.Need-element-copy-out-v Inv-loop μ-loop
 element-copy-out-v c = search needs
 
--- src/question2.rt:91:22
 wide-requires : tie.Need-wide-requires Inv-loop μ-loop
 wide-requires c κs = search needs
 
--- src/question2.rt:91:13
 add-taken : tie.Need-add-taken Inv-loop μ-loop
 add-taken c = search needs
 
--- src/question2.rt:92:24
 wide-requires-2 : tie.Need-wide-requires-2 Inv-loop μ-loop
 wide-requires-2 c κs = search needs
 
--- src/question2.rt:92:13
 add-inserts : tie.Need-add-inserts Inv-loop μ-loop
 add-inserts c = search needs
 
--- src/question2.rt:89:13
 add-i : tie.Need-add-i Inv-loop μ-loop
 add-i c = search needs
 
--- src/question2.rt:89:9
 loop-less : tie.Need-loop-less Inv-loop μ-loop
 loop-less c = search needs
 
--- src/question2.rt:89:9
 loop-again : tie.Need-loop-again Inv-loop μ-loop
 loop-again c =
     let l : length (c .before .before .before .before .before .before .args .t1 .lines) ≡ 8 = search (length-mapped, needs) in
@@ -87,7 +72,6 @@ loop-again c =
       ),
     )
 
--- src/question2.rt:83:5
 returns : tie.Need-returns Inv-loop μ-loop
 returns c =
     let l : length (c .before .before .before .args .t1 .lines) ≡ 8 = search (length-mapped, needs) in

@@ -1,22 +1,17 @@
+use mathlib.Core.List.{[], _∷_, _++_}
+use mathlib.Core.Path.{_≡_, refl, ap, _∙_, sym, subst}
+use Prim.Native.Nat.{ℕ, _+_, _-_, _≤_}
+use native.Mathlib.Omega.{arith}
+use lib.ListN.{getD, set}
+use borrow.Author.Needs.{needs}
+use Rattle.ot.proofs.Sweep.{swept}
+use Rattle.pending.specs.Slots.{usedEdits, filled, Kept}
+use Rattle.server.specs.declared.Server.{Server}
 use Rattle.server.proofs.Keeping.{few-used, withLines, with-lines, keptLines, kept-at, made-at, roomy-at, keep-turn, keep-skip, keep-end}
 use Rattle.server.proofs.Lines.{lines-few}
-use Rattle.server.specs.declared.Server.{Server}
-use Rattle.pending.specs.Slots.{usedEdits, filled, Kept}
-use Rattle.ot.proofs.Sweep.{swept}
-use mathlib.Core.List.{List, [], _∷_, _++_}
 use Rattle.server.proofs.Places.{blank}
-use lib.ListN.{length, getD, take, drop, set}
-use borrow.Author.Needs.{needs}
-use mathlib.Core.Path.{_≡_, refl, ap, _∙_, sym, subst}
-use native.Mathlib.Omega.{arith}
-use Prim.Native.Nat.{ℕ, _+_, _-_, _≤_, _<_, min}
 use Rattle.server.proofs.Server.keep.Statement.{statement}
 use Rattle.server.proofs.Server.keep.Tie as tie
-use Rattle.server.proofs.Server.keep.Reads as reads
-use Rattle.server.proofs.Server.keep.Lts as lts
-use Rattle.pending.proofs.push.Reads as push-reads
-use Rattle.server.proofs.question2.pending_count.Reads as pending-count-reads
-use Rattle.server.proofs.question2.used.Reads as used-reads
 
 abbrev Inv-loop : tie.InvT-loop
 Inv-loop at e self₀ m i₀ self i = (i ≤ m) × ((m ≡ self₀ .n) × (self ≡ withLines self₀ (swept (keptLines self₀ at e) (self₀ .lines) i)))
@@ -24,23 +19,18 @@ Inv-loop at e self₀ m i₀ self i = (i ≤ m) × ((m ≡ self₀ .n) × (self 
 abbrev μ-loop : tie.MeasureT-loop
 μ-loop at e self₀ m i₀ self i = m - i
 
--- src/lib.rt:281:13
 used-requires : tie.Need-used-requires Inv-loop μ-loop
 used-requires c κs = search needs
 
--- src/lib.rt:282:9
 loop-holds : tie.Need-loop-holds Inv-loop μ-loop
 loop-holds c = (omega arith, (c .used .ensures ∙ few-used (c .before .args .t1) (c .before .pre .sound), refl))
 
--- src/lib.rt:284:17
 add-i : tie.Need-add-i Inv-loop μ-loop
 add-i c = omega (arith, c .before .before .loop .inv .1 .0, lines-few (c .before .before .before .before .args .t1) (c .before .before .before .before .pre .sound), c .before .loop-test)
 
--- src/lib.rt:282:9
 loop-less : tie.Need-loop-less Inv-loop μ-loop
 loop-less c = omega (arith, c .before .loop-test)
 
--- src/lib.rt:282:9
 loop-again : tie.Need-loop-again Inv-loop μ-loop
 loop-again c = (
   omega (arith, c .before .loop-test),
@@ -51,46 +41,36 @@ loop-again c = (
   ),
 )
 
--- src/lib.rt:286:21
 mul-v : tie.Need-mul-v Inv-loop μ-loop
 mul-v c = omega (arith, c .before .before .loop .inv .1 .0, lines-few (c .before .before .before .before .args .t1) (c .before .before .before .before .pre .sound), c .before .loop-test)
 
--- src/lib.rt:286:21
 element-copy-out-v : tie.Need-element-copy-out-v Inv-loop μ-loop
 element-copy-out-v c = omega (arith, c .before .before .loop .inv .1 .0, lines-few (c .before .before .before .before .args .t1) (c .before .before .before .before .pre .sound), c .before .loop-test)
 
--- src/lib.rt:288:44
 pending-count-requires : tie.Need-pending-count-requires Inv-loop μ-loop
 pending-count-requires c κs = search needs
 
--- src/lib.rt:288:17
 push-requires : tie.Need-push-requires Inv-loop μ-loop
 push-requires c κs = (
   omega (arith, c .pending-count .ensures, roomy-at (c .before .before .before .before .before .before .before .args .t1) (c .before .before .before .before .before .before .before .pre .sound) (c .before .before .before .before .before .before .before .args .at) (c .before .before .before .before .before .before .before .args .e) (c .before .before .before .before .before .loop .i) (c .before .before .before .before .before .loop .self .lines) (omega (arith, c .before .before .before .before .before .loop .inv .1 .0, c .before .before .before .before .loop-test)) (ap (λ (t : Server). t .lines) (c .before .before .before .before .before .loop .inv .1 .1)) (c .before .before .before .before .before .before .before .pre .others) (c .before .before .before .if1 .left)),
   subst (λ (n : ℕ). Kept n (getD (c .before .before .before .before .before .loop .self .lines) (c .before .before .before .before .before .loop .i) blank .pending)) (sym (c .pending-count .ensures)) (kept-at (c .before .before .before .before .before .before .before .args .t1) (c .before .before .before .before .before .before .before .pre .sound) (c .before .before .before .before .before .before .before .args .at) (c .before .before .before .before .before .before .before .args .e) (c .before .before .before .before .before .loop .i) (c .before .before .before .before .before .loop .self .lines) (omega (arith, c .before .before .before .before .before .loop .inv .1 .0, c .before .before .before .before .loop-test)) (ap (λ (t : Server). t .lines) (c .before .before .before .before .before .loop .inv .1 .1))),
 )
 
--- src/lib.rt:290:23
 add-t16 : tie.Need-add-t16 Inv-loop μ-loop
 add-t16 c = omega (arith, made-at (c .before .before .before .before .before .before .before .before .before .args .t1) (c .before .before .before .before .before .before .before .before .before .pre .sound) (c .before .before .before .before .before .before .before .before .before .args .at) (c .before .before .before .before .before .before .before .before .before .args .e) (c .before .before .before .before .before .before .before .loop .i) (c .before .before .before .before .before .before .before .loop .self .lines) (omega (arith, c .before .before .before .before .before .before .before .loop .inv .1 .0, c .before .before .before .before .before .before .loop-test)) (ap (λ (t : Server). t .lines) (c .before .before .before .before .before .before .before .loop .inv .1 .1)))
 
--- src/lib.rt:289:13
 mul-t12 : tie.Need-mul-t12 Inv-loop μ-loop
 mul-t12 c = omega (arith, c .before .before .before .before .before .before .before .loop .inv .1 .0, lines-few (c .before .before .before .before .before .before .before .before .before .args .t1) (c .before .before .before .before .before .before .before .before .before .pre .sound), c .before .before .before .before .before .before .loop-test)
 
--- src/lib.rt:289:13
 element-set-from-self : tie.Need-element-set-from-self Inv-loop μ-loop
 element-set-from-self c = omega (arith, c .before .before .before .before .before .before .before .loop .inv .1 .0, lines-few (c .before .before .before .before .before .before .before .before .before .args .t1) (c .before .before .before .before .before .before .before .before .before .pre .sound), c .before .before .before .before .before .before .loop-test)
 
--- src/lib.rt:282:13
 add-i-2 : tie.Need-add-i-2 Inv-loop μ-loop
 add-i-2 c = omega (arith, c .before .before .before .before .before .before .before .loop .inv .1 .0, lines-few (c .before .before .before .before .before .before .before .before .before .args .t1) (c .before .before .before .before .before .before .before .before .before .pre .sound), c .before .before .before .before .before .before .loop-test)
 
--- src/lib.rt:282:9
 loop-less-2 : tie.Need-loop-less-2 Inv-loop μ-loop
 loop-less-2 c = omega (arith, c .before .before .before .before .before .before .loop-test)
 
--- src/lib.rt:282:9
 loop-again-2 : tie.Need-loop-again-2 Inv-loop μ-loop
 loop-again-2 c = (
   omega (arith, c .before .before .before .before .before .before .loop-test),
@@ -102,7 +82,6 @@ loop-again-2 c = (
   ),
 )
 
--- src/lib.rt:277:5
 returns : tie.Need-returns Inv-loop μ-loop
 returns c = keep-end (c .before .before .before .args .t1) (c .before .before .before .pre .sound) (c .before .before .before .args .at) (c .before .before .before .args .e) (c .before .loop .i) (c .before .loop .self) (omega (arith, c .before .loop .inv .0, c .before .loop .inv .1 .0, c .loop-test)) (c .before .loop .inv .1 .1)
 

@@ -1,36 +1,25 @@
-use mathlib.Core.Path.{_≡_, refl, _∙_}
+use mathlib.Core.Path.{_∙_}
 use native.Mathlib.Omega.{arith}
-use Rattle.server.proofs.Answers.{open-short, open-done, open-refused}
 use borrow.Author.Needs.{needs}
+use Rattle.server.proofs.Answers.{open-short, open-done, open-refused}
 use Rattle.server.proofs.Server.open.Statement.{statement}
 use Rattle.server.proofs.Server.open.Tie as tie
-use Rattle.server.proofs.Server.open.Reads as reads
-use Rattle.server.proofs.Server.open.Lts as lts
-use Rattle.endpoint.proofs.initial.Reads as initial-reads
-use Rattle.server.proofs.unopened.Reads as unopened-reads
-use Rattle.server.proofs.unused_line.Reads as unused-line-reads
 
--- src/lib.rt:107:23
 cast-len : tie.Need-cast-len
 cast-len c = omega (arith, open-short (c .before .before .args .n) (c .before .before .args .items .now) (c .if1 .taken))
 
--- src/lib.rt:108:17
 unused-line-requires : tie.Need-unused-line-requires
 unused-line-requires c κs = search needs
 
--- src/lib.rt:110:17
 initial-requires : tie.Need-initial-requires
 initial-requires c κs = search needs
 
--- src/lib.rt:111:13
 returns : tie.Need-returns
 returns c = open-done (c .before .before .before .before .args .n) (c .before .before .before .before .args .items .now) (c .initial .result) (c .before .unused-line .result) (c .before .before .if1 .taken) (c .initial .ensures) (c .before .unused-line .ensures)
 
--- src/lib.rt:123:9
 unopened-requires : tie.Need-unopened-requires
 unopened-requires c κs = search needs
 
--- src/lib.rt:102:5
 returns-2 : tie.Need-returns-2
 returns-2 c = c .unopened .ensures ∙ open-refused (c .before .before .before .args .n) (c .before .before .before .args .items .now) (c .before .if1 .left)
 

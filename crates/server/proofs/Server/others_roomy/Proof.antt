@@ -1,23 +1,18 @@
+use mathlib.Core.Bool.{_&&_, _||_}
+use mathlib.Core.Path.{_≡_, refl, ap, _∙_, sym}
+use Prim.Native.Nat.{ℕ, _+_, _-_, _≤_, _<_}
+use native.Mathlib.Omega.{arith}
+use lib.Dec.{ltb, eqb}
+use lib.ListN.{length, drop}
+use borrow.Author.Needs.{needs}
+use Rattle.model.specs.Server as model
+use Rattle.server.specs.View.{view}
 use Rattle.server.proofs.Keeping.{few-used}
 use Rattle.server.proofs.Roomy.{roomyFrom, roomy-all, roomy-turn, roomy-end}
 use Rattle.server.proofs.Lines.{lines-few, lines-count, at-view}
 use Rattle.server.proofs.Whole.{used}
-use Rattle.server.specs.View.{view}
-use Rattle.model.specs.Server as model
-use lib.Dec.{ltb, eqb}
-use mathlib.Core.Bool.{Bool, _&&_, _||_}
-use Rattle.server.proofs.Places.{blank}
-use lib.ListN.{length, getD, take, drop, set}
-use borrow.Author.Needs.{needs}
-use mathlib.Core.Path.{_≡_, refl, ap, _∙_, sym, subst}
-use native.Mathlib.Omega.{arith}
-use Prim.Native.Nat.{ℕ, _+_, _-_, _≤_, _<_, min}
 use Rattle.server.proofs.Server.others_roomy.Statement.{statement}
 use Rattle.server.proofs.Server.others_roomy.Tie as tie
-use Rattle.server.proofs.Server.others_roomy.Reads as reads
-use Rattle.server.proofs.Server.others_roomy.Lts as lts
-use Rattle.server.proofs.question2.pending_count.Reads as pending-count-reads
-use Rattle.server.proofs.question2.used.Reads as used-reads
 
 abbrev Inv-loop : tie.InvT-loop
 Inv-loop at self roomy₀ m i₀ roomy i = (i ≤ m) × ((m ≡ self .n) × ((roomy && roomyFrom at i (drop i (used self))) ≡ roomyFrom at 0 (used self)))
@@ -25,35 +20,27 @@ Inv-loop at self roomy₀ m i₀ roomy i = (i ≤ m) × ((m ≡ self .n) × ((ro
 abbrev μ-loop : tie.MeasureT-loop
 μ-loop at self roomy₀ m i₀ roomy i = m - i
 
--- src/lib.rt:267:13
 used-requires : tie.Need-used-requires Inv-loop μ-loop
 used-requires c κs = search needs
 
--- src/lib.rt:268:9
 loop-holds : tie.Need-loop-holds Inv-loop μ-loop
 loop-holds c = (omega arith, (c .used .ensures ∙ few-used (c .before .args .t1) (c .before .pre), refl))
 
--- src/lib.rt:269:21
 mul-v : tie.Need-mul-v Inv-loop μ-loop
 mul-v c = omega (arith, c .before .loop .inv .1 .0, lines-few (c .before .before .before .args .t1) (c .before .before .before .pre), c .loop-test)
 
--- src/lib.rt:269:21
 element-copy-out-v : tie.Need-element-copy-out-v Inv-loop μ-loop
 element-copy-out-v c = omega (arith, c .before .loop .inv .1 .0, lines-few (c .before .before .before .args .t1) (c .before .before .before .pre), c .loop-test)
 
--- src/lib.rt:270:17
 pending-count-requires : tie.Need-pending-count-requires Inv-loop μ-loop
 pending-count-requires c κs = search needs
 
--- src/lib.rt:268:13
 add-i : tie.Need-add-i Inv-loop μ-loop
 add-i c = omega (arith, c .before .before .before .loop .inv .1 .0, lines-few (c .before .before .before .before .before .args .t1) (c .before .before .before .before .before .pre), c .before .before .loop-test)
 
--- src/lib.rt:268:9
 loop-less : tie.Need-loop-less Inv-loop μ-loop
 loop-less c = omega (arith, c .before .before .loop-test)
 
--- src/lib.rt:268:9
 loop-again : tie.Need-loop-again Inv-loop μ-loop
 loop-again c = let lt : c .before .before .before .loop .i < c .before .before .before .before .before .args .t1 .n = omega (arith, c .before .before .before .loop .inv .1 .0, c .before .before .loop-test) in
     let inside : c .before .before .before .loop .i < length (used (c .before .before .before .before .before .args .t1)) = omega (arith, lines-count (c .before .before .before .before .before .args .t1) (c .before .before .before .before .before .pre)) in (
@@ -67,7 +54,6 @@ loop-again c = let lt : c .before .before .before .loop .i < c .before .before .
       ),
     )
 
--- src/lib.rt:262:5
 returns : tie.Need-returns Inv-loop μ-loop
 unfolding view
 returns c = roomy-end (c .before .before .before .args .at) (c .before .loop .i) (used (c .before .before .before .args .t1)) (c .before .loop .roomy) (model.othersRoomy (c .before .before .before .args .at) (used (c .before .before .before .args .t1)))

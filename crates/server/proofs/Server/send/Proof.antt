@@ -1,31 +1,21 @@
-use mathlib.Core.Path.{_≡_, refl, _∙_, sym}
-use native.Mathlib.Omega.{arith}
-use Rattle.server.proofs.Answers.{sends-yes, sends-no}
+use mathlib.Core.Path.{_∙_, sym}
 use borrow.Author.Needs.{needs}
+use Rattle.server.proofs.Answers.{sends-yes, sends-no}
 use Rattle.server.proofs.Server.send.Statement.{statement}
 use Rattle.server.proofs.Server.send.Tie as tie
-use Rattle.server.proofs.Server.send.Reads as reads
-use Rattle.server.proofs.Server.send.Lts as lts
-use Rattle.server.proofs.Server.send_sound.Reads as send-sound-reads
-use Rattle.server.proofs.Server.sound.Reads as sound-reads
 
--- src/lib.rt:171:13
 sound-requires : tie.Need-sound-requires
 sound-requires c κs = search needs
 
--- src/lib.rt:173:13
 send-sound-requires : tie.Need-send-sound-requires
 send-sound-requires c κs = c .before .before .sound .ensures .1 (c .before .if1 .taken)
 
--- src/lib.rt:173:13
 same-length : tie.Need-same-length
 same-length c = search needs
 
--- src/lib.rt:173:13
 returns : tie.Need-returns
 returns c = c .before .before .send-sound .ensures ∙ sends-yes (c .before .before .before .before .before .before .before .args .self) (c .before .before .before .before .before .before .before .args .line) (c .before .before .before .before .before .before .before .args .k) (c .before .before .before .before .before .before .before .args .out .now) (sym (c .before .before .before .before .before .sound .ensures .0) ∙ c .before .before .before .before .if1 .taken)
 
--- src/lib.rt:168:5
 returns-2 : tie.Need-returns-2
 returns-2 c = sends-no (c .before .before .before .args .self) (c .before .before .before .args .line) (c .before .before .before .args .k) (c .before .before .before .args .out .now) (sym (c .before .sound .ensures .0) ∙ c .if1 .left)
 

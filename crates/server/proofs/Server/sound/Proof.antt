@@ -1,49 +1,36 @@
-use Prim.Native.Nat.{ℕ, _+_}
-use mathlib.Core.Path.{_≡_, refl, ap, _∙_, sym}
-use mathlib.Core.Bool.{Bool, true, _&&_}
+use mathlib.Core.Path.{_≡_, _∙_, sym}
+use mathlib.Core.Bool.{_&&_}
+use Prim.Native.Nat.{_+_}
 use lib.Dec.{leb}
 use lib.ListN.{length}
+use borrow.Author.Needs.{needs}
 use Rattle.model.proofs.Tests.{and-right}
 use Rattle.server.proofs.Places.{length-mapped}
 use Rattle.server.proofs.Whole.{struct-code, struct-whole}
-use borrow.Author.Needs.{needs}
 use Rattle.server.proofs.Server.sound.Statement.{statement}
 use Rattle.server.proofs.Server.sound.Tie as tie
-use Rattle.server.proofs.Server.sound.Reads as reads
-use Rattle.server.proofs.Server.sound.Lts as lts
-use Rattle.endpoint.proofs.zero_from.Reads as zero-from-reads
-use Rattle.server.proofs.Server.add_up.Reads as add-up-reads
-use Rattle.server.proofs.Server.sound_lines.Reads as sound-lines-reads
 
--- src/question2.rt:125:13
 add-up-requires : tie.Need-add-up-requires
 add-up-requires c κs = search needs
 
--- src/question2.rt:126:13
 sound-lines-requires : tie.Need-sound-lines-requires
 sound-lines-requires c κs = search needs
 
--- src/question2.rt:127:20
 cast-most : tie.Need-cast-most
 cast-most c = search needs
 
--- src/question2.rt:127:20
 add-most : tie.Need-add-most
 add-most c = search needs
 
--- src/question2.rt:128:53
 cast-zero-from : tie.Need-cast-zero-from
 cast-zero-from c = search needs
 
--- src/question2.rt:128:13
 zero-from-requires : tie.Need-zero-from-requires
 zero-from-requires c κs = search needs
 
--- src/question2.rt:133:16
 cast-result : tie.Need-cast-result
 cast-result c = search needs
 
--- src/question2.rt:121:5
 cast-result-2 : tie.Need-cast-result-2
 cast-result-2 c = search needs
 

@@ -1,18 +1,14 @@
-use Prim.Native.Nat.{ℕ, _+_, _-_, _≤_, _<_}
-use native.Mathlib.Omega.{arith}
-use mathlib.Core.Path.{_≡_, refl, ap, _∙_, sym}
+use mathlib.Core.Path.{_≡_, refl, ap, _∙_}
 use mathlib.Core.Bool.{Bool, true, _&&_}
-use lib.ListN.{length, getD, take, drop}
+use Prim.Native.Nat.{_+_, _-_, _≤_, _<_}
+use native.Mathlib.Omega.{arith}
+use lib.ListN.{length, take, drop}
 use borrow.Author.Needs.{needs}
 use Rattle.model.proofs.Tests.{and-left, and-right}
-use Rattle.server.specs.declared.Line.{Line}
-use Rattle.server.specs.Sound.{soundPlace, soundPlaces, KeptLine, KeptLines}
+use Rattle.server.specs.Sound.{soundPlaces, KeptLines}
 use Rattle.server.proofs.Places.{places-turn, kept-turn, places-end, kept-end, length-mapped}
 use Rattle.server.proofs.Server.sound_lines.Statement.{statement}
 use Rattle.server.proofs.Server.sound_lines.Tie as tie
-use Rattle.server.proofs.Server.sound_lines.Reads as reads
-use Rattle.server.proofs.Server.sound_lines.Lts as lts
-use Rattle.server.proofs.question2.sound_place.Reads as sound-place-reads
 
 abbrev Inv-loop : tie.InvT-loop
 Inv-loop sum self well₀ i₀ well i =
@@ -21,31 +17,24 @@ Inv-loop sum self well₀ i₀ well i =
 abbrev μ-loop : tie.MeasureT-loop
 μ-loop sum self well₀ i₀ well i = 8 - i
 
--- src/question2.rt:105:9
 loop-holds : tie.Need-loop-holds Inv-loop μ-loop
 loop-holds c = (omega arith, (refl, λ h. tt))
 
--- src/question2.rt:106:21
 mul-v : tie.Need-mul-v Inv-loop μ-loop
 mul-v c = search needs
 
--- src/question2.rt:106:21
 element-copy-out-v : tie.Need-element-copy-out-v Inv-loop μ-loop
 element-copy-out-v c = search needs
 
--- src/question2.rt:107:27
 sound-place-requires : tie.Need-sound-place-requires Inv-loop μ-loop
 sound-place-requires c κs = search needs
 
--- src/question2.rt:105:13
 add-i : tie.Need-add-i Inv-loop μ-loop
 add-i c = search needs
 
--- src/question2.rt:105:9
 loop-less : tie.Need-loop-less Inv-loop μ-loop
 loop-less c = search needs
 
--- src/question2.rt:105:9
 loop-again : tie.Need-loop-again Inv-loop μ-loop
 loop-again c =
     let l : length (c .before .before .before .before .args .t1 .lines) ≡ 8 = search (length-mapped, needs) in
@@ -59,7 +48,6 @@ loop-again c =
       ),
     )
 
--- src/question2.rt:100:5
 returns : tie.Need-returns Inv-loop μ-loop
 returns c =
     let l : length (c .before .before .args .t1 .lines) ≡ 8 = search (length-mapped, needs) in

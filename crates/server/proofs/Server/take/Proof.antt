@@ -1,99 +1,72 @@
+use mathlib.Core.Path.{refl, ap, _∙_, sym}
+use borrow.Author.Needs.{needs}
+use Rattle.ot.specs.Laws.{within}
+use Rattle.wire.specs.declared.Message.{Message}
+use Rattle.model.specs.Server as model
 use Rattle.server.specs.Calls.{answered}
 use Rattle.server.specs.View.{view}
-use Rattle.model.specs.Server as model
-use Rattle.wire.specs.declared.Message.{Message}
-use Rattle.ot.specs.Laws.{within}
 use Rattle.server.proofs.Taking.{take-unsound, take-unread, take-read, insert-placed, delete-placed}
-use mathlib.Core.Path.{_≡_, refl, ap, _∙_, sym, subst}
-use borrow.Author.Needs.{needs}
 use Rattle.server.proofs.Server.take.Statement.{statement}
 use Rattle.server.proofs.Server.take.Tie as tie
-use Rattle.server.proofs.Server.take.Reads as reads
-use Rattle.server.proofs.Server.take.Lts as lts
-use Rattle.server.proofs.Server.refuse.Reads as refuse-reads
-use Rattle.server.proofs.Server.sound.Reads as sound-reads
-use Rattle.server.proofs.Server.take_ack.Reads as take-ack-reads
-use Rattle.server.proofs.Server.take_edit.Reads as take-edit-reads
-use Rattle.wire.proofs.parse.Reads as parse-reads
 
--- src/lib.rt:376:13
 sound-requires : tie.Need-sound-requires
 sound-requires c κs = search needs
 
--- src/lib.rt:378:36
 parse-requires : tie.Need-parse-requires
 parse-requires c κs = search needs
 
--- src/lib.rt:378:31
 enum-known-m : tie.Need-enum-known-m
 enum-known-m c = search needs
 
--- src/lib.rt:379:17
 enum-told : tie.Need-enum-told
 enum-told c = search needs
 
--- src/lib.rt:379:17
 refuse-requires : tie.Need-refuse-requires
 refuse-requires c κs = search needs
 
--- src/lib.rt:379:17
 returns : tie.Need-returns
 returns c = c .refuse .ensures ∙ take-unread (c .before .before .before .before .before .before .before .args .self) (c .before .before .before .before .before .before .before .args .bytes .now) (c .before .before .before .parse .result) (c .before .before .before .before .before .sound .ensures .1 (c .before .before .before .before .if1 .taken)) (c .before .before .before .parse .ensures) (c .before .enum-told .given .1)
 
--- src/lib.rt:382:33
 enum-known-m-2 : tie.Need-enum-known-m-2
 enum-known-m-2 c = search needs
 
--- src/lib.rt:382:48
 take-edit-requires : tie.Need-take-edit-requires
 take-edit-requires c κs = ((c .before .before .before .before .before .before .before .before .sound .ensures .1 (c .before .before .before .before .before .before .before .if1 .taken)), insert-placed (c .before .before .before .before .before .before .before .before .before .before .args .bytes .now) (c .before .before .before .before .before .before .parse .result) (c .before .before .before .before .m .given .0 .0) (c .before .before .before .before .before .before .parse .ensures) (c .before .before .before .before .m .given .1) (c .before .m2 .given .0 .0) (c .before .m2 .given .0 .1 .0) (c .before .m2 .given .0 .1 .1 .0) (c .before .m2 .given .0 .1 .1 .1 .0) (c .before .m2 .given .1))
 
--- src/lib.rt:383:33
 enum-known-m-3 : tie.Need-enum-known-m-3
 enum-known-m-3 c = search needs
 
--- src/lib.rt:383:42
 take-edit-requires-2 : tie.Need-take-edit-requires-2
 take-edit-requires-2 c κs = ((c .before .before .before .before .before .before .before .before .sound .ensures .1 (c .before .before .before .before .before .before .before .if1 .taken)), delete-placed (c .before .before .before .before .before .before .before .before .before .before .args .bytes .now) (c .before .before .before .before .before .before .parse .result) (c .before .before .before .before .m .given .0 .0) (c .before .before .before .before .before .before .parse .ensures) (c .before .before .before .before .m .given .1) (c .before .m3 .given .0 .0) (c .before .m3 .given .0 .1 .0) (c .before .m3 .given .1))
 
--- src/lib.rt:384:34
 enum-known-m-4 : tie.Need-enum-known-m-4
 enum-known-m-4 c = search needs
 
--- src/lib.rt:384:40
 take-edit-requires-3 : tie.Need-take-edit-requires-3
 unfolding within
 take-edit-requires-3 c κs = ((c .before .before .before .before .before .before .before .before .sound .ensures .1 (c .before .before .before .before .before .before .before .if1 .taken)), refl)
 
--- src/lib.rt:385:30
 enum-known-m-5 : tie.Need-enum-known-m-5
 enum-known-m-5 c = search needs
 
--- src/lib.rt:385:56
 take-ack-requires : tie.Need-take-ack-requires
 take-ack-requires c κs = (c .before .before .before .before .before .before .before .before .sound .ensures .1 (c .before .before .before .before .before .before .before .if1 .taken))
 
--- src/lib.rt:381:13
 returns-2 : tie.Need-returns-2
 returns-2 c = c .take-edit .ensures ∙ ap (λ (k : Message). answered (c .before .before .before .before .before .before .before .before .before .before .before .args .self) (model.serverTakes (view (c .before .before .before .before .before .before .before .before .before .before .before .args .self)) k)) (sym (c .before .before .m2 .given .1)) ∙ take-read (c .before .before .before .before .before .before .before .before .before .before .before .args .self) (c .before .before .before .before .before .before .before .before .before .before .before .args .bytes .now) (c .before .before .before .before .before .before .before .parse .result) (c .before .before .before .before .before .m .given .0 .0) (c .before .before .before .before .before .before .before .before .before .sound .ensures .1 (c .before .before .before .before .before .before .before .before .if1 .taken)) (c .before .before .before .before .before .before .before .parse .ensures) (c .before .before .before .before .before .m .given .1)
 
--- src/lib.rt:381:13
 returns-3 : tie.Need-returns-3
 returns-3 c = c .take-edit2 .ensures ∙ ap (λ (k : Message). answered (c .before .before .before .before .before .before .before .before .before .before .before .args .self) (model.serverTakes (view (c .before .before .before .before .before .before .before .before .before .before .before .args .self)) k)) (sym (c .before .before .m3 .given .1)) ∙ take-read (c .before .before .before .before .before .before .before .before .before .before .before .args .self) (c .before .before .before .before .before .before .before .before .before .before .before .args .bytes .now) (c .before .before .before .before .before .before .before .parse .result) (c .before .before .before .before .before .m .given .0 .0) (c .before .before .before .before .before .before .before .before .before .sound .ensures .1 (c .before .before .before .before .before .before .before .before .if1 .taken)) (c .before .before .before .before .before .before .before .parse .ensures) (c .before .before .before .before .before .m .given .1)
 
--- src/lib.rt:381:13
 returns-4 : tie.Need-returns-4
 returns-4 c = c .take-edit3 .ensures ∙ ap (λ (k : Message). answered (c .before .before .before .before .before .before .before .before .before .before .before .args .self) (model.serverTakes (view (c .before .before .before .before .before .before .before .before .before .before .before .args .self)) k)) (sym (c .before .before .m4 .given .1)) ∙ take-read (c .before .before .before .before .before .before .before .before .before .before .before .args .self) (c .before .before .before .before .before .before .before .before .before .before .before .args .bytes .now) (c .before .before .before .before .before .before .before .parse .result) (c .before .before .before .before .before .m .given .0 .0) (c .before .before .before .before .before .before .before .before .before .sound .ensures .1 (c .before .before .before .before .before .before .before .before .if1 .taken)) (c .before .before .before .before .before .before .before .parse .ensures) (c .before .before .before .before .before .m .given .1)
 
--- src/lib.rt:381:13
 returns-5 : tie.Need-returns-5
 returns-5 c = c .take-ack .ensures ∙ ap (λ (k : Message). answered (c .before .before .before .before .before .before .before .before .before .before .before .args .self) (model.serverTakes (view (c .before .before .before .before .before .before .before .before .before .before .before .args .self)) k)) (sym (c .before .before .m5 .given .1)) ∙ take-read (c .before .before .before .before .before .before .before .before .before .before .before .args .self) (c .before .before .before .before .before .before .before .before .before .before .before .args .bytes .now) (c .before .before .before .before .before .before .before .parse .result) (c .before .before .before .before .before .m .given .0 .0) (c .before .before .before .before .before .before .before .before .before .sound .ensures .1 (c .before .before .before .before .before .before .before .before .if1 .taken)) (c .before .before .before .before .before .before .before .parse .ensures) (c .before .before .before .before .before .m .given .1)
 
--- src/lib.rt:388:9
 refuse-requires-2 : tie.Need-refuse-requires-2
 refuse-requires-2 c κs = search needs
 
--- src/lib.rt:373:5
 returns-6 : tie.Need-returns-6
 returns-6 c = c .refuse2 .ensures ∙ take-unsound (c .before .before .before .before .args .self) (c .before .before .before .before .args .bytes .now) (sym (c .before .before .sound .ensures .0) ∙ c .before .if1 .left)
 

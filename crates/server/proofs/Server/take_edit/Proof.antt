@@ -1,65 +1,43 @@
+use mathlib.Core.Path.{_∙_}
+use borrow.Author.Needs.{needs}
 use Rattle.server.proofs.Taking.{edit-here, edit-next, edit-refused, edit-elsewhere}
 use Rattle.server.proofs.Lines.{line-low, place-eight}
-use Rattle.server.proofs.Places.{blank}
-use lib.ListN.{length, getD, take, drop, set}
-use mathlib.Core.Path.{_≡_, refl, ap, _∙_, sym, subst}
-use native.Mathlib.Omega.{arith}
-use Prim.Native.Nat.{ℕ, _+_, _-_, _≤_, _<_, min}
-use borrow.Author.Needs.{needs}
 use Rattle.server.proofs.Server.take_edit.Statement.{statement}
 use Rattle.server.proofs.Server.take_edit.Tie as tie
-use Rattle.server.proofs.Server.take_edit.Reads as reads
-use Rattle.server.proofs.Server.take_edit.Lts as lts
-use Rattle.endpoint.proofs.ask_edit.Reads as ask-edit-reads
-use Rattle.server.proofs.Server.refuse.Reads as refuse-reads
-use Rattle.server.proofs.Server.take_next.Reads as take-next-reads
-use Rattle.server.proofs.is_own.Reads as is-own-reads
 
--- src/lib.rt:358:13
 is-own-requires : tie.Need-is-own-requires
 is-own-requires c κs = search needs
 
--- src/lib.rt:361:22
 sub-i : tie.Need-sub-i
 sub-i c = line-low (c .before .before .before .before .before .before .args .t1) (c .before .before .before .before .before .before .pre .0) (c .before .before .before .before .before .before .args .h .line) (edit-here (c .before .before .before .before .before .before .args .t1) (c .before .before .before .before .before .before .args .h) (c .before .before .before .before .before .before .args .e) (c .before .before .before .before .before .before .pre .0) (c .before .before .before .before .before .is-own .result) (c .before .before .before .before .before .is-own .ensures) (c .before .if1 .taken))
 
--- src/lib.rt:361:21
 cast-i : tie.Need-cast-i
 cast-i c = search needs
 
--- src/lib.rt:362:21
 mul-v : tie.Need-mul-v
 mul-v c = search needs
 
--- src/lib.rt:362:21
 element-copy-out-v : tie.Need-element-copy-out-v
 element-copy-out-v c = place-eight (c .before .before .before .before .before .before .args .t1) (c .before .before .before .before .before .before .pre .0) (c .before .before .before .before .before .before .args .h .line) (edit-here (c .before .before .before .before .before .before .args .t1) (c .before .before .before .before .before .before .args .h) (c .before .before .before .before .before .before .args .e) (c .before .before .before .before .before .before .pre .0) (c .before .before .before .before .before .is-own .result) (c .before .before .before .before .before .is-own .ensures) (c .before .if1 .taken))
 
--- src/lib.rt:363:17
 ask-edit-requires : tie.Need-ask-edit-requires
 ask-edit-requires c κs = search needs
 
--- src/lib.rt:365:17
 take-next-requires : tie.Need-take-next-requires
 take-next-requires c κs = edit-next (c .before .before .before .before .before .before .before .before .before .args .t1) (c .before .before .before .before .before .before .before .before .before .args .h) (c .before .before .before .before .before .before .before .before .before .args .e) (c .before .before .before .before .before .before .before .before .before .pre .0) (c .before .before .before .before .before .before .before .before .is-own .result) (c .before .before .before .before .before .before .before .before .is-own .ensures) (c .before .ask-edit .result) (c .before .before .before .before .if1 .taken) (c .before .ask-edit .ensures) (c .if2 .taken) (c .before .before .before .before .before .before .before .before .before .pre .1)
 
--- src/lib.rt:365:17
 returns : tie.Need-returns
 returns c = c .take-next .ensures
 
--- src/lib.rt:367:13
 refuse-requires : tie.Need-refuse-requires
 refuse-requires c κs = search needs
 
--- src/lib.rt:367:13
 returns-2 : tie.Need-returns-2
 returns-2 c = c .refuse .ensures ∙ edit-refused (c .before .before .before .before .before .before .before .before .before .before .args .t1) (c .before .before .before .before .before .before .before .before .before .before .args .h) (c .before .before .before .before .before .before .before .before .before .before .args .e) (c .before .before .before .before .before .before .before .before .before .before .pre .0) (c .before .before .before .before .before .before .before .before .before .is-own .result) (c .before .before .before .before .before .before .before .before .before .is-own .ensures) (c .before .before .ask-edit .result) (c .before .before .before .before .before .if1 .taken) (c .before .before .ask-edit .ensures) (c .before .if2 .left)
 
--- src/lib.rt:369:9
 refuse-requires-2 : tie.Need-refuse-requires-2
 refuse-requires-2 c κs = search needs
 
--- src/lib.rt:354:5
 returns-3 : tie.Need-returns-3
 returns-3 c = c .refuse2 .ensures ∙ edit-elsewhere (c .before .before .before .before .before .before .args .t1) (c .before .before .before .before .before .before .args .h) (c .before .before .before .before .before .before .args .e) (c .before .before .before .before .before .before .pre .0) (c .before .before .before .before .before .is-own .result) (c .before .before .before .before .before .is-own .ensures) (c .before .if1 .left)
 

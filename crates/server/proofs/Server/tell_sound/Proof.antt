@@ -1,43 +1,31 @@
-use mathlib.Core.Path.{_≡_, refl, _∙_}
-use native.Mathlib.Omega.{arith}
+use mathlib.Core.Path.{_∙_}
+use borrow.Author.Needs.{needs}
 use Rattle.server.proofs.Lines.{line-low, place-eight}
 use Rattle.server.proofs.Answers.{tell-elsewhere, tell-done}
-use borrow.Author.Needs.{needs}
 use Rattle.server.proofs.Server.tell_sound.Statement.{statement}
 use Rattle.server.proofs.Server.tell_sound.Tie as tie
-use Rattle.server.proofs.Server.tell_sound.Reads as reads
-use Rattle.server.proofs.Server.tell_sound.Lts as lts
-use Rattle.endpoint.proofs.finish.Reads as finish-reads
 
--- src/lib.rt:187:22
 sub-i : tie.Need-sub-i
 sub-i c = line-low (c .before .before .args .t1) (c .before .before .pre) (c .before .before .args .line) (c .if1 .taken)
 
--- src/lib.rt:187:21
 cast-i : tie.Need-cast-i
 cast-i c = search needs
 
--- src/lib.rt:188:21
 mul-v : tie.Need-mul-v
 mul-v c = search needs
 
--- src/lib.rt:188:21
 element-copy-out-v : tie.Need-element-copy-out-v
 element-copy-out-v c = place-eight (c .before .before .args .t1) (c .before .before .pre) (c .before .before .args .line) (c .if1 .taken)
 
--- src/lib.rt:189:13
 finish-requires : tie.Need-finish-requires
 finish-requires c κs = search needs
 
--- src/lib.rt:189:13
 same-length : tie.Need-same-length
 same-length c = search needs
 
--- src/lib.rt:189:13
 returns : tie.Need-returns
 returns c = c .before .before .finish .ensures ∙ tell-done (c .before .before .before .before .before .before .before .args .t1) (c .before .before .before .before .before .before .before .pre) (c .before .before .before .before .before .before .before .args .line) (c .before .before .before .before .before .before .before .args .out .now) (c .before .before .before .before .before .if1 .taken)
 
--- src/lib.rt:181:5
 returns-2 : tie.Need-returns-2
 returns-2 c = tell-elsewhere (c .before .before .args .t1) (c .before .before .pre) (c .before .before .args .line) (c .before .before .args .out .now) (c .if1 .left)
 
