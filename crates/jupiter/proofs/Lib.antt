@@ -9,6 +9,8 @@ pub mod Closure
 pub mod World
 pub mod Step
 pub mod Meeting
+pub mod Join
+pub mod Start
 pub mod Size
 pub mod Runs
 pub mod Theorem
