@@ -24,6 +24,11 @@ leb-true m n h = is-true (leb m n) (le→leb m n h)
 pub leb-le : (m n : ℕ) → leb m n ≡ true → m ≤ n
 leb-le m n e = leb→le m n (to-T _ e)
 
+module _ {𝓐 : Algebra} where
+  -- the ends of a state, with all counts from the first opening list
+  abbrev pub wholeEnds : State 𝓐 → Ends 𝓐
+  wholeEnds s = whole (s .start) (s .ends)
+
 module _ {𝓐 : Algebra} (d : 𝓐 .Doc) where
   -- a letter may be taken at any time
   abbrev pub Fine : Ends 𝓐 → History 𝓐 → Letter 𝓐 → Type 0
@@ -38,33 +43,29 @@ module _ {𝓐 : Algebra} (d : 𝓐 .Doc) where
   fine-later E h E′ h′ inv f (upAck l s) ok = le-trans ok (f .c-later l)
   fine-later E h E′ h′ inv f (downAck l s) ok = le-trans ok (f .v-later l)
 
-  -- the ends of a state, with all counts from the first opening list
-  abbrev pub ends : State 𝓐 → Ends 𝓐
-  ends s = whole (s .start) (s .ends)
-
   abbrev FineIn : State 𝓐 → Letter 𝓐 → Type 0
-  FineIn s x = Fine (ends s) (s .history) (wholeLetter (s .start) x)
+  FineIn s x = Fine (wholeEnds s) (s .history) (wholeLetter (s .start) x)
 
   pub record Reached (s : State 𝓐) : Type 0 where
-    pub inv : Inv d (ends s) (s .history)
-    pub fine : All (λ x. Fine (ends s) (s .history) (wholeLetter (s .start) x)) (s .letters)
+    pub inv : Inv d (wholeEnds s) (s .history)
+    pub fine : All (λ x. Fine (wholeEnds s) (s .history) (wholeLetter (s .start) x)) (s .letters)
 
   pub record Onward (s s′ : State 𝓐) : Type 0 where
     pub reached : Reached s′
-    pub later : Later (ends s) (s .history) (ends s′) (s′ .history)
+    pub later : Later (wholeEnds s) (s .history) (wholeEnds s′) (s′ .history)
 
   stays : (s : State 𝓐) → Reached s → Onward s s
-  stays s r = record { reached = r; later = later-refl (ends s) (s .history) }
+  stays s r = record { reached = r; later = later-refl (wholeEnds s) (s .history) }
 
   -- a step of the ends
   moves : (s : State 𝓐) → Reached s → (f : Ends 𝓐 → Ends 𝓐) (g : History 𝓐 → History 𝓐)
-      → Step d (ends s) (s .history) (whole (s .start) (f (s .ends))) (g (s .history)) → Onward s (goes f g s)
+      → Step d (wholeEnds s) (s .history) (whole (s .start) (f (s .ends))) (g (s .history)) → Onward s (goes f g s)
   moves s r f g t =
       record {
         reached = record {
           inv = t .inv;
           fine = all-map (FineIn s) (FineIn (goes f g s)) (s .letters)
-              (λ x. fine-later (ends s) (s .history) (ends (goes f g s)) (g (s .history)) (r .inv) (t .later) (wholeLetter (s .start) x)) (r .fine);
+              (λ x. fine-later (wholeEnds s) (s .history) (wholeEnds (goes f g s)) (g (s .history)) (r .inv) (t .later) (wholeLetter (s .start) x)) (r .fine);
         };
         later = t .later;
       }
@@ -74,7 +75,7 @@ module _ {𝓐 : Algebra} (d : 𝓐 .Doc) where
   wrote s r x ok =
       record {
         reached = record { inv = r .inv; fine = all-append (FineIn s) (s .letters) (x ∷ []) (r .fine) (ok, tt) };
-        later = later-refl (ends s) (s .history);
+        later = later-refl (wholeEnds s) (s .history);
       }
 
   -- a client joins: no letter is on its line, so that each letter reads as before
@@ -89,7 +90,7 @@ module _ {𝓐 : Algebra} (d : 𝓐 .Doc) where
       n : ℕ
       n = length (s .history .served)
 
-      t : Step d (ends s) (s .history) (ends (joins l s)) (afterJoin l (s .history))
+      t : Step d (wholeEnds s) (s .history) (wholeEnds (joins l s)) (afterJoin l (s .history))
       t = step-join d (s .start) (s .ends) (s .history) (r .inv) l (eqb-eq (madeBy (s .history) l) 0 (and-left (eqb (madeBy (s .history) l) 0) (silent l (s .letters)) e))
 
       not-true : (b : Bool) → not b ≡ true → b ≡ false
@@ -99,8 +100,8 @@ module _ {𝓐 : Algebra} (d : 𝓐 .Doc) where
       letters : (xs : List (Letter 𝓐)) → silent l xs ≡ true → All (FineIn s) xs → All (FineIn (joins l s)) xs
       letters [] q ok = tt
       letters (x ∷ xs) q ok = (
-        subst (Fine (ends (joins l s)) (afterJoin l (s .history))) (sym (letter-same l n (s .start) x (not-true _ (and-left (not (eqb l (lineOf x))) (silent l xs) q))))
-        (fine-later (ends s) (s .history) (ends (joins l s)) (afterJoin l (s .history)) (r .inv) (t .later) (wholeLetter (s .start) x) (ok .0)),
+        subst (Fine (wholeEnds (joins l s)) (afterJoin l (s .history))) (sym (letter-same l n (s .start) x (not-true _ (and-left (not (eqb l (lineOf x))) (silent l xs) q))))
+        (fine-later (wholeEnds s) (s .history) (wholeEnds (joins l s)) (afterJoin l (s .history)) (r .inv) (t .later) (wholeLetter (s .start) x) (ok .0)),
         letters xs (and-right (not (eqb l (lineOf x))) (silent l xs) q) (ok .1),
       )
 
