@@ -56,7 +56,7 @@ module _ {𝓐 : Algebra} (d : 𝓐 .Doc) (E : Ends 𝓐) (h : History 𝓐) (in
   abbrev was : LineAt d l w (h .served) (h .applied l) (E .clients l) (E .lines l) (E .docs l)
   was = inv .lines l .line
 
-  order-is : w ≡ h .served
+  pub order-is : w ≡ h .served
   order-is = ap (λ r. h .served ++ r) (empty (h .untaken l) (omega arith)) ∙ append-nil (h .served)
 
   no-own : length (mine l w) ≡ 0

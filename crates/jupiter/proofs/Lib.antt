@@ -11,6 +11,7 @@ pub mod Step
 pub mod Meeting
 pub mod Join
 pub mod Start
+pub mod Opening
 pub mod Size
 pub mod Runs
 pub mod Theorem

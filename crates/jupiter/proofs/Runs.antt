@@ -8,7 +8,7 @@ use mathlib.Core.List.{List, [], _∷_, _++_}
 use lib.Dec.{T, ltb, leb, eqb, leb→le, le→leb}
 use lib.ListN.{length, getElem?}
 use Rattle.jupiter.specs.Algebra.{Algebra, Laws}
-use Rattle.jupiter.specs.History.{at, History, madeBy, afterEdit, afterUp, afterDown, afterJoin}
+use Rattle.jupiter.specs.History.{at, History, order, madeBy, afterEdit, afterUp, afterDown, afterJoin}
 use Rattle.jupiter.specs.Ends.{Message, Ends, canSend, message, current, canTake, editing, takingUp, takingDown, ackingUp, ackingDown, joining}
 use Rattle.jupiter.specs.Run.{Letter, up, down, upAck, downAck, Call, edit, sendUp, sendDown, tellUp, tellDown, deliver, join, State, initial, writes, goes, lineOf, silent, unused, joins, receive, step, run}
 use Rattle.jupiter.proofs.Lists.{All, all-append, all-map}
@@ -16,6 +16,7 @@ use Rattle.jupiter.proofs.Grid.{is-true, to-T, eqb-eq, ltb-lt}
 use Rattle.jupiter.proofs.World.{Inv}
 use Rattle.jupiter.proofs.Step.{Later, later-refl, later-trans, Step, opens, UpMessage, DownMessage, up-later, down-later}
 use Rattle.jupiter.proofs.Start.{whole, wholeLetter, letter-same, from-opening, step-edit, step-up, step-down, step-ack-up, step-ack-down, step-join, up-message, down-message}
+use Rattle.jupiter.proofs.Opening.{Longer, longer-refl, longer-edit, longer-up, longer-down, Opening, opening-first, opening-join, opening-later}
 use Rattle.jupiter.proofs.Replay.{and-left, and-right}
 
 pub leb-true : (m n : ℕ) → m ≤ n → leb m n ≡ true
@@ -49,6 +50,7 @@ module _ {𝓐 : Algebra} (d : 𝓐 .Doc) where
   pub record Reached (s : State 𝓐) : Type 0 where
     pub inv : Inv d (wholeEnds s) (s .history)
     pub fine : All (λ x. Fine (wholeEnds s) (s .history) (wholeLetter (s .start) x)) (s .letters)
+    pub openings : (l : ℕ) → Opening d (order (s .history) l) (s .history .served) (s .history .applied l) (s .start l)
 
   pub record Onward (s s′ : State 𝓐) : Type 0 where
     pub reached : Reached s′
@@ -58,14 +60,15 @@ module _ {𝓐 : Algebra} (d : 𝓐 .Doc) where
   stays s r = record { reached = r; later = later-refl (wholeEnds s) (s .history) }
 
   -- a step of the ends
-  moves : (s : State 𝓐) → Reached s → (f : Ends 𝓐 → Ends 𝓐) (g : History 𝓐 → History 𝓐)
+  moves : (s : State 𝓐) → Reached s → (f : Ends 𝓐 → Ends 𝓐) (g : History 𝓐 → History 𝓐) → Longer (s .history) (g (s .history))
       → Step d (wholeEnds s) (s .history) (whole (s .start) (f (s .ends))) (g (s .history)) → Onward s (goes f g s)
-  moves s r f g t =
+  moves s r f g longer t =
       record {
         reached = record {
           inv = t .inv;
           fine = all-map (FineIn s) (FineIn (goes f g s)) (s .letters)
               (λ x. fine-later (wholeEnds s) (s .history) (wholeEnds (goes f g s)) (g (s .history)) (r .inv) (t .later) (wholeLetter (s .start) x)) (r .fine);
+          openings = λ l. opening-later d (s .start) (s .ends) (s .history) (r .inv) l (r .openings l) (wholeEnds (goes f g s)) (g (s .history)) (t .later) longer;
         };
         later = t .later;
       }
@@ -74,7 +77,7 @@ module _ {𝓐 : Algebra} (d : 𝓐 .Doc) where
   wrote : (s : State 𝓐) → Reached s → (x : Letter 𝓐) → FineIn s x → Onward s (writes x s)
   wrote s r x ok =
       record {
-        reached = record { inv = r .inv; fine = all-append (FineIn s) (s .letters) (x ∷ []) (r .fine) (ok, tt) };
+        reached = record { inv = r .inv; fine = all-append (FineIn s) (s .letters) (x ∷ []) (r .fine) (ok, tt); openings = r .openings };
         later = later-refl (wholeEnds s) (s .history);
       }
 
@@ -83,15 +86,28 @@ module _ {𝓐 : Algebra} (d : 𝓐 .Doc) where
   unfolding silent
   joined-ok s r l e =
       record {
-        reached = record { inv = t .inv; fine = letters (s .letters) (and-right (eqb (madeBy (s .history) l) 0) (silent l (s .letters)) e) (r .fine) };
+        reached = record {
+          inv = t .inv;
+          fine = letters (s .letters) (and-right (eqb (madeBy (s .history) l) 0) (silent l (s .letters)) e) (r .fine);
+          openings = λ k. opening k (eqb l k) refl;
+        };
         later = t .later;
       }
     where
       n : ℕ
       n = length (s .history .served)
 
+      none-made : madeBy (s .history) l ≡ 0
+      none-made = eqb-eq (madeBy (s .history) l) 0 (and-left (eqb (madeBy (s .history) l) 0) (silent l (s .letters)) e)
+
       t : Step d (wholeEnds s) (s .history) (wholeEnds (joins l s)) (afterJoin l (s .history))
-      t = step-join d (s .start) (s .ends) (s .history) (r .inv) l (eqb-eq (madeBy (s .history) l) 0 (and-left (eqb (madeBy (s .history) l) 0) (silent l (s .letters)) e))
+      t = step-join d (s .start) (s .ends) (s .history) (r .inv) l none-made
+
+      opening : (k : ℕ) (b : Bool) → eqb l k ≡ b
+          → Opening d (order (s .history) k) (s .history .served) (cond b (s .history .served) (s .history .applied k)) (cond b n (s .start k))
+      opening k true q =
+          subst (λ j. Opening d (order (s .history) j) (s .history .served) (s .history .served) n) (eqb-eq l k q) (opening-join d (wholeEnds s) (s .history) (r .inv) l none-made)
+      opening k false q = r .openings k
 
       not-true : (b : Bool) → not b ≡ true → b ≡ false
       not-true true q = absurd (false≢true q)
@@ -119,7 +135,7 @@ module _ {𝓐 : Algebra} (d : 𝓐 .Doc) where
         go false e = stays s r
         go true e =
             let cur = and-right (eqb (m .number) (suc (s .ends .lines l .taken))) _ e in
-            moves s r (takingUp l m) (afterUp l)
+            moves s r (takingUp l m) (afterUp l) (longer-up l (s .history))
             (step-up d (s .start) (s .ends) (s .history) (r .inv) laws l m ok (eqb-eq (m .number) (suc (s .ends .lines l .taken)) (and-left _ (current (m .seen) (s .ends .lines l)) e))
             (leb-le _ _ (and-left (leb (s .ends .lines l .acked) (m .seen)) (leb (m .seen) (s .ends .lines l .made)) cur)))
     receive-ok s r (down l m) ok = go (canTake m (s .ends .clients l)) refl
@@ -128,7 +144,7 @@ module _ {𝓐 : Algebra} (d : 𝓐 .Doc) where
         go false e = stays s r
         go true e =
             let cur = and-right (eqb (m .number) (suc (s .ends .clients l .taken))) _ e in
-            moves s r (takingDown l m) (afterDown l)
+            moves s r (takingDown l m) (afterDown l) (longer-down l (s .history))
             (step-down d (s .start) (s .ends) (s .history) (r .inv) l m ok (eqb-eq (m .number) (suc (s .ends .clients l .taken)) (and-left _ (current (m .seen) (s .ends .clients l)) e))
             (leb-le _ _ (and-left (leb (s .ends .clients l .acked) (m .seen)) (leb (m .seen) (s .ends .clients l .made)) cur)))
     receive-ok s r (upAck l n) ok = go (current n (s .ends .lines l)) refl
@@ -136,14 +152,14 @@ module _ {𝓐 : Algebra} (d : 𝓐 .Doc) where
         go : (b : Bool) → current n (s .ends .lines l) ≡ b → Onward s (cond b (goes (ackingUp l n) (λ h. h) s) s)
         go false e = stays s r
         go true e =
-            moves s r (ackingUp l n) (λ h. h)
+            moves s r (ackingUp l n) (λ h. h) (longer-refl (s .history))
             (step-ack-up d (s .start) (s .ends) (s .history) (r .inv) l n (leb-le _ _ (and-left (leb (s .ends .lines l .acked) n) (leb n (s .ends .lines l .made)) e)) ok)
     receive-ok s r (downAck l n) ok = go (current n (s .ends .clients l)) refl
       where
         go : (b : Bool) → current n (s .ends .clients l) ≡ b → Onward s (cond b (goes (ackingDown l n) (λ h. h) s) s)
         go false e = stays s r
         go true e =
-            moves s r (ackingDown l n) (λ h. h)
+            moves s r (ackingDown l n) (λ h. h) (longer-refl (s .history))
             (step-ack-down d (s .start) (s .ends) (s .history) (r .inv) l n (leb-le _ _ (and-left (leb (s .ends .clients l .acked) n) (leb n (s .ends .clients l .made)) e)) ok)
 
     pub step-ok : (s : State 𝓐) → Reached s → (call : Call 𝓐) → Onward s (step s call)
@@ -153,7 +169,7 @@ module _ {𝓐 : Algebra} (d : 𝓐 .Doc) where
         go : (b : Bool) → 𝓐 .by l e && 𝓐 .fits e (s .ends .docs l) ≡ b → Onward s (cond b (goes (editing l e) (afterEdit l e) s) s)
         go false q = stays s r
         go true q =
-            moves s r (editing l e) (afterEdit l e)
+            moves s r (editing l e) (afterEdit l e) (longer-edit l e (s .history))
             (step-edit d (s .start) (s .ends) (s .history) (r .inv) laws l e (to-T _ (and-left (𝓐 .by l e) (𝓐 .fits e (s .ends .docs l)) q)) (to-T _ (and-right (𝓐 .by l e) (𝓐 .fits e (s .ends .docs l)) q)))
     step-ok s r (sendUp l k) = go (canSend k (s .ends .clients l)) refl
       where
@@ -178,7 +194,6 @@ module _ {𝓐 : Algebra} (d : 𝓐 .Doc) where
         go : (x : Option (Letter 𝓐)) → getElem? (s .letters) i ≡ x → Onward s (receive x s)
         go none e = stays s r
         go (some x) e = receive-ok s r x (all-get (FineIn s) (s .letters) i x (r .fine) e)
-
     step-ok s r (join l) = go (unused l s) refl
       where
         go : (b : Bool) → unused l s ≡ b → Onward s (cond b (joins l s) s)
@@ -194,4 +209,4 @@ module _ {𝓐 : Algebra} (d : 𝓐 .Doc) where
         record { reached = b .reached; later = later-trans _ _ _ _ _ _ (a .later) (b .later) }
 
     pub starts : Reached (initial d)
-    starts = record { inv = from-opening d (initial d .ends) (initial d .history) (opens d); fine = tt }
+    starts = record { inv = from-opening d (initial d .ends) (initial d .history) (opens d); fine = tt; openings = λ l. opening-first d }

@@ -27,6 +27,7 @@ use Rattle.jupiter.proofs.Closure.{Within, served-closed}
 use Rattle.jupiter.proofs.World.{named, mine-served, others-served, LineInv, Inv, missing-is, first-missing}
 use Rattle.jupiter.proofs.Step.{down-fits, up-fits}
 use Rattle.jupiter.proofs.Start.{wholeClient, wholeServer, wholeUp, wholeDown, wholeLetter, whole, unacked-whole, arrived-whole, up-message, down-message}
+use Rattle.jupiter.proofs.Opening.{Opening, since}
 use Rattle.jupiter.proofs.Runs.{leb-true, wholeEnds, Fine, Reached, all-get, run-ok, starts}
 use Rattle.jupiter.proofs.Meeting.{client-less, server-less, meet, server-doc, untaken-is}
 use Rattle.jupiter.proofs.Replay.{and-left, and-right}
@@ -199,6 +200,8 @@ module _ {𝓐 : Algebra} (d : 𝓐 .Doc) where
         hub = r .inv .doc-is;
         hub-list = sym (r .inv .hub-shown);
         closed = sets-closed s r;
+        behind = λ l. r .openings l .behind;
+        since = λ l. since d (s .start) (s .ends) (s .history) (r .inv) l (r .openings l) (s .ends .docs l) (r .inv .lines l .line .shown);
         letters = λ i x e. written (s .start) (s .history) (wholeEnds s) x (all-get d (λ y. Fine d (wholeEnds s) (s .history) (wholeLetter (s .start) y)) (s .letters) i x (r .fine) e);
         lines = λ l. line-claim d (s .start) (s .ends) (s .history) (r .inv) l;
       }

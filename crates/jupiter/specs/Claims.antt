@@ -5,7 +5,7 @@ use mathlib.Core.Bool.{Bool, true, false}
 use mathlib.Core.Option.{Option, none, some}
 use mathlib.Core.List.{List, [], _∷_, _++_}
 use lib.Dec.{T}
-use lib.ListN.{length, getD, drop, getElem?}
+use lib.ListN.{length, getD, take, drop, getElem?}
 use Rattle.jupiter.specs.Algebra.{Algebra}
 use Rattle.jupiter.specs.Made.{Name, Made, holds, names, mine, others}
 use Rattle.jupiter.specs.Form.{form, listAt, inOrder, without, replay}
@@ -113,6 +113,11 @@ module _ {𝓐 : Algebra} where
     pub hub-list : s .ends .doc ≡ replay (s .history .served) [] (s .history .served) initially
     -- what an end has applied is closed: 01's C holds the context of each of its edits
     pub closed : (x : Who) → ClosedSet (setOf x s)
+    -- behind line l's opening list stand the first edits that the server took, which client l has applied first; it shows the list there with
+    -- every edit since then applied in its form at what the client had applied
+    pub behind : (l : ℕ) → take (s .start l) (s .history .applied l) ≡ take (s .start l) (s .history .served)
+    pub since : (l : ℕ) → s .ends .docs l
+        ≡ replay (order (s .history) l) (take (s .start l) (s .history .served)) (drop (s .start l) (s .history .applied l)) (listAt initially (take (s .start l) (s .history .served)))
     pub letters : (i : ℕ) (x : Letter 𝓐) → getElem? (s .letters) i ≡ some x → Written (s .start) (s .history) x
     pub lines : (l : ℕ) → LineClaim initially (s .history) l (s .start l) (s .ends .clients l) (s .ends .lines l) (s .ends .docs l) (s .ends .doc)
 
