@@ -1,15 +1,15 @@
 -- A client joins a line that has no edits yet: a step like any other, with all counts from the first opening list.
-use Prim.Native.Nat.{ℕ, zero, suc, _+_, _≤_, _<_, zero-le}
+use Prim.Native.Nat.{ℕ, _+_, _≤_, _<_, zero-le}
 use native.Mathlib.Nat.{not-suc-le-zero, le-refl, le-trans}
 use native.Mathlib.Omega.{arith}
 use mathlib.Core.Path.{_≡_, refl, sym, ap, _∙_, subst}
 use mathlib.Core.Bool.{Bool, true, false, cond}
 use mathlib.Core.List.{List, [], _∷_, _++_, append-nil}
 use lib.Dec.{eqb}
-use lib.ListN.{length, getD, length-append}
+use lib.ListN.{length}
 use Rattle.jupiter.specs.Algebra.{Algebra}
 use Rattle.jupiter.specs.Made.{Name, Made, holds, names, isBy, mine, others}
-use Rattle.jupiter.specs.Form.{listAt, replay}
+use Rattle.jupiter.specs.Form.{replay}
 use Rattle.jupiter.specs.Point.{point, blank, ownForm, othForm}
 use Rattle.jupiter.specs.History.{at, History, order, madeBy, afterJoin}
 use Rattle.jupiter.specs.Ends.{End, Ends}
@@ -17,8 +17,8 @@ use Rattle.jupiter.proofs.Lists as L
 use Rattle.jupiter.proofs.Segment.{segment, segment-none}
 use Rattle.jupiter.proofs.Grid.{eqb-eq, ltb-true, lagOf, grows-refl, docAt}
 use Rattle.jupiter.proofs.Line.{LineAt}
-use Rattle.jupiter.proofs.Closure.{Within, ClosedSet, Closed, within-append, served-closed}
-use Rattle.jupiter.proofs.World.{mine-served, others-served, LineInv, taken, Inv}
+use Rattle.jupiter.proofs.Closure.{Within, ClosedSet, within-append, served-closed}
+use Rattle.jupiter.proofs.World.{LineInv, taken, Inv}
 use Rattle.jupiter.proofs.Step.{Step}
 use Rattle.jupiter.proofs.Meeting.{served-oth, server-doc}
 

@@ -1,5 +1,5 @@
 -- A line's opening list stays what it was: behind it stand the first edits that the server took, and its client has applied them first.
-use Prim.Native.Nat.{ℕ, zero, suc, _+_, _≤_}
+use Prim.Native.Nat.{ℕ, _+_, _≤_}
 use native.Mathlib.Omega.{arith}
 use mathlib.Core.Path.{_≡_, refl, sym, ap, _∙_, subst}
 use mathlib.Core.Bool.{Bool, true, false, cond}
@@ -8,7 +8,7 @@ use lib.Dec.{eqb}
 use lib.ListN.{length, take, drop, take-append-drop}
 use lib.Seq.{take-append-le, take-length}
 use Rattle.jupiter.specs.Algebra.{Algebra}
-use Rattle.jupiter.specs.Made.{Name, Made, holds, names, isBy, mine, others}
+use Rattle.jupiter.specs.Made.{Made, holds, names, isBy}
 use Rattle.jupiter.specs.Form.{form, grown, listAt, inOrder, replay}
 use Rattle.jupiter.specs.Point.{blank}
 use Rattle.jupiter.specs.History.{at, History, order, madeBy, missing, newEdit, afterEdit, serves, afterUp, applies, afterDown}

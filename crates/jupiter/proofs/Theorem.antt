@@ -1,36 +1,33 @@
 -- The theorems: of every list of calls, what `Claims` says.
-use Prim.Native.Nat.{ℕ, zero, suc, _+_, _-_, _≤_, _<_, suc-le-suc, zero-le}
-use native.Mathlib.Nat.{le-of-suc-le-suc, not-suc-le-zero, le-refl, le-trans}
+use Prim.Native.Nat.{ℕ, zero, suc, _+_, _-_, _≤_, _<_, suc-le-suc}
+use native.Mathlib.Nat.{le-of-suc-le-suc, not-suc-le-zero}
 use native.Mathlib.Omega.{arith}
 use mathlib.Core.Path.{_≡_, refl, sym, ap, _∙_, subst}
-use mathlib.Core.Logic.{_≢_, _⊎_, inl, inr}
-use mathlib.Core.Bool.{Bool, true, false, not, cond, true≢false, _&&_, _||_}
-use mathlib.Core.Option.{Option, none, some, Option·none-ne-some, Option·some-injective}
-use mathlib.Core.List.{List, [], _∷_, _++_, append-assoc, append-nil}
-use lib.Dec.{T, ltb, leb, eqb, leb→le, le→leb}
+use mathlib.Core.Bool.{Bool, true, _&&_}
+use mathlib.Core.List.{List, [], _∷_}
+use lib.Dec.{T}
 use lib.Seq.{drop-cons}
-use lib.ListN.{length, getD, drop, length-append, length-drop, getElem?}
+use lib.ListN.{length, getD, length-drop}
 use Rattle.jupiter.specs.Algebra.{Algebra, Laws}
-use Rattle.jupiter.specs.Made.{Name, Made, holds, select, reject, names, isBy, mine, others}
-use Rattle.jupiter.specs.Form.{form, listAt, inOrder, replay}
+use Rattle.jupiter.specs.Made.{Made, mine, others}
+use Rattle.jupiter.specs.Form.{form, inOrder}
 use Rattle.jupiter.specs.Point.{point, blank, own, oth, ownForm, othForm}
-use Rattle.jupiter.specs.History.{at, History, noHistory, order, missing, afterEdit, afterUp, afterDown}
-use Rattle.jupiter.specs.Ends.{End, Message, Ends, opened, unacked, arrived, canSend, message, current, canTake, editing, takingUp, takingDown, ackingUp, ackingDown}
-use Rattle.jupiter.specs.Run.{Letter, up, down, upAck, downAck, Call, edit, sendUp, sendDown, tellUp, tellDown, deliver, State, initial, writes, goes, receive, step, run}
-use Rattle.jupiter.specs.Claims.{ClosedSet, Carries, Written, Delivers, LineClaim, Claim, Quiet, Who, server, client, setOf, docOf, SameSet, Converges, QuiescentConsistency, StrongConsistency}
+use Rattle.jupiter.specs.History.{History, order, missing}
+use Rattle.jupiter.specs.Ends.{End, Message, Ends, arrived, message}
+use Rattle.jupiter.specs.Run.{Letter, up, down, upAck, downAck, edit, State, initial, writes, run}
+use Rattle.jupiter.specs.Claims.{ClosedSet, Written, Delivers, LineClaim, Claim, Who, server, client, setOf, Converges, QuiescentConsistency}
 use Rattle.jupiter.proofs.Lists as L
-use Rattle.jupiter.proofs.Lists.{All, all-append, all-map}
+use Rattle.jupiter.proofs.Lists.{All}
 use Rattle.jupiter.proofs.Segment.{segment-length, segment-get}
-use Rattle.jupiter.proofs.Grid.{is-true, to-T, eqb-eq, eqb-same, ltb-true, ltb-lt, Edge, docAt, Grid}
-use Rattle.jupiter.proofs.Line.{UpOk, DownOk, LineAt, set-is, down-arrives, up-form, pending-good-c, pending-good-v, unacked-c, unacked-v}
-use Rattle.jupiter.proofs.Closure.{Within, served-closed}
-use Rattle.jupiter.proofs.World.{named, mine-served, others-served, LineInv, Inv, missing-is, first-missing}
+use Rattle.jupiter.proofs.Grid.{eqb-same, ltb-true, docAt}
+use Rattle.jupiter.proofs.Line.{LineAt, set-is, down-arrives, up-form, pending-good-c, pending-good-v, unacked-c, unacked-v}
+use Rattle.jupiter.proofs.Closure.{served-closed}
+use Rattle.jupiter.proofs.World.{others-served, Inv, missing-is, first-missing}
 use Rattle.jupiter.proofs.Step.{down-fits, up-fits}
 use Rattle.jupiter.proofs.Start.{wholeClient, wholeServer, wholeUp, wholeDown, wholeLetter, whole, unacked-whole, arrived-whole, up-message, down-message}
-use Rattle.jupiter.proofs.Opening.{Opening, since}
+use Rattle.jupiter.proofs.Opening.{since}
 use Rattle.jupiter.proofs.Runs.{leb-true, wholeEnds, Fine, Reached, all-get, run-ok, starts}
 use Rattle.jupiter.proofs.Meeting.{client-less, server-less, meet, server-doc, untaken-is}
-use Rattle.jupiter.proofs.Replay.{and-left, and-right}
 
 all-index : {𝓐 : Algebra} (Q : Made 𝓐 → Type 0) (xs : List (Made 𝓐)) → All Q xs → (i : ℕ) → i < length xs → Q (getD xs i blank)
 all-index Q [] h i lt = absurd (not-suc-le-zero lt)
