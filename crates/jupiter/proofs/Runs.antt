@@ -117,7 +117,7 @@ module _ {𝓐 : Algebra} (d : 𝓐 .Doc) where
       letters [] q ok = tt
       letters (x ∷ xs) q ok = (
         subst (Fine (wholeEnds (joins l s)) (afterJoin l (s .history))) (sym (letter-same l n (s .start) x (not-true _ (and-left (not (eqb l (lineOf x))) (silent l xs) q))))
-        (fine-later (wholeEnds s) (s .history) (wholeEnds (joins l s)) (afterJoin l (s .history)) (r .inv) (t .later) (wholeLetter (s .start) x) (ok .0)),
+            (fine-later (wholeEnds s) (s .history) (wholeEnds (joins l s)) (afterJoin l (s .history)) (r .inv) (t .later) (wholeLetter (s .start) x) (ok .0)),
         letters xs (and-right (not (eqb l (lineOf x))) (silent l xs) q) (ok .1),
       )
 
