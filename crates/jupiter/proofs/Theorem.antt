@@ -197,7 +197,7 @@ module _ {𝓐 : Algebra} (d : 𝓐 .Doc) where
         hub = r .inv .doc-is;
         hub-list = sym (r .inv .hub-shown);
         closed = sets-closed s r;
-        behind = λ l. r .openings l .behind;
+        first = λ l. r .openings l .behind;
         since = λ l. since d (s .start) (s .ends) (s .history) (r .inv) l (r .openings l) (s .ends .docs l) (r .inv .lines l .line .shown);
         letters = λ i x e. written (s .start) (s .history) (wholeEnds s) x (all-get d (λ y. Fine d (wholeEnds s) (s .history) (wholeLetter (s .start) y)) (s .letters) i x (r .fine) e);
         lines = λ l. line-claim d (s .start) (s .ends) (s .history) (r .inv) l;

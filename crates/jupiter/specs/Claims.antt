@@ -29,6 +29,10 @@ module _ {𝓐 : Algebra} where
   docOf server s = s .ends .doc
   docOf (client l) s = s .ends .docs l
 
+  -- the edits behind line l's opening list: the first that the server took
+  abbrev pub behind : ℕ → State 𝓐 → List (Made 𝓐)
+  behind l s = take (s .start l) (s .history .served)
+
   abbrev pub SameSet : List (Made 𝓐) → List (Made 𝓐) → Type 0
   SameSet A B = (x : Name) → holds (names A) x ≡ holds (names B) x
 
@@ -113,11 +117,10 @@ module _ {𝓐 : Algebra} where
     pub hub-list : s .ends .doc ≡ replay (s .history .served) [] (s .history .served) initially
     -- what an end has applied is closed: 01's C holds the context of each of its edits
     pub closed : (x : Who) → ClosedSet (setOf x s)
-    -- behind line l's opening list stand the first edits that the server took, which client l has applied first; it shows the list there with
-    -- every edit since then applied in its form at what the client had applied
-    pub behind : (l : ℕ) → take (s .start l) (s .history .applied l) ≡ take (s .start l) (s .history .served)
-    pub since : (l : ℕ) → s .ends .docs l
-        ≡ replay (order (s .history) l) (take (s .start l) (s .history .served)) (drop (s .start l) (s .history .applied l)) (listAt initially (take (s .start l) (s .history .served)))
+    -- client l has applied first what stands behind its opening list, and shows that list with every edit since then applied in its form at
+    -- what the client had applied
+    pub first : (l : ℕ) → take (s .start l) (s .history .applied l) ≡ behind l s
+    pub since : (l : ℕ) → s .ends .docs l ≡ replay (order (s .history) l) (behind l s) (drop (s .start l) (s .history .applied l)) (listAt initially (behind l s))
     pub letters : (i : ℕ) (x : Letter 𝓐) → getElem? (s .letters) i ≡ some x → Written (s .start) (s .history) x
     pub lines : (l : ℕ) → LineClaim initially (s .history) l (s .start l) (s .ends .clients l) (s .ends .lines l) (s .ends .docs l) (s .ends .doc)
 

@@ -23,7 +23,7 @@ pub data Call (𝓐 : Algebra) : Type 0 where
   tellUp tellDown : ℕ → Call 𝓐
   -- whoever may take it gets the letter that was written as the i-th, counted from 0: at any time, in any order, any number of times
   deliver : ℕ → Call 𝓐
-  -- client l joins: its line starts at what the server has by now
+  -- client l joins late: its line starts at what the server has by now
   join : ℕ → Call 𝓐
 
 -- `start l` is the number of edits behind line l's opening list: 0, or what the server had taken when client l joined. The counts of both ends
@@ -55,7 +55,8 @@ module _ {𝓐 : Algebra} where
   silent l [] = true
   silent l (x ∷ xs) = not (eqb l (lineOf x)) && silent l xs
 
-  -- no edit was made on line l, and no letter written
+  -- No edit was made on line l, and no letter written: only such a line may start late. One that has joined and done nothing since may do so
+  -- again.
   abbrev pub unused : ℕ → State 𝓐 → Bool
   unused l s = eqb (madeBy (s .history) l) 0 && silent l (s .letters)
 
