@@ -1,0 +1,69 @@
+-- What a line of the run program says.
+use Prim.Native.Nat.{ℕ, _+_, _^_}
+use mathlib.Core.Bool.{Bool, true, false, _&&_, cond}
+use mathlib.Core.List.{List, [], _∷_, map}
+use lib.Dec.{leb, ltb}
+use lib.ListN.{length, set, replicate}
+use Rattle.model.specs.Questions.{between}
+use Rattle.script.specs.declared.parse.Command.{Command}
+use Rattle.script.specs.declared.parse.Command.the-variants.{Bad, Insert, Delete, Up, Down, Ack, Told}
+use Rattle.script.specs.Decimal.{numberOf, tooWide}
+use Rattle.script.specs.Text.{wordsOf, same}
+
+-- The words of the commands and of the first line, as bytes.
+abbrev pub insWord : List ℕ
+insWord = 105 ∷ 110 ∷ 115 ∷ []
+
+abbrev pub delWord : List ℕ
+delWord = 100 ∷ 101 ∷ 108 ∷ []
+
+abbrev pub upWord : List ℕ
+upWord = 117 ∷ 112 ∷ []
+
+abbrev pub downWord : List ℕ
+downWord = 100 ∷ 111 ∷ 119 ∷ 110 ∷ []
+
+abbrev pub ackWord : List ℕ
+ackWord = 97 ∷ 99 ∷ 107 ∷ []
+
+abbrev pub toldWord : List ℕ
+toldWord = 116 ∷ 111 ∷ 108 ∷ 100 ∷ []
+
+abbrev pub linesWord : List ℕ
+linesWord = 108 ∷ 105 ∷ 110 ∷ 101 ∷ 115 ∷ []
+
+abbrev pub itemsWord : List ℕ
+itemsWord = 105 ∷ 116 ∷ 101 ∷ 109 ∷ 115 ∷ []
+
+-- a command of one word, after the client's line
+abbrev pub plain : ℕ → List ℕ → Command
+plain bay w = cond (same w ackWord) (Ack bay) (cond (same w toldWord) (Told bay) Bad)
+
+-- of a word and a number of 16 bits
+abbrev pub withOne : ℕ → List ℕ → ℕ → Command
+withOne bay w k =
+    cond (ltb k 65536) (cond (same w delWord) (Delete bay k) (cond (same w upWord) (Up bay k) (cond (same w downWord) (Down bay k) Bad))) Bad
+
+-- of a word, a position of 16 bits and an item of 32
+abbrev pub withTwo : ℕ → List ℕ → ℕ → ℕ → Command
+withTwo bay w p x = cond (ltb p 65536 && ltb x tooWide && same w insWord) (Insert bay p x) Bad
+
+-- the words after the first number
+abbrev pub afterNumber : ℕ → List ℕ → ℕ → List (List ℕ) → Command
+afterNumber bay w k [] = withOne bay w k
+afterNumber bay w k (x ∷ []) = withTwo bay w k (numberOf x)
+afterNumber bay w k (x ∷ y ∷ ws) = Bad
+
+-- the words after the client's line
+abbrev pub verbOf : ℕ → List (List ℕ) → Command
+verbOf bay [] = Bad
+verbOf bay (w ∷ []) = plain bay w
+verbOf bay (w ∷ k ∷ ws) = afterNumber bay w (numberOf k) ws
+
+-- all words of a line, of a sheet with n clients (01: a bay outside 1 to n)
+abbrev pub spoken : ℕ → List (List ℕ) → Command
+spoken n [] = Bad
+spoken n (bay ∷ ws) = cond (between 1 n (numberOf bay)) (verbOf (numberOf bay) ws) Bad
+
+unfoldable pub commandOf : ℕ → List ℕ → Command
+commandOf n line = spoken n (wordsOf line)

@@ -1,0 +1,8 @@
+// The run program's interpreter: reads lines, makes the calls they name on a server and its clients, and prints.
+mod ends;
+mod opening;
+mod parse;
+mod print;
+
+pub use parse::Command;
+pub use parse::read_command;
