@@ -1,3 +1,9 @@
+use mathlib.Core.Path.{_≡_, refl, sym, ap, _∙_}
+use native.Mathlib.Omega.{arith}
+use Rattle.model.specs.Client.{takeClient}
+use Rattle.script.specs.Bench.{step, clientOf, onClient, onServer}
+use Rattle.script.specs.Ends.{viewEnds, storeStep}
+use Rattle.script.proofs.Structs.{told-sent, told-within, part-length, delivered-yes, delivered-no, refused-call}
 use borrow.Author.Needs.{needs}
 use Rattle.script.proofs.ends.told.Statement.{statement}
 use Rattle.script.proofs.ends.told.Tie as tie
@@ -17,11 +23,11 @@ tell-requires c κs = search needs
 
 -- src/ends.rt:154:35
 array-share-prefix-m : tie.Need-array-share-prefix-m
-array-share-prefix-m c = ?
+array-share-prefix-m c = told-within (c .before .before .before .tell .result) (c .before .before .before .tell .last .1 .1 .0) (viewEnds (c .before .before .before .before .before .before .args .ends) .server) (c .before .before .before .before .before .before .args .l)  (told-sent (c .before .before .before .before .before .before .args .ends) (c .before .before .before .before .before .before .pre .0) (c .before .before .before .before .before .before .args .l) (c .before .before .before .before .before .before .pre .1) (c .before .before .before .tell .result) (c .before .before .before .tell .last .1 .1 .0) (c .before .before .before .tell .ensures) )
 
 -- src/ends.rt:154:35
 slice-aggregate-to-client : tie.Need-slice-aggregate-to-client
-slice-aggregate-to-client c = ?
+slice-aggregate-to-client c = part-length (c .before .before .before .before .tell .result .written) (c .before .before .before .before .tell .last .1 .1 .0) (told-within (c .before .before .before .before .tell .result) (c .before .before .before .before .tell .last .1 .1 .0) (viewEnds (c .before .before .before .before .before .before .before .args .ends) .server) (c .before .before .before .before .before .before .before .args .l)  (told-sent (c .before .before .before .before .before .before .before .args .ends) (c .before .before .before .before .before .before .before .pre .0) (c .before .before .before .before .before .before .before .args .l) (c .before .before .before .before .before .before .before .pre .1) (c .before .before .before .before .tell .result) (c .before .before .before .before .tell .last .1 .1 .0) (c .before .before .before .before .tell .ensures) ))
 
 -- src/ends.rt:154:9
 to-client-requires : tie.Need-to-client-requires
@@ -29,7 +35,8 @@ to-client-requires c κs = search needs
 
 -- src/ends.rt:154:9
 returns : tie.Need-returns
-returns c = ?
+unfolding step
+returns c = c .to-client .ensures ∙ ap storeStep (delivered-yes (viewEnds (c .before .before .before .before .before .before .before .before .args .ends)) _ (λ m. onClient (viewEnds (c .before .before .before .before .before .before .before .before .args .ends)) (c .before .before .before .before .before .before .before .before .args .l) (takeClient (clientOf (viewEnds (c .before .before .before .before .before .before .before .before .args .ends)) (c .before .before .before .before .before .before .before .before .args .l)) m)) (c .before .before .before .before .before .tell .result) (c .before .before .before .before .before .tell .last .1 .1 .0) (told-sent (c .before .before .before .before .before .before .before .before .args .ends) (c .before .before .before .before .before .before .before .before .pre .0) (c .before .before .before .before .before .before .before .before .args .l) (c .before .before .before .before .before .before .before .before .pre .1) (c .before .before .before .before .before .tell .result) (c .before .before .before .before .before .tell .last .1 .1 .0) (c .before .before .before .before .before .tell .ensures) ) (c .before .before .if1 .taken))
 
 -- src/ends.rt:156:5
 unsent-requires : tie.Need-unsent-requires
@@ -37,7 +44,8 @@ unsent-requires c κs = search needs
 
 -- src/ends.rt:144:1
 returns-2 : tie.Need-returns-2
-returns-2 c = ?
+unfolding step
+returns-2 c = c .unsent .ensures ∙ refused-call (c .before .before .before .before .before .before .before .args .ends) (c .before .before .before .before .before .before .before .pre .0) (c .before .before .before .before .tell .result .refusal) ∙ ap storeStep (delivered-no (viewEnds (c .before .before .before .before .before .before .before .args .ends)) _ (λ m. onClient (viewEnds (c .before .before .before .before .before .before .before .args .ends)) (c .before .before .before .before .before .before .before .args .l) (takeClient (clientOf (viewEnds (c .before .before .before .before .before .before .before .args .ends)) (c .before .before .before .before .before .before .before .args .l)) m)) (c .before .before .before .before .tell .result) (c .before .before .before .before .tell .last .1 .1 .0) (told-sent (c .before .before .before .before .before .before .before .args .ends) (c .before .before .before .before .before .before .before .pre .0) (c .before .before .before .before .before .before .before .args .l) (c .before .before .before .before .before .before .before .pre .1) (c .before .before .before .before .tell .result) (c .before .before .before .before .tell .last .1 .1 .0) (c .before .before .before .before .tell .ensures) ) (c .before .if1 .left))
 
 pub told-spec : {M : Type 1} → statement M
 told-spec =
