@@ -3,6 +3,6 @@ mod ends;
 mod opening;
 mod parse;
 mod print;
+mod run;
 
-pub use parse::Command;
-pub use parse::read_command;
+pub use run::run;
