@@ -35,11 +35,15 @@ use Rattle.server.proofs.Lines.{getD-default, pad-set, set-map}
 use Rattle.server.proofs.Stored.{view-store, store-sound}
 use Rattle.convergence.proofs.Stored.{client-view, client-stored}
 use Rattle.script.specs.declared.ends.Ends.{Ends}
-use Rattle.script.specs.declared.ends.Done.{Done}
-use Rattle.script.specs.Bench.{Bench, Step, SoundBench, clientOf, onClient, onServer, delivered, room}
-use Rattle.script.specs.Ends.{viewEnds, storeEnds, Whole, Inside, storeStep, clientDone, serverDone, refusedDone}
+use Rattle.script.specs.declared.parse.Command.{Command}
+use Rattle.script.specs.declared.parse.Command.the-variants.{Bad, Insert, Delete, Up, Down, Ack, Told}
+use Rattle.script.specs.Bench.{Bench, Step, SoundBench, clientOf, onClient, onServer, delivered, room, step}
+use Rattle.script.specs.Ends.{viewEnds, storeEnds, Whole, Within, placeOf, upward, clientGets, serverGets, atClient, atServer, Done, storeStep, clientDone, serverDone}
 use Rattle.script.proofs.Sinks.{both}
 use Rattle.script.proofs.Benches.{every-at}
+
+true-false : true ≡ false → ⊥
+true-false h = eqb-false 0 1 refl (ap (λ (t : Bool). cond t 1 0) (sym h))
 
 -- A refusal hands back the end as it came.
 abbrev Keeps : {E : Type 0} → E → Answer E → Type 0
@@ -127,11 +131,16 @@ done-path : {r r′ : ℕ} {s s′ : Server} {c c′ : List Client} → r ≡ r�
     → _≡_ {A = Done} (record { refusal = r; ends = record { server = s; clients = c } }) (record { refusal = r′; ends = record { server = s′; clients = c′ } })
 done-path p q r = λ i. record { refusal = p i; ends = record { server = q i; clients = r i } }
 
+set-same : {A : Type 0} (l : List A) (i : ℕ) (d : A) → set l i (getD l i d) ≡ l
+set-same [] i d = refl
+set-same (x ∷ l) zero d = refl
+set-same (x ∷ l) (suc i) d = ap (λ m. x ∷ m) (set-same l i d)
+
 module _ (e : Ends) (w : Whole e) where
   abbrev B : Bench
   B = viewEnds e
 
-  pub server-is : e .server ≡ server.store (B .server)
+  server-is : e .server ≡ server.store (B .server)
   server-is = ap (λ (x : Ends). x .server) (w .whole)
 
   clients-are : e .clients ≡ padded (client.store models.noClient) maxLines (map client.store (B .clients))
@@ -148,99 +157,144 @@ module _ (e : Ends) (w : Whole e) where
       ∙ pad-length maxLines (client.store models.noClient) (map client.store (B .clients))
       (rw (length-map (B .clients) client.store) (let k = w .sound .count in let f = lines-few in omega arith))
 
-  module _ (l : ℕ) (inside : Inside e l) where
-    pub place-within : l - 1 < length (B .clients)
+  -- the ends as they were
+  as-were : (r : ℕ) → _≡_ {A = Done} (record { refusal = r; ends = e }) (storeStep (record { refusal = r; bench = B }))
+  as-were r = ap (λ (x : Ends). record { refusal = r; ends = x }) (w .whole)
+
+  -- one client as it was
+  same-client : (r i : ℕ) (c d : Client) → c ≡ getD (e .clients) i d → clientDone e i (refusedWith r c) ≡ storeStep (record { refusal = r; bench = B })
+  same-client r i c d p =
+      ap (λ (l : List Client). record { refusal = r; ends = record { server = e .server; clients = l } }) (ap (set (e .clients) i) p ∙ set-same (e .clients) i d) ∙ as-were r
+
+  server-call : (bytes : List ℕ) → serverDone e (takes (e .server) bytes) ≡ storeStep (onServer B (serverModels.takeServer (B .server) bytes))
+  server-call bytes =
+      let q = ap (λ s. takes s bytes) server-is ∙ server-answers (B .server) bytes (w .sound .server) in
+      done-path (ap (λ (x : serverAnswer.Answer). x .refusal) q) (ap (λ (x : serverAnswer.Answer). x .server) q) clients-are
+
+  module _ (l : ℕ) (low : 1 ≤ l) (high : l ≤ e .server .n) (c d : Client) (pc : c ≡ getD (e .clients) (l - 1) d) where
+    place-within : l - 1 < length (B .clients)
     unfolding server.view
     place-within = let k = w .sound .count in omega arith
 
-    pub place-few : l - 1 < 8
-    place-few = let k = lines-few in omega arith
-
-    pub client-sound : models.soundClient (clientOf B l) ≡ true
+    client-sound : models.soundClient (clientOf B l) ≡ true
     client-sound = every-at (B .clients) (l - 1) (w .sound .clients) place-within
 
-    pub client-is : (c d : Client) → c ≡ getD (e .clients) (l - 1) d → c ≡ client.store (clientOf B l)
-    client-is c d p =
+    client-is : c ≡ client.store (clientOf B l)
+    client-is =
         let small : l - 1 < length (map client.store (B .clients)) = rw (length-map (B .clients) client.store) place-within in
-        p ∙ ap (λ x. getD x (l - 1) d) clients-are
+        pc ∙ ap (λ x. getD x (l - 1) d) clients-are
         ∙ List·getD-append (map client.store (B .clients)) _ d (l - 1) small
         ∙ getD-default (map client.store (B .clients)) (l - 1) d (client.store models.noClient) small
         ∙ List·getD-map client.store (B .clients) (l - 1) models.noClient
 
-    pub client-call : (call : models.Client → Answer models.Client) (c d : Client) (a : clientAnswer.Answer) → c ≡ getD (e .clients) (l - 1) d
-        → a ≡ guarded c (call (client.view c)) → Keeps (clientOf B l) (call (clientOf B l))
-        → clientDone e (l - 1) a ≡ storeStep (onClient B l (call (clientOf B l)))
-    client-call call c d a pc pa h =
+    client-call : (call : models.Client → Answer models.Client) → Keeps (clientOf B l) (call (clientOf B l))
+        → clientDone e (l - 1) (guarded c (call (client.view c))) ≡ storeStep (onClient B l (call (clientOf B l)))
+    client-call call h =
         let m = clientOf B l in
-        let q = pa ∙ ap (λ (x : Client). guarded x (call (client.view x))) (client-is c d pc) ∙ client-answers m call client-sound h in
+        let q = ap (λ (x : Client). guarded x (call (client.view x))) client-is ∙ client-answers m call client-sound h in
         let few : l - 1 < length (map client.store (B .clients)) = rw (length-map (B .clients) client.store) place-within in
         done-path (ap (λ (x : clientAnswer.Answer). x .refusal) q) server-is
         (ap₂ (λ x y. set x (l - 1) y) clients-are (ap (λ (x : clientAnswer.Answer). x .client) q)
         ∙ pad-set maxLines (client.store models.noClient) (map client.store (B .clients)) (l - 1) (client.store (call m .end)) few
         ∙ ap (padded (client.store models.noClient) maxLines) (set-map client.store (B .clients) (l - 1) (call m .end)))
 
-  pub server-call : (bytes : List ℕ) (a : serverAnswer.Answer) → a ≡ takes (e .server) bytes → serverDone e a ≡ storeStep (onServer B (serverModels.takeServer (B .server) bytes))
-  server-call bytes a pa =
-      let q = pa ∙ ap (λ s. takes s bytes) server-is ∙ server-answers (B .server) bytes (w .sound .server) in
-      done-path (ap (λ (x : serverAnswer.Answer). x .refusal) q) (ap (λ (x : serverAnswer.Answer). x .server) q) clients-are
+    -- what the server sent, taken by the client
+    client-gets : (x m : Sent) → x ≡ m → clientDone e (l - 1) (clientGets x c) ≡ storeStep (delivered B m (λ bytes. onClient B l (models.takeClient (clientOf B l) bytes)))
+    client-gets x m p = ap (λ (y : Sent). clientDone e (l - 1) (clientGets y c)) p ∙ go (eqb (m .refusal) 0)
+      where
+        go : (t : Bool)
+            → clientDone e (l - 1) (cond t (guarded c (models.takeClient (client.view c) (take (m .written) (m .buffer)))) (refusedWith (m .refusal) c))
+            ≡ storeStep (cond t (onClient B l (models.takeClient (clientOf B l) (take (m .written) (m .buffer)))) (record { refusal = m .refusal; bench = B }))
+        go true = client-call (λ v. models.takeClient v (take (m .written) (m .buffer))) (client-keeps (clientOf B l) (take (m .written) (m .buffer)))
+        go false = same-client (m .refusal) (l - 1) c d pc
 
-  pub refused-call : (r : ℕ) → refusedDone e r ≡ storeStep (record { refusal = r; bench = B })
-  refused-call r = ap (λ (x : Ends). record { refusal = r; ends = x }) (w .whole)
+    client-sent : (call : models.Client → Sent) → guardedSending c (call (client.view c)) room ≡ call (clientOf B l)
+    client-sent call =
+        ap (λ (x : Client). guardedSending x (call (client.view x)) room) client-is ∙ client-sends (clientOf B l) call room client-sound
 
--- A sending, and the taking of what it wrote.
-module _ (b : Bench) (x : Sent) (taking : List ℕ → Step) (s : endpoint.Sent) (out : List ℕ) (p : sentAs s out ≡ x) where
-  pub delivered-yes : s .refusal ≡ 0 → taking (take (s .written) out) ≡ delivered b x taking
-  delivered-yes h = subst (λ (y : Sent). taking (take (s .written) out) ≡ delivered b y taking) p (rw (eq-eqb (s .refusal) 0 h))
+  -- what a client sent, taken by the server
+  server-gets : (x m : Sent) → x ≡ m → serverDone e (serverGets x (e .server)) ≡ storeStep (delivered B m (λ bytes. onServer B (serverModels.takeServer (B .server) bytes)))
+  server-gets x m p = ap (λ (y : Sent). serverDone e (serverGets y (e .server))) p ∙ go (eqb (m .refusal) 0)
+    where
+      go : (t : Bool)
+          → serverDone e (cond t (takes (e .server) (take (m .written) (m .buffer))) (refused (e .server) (m .refusal)))
+          ≡ storeStep (cond t (onServer B (serverModels.takeServer (B .server) (take (m .written) (m .buffer)))) (record { refusal = m .refusal; bench = B }))
+      go true = server-call (take (m .written) (m .buffer))
+      go false = as-were (m .refusal)
 
-  pub delivered-no : (s .refusal ≡ 0 → ⊥) → record { refusal = s .refusal; bench = b } ≡ delivered b x taking
-  delivered-no h = subst (λ (y : Sent). record { refusal = s .refusal; bench = b } ≡ delivered b y taking) p (rw (ne-eqb (s .refusal) 0 h))
+  down-sent : (l k : ℕ) → sends (e .server) l k room ≡ serverModels.sendServer (B .server) l k room
+  down-sent l k = ap (λ (x : Server). sends x l k room) server-is ∙ server-sends (B .server) l k room (w .sound .server)
 
--- what is written is within the buffer
+  told-sent : (l : ℕ) → tells (e .server) l room ≡ serverModels.tellServer (B .server) l room
+  told-sent l = ap (λ (x : Server). tells x l room) server-is ∙ server-tells (B .server) l room (w .sound .server)
+
+  -- The place of a command's client is one of the eight.
+  pub place-few : (c : Command) → Within (e .server .n) c → placeOf c < 8
+  unfolding placeOf
+  place-few Bad h = omega arith
+  place-few (Insert l p x) h = let k = lines-few in omega arith
+  place-few (Delete l p) h = let k = lines-few in omega arith
+  place-few (Up l k) h = let k′ = lines-few in omega arith
+  place-few (Down l k) h = let k′ = lines-few in omega arith
+  place-few (Ack l) h = let k = lines-few in omega arith
+  place-few (Told l) h = let k = lines-few in omega arith
+
+  -- What the calls leave is what the step leaves, stored.
+  pub at-client-is : (c : Command) → Within (e .server .n) c → upward c ≡ false → (x d : Client) → x ≡ getD (e .clients) (placeOf c) d
+      → clientDone e (placeOf c) (atClient (e .server) x c) ≡ storeStep (step B c)
+  unfolding placeOf upward atClient step
+  at-client-is Bad h u x d p = same-client 0 0 x d p
+  at-client-is (Insert l q y) h u x d p = client-call l (h .0) (h .1) x d p (λ m. models.insertClient m q y) (edit-keeps (clientOf B l) _)
+  at-client-is (Delete l q) h u x d p = client-call l (h .0) (h .1) x d p (λ m. models.deleteClient m q) (edit-keeps (clientOf B l) _)
+  at-client-is (Up l k) h u x d p = absurd (true-false u)
+  at-client-is (Down l k) h u x d p = client-gets l (h .0) (h .1) x d p _ _ (down-sent l k)
+  at-client-is (Ack l) h u x d p = absurd (true-false u)
+  at-client-is (Told l) h u x d p = client-gets l (h .0) (h .1) x d p _ _ (told-sent l)
+
+  pub at-server-is : (c : Command) → Within (e .server .n) c → upward c ≡ true → (x d : Client) → x ≡ getD (e .clients) (placeOf c) d
+      → serverDone e (atServer (e .server) x c) ≡ storeStep (step B c)
+  unfolding placeOf upward atServer step
+  at-server-is Bad h u x d p = absurd (true-false (sym u))
+  at-server-is (Insert l q y) h u x d p = absurd (true-false (sym u))
+  at-server-is (Delete l q) h u x d p = absurd (true-false (sym u))
+  at-server-is (Up l k) h u x d p = server-gets _ _ (client-sent l (h .0) (h .1) x d p (λ v. models.sendClient v l k room))
+  at-server-is (Down l k) h u x d p = absurd (true-false (sym u))
+  at-server-is (Ack l) h u x d p = server-gets _ _ (client-sent l (h .0) (h .1) x d p (λ v. models.tellClient v l room))
+  at-server-is (Told l) h u x d p = absurd (true-false (sym u))
+
+-- Any sending writes within its buffer.
 sent-within : (r : ℕ) (bytes lent : List ℕ) → sent r bytes lent .written ≤ length (sent r bytes lent .buffer)
 unfolding sent
 sent-within r bytes lent =
     both (λ (x : Sent). x .written ≤ length (x .buffer)) (eqb r 0) (record { refusal = 0; written = length bytes; buffer = bytes ++ drop (length bytes) lent })
     (record { refusal = r; written = 0; buffer = lent }) (let l = length-append bytes (drop (length bytes) lent) in omega arith) (omega arith)
 
-written-within : (s : endpoint.Sent) (out : List ℕ) (r : ℕ) (bytes lent : List ℕ) → sentAs s out ≡ sent r bytes lent → s .written ≤ length out
-written-within s out r bytes lent p = subst (λ (y : Sent). y .written ≤ length (y .buffer)) (sym p) (sent-within r bytes lent)
+module _ (s : endpoint.Sent) (out : List ℕ) (l : ℕ) where
+  written-within : (x : Sent) → x .written ≤ length (x .buffer) → sentAs s out ≡ x → s .written ≤ length out
+  written-within x h p = subst (λ (y : Sent). y .written ≤ length (y .buffer)) (sym p) h
 
-module _ (e : Ends) (w : Whole e) (l : ℕ) (inside : Inside e l) (s : endpoint.Sent) (out : List ℕ) where
-  -- each sending of the structs is the model's, and what it wrote is within the buffer
-  pub up-sent : (c d : Client) (k : ℕ) → c ≡ getD (e .clients) (l - 1) d → sentAs s out ≡ sentEdit c l k room
-      → sentAs s out ≡ models.sendClient (clientOf (viewEnds e) l) l k room
-  up-sent c d k pc p =
-      p ∙ ap (λ (x : Client). sentEdit x l k room) (client-is e w l inside c d pc)
-      ∙ client-sends (clientOf (viewEnds e) l) (λ v. models.sendClient v l k room) room (client-sound e w l inside)
+  guarded-within : (c : Client) (a : Sent) → a .written ≤ length (a .buffer) → sentAs s out ≡ guardedSending c a room → s .written ≤ length out
+  unfolding guardedSending
+  guarded-within c a h p =
+      written-within (guardedSending c a room)
+      (both (λ (x : Sent). x .written ≤ length (x .buffer)) (client.sound c) a (record { refusal = 2; written = 0; buffer = room }) h (omega arith)) p
 
-  pub ack-sent : (c d : Client) → c ≡ getD (e .clients) (l - 1) d → sentAs s out ≡ sentAck c l room → sentAs s out ≡ models.tellClient (clientOf (viewEnds e) l) l room
-  ack-sent c d pc p =
-      p ∙ ap (λ (x : Client). sentAck x l room) (client-is e w l inside c d pc)
-      ∙ client-sends (clientOf (viewEnds e) l) (λ v. models.tellClient v l room) room (client-sound e w l inside)
-
-  pub down-sent : (k : ℕ) → sentAs s out ≡ sends (e .server) l k room → sentAs s out ≡ serverModels.sendServer (viewEnds e .server) l k room
-  down-sent k p = p ∙ ap (λ (x : Server). sends x l k room) (server-is e w) ∙ server-sends (viewEnds e .server) l k room (w .sound .server)
-
-  pub told-sent : sentAs s out ≡ tells (e .server) l room → sentAs s out ≡ serverModels.tellServer (viewEnds e .server) l room
-  told-sent p = p ∙ ap (λ (x : Server). tells x l room) (server-is e w) ∙ server-tells (viewEnds e .server) l room (w .sound .server)
-
--- any sending writes within its buffer
-module _ (s : endpoint.Sent) (out : List ℕ) where
-  pub up-within : (m : models.Client) (l k : ℕ) → sentAs s out ≡ models.sendClient m l k room → s .written ≤ length out
+  pub up-within : (c : Client) (k : ℕ) → sentAs s out ≡ sentEdit c l k room → s .written ≤ length out
   unfolding models.sendClient
-  up-within m l k p = written-within s out _ _ room p
+  up-within c k p = guarded-within c (models.sendClient (client.view c) l k room) (sent-within _ _ room) p
 
-  pub ack-within : (m : models.Client) (l : ℕ) → sentAs s out ≡ models.tellClient m l room → s .written ≤ length out
+  pub ack-within : (c : Client) → sentAs s out ≡ sentAck c l room → s .written ≤ length out
   unfolding models.tellClient
-  ack-within m l p = written-within s out _ _ room p
+  ack-within c p = guarded-within c (models.tellClient (client.view c) l room) (sent-within _ _ room) p
 
-  pub down-within : (m : serverModels.Server) (l k : ℕ) → sentAs s out ≡ serverModels.sendServer m l k room → s .written ≤ length out
-  unfolding serverModels.sendServer
-  down-within m l k p = written-within s out _ _ room p
+  pub down-within : (e : Server) (k : ℕ) → sentAs s out ≡ sends e l k room → s .written ≤ length out
+  unfolding sends serverModels.sendServer
+  down-within e k p =
+      written-within (sends e l k room)
+      (both (λ (x : Sent). x .written ≤ length (x .buffer)) (soundStruct e) (serverModels.sendServer (server.view e) l k room) (sent 2 [] room) (sent-within _ _ room) (sent-within 2 [] room)) p
 
-  pub told-within : (m : serverModels.Server) (l : ℕ) → sentAs s out ≡ serverModels.tellServer m l room → s .written ≤ length out
-  unfolding serverModels.tellServer
-  told-within m l p = written-within s out _ _ room p
-
-pub part-length : (n : ℕ) (out : List ℕ) → n ≤ length out → n ≡ length (take n out)
-part-length n out h = sym (length-take-le n out h)
+  pub told-within : (e : Server) → sentAs s out ≡ tells e l room → s .written ≤ length out
+  unfolding tells serverModels.tellServer
+  told-within e p =
+      written-within (tells e l room)
+      (both (λ (x : Sent). x .written ≤ length (x .buffer)) (soundStruct e) (serverModels.tellServer (server.view e) l room) (sent 2 [] room) (sent-within _ _ room) (sent-within 2 [] room)) p

@@ -1,21 +1,26 @@
--- The server and its clients as structs, and the bench that they stand for.
-use Prim.Native.Nat.{ℕ, _≤_}
+-- The server and its clients as structs, what a command does to them, and the bench that they stand for.
+use Prim.Native.Nat.{ℕ, _-_, _≤_}
 use mathlib.Core.Path.{_≡_}
+use mathlib.Core.Bool.{Bool, true, false, cond}
 use mathlib.Core.List.{List, map}
+use lib.Dec.{eqb}
 use lib.ListN.{take, set}
 use Rattle.ot.specs.Items.{padded}
 use Rattle.model.specs.Limits.{maxLines}
+use Rattle.model.specs.Questions.{Sent}
 use Rattle.model.specs.Client.{noClient}
 use Rattle.client.specs.declared.Client.{Client}
 use Rattle.client.specs.declared.Answer as clientAnswer
 use Rattle.client.specs.Store as client
+use Rattle.client.specs.Answers.{refusedWith, inserted, deleted, taken, sentEdit, sentAck}
+use Rattle.server.specs.declared.Server.{Server}
 use Rattle.server.specs.declared.Answer as serverAnswer
 use Rattle.server.specs.View as server
+use Rattle.server.specs.Calls.{refused, sends, tells, takes}
 use Rattle.script.specs.declared.ends.Ends.{Ends}
-use Rattle.script.specs.declared.ends.Done.{Done}
 use Rattle.script.specs.declared.parse.Command.{Command}
 use Rattle.script.specs.declared.parse.Command.the-variants.{Bad, Insert, Delete, Up, Down, Ack, Told}
-use Rattle.script.specs.Bench.{Bench, Step, SoundBench}
+use Rattle.script.specs.Bench.{Bench, Step, SoundBench, room}
 
 -- the clients of lines 1 to n stand in the first n places
 abbrev pub viewEnds : Ends → Bench
@@ -31,22 +36,6 @@ pub record Whole (e : Ends) : Type 0 where
   pub whole : e ≡ storeEnds (viewEnds e)
   pub sound : SoundBench (viewEnds e)
 
--- a line of 1 to n
-abbrev pub Inside : Ends → ℕ → Type 0
-Inside e l = (1 ≤ l) × (l ≤ e .server .n)
-
-abbrev pub storeStep : Step → Done
-storeStep s = record { refusal = s .refusal; ends = storeEnds (s .bench) }
-
-abbrev pub clientDone : Ends → ℕ → clientAnswer.Answer → Done
-clientDone e i a = record { refusal = a .refusal; ends = record { server = e .server; clients = set (e .clients) i (a .client) } }
-
-abbrev pub serverDone : Ends → serverAnswer.Answer → Done
-serverDone e a = record { refusal = a .refusal; ends = record { server = a .server; clients = e .clients } }
-
-abbrev pub refusedDone : Ends → ℕ → Done
-refusedDone e r = record { refusal = r; ends = e }
-
 -- the line of a command is one of 1 to n
 abbrev pub Within : ℕ → Command → Type 0
 Within n Bad = Unit {0}
@@ -56,3 +45,62 @@ Within n (Up l k) = (1 ≤ l) × (l ≤ n)
 Within n (Down l k) = (1 ≤ l) × (l ≤ n)
 Within n (Ack l) = (1 ≤ l) × (l ≤ n)
 Within n (Told l) = (1 ≤ l) × (l ≤ n)
+
+-- the place of its client
+unfoldable pub placeOf : Command → ℕ
+placeOf Bad = 0
+placeOf (Insert l p x) = l - 1
+placeOf (Delete l p) = l - 1
+placeOf (Up l k) = l - 1
+placeOf (Down l k) = l - 1
+placeOf (Ack l) = l - 1
+placeOf (Told l) = l - 1
+
+-- whether it is the server that changes, and not that client
+unfoldable pub upward : Command → Bool
+upward Bad = false
+upward (Insert l p x) = false
+upward (Delete l p) = false
+upward (Up l k) = true
+upward (Down l k) = false
+upward (Ack l) = true
+upward (Told l) = false
+
+-- an end takes what was sent to it; a refused sending leaves it as it was
+abbrev pub clientGets : Sent → Client → clientAnswer.Answer
+clientGets m c = cond (eqb (m .refusal) 0) (taken c (take (m .written) (m .buffer))) (refusedWith (m .refusal) c)
+
+abbrev pub serverGets : Sent → Server → serverAnswer.Answer
+serverGets m s = cond (eqb (m .refusal) 0) (takes s (take (m .written) (m .buffer))) (refused s (m .refusal))
+
+unfoldable pub atClient : Server → Client → Command → clientAnswer.Answer
+atClient s c Bad = refusedWith 0 c
+atClient s c (Insert l p x) = inserted c p x
+atClient s c (Delete l p) = deleted c p
+atClient s c (Up l k) = refusedWith 0 c
+atClient s c (Down l k) = clientGets (sends s l k room) c
+atClient s c (Ack l) = refusedWith 0 c
+atClient s c (Told l) = clientGets (tells s l room) c
+
+unfoldable pub atServer : Server → Client → Command → serverAnswer.Answer
+atServer s c Bad = refused s 0
+atServer s c (Insert l p x) = refused s 0
+atServer s c (Delete l p) = refused s 0
+atServer s c (Up l k) = serverGets (sentEdit c l k room) s
+atServer s c (Down l k) = refused s 0
+atServer s c (Ack l) = serverGets (sentAck c l room) s
+atServer s c (Told l) = refused s 0
+
+-- a refusal's number or 0, and the ends
+pub record Done : Type 0 where
+  pub refusal : ℕ
+  pub ends : Ends
+
+abbrev pub storeStep : Step → Done
+storeStep s = record { refusal = s .refusal; ends = storeEnds (s .bench) }
+
+abbrev pub clientDone : Ends → ℕ → clientAnswer.Answer → Done
+clientDone e i a = record { refusal = a .refusal; ends = record { server = e .server; clients = set (e .clients) i (a .client) } }
+
+abbrev pub serverDone : Ends → serverAnswer.Answer → Done
+serverDone e a = record { refusal = a .refusal; ends = record { server = a .server; clients = e .clients } }

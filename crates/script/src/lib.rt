@@ -3,6 +3,5 @@ mod ends;
 mod opening;
 mod parse;
 mod print;
-mod run;
 
-pub use run::run;
+pub use ends::at_client;

@@ -1,9 +1,6 @@
 use mathlib.Core.Path.{_≡_, refl, sym, ap, _∙_}
-use native.Mathlib.Omega.{arith}
-use Rattle.model.specs.Server.{takeServer}
-use Rattle.script.specs.Bench.{step, clientOf, onClient, onServer}
-use Rattle.script.specs.Ends.{viewEnds, storeStep}
-use Rattle.script.proofs.Structs.{eight, place-few, up-sent, up-within, part-length, delivered-yes, delivered-no, refused-call}
+use Rattle.script.specs.Ends.{serverGets}
+use Rattle.script.proofs.Structs.{up-within}
 use borrow.Author.Needs.{needs}
 use Rattle.script.proofs.ends.up.Statement.{statement}
 use Rattle.script.proofs.ends.up.Tie as tie
@@ -11,71 +8,33 @@ use Rattle.script.proofs.ends.up.Reads as reads
 use Rattle.script.proofs.ends.up.Lts as lts
 use Rattle.client.proofs.Client.send.Reads as send-reads
 use Rattle.script.proofs.ends.to_server.Reads as to-server-reads
-use Rattle.script.proofs.ends.unsent.Reads as unsent-reads
 
--- src/ends.rt:103:14
-sub-i : tie.Need-sub-i
-sub-i c = search needs
-
--- src/ends.rt:103:13
-cast-i : tie.Need-cast-i
-cast-i c = search needs
-
--- src/ends.rt:104:13
-mul-c : tie.Need-mul-c
-mul-c c = search needs
-
--- src/ends.rt:104:13
-element-copy-out-c : tie.Need-element-copy-out-c
-element-copy-out-c c = let k = eight (c .args .t1) (c .pre .0) in let p = place-few (c .args .t1) (c .pre .0) (c .args .l) (c .pre .1) in omega arith
-
--- src/ends.rt:105:26
+-- src/ends.rt:109:31
 slice-aggregate-send : tie.Need-slice-aggregate-send
 slice-aggregate-send c = search needs
 
--- src/ends.rt:105:9
+-- src/ends.rt:109:9
 send-requires : tie.Need-send-requires
 send-requires c κs = search needs
 
--- src/ends.rt:108:32
-array-share-prefix-m : tie.Need-array-share-prefix-m
-array-share-prefix-m c = up-within (c .before .before .before .send .result) (c .before .before .before .send .last .1 .1 .1 .0) (clientOf (viewEnds (c .before .before .before .before .before .before .args .t1)) (c .before .before .before .before .before .before .args .l)) (c .before .before .before .before .before .before .args .l) (c .before .before .before .before .before .before .args .k) (up-sent (c .before .before .before .before .before .before .args .t1) (c .before .before .before .before .before .before .pre .0) (c .before .before .before .before .before .before .args .l) (c .before .before .before .before .before .before .pre .1) (c .before .before .before .send .result) (c .before .before .before .send .last .1 .1 .1 .0) _ _ (c .before .before .before .before .before .before .args .k) refl (c .before .before .before .send .ensures))
-
--- src/ends.rt:108:32
+-- src/ends.rt:110:26
 slice-aggregate-to-server : tie.Need-slice-aggregate-to-server
-slice-aggregate-to-server c = part-length (c .before .before .before .before .send .result .written) (c .before .before .before .before .send .last .1 .1 .1 .0) (up-within (c .before .before .before .before .send .result) (c .before .before .before .before .send .last .1 .1 .1 .0) (clientOf (viewEnds (c .before .before .before .before .before .before .before .args .t1)) (c .before .before .before .before .before .before .before .args .l)) (c .before .before .before .before .before .before .before .args .l) (c .before .before .before .before .before .before .before .args .k) (up-sent (c .before .before .before .before .before .before .before .args .t1) (c .before .before .before .before .before .before .before .pre .0) (c .before .before .before .before .before .before .before .args .l) (c .before .before .before .before .before .before .before .pre .1) (c .before .before .before .before .send .result) (c .before .before .before .before .send .last .1 .1 .1 .0) _ _ (c .before .before .before .before .before .before .before .args .k) refl (c .before .before .before .before .send .ensures)))
-
--- src/ends.rt:108:9
-to-server-requires : tie.Need-to-server-requires
-to-server-requires c κs = search needs
-
--- src/ends.rt:108:9
-returns : tie.Need-returns
-unfolding step
-returns c = c .to-server .ensures ∙ ap storeStep (delivered-yes (viewEnds (c .before .before .before .before .before .before .before .before .args .t1)) _ (λ m. onServer (viewEnds (c .before .before .before .before .before .before .before .before .args .t1)) (takeServer (viewEnds (c .before .before .before .before .before .before .before .before .args .t1) .server) m)) (c .before .before .before .before .before .send .result) (c .before .before .before .before .before .send .last .1 .1 .1 .0) (up-sent (c .before .before .before .before .before .before .before .before .args .t1) (c .before .before .before .before .before .before .before .before .pre .0) (c .before .before .before .before .before .before .before .before .args .l) (c .before .before .before .before .before .before .before .before .pre .1) (c .before .before .before .before .before .send .result) (c .before .before .before .before .before .send .last .1 .1 .1 .0) _ _ (c .before .before .before .before .before .before .before .before .args .k) refl (c .before .before .before .before .before .send .ensures)) (c .before .before .if1 .taken))
+slice-aggregate-to-server c = search needs
 
 -- src/ends.rt:110:5
-unsent-requires : tie.Need-unsent-requires
-unsent-requires c κs = search needs
+to-server-requires : tie.Need-to-server-requires
+to-server-requires c κs = up-within (c .before .before .send .result) (c .before .before .send .last .1 .1 .1 .0) (c .before .before .before .before .args .l) (c .before .before .before .before .args .client) (c .before .before .before .before .args .k) (c .before .before .send .ensures)
 
--- src/ends.rt:97:1
-returns-2 : tie.Need-returns-2
-unfolding step
-returns-2 c = c .unsent .ensures ∙ refused-call (c .before .before .before .before .before .before .before .args .t1) (c .before .before .before .before .before .before .before .pre .0) (c .before .before .before .before .send .result .refusal) ∙ ap storeStep (delivered-no (viewEnds (c .before .before .before .before .before .before .before .args .t1)) _ (λ m. onServer (viewEnds (c .before .before .before .before .before .before .before .args .t1)) (takeServer (viewEnds (c .before .before .before .before .before .before .before .args .t1) .server) m)) (c .before .before .before .before .send .result) (c .before .before .before .before .send .last .1 .1 .1 .0) (up-sent (c .before .before .before .before .before .before .before .args .t1) (c .before .before .before .before .before .before .before .pre .0) (c .before .before .before .before .before .before .before .args .l) (c .before .before .before .before .before .before .before .pre .1) (c .before .before .before .before .send .result) (c .before .before .before .before .send .last .1 .1 .1 .0) _ _ (c .before .before .before .before .before .before .before .args .k) refl (c .before .before .before .before .send .ensures)) (c .before .if1 .left))
+-- src/ends.rt:105:1
+returns : tie.Need-returns
+returns c = c .to-server .ensures ∙ ap (λ x. serverGets x (c .before .before .before .before .before .args .server)) (c .before .before .before .send .ensures)
 
 pub up-spec : {M : Type 1} → statement M
 up-spec =
     tie.close
     (tie.spec
-    sub-i
-    cast-i
-    mul-c
-    element-copy-out-c
     slice-aggregate-send
     send-requires
-    array-share-prefix-m
     slice-aggregate-to-server
     to-server-requires
-    returns
-    unsent-requires
-    returns-2)
+    returns)
