@@ -8,3 +8,5 @@ pub mod Openings
 pub mod Benches
 pub mod Room
 pub mod Structs
+pub mod Turns
+pub mod Opened

@@ -46,7 +46,7 @@ true-false : true ≡ false → ⊥
 true-false h = eqb-false 0 1 refl (ap (λ (t : Bool). cond t 1 0) (sym h))
 
 -- A refusal hands back the end as it came.
-abbrev Keeps : {E : Type 0} → E → Answer E → Type 0
+abbrev pub Keeps : {E : Type 0} → E → Answer E → Type 0
 Keeps m a = (a .refusal ≡ 0 → ⊥) → a .end ≡ m
 
 keeps : {E : Type 0} (r : ℕ) (old new : E) (k : ℕ) → Keeps old (answer r old new k)
@@ -85,8 +85,12 @@ server-keeps : (m : serverModels.Server) (bytes : List ℕ) → Keeps m (serverM
 unfolding serverModels.takeServer
 server-keeps m bytes = server-reads m (parsed bytes)
 
+pub open-keeps : (n l : ℕ) (items : List ℕ) → Keeps models.noClient (models.openClient n l items)
+unfolding models.openClient
+open-keeps n l items = keeps _ models.noClient _ _
+
 -- The struct of an answer's end.
-end-stored : {E F : Type 0} (store : E → F) (m : E) (a : Answer E) → Keeps m a → cond (eqb (a .refusal) 0) (store (a .end)) (store m) ≡ store (a .end)
+pub end-stored : {E F : Type 0} (store : E → F) (m : E) (a : Answer E) → Keeps m a → cond (eqb (a .refusal) 0) (store (a .end)) (store m) ≡ store (a .end)
 end-stored {E} {F} store m a h = go (eqb (a .refusal) 0) refl
   where
     go : (t : Bool) → eqb (a .refusal) 0 ≡ t → cond {A = F} t (store (a .end)) (store m) ≡ store (a .end)
@@ -140,13 +144,13 @@ module _ (e : Ends) (w : Whole e) where
   abbrev B : Bench
   B = viewEnds e
 
-  server-is : e .server ≡ server.store (B .server)
+  pub server-is : e .server ≡ server.store (B .server)
   server-is = ap (λ (x : Ends). x .server) (w .whole)
 
   clients-are : e .clients ≡ padded (client.store models.noClient) maxLines (map client.store (B .clients))
   clients-are = ap (λ (x : Ends). x .clients) (w .whole)
 
-  lines-few : e .server .n ≤ 8
+  pub lines-few : e .server .n ≤ 8
   unfolding server.view
   lines-few = server-facts (B .server) (w .sound .server) .n .1
 
@@ -176,10 +180,10 @@ module _ (e : Ends) (w : Whole e) where
     unfolding server.view
     place-within = let k = w .sound .count in omega arith
 
-    client-sound : models.soundClient (clientOf B l) ≡ true
+    pub client-sound : models.soundClient (clientOf B l) ≡ true
     client-sound = every-at (B .clients) (l - 1) (w .sound .clients) place-within
 
-    client-is : c ≡ client.store (clientOf B l)
+    pub client-is : c ≡ client.store (clientOf B l)
     client-is =
         let small : l - 1 < length (map client.store (B .clients)) = rw (length-map (B .clients) client.store) place-within in
         pc ∙ ap (λ x. getD x (l - 1) d) clients-are

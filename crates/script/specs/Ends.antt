@@ -1,14 +1,14 @@
 -- The server and its clients as structs, what a command does to them, and the bench that they stand for.
-use Prim.Native.Nat.{ℕ, _-_, _≤_}
+use Prim.Native.Nat.{ℕ, zero, suc, _-_, _≤_}
 use mathlib.Core.Path.{_≡_}
 use mathlib.Core.Bool.{Bool, true, false, cond}
-use mathlib.Core.List.{List, map}
+use mathlib.Core.List.{List, [], _∷_, map}
 use lib.Dec.{eqb}
 use lib.ListN.{take, set}
 use Rattle.ot.specs.Items.{padded}
 use Rattle.model.specs.Limits.{maxLines}
 use Rattle.model.specs.Questions.{Sent}
-use Rattle.model.specs.Client.{noClient}
+use Rattle.model.specs.Client.{noClient, openClient}
 use Rattle.client.specs.declared.Client.{Client}
 use Rattle.client.specs.declared.Answer as clientAnswer
 use Rattle.client.specs.Store as client
@@ -104,3 +104,8 @@ clientDone e i a = record { refusal = a .refusal; ends = record { server = e .se
 
 abbrev pub serverDone : Ends → serverAnswer.Answer → Done
 serverDone e a = record { refusal = a .refusal; ends = record { server = a .server; clients = e .clients } }
+
+-- k clients, from line l on, of a sheet of n; opening refuses a line past n, and then gives an end that is all zeros
+abbrev pub opening : ℕ → List ℕ → ℕ → ℕ → List Client
+opening n items l zero = []
+opening n items l (suc k) = client.store (openClient n l items .«end») ∷ opening n items (suc l) k

@@ -3,5 +3,6 @@ mod ends;
 mod opening;
 mod parse;
 mod print;
+mod program;
 
-pub use ends::at_client;
+pub use program::run;
