@@ -10,7 +10,7 @@ use borrow.Author.Tests.{lt-leb, le-leb, eqb-true, eq-eqb, ne-eqb, eqb-false}
 use lib.Dec.{eqb, leb}
 use lib.ListN.{length, getD, take, drop, set, replicate, length-map, drop-of-length-le}
 use Rattle.ot.specs.Items.{padded}
-use Rattle.ot.proofs.Sweep.{swept, length-swept, swept-store, swept-to}
+use Rattle.ot.proofs.Sweep.{swept, swept-store, swept-to}
 use Rattle.model.specs.Limits.{maxLines, maxInitial}
 use Rattle.model.specs.Questions.{asks, every, between, Answer, answer}
 use Rattle.model.specs.Client as models
@@ -47,9 +47,6 @@ module _ (n : ℕ) (items : List ℕ) where
   opens-as l = end-stored client.store models.noClient (models.openClient n l items) (open-keeps n l items)
 
   module _ (a clients : List Client) (i : ℕ) (e : length a ≡ 8) (p : clients ≡ swept (opening n items 1 8) a i) where
-    pub swept-length : length clients ≡ 8
-    swept-length = ap length p ∙ length-swept (opening n items 1 8) a i (opening-length 1 8 ∙ sym e) ∙ e
-
     pub opening-turn : (x : clientAnswer.Answer) → i < 8 → x ≡ opened n (i + 1) items → set clients i (x .client) ≡ swept (opening n items 1 8) a (i + 1)
     opening-turn x h q =
         let l : length (opening n items 1 8) ≡ length a = opening-length 1 8 ∙ sym e in

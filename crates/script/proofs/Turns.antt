@@ -16,8 +16,10 @@ use Rattle.model.specs.Server as serverModels
 use Rattle.model.proofs.Tests.{between-true}
 use Rattle.pending.proofs.Pad.{pad-take}
 use Rattle.client.specs.declared.Client.{Client}
+use Rattle.client.specs.declared.Answer as clientAnswer
 use Rattle.client.specs.Store as client
 use Rattle.server.specs.declared.Server.{Server}
+use Rattle.server.specs.declared.Answer as serverAnswer
 use Rattle.server.specs.View as server
 use Rattle.server.proofs.Stored.{view-store}
 use Rattle.convergence.proofs.Stored.{client-view}
@@ -31,11 +33,11 @@ use Rattle.script.specs.Command.{plain, withOne, withTwo, afterNumber, v
 use Rattle.script.specs.Text.{wordsOf}
 use Rattle.script.specs.Bench.{Bench, Step, SoundBench, step, clientOf}
 use Rattle.script.specs.Output.{replies, clientList, clientLists, lists, serverList, ran}
-use Rattle.script.specs.Ends.{viewEnds, storeEnds, Whole, Within, Done, storeStep}
+use Rattle.script.specs.Ends.{viewEnds, storeEnds, Whole, Within, placeOf, upward, atClient, atServer, Done, storeStep, clientDone, serverDone}
 use Rattle.script.proofs.Sinks.{both, and-left, and-right, puts-append}
 use Rattle.script.proofs.Texts.{lines-next, lines-none}
 use Rattle.script.proofs.Benches.{step-sound}
-use Rattle.script.proofs.Structs.{client-is, client-sound, server-is}
+use Rattle.script.proofs.Structs.{client-is, client-sound, server-is, place-few, at-client-is, at-server-is}
 
 -- ---- the line of a command that was read is one of 1 to n
 
@@ -98,6 +100,9 @@ pub record Running (s out : List ℕ) (i to : ℕ) (e : Ends) (z : Sink) : Type 
   pub whole : Whole e
   pub rest : puts (ran (viewEnds e) (linesOf (drop i s))) (sink out to) ≡ z
 
+as-same : {s out′ out″ : List ℕ} {i to′ to″ : ℕ} {e′ e″ : Ends} {z : Sink} → out″ ≡ out′ → e″ ≡ e′ → to″ ≡ to′ → Running s out′ i to′ e′ z → Running s out″ i to″ e″ z
+as-same p q r g = rw (p, q, r) g
+
 module _ (s out : List ℕ) (i to : ℕ) (e : Ends) (z : Sink) (g : Running s out i to e z) where
   module _ (k : ℕ) (h : i < length s) (p : k ≡ length (before 10 (take (length s - i) (drop i s)))) (c : Command)
       (pc : c ≡ commandOf (e .server .n) (take (i + k - i) (drop i s))) where
@@ -131,6 +136,26 @@ module _ (s out : List ℕ) (i to : ℕ) (e : Ends) (z : Sink) (g : Running s ou
     running-on d pd out′ to′ q =
         subst (λ (x : Ends). Running s out′ (i + k + 1) to′ x z) (sym (ap (λ (x : Done). x .ends) pd))
         (stepped out′ to′ (q ∙ ap (λ (x : Done). puts (replies c (x .refusal)) (sink out to)) pd))
+
+    pub place-small : (j : ℕ) → j ≡ placeOf c → j < 8
+    place-small j pj = let h = place-few e (g .whole) c running-within in omega arith
+
+    module _ (j : ℕ) (pj : j ≡ placeOf c) (u : Bool) (pu : u ≡ upward c) (x d : Client) (px : x ≡ getD (e .clients) j d) where
+      placed : x ≡ getD (e .clients) (placeOf c) d
+      placed = px ∙ ap (λ m. getD (e .clients) m d) pj
+
+      -- by the arm of the server, and by that of the client
+      pub server-turn : (a : serverAnswer.Answer) → u ≡ true → a ≡ atServer (e .server) x c → {out′ out″ : List ℕ} {to′ to″ : ℕ} {e″ : Ends}
+          → sink out′ to′ ≡ puts (replies c (a .refusal)) (sink out to) → out″ ≡ out′ → e″ ≡ serverDone e a .ends → to″ ≡ to′ → Running s out″ (i + k + 1) to″ e″ z
+      server-turn a t pa q r₁ r₂ r₃ =
+          as-same r₁ r₂ r₃
+          (running-on (serverDone e a) (ap (serverDone e) pa ∙ at-server-is e (g .whole) c running-within (sym pu ∙ t) x d placed) _ _ q)
+
+      pub client-turn : (a : clientAnswer.Answer) → u ≡ false → a ≡ atClient (e .server) x c → {out′ out″ : List ℕ} {to′ to″ : ℕ} {e″ : Ends}
+          → sink out′ to′ ≡ puts (replies c (a .refusal)) (sink out to) → out″ ≡ out′ → e″ ≡ clientDone e j a .ends → to″ ≡ to′ → Running s out″ (i + k + 1) to″ e″ z
+      client-turn a t pa q r₁ r₂ r₃ =
+          as-same r₁ r₂ r₃
+          (running-on (clientDone e j a) (ap₂ (clientDone e) pj pa ∙ at-client-is e (g .whole) c running-within (sym pu ∙ t) x d placed) _ _ q)
 
   pub running-end : length s ≤ i → puts (lists (viewEnds e)) (sink out to) ≡ z
   unfolding ran
