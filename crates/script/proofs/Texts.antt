@@ -193,3 +193,10 @@ module _ (s : List ℕ) (i e : ℕ) (h : i < length s) (p : e ≡ length (before
 
   pub lines-next : linesOf (drop i s) ≡ take (i + e - i) (drop i s) ∷ linesOf (drop (i + e + 1) s)
   lines-next = line-at (ltb e (length (drop i s))) refl
+
+-- the first of all lines
+pub lines-first : (s : List ℕ) (e : ℕ) → 0 < length s → e ≡ length (before 10 s) → linesOf s ≡ take e s ∷ linesOf (drop (e + 1) s)
+lines-first s e h p =
+    let a : 0 + e - 0 ≡ e = omega arith in
+    let b : 0 + e + 1 ≡ e + 1 = omega arith in
+    lines-next s 0 e h (p ∙ ap (λ l. length (before 10 l)) (sym (rest-part s 0))) ∙ rw (a, b)
