@@ -7,6 +7,7 @@ use native.Mathlib.Omega.{arith}
 use borrow.Author.Tests.{ltb-false, eqb-true, eqb-false, leb-true}
 use lib.Dec.{leb, ltb, eqb}
 use lib.ListN.{length, take, drop, length-append}
+use lib.Seq.{take-all, take-at}
 use Rattle.wire.specs.declared.Read.{Read}
 use Rattle.wire.specs.declared.Read.the-variants as read
 use Rattle.wire.specs.declared.Message.{Message}
@@ -26,7 +27,7 @@ use Rattle.script.specs.Decimal.{powers, digitsAt, decimal, listed}
 use Rattle.script.specs.Command.{commandOf}
 use Rattle.script.specs.Opening.{Opening, none, sheet, openingOf}
 use Rattle.script.specs.Bench.{Bench, Step, SoundBench, clientOf, onClient, onServer, delivered, room, step, openBench}
-use Rattle.script.specs.Output.{unknown, long, serverWord, clientWord, replied, replies, serverList, clientList, clientLists, lists, ran, started, printed, output, maxInput, maxOutput, OutputFits}
+use Rattle.script.specs.Output.{unknown, long, serverWord, clientWord, replied, replies, serverList, clientList, clientLists, lists, ran, started, printed, output, maxInput, maxOutput, OutputFits, AllPrinted}
 use Rattle.script.proofs.Sinks.{both, and-left, and-right}
 use Rattle.script.proofs.Benches.{step-sound, opened, open-sound}
 
@@ -242,3 +243,10 @@ output-fits s = go (ltb maxInput (length s)) refl
         let l = lines-length s in
         let h = printed-length (linesOf s) in
         omega arith
+
+pub all-printed : AllPrinted
+all-printed s before after n large p =
+    let fits = output-fits s in
+    let k = p .count in
+    let exact : length (output s) ≡ n = omega arith in
+    ap (take n) (p .bytes ∙ ap (λ l. l ++ drop n before) (take-all n (output s) (omega arith))) ∙ take-at (output s) (drop n before) n exact

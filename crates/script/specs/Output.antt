@@ -1,13 +1,15 @@
 -- What the run program prints for its input (01: "Run program").
 use Prim.Native.Nat.{ℕ, suc, _≤_}
+use mathlib.Core.Path.{_≡_}
 use mathlib.Core.Bool.{cond}
 use mathlib.Core.List.{List, [], _∷_, _++_}
 use lib.Dec.{ltb, eqb}
-use lib.ListN.{length}
+use lib.ListN.{length, take}
 use Rattle.model.specs.Client.{Client}
 use Rattle.model.specs.Server.{openServer}
 use Rattle.script.specs.declared.parse.Command.{Command}
 use Rattle.script.specs.declared.parse.Command.the-variants.{Bad, Insert, Delete, Up, Down, Ack, Told}
+use Rattle.script.specs.Sink.{Printed}
 use Rattle.script.specs.Text.{linesOf}
 use Rattle.script.specs.Decimal.{decimal, listed}
 use Rattle.script.specs.Command.{commandOf}
@@ -84,3 +86,8 @@ maxOutput = 262144
 
 abbrev pub OutputFits : Type 0
 OutputFits = (s : List ℕ) → length (output s) ≤ maxOutput
+
+-- so a buffer of that length gets all of it
+abbrev pub AllPrinted : Type 0
+AllPrinted =
+    (s before after : List ℕ) (n : ℕ) → maxOutput ≤ length before → Printed (output s) before after n → take n after ≡ output s
