@@ -8,8 +8,8 @@ use native.Mathlib.Nat.{add-zero, zero-add}
 use native.Mathlib.Omega.{arith}
 use borrow.Author.Tests.{eqb-false, ltb-true, ltb-false, lt-ltb, le-ltb}
 use lib.Dec.{ltb}
-use lib.ListN.{length, getD, take, drop, set, length-set, take-append-drop, drop-of-length-le}
-use lib.Seq.{drop-cons, take-suc-set, drop-set-lt}
+use lib.ListN.{length, getD, take, drop, set, length-set, length-append, take-append-drop, drop-of-length-le}
+use lib.Seq.{drop-cons, take-suc-set, drop-set-lt, length-take-le}
 use Rattle.script.specs.Sink.{Sink, sink, put, puts, Printed}
 
 -- a property of both cases of a test
@@ -108,3 +108,11 @@ printed-by o l after n m e q =
 
 pub printed : (o l after : List ℕ) (n : ℕ) → sink after n ≡ puts o (sink l 0) → Printed o l after n
 printed o l after n e = printed-by o l after n (min (length o) (length l)) refl (e ∙ puts-is o l 0 (min (length o) (length l)) (omega arith) (omega arith))
+
+-- what was written is within the buffer
+pub printed-within : {o before after : List ℕ} {n : ℕ} → Printed o before after n → n ≤ length after
+printed-within {o} {before} {after} {n} p =
+    let k = p .count in
+    let l = ap length (p .bytes) ∙ length-append (take n o) (drop n before) in
+    let t = length-take-le n o (omega arith) in
+    omega arith
