@@ -1,7 +1,7 @@
 -- Every command keeps the ends sound.
-use Prim.Native.Nat.{ℕ, zero, suc, _+_, _-_, _<_, _≤_}
-use mathlib.Core.Path.{_≡_, refl, sym, ap, _∙_, subst}
-use mathlib.Core.Bool.{Bool, true, false, _&&_, cond}
+use Prim.Native.Nat.{ℕ, zero, suc, _-_, _<_, _≤_}
+use mathlib.Core.Path.{_≡_, refl, sym, ap, _∙_}
+use mathlib.Core.Bool.{true}
 use mathlib.Core.List.{List, [], _∷_, map}
 use native.Mathlib.Omega.{arith}
 use borrow.Author.Tests.{leb-true}
@@ -13,8 +13,8 @@ use Rattle.wire.specs.declared.Message.{Message}
 use Rattle.wire.specs.declared.Message.the-variants as message
 use Rattle.wire.specs.Bytes.{parsed}
 use Rattle.model.specs.Questions.{every, asks, between, Answer, answer, Sent}
-use Rattle.model.specs.Client.{Client, noClient, soundClient, openClient, insertClient, deleteClient, sendClient, tellClient, takeClient}
-use Rattle.model.specs.Server.{Server, noServer, noLine, soundServer, openServerQuestions, openServer, sendServer, tellServer, takeServer, serverReads, serverTakes, serverTakesEdit, serverTakesAck}
+use Rattle.model.specs.Client.{Client, noClient, soundClient, insertClient, deleteClient, sendClient, tellClient, takeClient}
+use Rattle.model.specs.Server.{Server, noServer, noLine, openServerQuestions, openServer, sendServer, tellServer, takeServer, serverReads, serverTakes, serverTakesEdit, serverTakesAck}
 use Rattle.model.specs.Limits.{maxLines, maxInitial}
 use Rattle.model.proofs.Tests.{hold, yes-all, between-true}
 use Rattle.model.proofs.Opens.{client-opens, server-opens}

@@ -1,6 +1,6 @@
 -- A number's digits read back as the number.
-use Prim.Native.Nat.{ℕ, zero, suc, _+_, _-_, _*_, _/_, _%_, _<_, _≤_, min}
-use mathlib.Core.Path.{_≡_, refl, sym, ap, _∙_, subst}
+use Prim.Native.Nat.{ℕ, _+_, _-_, _*_, _/_, _%_, _<_}
+use mathlib.Core.Path.{_≡_, refl, ap, _∙_}
 use mathlib.Core.Bool.{Bool, true, false, _&&_, _||_, cond}
 use mathlib.Core.List.{List, [], _∷_, _++_}
 use native.Mathlib.Nat.{mod-lt, div-add-mod', mod-eq-of-lt, le-mul-of-pos-right}
@@ -8,7 +8,7 @@ use native.Mathlib.Omega.{arith}
 use borrow.Author.Tests.{eqb-true, leb-false, le-leb}
 use lib.Dec.{leb, eqb}
 use lib.ListN.{length, length-append}
-use Rattle.script.specs.Decimal.{powers, digitsAt, decimal, tooWide, withDigit, numberFrom, numberOf, ReadsBack}
+use Rattle.script.specs.Decimal.{powers, digitsAt, decimal, tooWide, withDigit, numberFrom, ReadsBack}
 use Rattle.script.proofs.Sinks.{and-left, and-right}
 use Rattle.script.proofs.Numbers.{digit-lt, number-some}
 

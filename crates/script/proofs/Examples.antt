@@ -1,6 +1,6 @@
 -- The definition of the output, computed: 01's marked case P11 and edges of the rules.
 use mathlib.Core.Path.{_≡_, refl}
-use mathlib.Core.List.{List, [], _∷_}
+use mathlib.Core.List.{[], _∷_}
 use Rattle.model.proofs.Computing.{computing}
 use Rattle.script.specs.Text.{before, parts, same}
 use Rattle.script.specs.Decimal.{digitsAt, decimal, listed, numberFrom, numberOf}

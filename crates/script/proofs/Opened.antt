@@ -1,32 +1,31 @@
 -- Laws of opening the ends.
 use Prim.Native.Nat.{ℕ, zero, suc, _+_, _-_, _<_, _≤_}
 use mathlib.Core.Path.{_≡_, refl, sym, ap, ap₂, _∙_, subst}
-use mathlib.Core.Bool.{Bool, true, false, _&&_, cond}
+use mathlib.Core.Bool.{Bool, true, false, _&&_}
 use mathlib.Core.List.{List, [], _∷_, _++_, map}
 use native.Mathlib.Numerals.{add-one}
 use native.Mathlib.Nat.{add-zero, zero-add, add-suc, suc-add}
 use native.Mathlib.Omega.{arith}
-use borrow.Author.Tests.{lt-leb, le-leb, leb-true, leb-false, eq-eqb, ne-eqb, lt-ltb, le-ltb, ltb-true, ltb-false}
-use lib.Dec.{eqb, leb, ltb}
+use borrow.Author.Tests.{lt-leb, leb-true, leb-false, eq-eqb, ne-eqb, lt-ltb, le-ltb, ltb-true, ltb-false}
+use lib.Dec.{leb, ltb}
 use lib.ListN.{length, getD, take, drop, set, replicate, length-map, drop-of-length-le}
 use lib.Seq.{take-all, length-take-le}
 use Rattle.ot.specs.Items.{padded}
 use Rattle.ot.proofs.Sweep.{swept, swept-store, swept-to}
 use Rattle.model.specs.Limits.{maxLines, maxInitial}
-use Rattle.model.specs.Questions.{asks, every, between, Answer, answer}
+use Rattle.model.specs.Questions.{between, Answer, answer}
 use Rattle.model.specs.Client as models
 use Rattle.model.specs.Server as serverModels
 use Rattle.client.specs.declared.Client.{Client}
 use Rattle.client.specs.declared.Answer as clientAnswer
 use Rattle.client.specs.Store as client
 use Rattle.client.specs.Answers.{opened}
-use Rattle.server.specs.declared.Server.{Server}
 use Rattle.server.specs.declared.Answer as serverAnswer
 use Rattle.server.specs.View as server
 use Rattle.server.specs.Calls as calls
 use Rattle.script.specs.declared.ends.Ends.{Ends}
 use Rattle.script.specs.declared.opening.First.{First}
-use Rattle.script.specs.Sink.{Sink, sink, puts}
+use Rattle.script.specs.Sink.{Sink, puts}
 use Rattle.script.specs.Text.{before, linesOf, parts, same}
 use Rattle.script.specs.Opening.{Opening, none, sheet, openingOf, held, cut, maxHeld, Reads}
 use Rattle.script.specs.Output.{replied, ran, started, printed, long, maxInput, output}

@@ -27,7 +27,7 @@ use Rattle.script.specs.Decimal.{powers, digitsAt, decimal, listed}
 use Rattle.script.specs.Command.{commandOf}
 use Rattle.script.specs.Opening.{Opening, none, sheet, openingOf}
 use Rattle.script.specs.Bench.{Bench, Step, SoundBench, clientOf, onClient, onServer, delivered, room, step, openBench}
-use Rattle.script.specs.Output.{unknown, long, serverWord, clientWord, replied, replies, serverList, clientList, clientLists, lists, ran, started, printed, output, maxInput, maxOutput, OutputFits, AllPrinted}
+use Rattle.script.specs.Output.{long, serverWord, clientWord, replied, replies, serverList, clientList, clientLists, lists, ran, started, printed, output, maxInput, maxOutput, OutputFits, AllPrinted}
 use Rattle.script.proofs.Sinks.{both, and-left, and-right}
 use Rattle.script.proofs.Benches.{step-sound, opened, open-sound}
 

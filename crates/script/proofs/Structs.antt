@@ -4,9 +4,9 @@ use mathlib.Core.Path.{_≡_, refl, sym, ap, ap₂, _∙_, subst}
 use mathlib.Core.Bool.{Bool, true, false, cond}
 use mathlib.Core.List.{List, [], _∷_, _++_, map}
 use native.Mathlib.Omega.{arith}
-use borrow.Author.Tests.{eq-eqb, ne-eqb, eqb-false}
+use borrow.Author.Tests.{eqb-false}
 use lib.Dec.{eqb}
-use lib.ListN.{length, getD, take, drop, set, replicate, length-map, length-append, List·getD-append, List·getD-map}
+use lib.ListN.{length, getD, take, drop, set, length-map, length-append, List·getD-append, List·getD-map}
 use Rattle.ot.specs.declared.Edit.{Edit}
 use Rattle.ot.specs.Items.{padded}
 use Rattle.wire.specs.declared.Read.{Read}
@@ -14,12 +14,11 @@ use Rattle.wire.specs.declared.Read.the-variants as read
 use Rattle.wire.specs.declared.Message.the-variants as message
 use Rattle.wire.specs.Bytes.{parsed}
 use Rattle.model.specs.Limits.{maxLines}
-use Rattle.model.specs.Questions.{every, Answer, answer, Sent, sent}
+use Rattle.model.specs.Questions.{Answer, answer, Sent, sent}
 use Rattle.model.specs.Client as models
 use Rattle.model.specs.Server as serverModels
 use Rattle.model.proofs.SoundServer.{server-facts}
-use Rattle.pending.proofs.Pad.{pad-take, pad-length}
-use lib.Seq.{length-take-le}
+use Rattle.pending.proofs.Pad.{pad-length}
 use Rattle.endpoint.specs.declared.Sent as endpoint
 use Rattle.endpoint.specs.Sending.{answered as sentAs}
 use Rattle.client.specs.declared.Client.{Client}
@@ -37,8 +36,8 @@ use Rattle.convergence.proofs.Stored.{client-view, client-stored}
 use Rattle.script.specs.declared.ends.Ends.{Ends}
 use Rattle.script.specs.declared.parse.Command.{Command}
 use Rattle.script.specs.declared.parse.Command.the-variants.{Bad, Insert, Delete, Up, Down, Ack, Told}
-use Rattle.script.specs.Bench.{Bench, Step, SoundBench, clientOf, onClient, onServer, delivered, room, step}
-use Rattle.script.specs.Ends.{viewEnds, storeEnds, Whole, Within, placeOf, upward, clientGets, serverGets, atClient, atServer, Done, storeStep, clientDone, serverDone}
+use Rattle.script.specs.Bench.{Bench, clientOf, onClient, onServer, delivered, room, step}
+use Rattle.script.specs.Ends.{viewEnds, Whole, Within, placeOf, upward, clientGets, serverGets, atClient, atServer, Done, storeStep, clientDone, serverDone}
 use Rattle.script.proofs.Sinks.{both}
 use Rattle.script.proofs.Benches.{every-at}
 

@@ -1,11 +1,11 @@
 -- Laws of the loops of the run program.
-use Prim.Native.Nat.{ℕ, zero, suc, _+_, _-_, _<_, _≤_}
+use Prim.Native.Nat.{ℕ, suc, _+_, _-_, _<_, _≤_}
 use mathlib.Core.Path.{_≡_, refl, sym, ap, ap₂, _∙_, subst}
 use mathlib.Core.Bool.{Bool, true, false, _&&_, cond}
 use mathlib.Core.List.{List, [], _∷_, _++_, map}
 use native.Mathlib.Numerals.{add-one}
 use native.Mathlib.Omega.{arith}
-use lib.ListN.{length, getD, take, drop, set, replicate, length-append, length-map, drop-of-length-le, List·getD-map}
+use lib.ListN.{length, getD, take, drop, replicate, length-append, length-map, drop-of-length-le}
 use lib.Seq.{drop-cons}
 use lib.Dec.{ltb}
 use Rattle.ot.specs.Items.{padded}
@@ -25,14 +25,14 @@ use Rattle.server.proofs.Stored.{view-store}
 use Rattle.convergence.proofs.Stored.{client-view}
 use Rattle.script.specs.declared.ends.Ends.{Ends}
 use Rattle.script.specs.declared.parse.Command.{Command}
-use Rattle.script.specs.declared.parse.Command.the-variants.{Bad, Insert, Delete, Up, Down, Ack, Told}
+use Rattle.script.specs.declared.parse.Command.the-variants.{Bad, Insert}
 use Rattle.script.specs.Sink.{Sink, sink, puts}
 use Rattle.script.specs.Text.{before, linesOf, same}
 use Rattle.script.specs.Decimal.{numberOf, tooWide}
-use Rattle.script.specs.Command.{plain, withOne, withTwo, afterNumber, verbOf, spoken, commandOf, ackWord, toldWord, delWord, upWord, downWord, insWord}
+use Rattle.script.specs.Command.{withOne, afterNumber, verbOf, spoken, commandOf, ackWord, toldWord, delWord, upWord, downWord, insWord}
 use Rattle.script.specs.Text.{wordsOf}
-use Rattle.script.specs.Bench.{Bench, Step, SoundBench, step, clientOf}
-use Rattle.script.specs.Output.{replies, clientList, clientLists, lists, serverList, ran}
+use Rattle.script.specs.Bench.{Bench, SoundBench, step, clientOf}
+use Rattle.script.specs.Output.{replies, clientList, clientLists, lists, ran}
 use Rattle.script.specs.Ends.{viewEnds, storeEnds, Whole, Within, placeOf, upward, atClient, atServer, Done, storeStep, clientDone, serverDone}
 use Rattle.script.proofs.Sinks.{both, and-left, and-right, puts-append}
 use Rattle.script.proofs.Texts.{lines-next, lines-none}

@@ -1,101 +1,75 @@
-use mathlib.Core.Path.{_≡_, refl, sym, ap, _∙_}
+use mathlib.Core.Path.{sym, ap, _∙_}
 use Rattle.script.specs.Ends.{atServer}
 use borrow.Author.Needs.{needs}
 use Rattle.script.proofs.ends.at_server.Statement.{statement}
 use Rattle.script.proofs.ends.at_server.Tie as tie
-use Rattle.script.proofs.ends.at_server.Reads as reads
-use Rattle.script.proofs.ends.at_server.Lts as lts
-use Rattle.script.proofs.ends.ack.Reads as ack-reads
-use Rattle.script.proofs.ends.same_server.Reads as same-server-reads
-use Rattle.script.proofs.ends.up.Reads as up-reads
 
--- src/ends.rt:157:25
 enum-told : tie.Need-enum-told
 enum-told c = search needs
 
--- src/ends.rt:157:25
 same-server-requires : tie.Need-same-server-requires
 same-server-requires c κs = search needs
 
--- src/ends.rt:158:37
 enum-told-2 : tie.Need-enum-told-2
 enum-told-2 c = search needs
 
--- src/ends.rt:158:37
 same-server-requires-2 : tie.Need-same-server-requires-2
 same-server-requires-2 c κs = search needs
 
--- src/ends.rt:159:34
 enum-told-3 : tie.Need-enum-told-3
 enum-told-3 c = search needs
 
--- src/ends.rt:159:34
 same-server-requires-3 : tie.Need-same-server-requires-3
 same-server-requires-3 c κs = search needs
 
--- src/ends.rt:160:21
 enum-known-c : tie.Need-enum-known-c
 enum-known-c c = search needs
 
--- src/ends.rt:160:30
 up-requires : tie.Need-up-requires
 up-requires c κs = search needs
 
--- src/ends.rt:161:32
 enum-told-4 : tie.Need-enum-told-4
 enum-told-4 c = search needs
 
--- src/ends.rt:161:32
 same-server-requires-4 : tie.Need-same-server-requires-4
 same-server-requires-4 c κs = search needs
 
--- src/ends.rt:162:22
 enum-known-c-2 : tie.Need-enum-known-c-2
 enum-known-c-2 c = search needs
 
--- src/ends.rt:162:28
 ack-requires : tie.Need-ack-requires
 ack-requires c κs = search needs
 
--- src/ends.rt:163:29
 enum-told-5 : tie.Need-enum-told-5
 enum-told-5 c = search needs
 
--- src/ends.rt:163:29
 same-server-requires-5 : tie.Need-same-server-requires-5
 same-server-requires-5 c κs = search needs
 
--- src/ends.rt:153:1
 returns : tie.Need-returns
 unfolding atServer
 returns c = c .same-server .ensures ∙ ap (atServer (c .before .before .before .args .server) (c .before .before .before .args .client)) (sym (c .before .enum-told .given .1))
 
--- src/ends.rt:153:1
 returns-2 : tie.Need-returns-2
 unfolding atServer
 returns-2 c = c .same-server2 .ensures ∙ ap (atServer (c .before .before .before .args .server) (c .before .before .before .args .client)) (sym (c .before .enum-told2 .given .1))
 
--- src/ends.rt:153:1
 returns-3 : tie.Need-returns-3
 unfolding atServer
 returns-3 c = c .same-server3 .ensures ∙ ap (atServer (c .before .before .before .args .server) (c .before .before .before .args .client)) (sym (c .before .enum-told3 .given .1))
 
--- src/ends.rt:153:1
 returns-4 : tie.Need-returns-4
 unfolding atServer
 returns-4 c = c .up .ensures ∙ ap (atServer (c .before .before .before .before .args .server) (c .before .before .before .before .args .client)) (sym (c .before .before .c .given .1))
 
--- src/ends.rt:153:1
 returns-5 : tie.Need-returns-5
 unfolding atServer
 returns-5 c = c .same-server4 .ensures ∙ ap (atServer (c .before .before .before .args .server) (c .before .before .before .args .client)) (sym (c .before .enum-told4 .given .1))
 
--- src/ends.rt:153:1
 returns-6 : tie.Need-returns-6
 unfolding atServer
 returns-6 c = c .ack .ensures ∙ ap (atServer (c .before .before .before .before .args .server) (c .before .before .before .before .args .client)) (sym (c .before .before .c2 .given .1))
 
--- src/ends.rt:153:1
 returns-7 : tie.Need-returns-7
 unfolding atServer
 returns-7 c = c .same-server5 .ensures ∙ ap (atServer (c .before .before .before .args .server) (c .before .before .before .args .client)) (sym (c .before .enum-told5 .given .1))

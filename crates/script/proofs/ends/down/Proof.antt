@@ -1,31 +1,22 @@
-use mathlib.Core.Path.{_≡_, refl, sym, ap, _∙_}
+use mathlib.Core.Path.{ap, _∙_}
 use Rattle.script.specs.Ends.{clientGets}
 use Rattle.script.proofs.Structs.{down-within}
 use borrow.Author.Needs.{needs}
 use Rattle.script.proofs.ends.down.Statement.{statement}
 use Rattle.script.proofs.ends.down.Tie as tie
-use Rattle.script.proofs.ends.down.Reads as reads
-use Rattle.script.proofs.ends.down.Lts as lts
-use Rattle.script.proofs.ends.to_client.Reads as to-client-reads
-use Rattle.server.proofs.Server.send.Reads as send-reads
 
--- src/ends.rt:125:31
 slice-aggregate-send : tie.Need-slice-aggregate-send
 slice-aggregate-send c = search needs
 
--- src/ends.rt:125:9
 send-requires : tie.Need-send-requires
 send-requires c κs = search needs
 
--- src/ends.rt:126:26
 slice-aggregate-to-client : tie.Need-slice-aggregate-to-client
 slice-aggregate-to-client c = search needs
 
--- src/ends.rt:126:5
 to-client-requires : tie.Need-to-client-requires
 to-client-requires c κs = down-within (c .before .before .send .result) (c .before .before .send .last .1 .1 .1 .0) (c .before .before .before .before .args .l) (c .before .before .before .before .args .server) (c .before .before .before .before .args .k) (c .before .before .send .ensures)
 
--- src/ends.rt:121:1
 returns : tie.Need-returns
 returns c = c .to-client .ensures ∙ ap (λ x. clientGets x (c .before .before .before .before .before .args .client)) (c .before .before .before .send .ensures)
 

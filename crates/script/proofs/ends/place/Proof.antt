@@ -1,95 +1,72 @@
-use mathlib.Core.Path.{_≡_, refl, sym, ap, _∙_}
+use mathlib.Core.Path.{sym, ap, _∙_}
 use Rattle.script.specs.Ends.{placeOf}
 use borrow.Author.Needs.{needs}
 use Rattle.script.proofs.ends.place.Statement.{statement}
 use Rattle.script.proofs.ends.place.Tie as tie
-use Rattle.script.proofs.ends.place.Reads as reads
-use Rattle.script.proofs.ends.place.Lts as lts
-use Rattle.script.proofs.ends.before.Reads as before-reads
 
--- src/ends.rt:35:25
 enum-told : tie.Need-enum-told
 enum-told c = search needs
 
--- src/ends.rt:36:25
 enum-known-c : tie.Need-enum-known-c
 enum-known-c c = search needs
 
--- src/ends.rt:36:37
 before-requires : tie.Need-before-requires
 before-requires c κs = search needs
 
--- src/ends.rt:37:25
 enum-known-c-2 : tie.Need-enum-known-c-2
 enum-known-c-2 c = search needs
 
--- src/ends.rt:37:34
 before-requires-2 : tie.Need-before-requires-2
 before-requires-2 c κs = search needs
 
--- src/ends.rt:38:21
 enum-known-c-3 : tie.Need-enum-known-c-3
 enum-known-c-3 c = search needs
 
--- src/ends.rt:38:30
 before-requires-3 : tie.Need-before-requires-3
 before-requires-3 c κs = search needs
 
--- src/ends.rt:39:23
 enum-known-c-4 : tie.Need-enum-known-c-4
 enum-known-c-4 c = search needs
 
--- src/ends.rt:39:32
 before-requires-4 : tie.Need-before-requires-4
 before-requires-4 c κs = search needs
 
--- src/ends.rt:40:22
 enum-known-c-5 : tie.Need-enum-known-c-5
 enum-known-c-5 c = search needs
 
--- src/ends.rt:40:28
 before-requires-5 : tie.Need-before-requires-5
 before-requires-5 c κs = search needs
 
--- src/ends.rt:41:23
 enum-known-c-6 : tie.Need-enum-known-c-6
 enum-known-c-6 c = search needs
 
--- src/ends.rt:41:29
 before-requires-6 : tie.Need-before-requires-6
 before-requires-6 c κs = search needs
 
--- src/ends.rt:31:1
 returns : tie.Need-returns
 unfolding placeOf
 returns c = rw (c .enum-told .given .1)
 
--- src/ends.rt:31:1
 returns-2 : tie.Need-returns-2
 unfolding placeOf
 returns-2 c = c .before2 .ensures ∙ ap placeOf (sym (c .before .before .c .given .1))
 
--- src/ends.rt:31:1
 returns-3 : tie.Need-returns-3
 unfolding placeOf
 returns-3 c = c .before3 .ensures ∙ ap placeOf (sym (c .before .before .c2 .given .1))
 
--- src/ends.rt:31:1
 returns-4 : tie.Need-returns-4
 unfolding placeOf
 returns-4 c = c .before4 .ensures ∙ ap placeOf (sym (c .before .before .c3 .given .1))
 
--- src/ends.rt:31:1
 returns-5 : tie.Need-returns-5
 unfolding placeOf
 returns-5 c = c .before5 .ensures ∙ ap placeOf (sym (c .before .before .c4 .given .1))
 
--- src/ends.rt:31:1
 returns-6 : tie.Need-returns-6
 unfolding placeOf
 returns-6 c = c .before6 .ensures ∙ ap placeOf (sym (c .before .before .c5 .given .1))
 
--- src/ends.rt:31:1
 returns-7 : tie.Need-returns-7
 unfolding placeOf
 returns-7 c = c .before7 .ensures ∙ ap placeOf (sym (c .before .before .c6 .given .1))

@@ -1,31 +1,22 @@
-use mathlib.Core.Path.{_≡_, refl, sym, ap, _∙_}
+use mathlib.Core.Path.{sym}
 use borrow.Author.Tests.{eq-eqb, ne-eqb}
 use lib.Seq.{length-take-le}
 use borrow.Author.Needs.{needs}
 use Rattle.script.proofs.ends.to_server.Statement.{statement}
 use Rattle.script.proofs.ends.to_server.Tie as tie
-use Rattle.script.proofs.ends.to_server.Reads as reads
-use Rattle.script.proofs.ends.to_server.Lts as lts
-use Rattle.script.proofs.ends.same_server.Reads as same-server-reads
-use Rattle.server.proofs.Server.take.Reads as take-reads
 
--- src/ends.rt:100:28
 slice-aggregate-take : tie.Need-slice-aggregate-take
 slice-aggregate-take c = sym (length-take-le (c .before .before .before .before .args .s .written) (c .before .before .before .before .args .m .now) (c .before .before .before .before .pre))
 
--- src/ends.rt:100:9
 take-requires : tie.Need-take-requires
 take-requires c κs = search needs
 
--- src/ends.rt:100:9
 returns : tie.Need-returns
 returns c = rw (eq-eqb (c .before .before .before .before .before .args .s .refusal) 0 (c .before .before .if1 .taken)) (c .take .ensures)
 
--- src/ends.rt:102:5
 same-server-requires : tie.Need-same-server-requires
 same-server-requires c κs = search needs
 
--- src/ends.rt:94:1
 returns-2 : tie.Need-returns-2
 returns-2 c = rw (ne-eqb (c .before .before .before .before .args .s .refusal) 0 (c .before .if1 .left)) (c .same-server .ensures)
 

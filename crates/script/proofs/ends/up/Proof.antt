@@ -1,31 +1,22 @@
-use mathlib.Core.Path.{_≡_, refl, sym, ap, _∙_}
+use mathlib.Core.Path.{ap, _∙_}
 use Rattle.script.specs.Ends.{serverGets}
 use Rattle.script.proofs.Structs.{up-within}
 use borrow.Author.Needs.{needs}
 use Rattle.script.proofs.ends.up.Statement.{statement}
 use Rattle.script.proofs.ends.up.Tie as tie
-use Rattle.script.proofs.ends.up.Reads as reads
-use Rattle.script.proofs.ends.up.Lts as lts
-use Rattle.client.proofs.Client.send.Reads as send-reads
-use Rattle.script.proofs.ends.to_server.Reads as to-server-reads
 
--- src/ends.rt:109:31
 slice-aggregate-send : tie.Need-slice-aggregate-send
 slice-aggregate-send c = search needs
 
--- src/ends.rt:109:9
 send-requires : tie.Need-send-requires
 send-requires c κs = search needs
 
--- src/ends.rt:110:26
 slice-aggregate-to-server : tie.Need-slice-aggregate-to-server
 slice-aggregate-to-server c = search needs
 
--- src/ends.rt:110:5
 to-server-requires : tie.Need-to-server-requires
 to-server-requires c κs = up-within (c .before .before .send .result) (c .before .before .send .last .1 .1 .1 .0) (c .before .before .before .before .args .l) (c .before .before .before .before .args .client) (c .before .before .before .before .args .k) (c .before .before .send .ensures)
 
--- src/ends.rt:105:1
 returns : tie.Need-returns
 returns c = c .to-server .ensures ∙ ap (λ x. serverGets x (c .before .before .before .before .before .args .server)) (c .before .before .before .send .ensures)
 

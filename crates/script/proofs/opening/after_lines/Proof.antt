@@ -1,69 +1,48 @@
-use mathlib.Core.Path.{_≡_, refl, sym, ap, _∙_, subst}
 use Rattle.script.proofs.Texts.{taken-length}
 use Rattle.script.proofs.Openings.{number-alone, number-wide, number-fits, likewise}
 use borrow.Author.Needs.{needs}
 use Rattle.script.proofs.opening.after_lines.Statement.{statement}
 use Rattle.script.proofs.opening.after_lines.Tie as tie
-use Rattle.script.proofs.opening.after_lines.Reads as reads
-use Rattle.script.proofs.opening.after_lines.Lts as lts
-use Rattle.script.proofs.opening.after_number.Reads as after-number-reads
-use Rattle.script.proofs.opening.failed.Reads as failed-reads
-use Rattle.script.proofs.parse.end.Reads as end-reads
-use Rattle.script.proofs.parse.number.Reads as number-reads
 
--- src/opening.rt:95:9
 end-requires : tie.Need-end-requires
 end-requires c κs = search needs
 
--- src/opening.rt:97:9
 failed-requires : tie.Need-failed-requires
 failed-requires c κs = search needs
 
--- src/opening.rt:97:9
 returns : tie.Need-returns
 returns c = likewise (number-alone _ _ (c .before .before .end .ensures) (c .before .if1 .taken)) (c .failed .ensures)
 
--- src/opening.rt:99:20
 slice-aggregate-number : tie.Need-slice-aggregate-number
 slice-aggregate-number c = taken-length _ _ 32 (c .before .before .end .ensures) (c .before .if1 .left)
 
--- src/opening.rt:99:9
 number-requires : tie.Need-number-requires
 number-requires c κs = search needs
 
--- src/opening.rt:101:9
 failed-requires-2 : tie.Need-failed-requires-2
 failed-requires-2 c κs = search needs
 
--- src/opening.rt:101:9
 returns-2 : tie.Need-returns-2
 returns-2 c = likewise (number-wide _ _ (c .before .before .before .before .before .end .ensures) _ (c .before .before .number .ensures) (c .before .before .before .before .if1 .left) (c .before .if2 .taken)) (c .failed2 .ensures)
 
--- src/opening.rt:103:16
 add-next : tie.Need-add-next
 add-next c = search needs
 
--- src/opening.rt:104:18
 cast-after-number : tie.Need-cast-after-number
 cast-after-number c = search needs
 
--- src/opening.rt:104:27
 sub-after-number : tie.Need-sub-after-number
 sub-after-number c = search needs
 
--- src/opening.rt:104:27
 part-after-number-start : tie.Need-part-after-number-start
 part-after-number-start c = search needs
 
--- src/opening.rt:104:27
 part-after-number-end : tie.Need-part-after-number-end
 part-after-number-end c = search needs
 
--- src/opening.rt:104:5
 after-number-requires : tie.Need-after-number-requires
 after-number-requires c κs = search needs
 
--- src/opening.rt:92:1
 returns-3 : tie.Need-returns-3
 returns-3 c = likewise (number-fits _ _ (c .before .before .before .before .before .before .end .ensures) _ (c .before .before .before .number .ensures) (c .before .before .before .before .before .if1 .left) (c .before .before .if2 .left)) (c .after-number .ensures)
 

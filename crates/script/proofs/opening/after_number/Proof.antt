@@ -1,4 +1,4 @@
-use mathlib.Core.Path.{_≡_, refl, sym, ap, _∙_, subst}
+use mathlib.Core.Path.{sym, _∙_, subst}
 use Rattle.script.specs.Opening.{Reads, withItems}
 use mathlib.Core.List.{[]}
 use Rattle.script.proofs.Texts.{taken-length}
@@ -6,83 +6,58 @@ use Rattle.script.proofs.Openings.{items-alone, items-alone-no, items-m
 use borrow.Author.Needs.{needs}
 use Rattle.script.proofs.opening.after_number.Statement.{statement}
 use Rattle.script.proofs.opening.after_number.Tie as tie
-use Rattle.script.proofs.opening.after_number.Reads as reads
-use Rattle.script.proofs.opening.after_number.Lts as lts
-use Rattle.script.proofs.opening.begun.Reads as begun-reads
-use Rattle.script.proofs.opening.failed.Reads as failed-reads
-use Rattle.script.proofs.opening.items.Reads as items-reads
-use Rattle.script.proofs.parse.end.Reads as end-reads
-use Rattle.script.proofs.parse.same.Reads as same-reads
 
--- src/opening.rt:77:9
 end-requires : tie.Need-end-requires
 end-requires c κs = search needs
 
--- src/opening.rt:79:20
 slice-aggregate-same : tie.Need-slice-aggregate-same
 slice-aggregate-same c = search needs
 
--- src/opening.rt:79:12
 same-requires : tie.Need-same-requires
 same-requires c κs = search needs
 
--- src/opening.rt:80:13
 begun-requires : tie.Need-begun-requires
 begun-requires c κs = search needs
 
--- src/opening.rt:80:13
 returns : tie.Need-returns
 returns c = likewise (items-alone _ _ (c .before .before .before .before .before .end .ensures) (c .before .before .before .before .before .before .before .args .n) (c .before .before .before .before .if1 .taken) (sym (c .before .before .same .ensures) ∙ c .before .if2 .taken)) (subst (Reads (withItems (c .before .before .before .before .before .before .before .args .n) [])) (sym (c .begun .ensures)) (filled-none (c .before .before .before .before .before .before .before .args .n)))
 
--- src/opening.rt:82:9
 failed-requires : tie.Need-failed-requires
 failed-requires c κs = search needs
 
--- src/opening.rt:82:9
 returns-2 : tie.Need-returns-2
 returns-2 c = likewise (items-alone-no _ _ (c .before .before .before .before .before .end .ensures) (c .before .before .before .before .before .before .before .args .n) (c .before .before .before .before .if1 .taken) (sym (c .before .before .same .ensures) ∙ c .before .if2 .left)) (c .failed .ensures)
 
--- src/opening.rt:84:13
 slice-aggregate-same-2 : tie.Need-slice-aggregate-same-2
 slice-aggregate-same-2 c = taken-length _ _ 32 (c .before .before .end .ensures) (c .before .if1 .left)
 
--- src/opening.rt:84:22
 slice-aggregate-same-3 : tie.Need-slice-aggregate-same-3
 slice-aggregate-same-3 c = search needs
 
--- src/opening.rt:84:8
 same-requires-2 : tie.Need-same-requires-2
 same-requires-2 c κs = search needs
 
--- src/opening.rt:85:20
 add-next : tie.Need-add-next
 add-next c = search needs
 
--- src/opening.rt:86:25
 sub-items : tie.Need-sub-items
 sub-items c = search needs
 
--- src/opening.rt:86:25
 part-items-start : tie.Need-part-items-start
 part-items-start c = search needs
 
--- src/opening.rt:86:25
 part-items-end : tie.Need-part-items-end
 part-items-end c = search needs
 
--- src/opening.rt:86:9
 items-requires : tie.Need-items-requires
 items-requires c κs = search needs
 
--- src/opening.rt:86:9
 returns-3 : tie.Need-returns-3
 returns-3 c = likewise (items-more _ _ (c .before .before .before .before .before .before .before .end .ensures) (c .before .before .before .before .before .before .before .before .before .args .n) (c .before .before .before .before .before .before .if1 .left) (sym (c .before .before .before .same2 .ensures) ∙ c .before .before .if3 .taken)) (c .items .ensures)
 
--- src/opening.rt:88:5
 failed-requires-2 : tie.Need-failed-requires-2
 failed-requires-2 c κs = search needs
 
--- src/opening.rt:74:1
 returns-4 : tie.Need-returns-4
 returns-4 c = likewise (items-no _ _ (c .before .before .before .before .before .before .end .ensures) (c .before .before .before .before .before .before .before .before .args .n) (c .before .before .before .before .before .if1 .left) (sym (c .before .before .same2 .ensures) ∙ c .before .if3 .left)) (c .failed2 .ensures)
 

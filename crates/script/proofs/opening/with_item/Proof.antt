@@ -3,36 +3,27 @@ use Rattle.script.specs.Opening.{push}
 use borrow.Author.Needs.{needs}
 use Rattle.script.proofs.opening.with_item.Statement.{statement}
 use Rattle.script.proofs.opening.with_item.Tie as tie
-use Rattle.script.proofs.opening.with_item.Reads as reads
-use Rattle.script.proofs.opening.with_item.Lts as lts
 
--- src/opening.rt:48:9
 returns : tie.Need-returns
 unfolding push
 returns c = rw (le-ltb _ _ (c .if1 .taken))
 
--- src/opening.rt:52:22
 cast-g : tie.Need-cast-g
 cast-g c = search needs
 
--- src/opening.rt:52:9
 mul-g : tie.Need-mul-g
 mul-g c = search needs
 
--- src/opening.rt:52:9
 element-write-g : tie.Need-element-write-g
 element-write-g c = search needs
 
--- src/opening.rt:53:19
 add-g : tie.Need-add-g
 add-g c = search needs
 
--- src/opening.rt:42:1
 returns-2 : tie.Need-returns-2
 unfolding push
 returns-2 c = rw (lt-ltb _ _ (c .before .if1 .left), lt-ltb _ _ (c .if2 .taken))
 
--- src/opening.rt:42:1
 returns-3 : tie.Need-returns-3
 unfolding push
 returns-3 c = rw (lt-ltb _ _ (c .before .if1 .left), le-ltb _ _ (c .if2 .left))

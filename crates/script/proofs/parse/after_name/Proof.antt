@@ -1,63 +1,43 @@
-use mathlib.Core.Path.{_≡_, refl, sym, ap, _∙_}
-use mathlib.Core.List.{List, _∷_}
-use native.Mathlib.Omega.{arith}
-use Rattle.script.specs.Command.{afterNumber, withOne}
+use mathlib.Core.Path.{ap, _∙_}
+use Rattle.script.specs.Command.{withOne}
 use Rattle.script.proofs.Texts.{words-cut, words-whole, taken-length}
 use borrow.Author.Needs.{needs}
 use Rattle.script.proofs.parse.after_name.Statement.{statement}
 use Rattle.script.proofs.parse.after_name.Tie as tie
-use Rattle.script.proofs.parse.after_name.Reads as reads
-use Rattle.script.proofs.parse.after_name.Lts as lts
-use Rattle.script.proofs.parse.after_number.Reads as after-number-reads
-use Rattle.script.proofs.parse.end.Reads as end-reads
-use Rattle.script.proofs.parse.number.Reads as number-reads
-use Rattle.script.proofs.parse.with_one.Reads as with-one-reads
 
--- src/parse.rt:161:9
 end-requires : tie.Need-end-requires
 end-requires c κs = search needs
 
--- src/parse.rt:163:20
 add-next : tie.Need-add-next
 add-next c = search needs
 
--- src/parse.rt:164:44
 slice-aggregate-number : tie.Need-slice-aggregate-number
 slice-aggregate-number c = taken-length _ _ 32 (c .before .before .end .ensures) (c .before .if1 .taken)
 
--- src/parse.rt:164:37
 number-requires : tie.Need-number-requires
 number-requires c κs = search needs
 
--- src/parse.rt:164:54
 sub-after-number : tie.Need-sub-after-number
 sub-after-number c = search needs
 
--- src/parse.rt:164:54
 part-after-number-start : tie.Need-part-after-number-start
 part-after-number-start c = search needs
 
--- src/parse.rt:164:54
 part-after-number-end : tie.Need-part-after-number-end
 part-after-number-end c = search needs
 
--- src/parse.rt:164:9
 after-number-requires : tie.Need-after-number-requires
 after-number-requires c κs = search needs
 
--- src/parse.rt:164:9
 returns : tie.Need-returns
 returns c = rw (words-cut _ _ (c .before .before .before .before .before .end .ensures) (c .before .before .before .before .if1 .taken), ← (c .before .before .number .ensures)) (c .after-number .ensures)
 
--- src/parse.rt:166:22
 number-requires-2 : tie.Need-number-requires-2
 number-requires-2 c κs = search needs
 
--- src/parse.rt:166:5
 with-one-requires : tie.Need-with-one-requires
 with-one-requires c κs = search needs
 
--- src/parse.rt:158:1
 returns-2 : tie.Need-returns-2
 returns-2 c = rw (words-whole _ _ (c .before .before .before .end .ensures) (c .before .before .if1 .left)) (c .with-one .ensures ∙ ap (withOne (c .before .before .before .before .before .before .args .bay) (c .before .before .before .before .before .before .args .w .now)) (c .before .number2 .ensures))
 

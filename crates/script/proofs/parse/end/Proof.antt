@@ -6,8 +6,6 @@ use Rattle.script.specs.Text.{before}
 use Rattle.script.proofs.Texts.{before-here, before-on, before-end}
 use Rattle.script.proofs.parse.end.Statement.{statement}
 use Rattle.script.proofs.parse.end.Tie as tie
-use Rattle.script.proofs.parse.end.Reads as reads
-use Rattle.script.proofs.parse.end.Lts as lts
 
 abbrev Inv-loop : tie.InvT-loop
 Inv-loop s sep i₀ i = (i ≤ length s) × (i + length (before sep (drop i s)) ≡ length (before sep s))
@@ -15,31 +13,24 @@ Inv-loop s sep i₀ i = (i ≤ length s) × (i + length (before sep (drop i s)) 
 abbrev μ-loop : tie.MeasureT-loop
 μ-loop s sep i₀ i = length s - i
 
--- src/parse.rt:29:5
 loop-holds : tie.Need-loop-holds Inv-loop μ-loop
 loop-holds c = (omega arith, omega arith)
 
--- src/parse.rt:30:12
 shared-slice-read-if1 : tie.Need-shared-slice-read-if1 Inv-loop μ-loop
 shared-slice-read-if1 c = omega arith
 
--- src/parse.rt:31:13
 returns : tie.Need-returns Inv-loop μ-loop
 returns c = let h = before-here (c .before .before .before .before .args .s .now) (c .before .before .before .before .args .sep) (c .before .before .before .loop .i) (c .before .before .loop-test .taken) (c .if1 .taken) in omega (arith, h)
 
--- src/parse.rt:33:9
 add-i : tie.Need-add-i Inv-loop μ-loop
 add-i c = omega arith
 
--- src/parse.rt:29:5
 loop-less : tie.Need-loop-less Inv-loop μ-loop
 loop-less c = omega arith
 
--- src/parse.rt:29:5
 loop-again : tie.Need-loop-again Inv-loop μ-loop
 loop-again c = let h = before-on (c .before .before .before .before .args .s .now) (c .before .before .before .before .args .sep) (c .before .before .before .loop .i) (c .before .before .loop-test .taken) (c .if1 .left) in (omega arith, omega (arith, h))
 
--- src/parse.rt:25:1
 returns-2 : tie.Need-returns-2 Inv-loop μ-loop
 returns-2 c = let h = before-end (c .before .before .args .s .now) (c .before .before .args .sep) (c .before .loop .i) (c .loop-test .left) in omega (arith, h)
 

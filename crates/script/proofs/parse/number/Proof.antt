@@ -1,14 +1,11 @@
 use Prim.Native.Nat.{_-_, _≤_}
-use mathlib.Core.Path.{_≡_, refl, sym, ap, _∙_}
+use mathlib.Core.Path.{_≡_, refl, sym, _∙_}
 use native.Mathlib.Omega.{arith}
 use lib.ListN.{length, drop, getD}
-use Rattle.script.specs.Decimal.{tooWide, numberFrom, withDigit}
+use Rattle.script.specs.Decimal.{tooWide, numberFrom}
 use Rattle.script.proofs.Numbers.{number-none, number-some, number-on, number-end, with-digit-le}
 use Rattle.script.proofs.parse.number.Statement.{statement}
 use Rattle.script.proofs.parse.number.Tie as tie
-use Rattle.script.proofs.parse.number.Reads as reads
-use Rattle.script.proofs.parse.number.Lts as lts
-use Rattle.script.proofs.parse.with_digit.Reads as with-digit-reads
 
 abbrev Inv-loop : tie.InvT-loop
 Inv-loop w n₀ i₀ n i = (i ≤ length w) × (n ≤ tooWide) × (numberFrom n (drop i w) ≡ numberFrom 0 w)
@@ -16,35 +13,27 @@ Inv-loop w n₀ i₀ n i = (i ≤ length w) × (n ≤ tooWide) × (numberFrom n 
 abbrev μ-loop : tie.MeasureT-loop
 μ-loop w n₀ i₀ n i = length w - i
 
--- src/parse.rt:90:9
 returns : tie.Need-returns Inv-loop μ-loop
 returns c = sym (number-none _ (c .if1 .taken))
 
--- src/parse.rt:94:5
 loop-holds : tie.Need-loop-holds Inv-loop μ-loop
 loop-holds c = (omega arith, omega arith, refl)
 
--- src/parse.rt:95:27
 shared-slice-read-with-digit : tie.Need-shared-slice-read-with-digit Inv-loop μ-loop
 shared-slice-read-with-digit c = omega arith
 
--- src/parse.rt:95:9
 with-digit-requires : tie.Need-with-digit-requires Inv-loop μ-loop
 with-digit-requires c κs = omega arith
 
--- src/parse.rt:96:9
 add-i : tie.Need-add-i Inv-loop μ-loop
 add-i c = omega arith
 
--- src/parse.rt:94:5
 loop-less : tie.Need-loop-less Inv-loop μ-loop
 loop-less c = omega arith
 
--- src/parse.rt:94:5
 loop-again : tie.Need-loop-again Inv-loop μ-loop
 loop-again c = let e = c .with-digit .ensures in (omega arith, omega (arith, with-digit-le (c .before .before .before .loop .n) (getD (c .before .before .before .before .before .before .args .w .now) (c .before .before .before .loop .i) 0)), rw e (number-on _ _ _ (c .before .before .loop-test .taken) ∙ c .before .before .before .loop .inv .2))
 
--- src/parse.rt:86:1
 returns-2 : tie.Need-returns-2 Inv-loop μ-loop
 returns-2 c = sym (number-end _ _ _ (c .loop-test .left)) ∙ c .before .loop .inv .2 ∙ sym (number-some _ (c .before .before .if1 .left))
 

@@ -1,71 +1,50 @@
-use mathlib.Core.Path.{_≡_, refl, sym, ap, _∙_}
+use mathlib.Core.Path.{_∙_}
 use native.Mathlib.Omega.{arith}
-use Rattle.script.specs.Command.{commandOf, verbOf}
-use Rattle.script.proofs.Texts.{words-cut, words-whole, taken-length}
+use Rattle.script.proofs.Texts.{taken-length}
 use Rattle.script.proofs.Commands.{command-short, command-low, command-high, command-inside}
 use borrow.Author.Needs.{needs}
 use Rattle.script.proofs.parse.read_command.Statement.{statement}
 use Rattle.script.proofs.parse.read_command.Tie as tie
-use Rattle.script.proofs.parse.read_command.Reads as reads
-use Rattle.script.proofs.parse.read_command.Lts as lts
-use Rattle.script.proofs.parse.end.Reads as end-reads
-use Rattle.script.proofs.parse.number.Reads as number-reads
-use Rattle.script.proofs.parse.verb.Reads as verb-reads
-use Rattle.script.proofs.parse.wide.Reads as wide-reads
 
--- src/parse.rt:185:9
 end-requires : tie.Need-end-requires
 end-requires c κs = search needs
 
--- src/parse.rt:187:9
 returns : tie.Need-returns
 returns c = command-short _ _ _ (c .before .end .ensures) (c .if1 .taken)
 
--- src/parse.rt:189:22
 slice-aggregate-number : tie.Need-slice-aggregate-number
 slice-aggregate-number c = taken-length _ _ 32 (c .before .before .end .ensures) (c .before .if1 .left)
 
--- src/parse.rt:189:9
 number-requires : tie.Need-number-requires
 number-requires c κs = search needs
 
--- src/parse.rt:191:9
 returns-2 : tie.Need-returns-2
 returns-2 c = command-low _ _ _ (c .before .before .before .before .end .ensures) (c .before .before .before .if1 .left) _ (c .before .number .ensures) (c .if2 .taken)
 
--- src/parse.rt:193:8
 wide-requires : tie.Need-wide-requires
 wide-requires c κs = search needs
 
--- src/parse.rt:194:9
 returns-3 : tie.Need-returns-3
 returns-3 c = let e = c .before .wide .ensures in command-high _ _ _ (c .before .before .before .before .before .before .end .ensures) (c .before .before .before .before .before .if1 .left) _ (c .before .before .before .number .ensures) (c .before .before .if2 .left) (omega arith)
 
--- src/parse.rt:196:16
 add-next : tie.Need-add-next
 add-next c = search needs
 
--- src/parse.rt:197:10
 cast-verb : tie.Need-cast-verb
 cast-verb c = search needs
 
--- src/parse.rt:197:21
 sub-verb : tie.Need-sub-verb
 sub-verb c = search needs
 
--- src/parse.rt:197:21
 part-verb-start : tie.Need-part-verb-start
 part-verb-start c = search needs
 
--- src/parse.rt:197:21
 part-verb-end : tie.Need-part-verb-end
 part-verb-end c = search needs
 
--- src/parse.rt:197:5
 verb-requires : tie.Need-verb-requires
 verb-requires c κs = search needs
 
--- src/parse.rt:182:1
 returns-4 : tie.Need-returns-4
 returns-4 c = let e = c .before .before .before .wide .ensures in c .verb .ensures ∙ command-inside (c .before .before .before .before .before .before .before .before .before .before .args .n) _ _ (c .before .before .before .before .before .before .before .before .end .ensures) (c .before .before .before .before .before .before .before .if1 .left) _ (c .before .before .before .before .before .number .ensures) (c .before .before .before .before .if2 .left) (omega arith)
 

@@ -3,55 +3,40 @@ use borrow.Author.Tests.{lt-ltb, le-ltb}
 use borrow.Author.Needs.{needs}
 use Rattle.script.proofs.parse.with_one.Statement.{statement}
 use Rattle.script.proofs.parse.with_one.Tie as tie
-use Rattle.script.proofs.parse.with_one.Reads as reads
-use Rattle.script.proofs.parse.with_one.Lts as lts
-use Rattle.script.proofs.parse.same.Reads as same-reads
 
--- src/parse.rt:117:9
 returns : tie.Need-returns
 returns c = rw (le-ltb _ _ (c .if1 .taken))
 
--- src/parse.rt:119:13
 cast-n : tie.Need-cast-n
 cast-n c = search needs
 
--- src/parse.rt:120:16
 slice-aggregate-same : tie.Need-slice-aggregate-same
 slice-aggregate-same c = search needs
 
--- src/parse.rt:120:8
 same-requires : tie.Need-same-requires
 same-requires c κs = search needs
 
--- src/parse.rt:121:9
 returns-2 : tie.Need-returns-2
 returns-2 c = rw (lt-ltb _ _ (c .before .before .before .if1 .left), sym (c .before .same .ensures) ∙ c .if2 .taken)
 
--- src/parse.rt:123:16
 slice-aggregate-same-2 : tie.Need-slice-aggregate-same-2
 slice-aggregate-same-2 c = search needs
 
--- src/parse.rt:123:8
 same-requires-2 : tie.Need-same-requires-2
 same-requires-2 c κs = search needs
 
--- src/parse.rt:124:9
 returns-3 : tie.Need-returns-3
 returns-3 c = rw (lt-ltb _ _ (c .before .before .before .before .before .before .if1 .left), sym (c .before .before .before .before .same .ensures) ∙ c .before .before .before .if2 .left, sym (c .before .same2 .ensures) ∙ c .if3 .taken)
 
--- src/parse.rt:126:16
 slice-aggregate-same-3 : tie.Need-slice-aggregate-same-3
 slice-aggregate-same-3 c = search needs
 
--- src/parse.rt:126:8
 same-requires-3 : tie.Need-same-requires-3
 same-requires-3 c κs = search needs
 
--- src/parse.rt:127:9
 returns-4 : tie.Need-returns-4
 returns-4 c = rw (lt-ltb _ _ (c .before .before .before .before .before .before .before .before .before .if1 .left), sym (c .before .before .before .before .before .before .before .same .ensures) ∙ c .before .before .before .before .before .before .if2 .left, sym (c .before .before .before .before .same2 .ensures) ∙ c .before .before .before .if3 .left, sym (c .before .same3 .ensures) ∙ c .if4 .taken)
 
--- src/parse.rt:113:1
 returns-5 : tie.Need-returns-5
 returns-5 c = rw (lt-ltb _ _ (c .before .before .before .before .before .before .before .before .before .if1 .left), sym (c .before .before .before .before .before .before .before .same .ensures) ∙ c .before .before .before .before .before .before .if2 .left, sym (c .before .before .before .before .same2 .ensures) ∙ c .before .before .before .if3 .left, sym (c .before .same3 .ensures) ∙ c .if4 .left)
 

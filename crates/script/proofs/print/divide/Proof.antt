@@ -1,12 +1,10 @@
 use Prim.Native.Nat.{_+_, _*_, _/_, _%_, _<_}
-use mathlib.Core.Path.{_≡_, refl, sym, ap, _∙_}
+use mathlib.Core.Path.{_≡_, sym, ap, _∙_}
 use native.Mathlib.Omega.{arith}
 use lib.Arith.{digits-div, digits-mod}
 use Rattle.script.proofs.Numbers.{digit-small}
 use Rattle.script.proofs.print.divide.Statement.{statement}
 use Rattle.script.proofs.print.divide.Tie as tie
-use Rattle.script.proofs.print.divide.Reads as reads
-use Rattle.script.proofs.print.divide.Lts as lts
 
 abbrev Inv-loop : tie.InvT-loop
 Inv-loop n p digit₀ rest₀ digit rest = (digit * p + rest ≡ n) × (digit < 10)
@@ -14,23 +12,18 @@ Inv-loop n p digit₀ rest₀ digit rest = (digit * p + rest ≡ n) × (digit < 
 abbrev μ-loop : tie.MeasureT-loop
 μ-loop n p digit₀ rest₀ digit rest = rest
 
--- src/print.rt:66:5
 loop-holds : tie.Need-loop-holds Inv-loop μ-loop
 loop-holds c = (omega arith, omega arith)
 
--- src/print.rt:68:9
 add-digit : tie.Need-add-digit Inv-loop μ-loop
 add-digit c = omega arith
 
--- src/print.rt:66:5
 loop-less : tie.Need-loop-less Inv-loop μ-loop
 loop-less c = omega arith
 
--- src/print.rt:66:5
 loop-again : tie.Need-loop-again Inv-loop μ-loop
 loop-again c = let h = digit-small (c .before .loop .digit) (c .before .before .args .p) (c .before .loop .rest) (c .before .before .args .n) (c .before .loop .inv .0) (c .loop-test .taken) (c .before .before .pre) in (omega arith, omega arith)
 
--- src/print.rt:60:1
 returns : tie.Need-returns Inv-loop μ-loop
 returns c = (sym (digits-div (c .before .loop .digit) (c .loop-test .left)) ∙ ap (λ k. k / c .before .before .args .p) (c .before .loop .inv .0), sym (digits-mod (c .before .loop .digit) (c .loop-test .left)) ∙ ap (λ k. k % c .before .before .args .p) (c .before .loop .inv .0))
 

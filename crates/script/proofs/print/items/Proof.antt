@@ -8,10 +8,6 @@ use Rattle.script.specs.Decimal.{listed}
 use Rattle.script.proofs.Numbers.{listed-turn, listed-end}
 use Rattle.script.proofs.print.items.Statement.{statement}
 use Rattle.script.proofs.print.items.Tie as tie
-use Rattle.script.proofs.print.items.Reads as reads
-use Rattle.script.proofs.print.items.Lts as lts
-use Rattle.script.proofs.print.item.Reads as item-reads
-use Rattle.script.proofs.print.put.Reads as put-reads
 
 abbrev Inv-loop : tie.InvT-loop
 Inv-loop out₀ at list to₀ i₀ out to i = (i ≤ length list) × (length out ≡ length out₀) × (puts (listed (drop i list)) (sink out to) ≡ puts (listed list) (sink out₀ at))
@@ -19,43 +15,33 @@ Inv-loop out₀ at list to₀ i₀ out to i = (i ≤ length list) × (length out
 abbrev μ-loop : tie.MeasureT-loop
 μ-loop out₀ at list to₀ i₀ out to i = length list - i
 
--- src/print.rt:109:5
 loop-holds : tie.Need-loop-holds Inv-loop μ-loop
 loop-holds c = (omega arith, refl, refl)
 
--- src/print.rt:110:28
 mul-item : tie.Need-mul-item Inv-loop μ-loop
 mul-item c = search needs
 
--- src/print.rt:110:28
 shared-slice-read-item : tie.Need-shared-slice-read-item Inv-loop μ-loop
 shared-slice-read-item c = omega arith
 
--- src/print.rt:110:9
 item-requires : tie.Need-item-requires Inv-loop μ-loop
 item-requires c κs = tt
 
--- src/print.rt:111:9
 add-i : tie.Need-add-i Inv-loop μ-loop
 add-i c = omega arith
 
--- src/print.rt:109:5
 loop-less : tie.Need-loop-less Inv-loop μ-loop
 loop-less c = omega arith
 
--- src/print.rt:109:5
 loop-again : tie.Need-loop-again Inv-loop μ-loop
 loop-again c = (omega arith, c .before .before .item .kept .0 ∙ c .before .before .before .before .before .before .loop .inv .1, listed-turn _ (c .before .before .before .before .before .before .loop .i) _ (c .before .before .before .before .before .loop-test .taken) (c .before .before .item .ensures) (c .before .before .before .before .before .before .loop .inv .2))
 
--- src/print.rt:113:5
 put-requires : tie.Need-put-requires Inv-loop μ-loop
 put-requires c κs = tt
 
--- src/print.rt:104:1
 same-length : tie.Need-same-length Inv-loop μ-loop
 same-length c = c .before .before .put .kept .0 ∙ c .before .before .before .before .before .loop .inv .1
 
--- src/print.rt:104:1
 returns : tie.Need-returns Inv-loop μ-loop
 returns c = listed-end _ (c .before .before .before .before .before .loop .i) _ (c .before .before .before .before .loop-test .left) (c .before .before .put .ensures) (c .before .before .before .before .before .loop .inv .2)
 

@@ -1,4 +1,4 @@
-use Prim.Native.Nat.{_+_, _-_, _≤_}
+use Prim.Native.Nat.{_-_, _≤_}
 use mathlib.Core.Path.{_≡_, refl, sym, _∙_}
 use native.Mathlib.Omega.{arith}
 use lib.ListN.{length, drop}
@@ -6,9 +6,6 @@ use Rattle.script.specs.Sink.{sink, puts}
 use Rattle.script.proofs.Sinks.{turn, puts-end}
 use Rattle.script.proofs.print.text.Statement.{statement}
 use Rattle.script.proofs.print.text.Tie as tie
-use Rattle.script.proofs.print.text.Reads as reads
-use Rattle.script.proofs.print.text.Lts as lts
-use Rattle.script.proofs.print.put.Reads as put-reads
 
 abbrev Inv-loop : tie.InvT-loop
 Inv-loop out₀ at s i₀ to₀ out i to = (i ≤ length s) × (length out ≡ length out₀) × (puts (drop i s) (sink out to) ≡ puts s (sink out₀ at))
@@ -16,35 +13,27 @@ Inv-loop out₀ at s i₀ to₀ out i to = (i ≤ length s) × (length out ≡ l
 abbrev μ-loop : tie.MeasureT-loop
 μ-loop out₀ at s i₀ to₀ out i to = length s - i
 
--- src/print.rt:27:5
 loop-holds : tie.Need-loop-holds Inv-loop μ-loop
 loop-holds c = (omega arith, refl, refl)
 
--- src/print.rt:28:27
 shared-slice-read-put : tie.Need-shared-slice-read-put Inv-loop μ-loop
 shared-slice-read-put c = omega arith
 
--- src/print.rt:28:9
 put-requires : tie.Need-put-requires Inv-loop μ-loop
 put-requires c κs = tt
 
--- src/print.rt:29:9
 add-i : tie.Need-add-i Inv-loop μ-loop
 add-i c = omega arith
 
--- src/print.rt:27:5
 loop-less : tie.Need-loop-less Inv-loop μ-loop
 loop-less c = omega arith
 
--- src/print.rt:27:5
 loop-again : tie.Need-loop-again Inv-loop μ-loop
 loop-again c = (omega arith, c .before .before .put .kept .0 ∙ c .before .before .before .before .before .before .loop .inv .1, turn (c .before .before .before .before .before .before .before .before .before .args .s .now) (c .before .before .before .before .before .before .loop .i) _ (c .before .before .before .before .before .loop-test .taken) (c .before .before .put .ensures) (c .before .before .before .before .before .before .loop .inv .2))
 
--- src/print.rt:22:1
 same-length : tie.Need-same-length Inv-loop μ-loop
 same-length c = c .before .loop .inv .1
 
--- src/print.rt:22:1
 returns : tie.Need-returns Inv-loop μ-loop
 returns c = sym (puts-end (c .before .before .before .before .args .s .now) (c .before .loop .i) _ (c .loop-test .left)) ∙ c .before .loop .inv .2
 

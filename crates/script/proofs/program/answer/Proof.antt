@@ -1,124 +1,91 @@
 use Rattle.script.specs.Sink.{sink, puts}
 use Rattle.script.specs.Output.{replies}
-use mathlib.Core.Path.{_≡_, refl, sym, ap, _∙_}
-use native.Mathlib.Omega.{arith}
+use mathlib.Core.Path.{sym, ap, _∙_}
 use borrow.Author.Needs.{needs}
 use Rattle.script.proofs.program.answer.Statement.{statement}
 use Rattle.script.proofs.program.answer.Tie as tie
-use Rattle.script.proofs.program.answer.Reads as reads
-use Rattle.script.proofs.program.answer.Lts as lts
-use Rattle.script.proofs.print.reply.Reads as reply-reads
-use Rattle.script.proofs.print.unknown.Reads as unknown-reads
 
--- src/program.rt:33:33
 enum-told : tie.Need-enum-told
 enum-told c = search needs
 
--- src/program.rt:33:25
 unknown-requires : tie.Need-unknown-requires
 unknown-requires c κs = search needs
 
--- src/program.rt:34:43
 enum-told-2 : tie.Need-enum-told-2
 enum-told-2 c = search needs
 
--- src/program.rt:34:37
 reply-requires : tie.Need-reply-requires
 reply-requires c κs = search needs
 
--- src/program.rt:35:40
 enum-told-3 : tie.Need-enum-told-3
 enum-told-3 c = search needs
 
--- src/program.rt:35:34
 reply-requires-2 : tie.Need-reply-requires-2
 reply-requires-2 c κs = search needs
 
--- src/program.rt:36:36
 enum-told-4 : tie.Need-enum-told-4
 enum-told-4 c = search needs
 
--- src/program.rt:36:30
 reply-requires-3 : tie.Need-reply-requires-3
 reply-requires-3 c κs = search needs
 
--- src/program.rt:37:38
 enum-told-5 : tie.Need-enum-told-5
 enum-told-5 c = search needs
 
--- src/program.rt:37:32
 reply-requires-4 : tie.Need-reply-requires-4
 reply-requires-4 c κs = search needs
 
--- src/program.rt:38:34
 enum-told-6 : tie.Need-enum-told-6
 enum-told-6 c = search needs
 
--- src/program.rt:38:28
 reply-requires-5 : tie.Need-reply-requires-5
 reply-requires-5 c κs = search needs
 
--- src/program.rt:39:35
 enum-told-7 : tie.Need-enum-told-7
 enum-told-7 c = search needs
 
--- src/program.rt:39:29
 reply-requires-6 : tie.Need-reply-requires-6
 reply-requires-6 c κs = search needs
 
--- src/program.rt:29:1
 same-length : tie.Need-same-length
 same-length c = search needs
 
--- src/program.rt:29:1
 returns : tie.Need-returns
 returns c = c .before .before .unknown .ensures ∙ ap (λ x. puts (replies x (c .before .before .before .before .before .before .before .args .r)) (sink (c .before .before .before .before .before .before .before .args .out .now) (c .before .before .before .before .before .before .before .args .at))) (sym (c .before .before .before .before .enum-told .given .1))
 
--- src/program.rt:29:1
 same-length-2 : tie.Need-same-length-2
 same-length-2 c = search needs
 
--- src/program.rt:29:1
 returns-2 : tie.Need-returns-2
 returns-2 c = c .before .before .reply .ensures ∙ ap (λ x. puts (replies x (c .before .before .before .before .before .before .before .args .r)) (sink (c .before .before .before .before .before .before .before .args .out .now) (c .before .before .before .before .before .before .before .args .at))) (sym (c .before .before .before .before .enum-told2 .given .1))
 
--- src/program.rt:29:1
 same-length-3 : tie.Need-same-length-3
 same-length-3 c = search needs
 
--- src/program.rt:29:1
 returns-3 : tie.Need-returns-3
 returns-3 c = c .before .before .reply2 .ensures ∙ ap (λ x. puts (replies x (c .before .before .before .before .before .before .before .args .r)) (sink (c .before .before .before .before .before .before .before .args .out .now) (c .before .before .before .before .before .before .before .args .at))) (sym (c .before .before .before .before .enum-told3 .given .1))
 
--- src/program.rt:29:1
 same-length-4 : tie.Need-same-length-4
 same-length-4 c = search needs
 
--- src/program.rt:29:1
 returns-4 : tie.Need-returns-4
 returns-4 c = c .before .before .reply3 .ensures ∙ ap (λ x. puts (replies x (c .before .before .before .before .before .before .before .args .r)) (sink (c .before .before .before .before .before .before .before .args .out .now) (c .before .before .before .before .before .before .before .args .at))) (sym (c .before .before .before .before .enum-told4 .given .1))
 
--- src/program.rt:29:1
 same-length-5 : tie.Need-same-length-5
 same-length-5 c = search needs
 
--- src/program.rt:29:1
 returns-5 : tie.Need-returns-5
 returns-5 c = c .before .before .reply4 .ensures ∙ ap (λ x. puts (replies x (c .before .before .before .before .before .before .before .args .r)) (sink (c .before .before .before .before .before .before .before .args .out .now) (c .before .before .before .before .before .before .before .args .at))) (sym (c .before .before .before .before .enum-told5 .given .1))
 
--- src/program.rt:29:1
 same-length-6 : tie.Need-same-length-6
 same-length-6 c = search needs
 
--- src/program.rt:29:1
 returns-6 : tie.Need-returns-6
 returns-6 c = c .before .before .reply5 .ensures ∙ ap (λ x. puts (replies x (c .before .before .before .before .before .before .before .args .r)) (sink (c .before .before .before .before .before .before .before .args .out .now) (c .before .before .before .before .before .before .before .args .at))) (sym (c .before .before .before .before .enum-told6 .given .1))
 
--- src/program.rt:29:1
 same-length-7 : tie.Need-same-length-7
 same-length-7 c = search needs
 
--- src/program.rt:29:1
 returns-7 : tie.Need-returns-7
 returns-7 c = c .before .before .reply6 .ensures ∙ ap (λ x. puts (replies x (c .before .before .before .before .before .before .before .args .r)) (sink (c .before .before .before .before .before .before .before .args .out .now) (c .before .before .before .before .before .before .before .args .at))) (sym (c .before .before .before .before .enum-told7 .given .1))
 

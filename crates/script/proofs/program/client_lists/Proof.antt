@@ -1,5 +1,5 @@
 use Prim.Native.Nat.{suc, _-_, _≤_}
-use mathlib.Core.Path.{_≡_, refl, sym, ap, _∙_}
+use mathlib.Core.Path.{_≡_, refl, sym, _∙_}
 use native.Mathlib.Omega.{arith}
 use borrow.Author.Needs.{needs}
 use lib.ListN.{length, drop}
@@ -10,9 +10,6 @@ use Rattle.script.proofs.Structs.{eight, lines-few}
 use Rattle.script.proofs.Turns.{client-fits, lists-turn, lists-end}
 use Rattle.script.proofs.program.client_lists.Statement.{statement}
 use Rattle.script.proofs.program.client_lists.Tie as tie
-use Rattle.script.proofs.program.client_lists.Reads as reads
-use Rattle.script.proofs.program.client_lists.Lts as lts
-use Rattle.script.proofs.program.one_list.Reads as one-list-reads
 
 abbrev Inv-loop : tie.InvT-loop
 Inv-loop out₀ at ends to₀ i₀ out to i =
@@ -22,43 +19,33 @@ Inv-loop out₀ at ends to₀ i₀ out to i =
 abbrev μ-loop : tie.MeasureT-loop
 μ-loop out₀ at ends to₀ i₀ out to i = ends .server .n - i
 
--- src/program.rt:60:5
 loop-holds : tie.Need-loop-holds Inv-loop μ-loop
 loop-holds c = (omega arith, refl, refl)
 
--- src/program.rt:61:17
 cast-k : tie.Need-cast-k Inv-loop μ-loop
 cast-k c = omega arith
 
--- src/program.rt:62:17
 mul-c : tie.Need-mul-c Inv-loop μ-loop
 mul-c c = search needs
 
--- src/program.rt:62:17
 element-copy-out-c : tie.Need-element-copy-out-c Inv-loop μ-loop
 element-copy-out-c c = let k = eight (c .before .before .before .args .t3) (c .before .before .before .pre) in let f = lines-few (c .before .before .before .args .t3) (c .before .before .before .pre) in omega arith
 
--- src/program.rt:63:9
 add-i : tie.Need-add-i Inv-loop μ-loop
 add-i c = omega arith
 
--- src/program.rt:64:9
 one-list-requires : tie.Need-one-list-requires Inv-loop μ-loop
 one-list-requires c κs = client-fits (c .before .before .before .before .before .args .t3) (c .before .before .before .before .before .pre) (c .before .before .before .loop .i) (c .before .before .loop-test .taken) _ _ refl
 
--- src/program.rt:60:5
 loop-less : tie.Need-loop-less Inv-loop μ-loop
 loop-less c = omega arith
 
--- src/program.rt:60:5
 loop-again : tie.Need-loop-again Inv-loop μ-loop
 loop-again c = (omega arith, c .before .before .one-list .kept .0 ∙ c .before .before .before .before .before .before .loop .inv .1, lists-turn (c .before .before .before .before .before .before .before .before .args .t3) (c .before .before .before .before .before .before .before .before .pre) (c .before .before .before .before .before .before .loop .i) (c .before .before .before .before .before .loop-test .taken) _ _ refl _ _ _ _ _ (c .before .before .one-list .ensures) (c .before .before .before .before .before .before .loop .inv .2))
 
--- src/program.rt:54:1
 same-length : tie.Need-same-length Inv-loop μ-loop
 same-length c = c .before .loop .inv .1
 
--- src/program.rt:54:1
 returns : tie.Need-returns Inv-loop μ-loop
 returns c = sym (lists-end (c .before .before .before .args .t3) (c .before .before .before .pre) (c .before .loop .i) _ (c .loop-test .left)) ∙ c .before .loop .inv .2
 

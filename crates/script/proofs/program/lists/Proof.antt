@@ -1,4 +1,4 @@
-use mathlib.Core.Path.{_≡_, refl, sym, ap, _∙_}
+use mathlib.Core.Path.{sym}
 use lib.Seq.{length-take-le}
 use Rattle.server.specs.View as server
 use Rattle.script.specs.Sink.{sink}
@@ -9,36 +9,25 @@ use Rattle.script.proofs.Turns.{server-fits}
 use borrow.Author.Needs.{needs}
 use Rattle.script.proofs.program.lists.Statement.{statement}
 use Rattle.script.proofs.program.lists.Tie as tie
-use Rattle.script.proofs.program.lists.Reads as reads
-use Rattle.script.proofs.program.lists.Lts as lts
-use Rattle.script.proofs.print.server_list.Reads as server-list-reads
-use Rattle.script.proofs.program.client_lists.Reads as client-lists-reads
 
--- src/program.rt:75:15
 cast-len : tie.Need-cast-len
 cast-len c = search needs
 
--- src/program.rt:76:35
 array-share-prefix-items : tie.Need-array-share-prefix-items
 array-share-prefix-items c = server-fits (c .before .before .before .before .args .ends) (c .before .before .before .before .pre)
 
--- src/program.rt:76:35
 slice-aggregate-server-list : tie.Need-slice-aggregate-server-list
 slice-aggregate-server-list c = sym (length-take-le (c .before .before .before .before .before .args .ends .server .len) (c .before .before .before .before .before .args .ends .server .items) (server-fits (c .before .before .before .before .before .args .ends) (c .before .before .before .before .before .pre)))
 
--- src/program.rt:76:9
 server-list-requires : tie.Need-server-list-requires
 server-list-requires c κs = search needs
 
--- src/program.rt:77:5
 client-lists-requires : tie.Need-client-lists-requires
 client-lists-requires c κs = search needs
 
--- src/program.rt:70:1
 same-length : tie.Need-same-length
 same-length c = search needs
 
--- src/program.rt:70:1
 returns : tie.Need-returns
 unfolding server.view
 returns c = then (serverList (viewEnds (c .before .before .before .before .before .before .before .before .before .before .before .before .args .ends) .server .items)) (clientLists 1 (viewEnds (c .before .before .before .before .before .before .before .before .before .before .before .before .args .ends) .clients)) (sink (c .before .before .before .before .before .before .before .before .before .before .before .before .args .out .now) (c .before .before .before .before .before .before .before .before .before .before .before .before .args .at)) (c .before .before .before .before .before .before .server-list .ensures) (c .before .before .client-lists .ensures)

@@ -1,4 +1,4 @@
-use mathlib.Core.Path.{_≡_, refl, sym, ap, _∙_}
+use mathlib.Core.Path.{_≡_, sym}
 use native.Mathlib.Omega.{arith}
 use lib.ListN.{length, take, drop}
 use lib.Seq.{length-take-le}
@@ -8,71 +8,49 @@ use Rattle.script.proofs.Opened.{opened-whole, started-on, started-off}
 use borrow.Author.Needs.{needs}
 use Rattle.script.proofs.program.started.Statement.{statement}
 use Rattle.script.proofs.program.started.Tie as tie
-use Rattle.script.proofs.program.started.Reads as reads
-use Rattle.script.proofs.program.started.Lts as lts
-use Rattle.script.proofs.print.reply.Reads as reply-reads
-use Rattle.script.proofs.print.unknown.Reads as unknown-reads
-use Rattle.script.proofs.program.commands.Reads as commands-reads
-use Rattle.script.proofs.program.open_clients.Reads as open-clients-reads
-use Rattle.server.proofs.Server.open.Reads as open-reads
 
--- src/program.rt:136:35
 array-share-prefix-list : tie.Need-array-share-prefix-list
 array-share-prefix-list c = let l : length (c .before .before .before .before .args .f .list) ≡ 129 = search needs in omega (arith, c .before .before .before .before .pre)
 
--- src/program.rt:136:35
 slice-aggregate-open : tie.Need-slice-aggregate-open
 slice-aggregate-open c = let l : length (c .before .before .before .before .before .args .f .list) ≡ 129 = search needs in sym (length-take-le (c .before .before .before .before .before .args .f .count) (c .before .before .before .before .before .args .f .list) (omega (arith, c .before .before .before .before .before .pre)))
 
--- src/program.rt:136:13
 open-requires : tie.Need-open-requires
 open-requires c κs = search needs
 
--- src/program.rt:137:13
 reply-requires : tie.Need-reply-requires
 reply-requires c κs = search needs
 
--- src/program.rt:140:45
 array-share-prefix-list-2 : tie.Need-array-share-prefix-list-2
 array-share-prefix-list-2 c = let l : length (c .before .before .before .before .before .before .before .before .before .before .before .before .before .args .f .list) ≡ 129 = search needs in omega (arith, c .before .before .before .before .before .before .before .before .before .before .before .before .before .pre)
 
--- src/program.rt:140:45
 slice-aggregate-open-clients : tie.Need-slice-aggregate-open-clients
 slice-aggregate-open-clients c = let l : length (c .before .before .before .before .before .before .before .before .before .before .before .before .before .before .args .f .list) ≡ 129 = search needs in sym (length-take-le (c .before .before .before .before .before .before .before .before .before .before .before .before .before .before .args .f .count) (c .before .before .before .before .before .before .before .before .before .before .before .before .before .before .args .f .list) (omega (arith, c .before .before .before .before .before .before .before .before .before .before .before .before .before .before .pre)))
 
--- src/program.rt:140:17
 open-clients-requires : tie.Need-open-clients-requires
 open-clients-requires c κs = search needs
 
--- src/program.rt:141:13
 commands-requires : tie.Need-commands-requires
 commands-requires c κs = opened-whole (c .before .before .before .before .before .before .before .before .before .before .before .before .before .before .before .before .args .f .n) (take (c .before .before .before .before .before .before .before .before .before .before .before .before .before .before .before .before .args .f .count) (c .before .before .before .before .before .before .before .before .before .before .before .before .before .before .before .before .args .f .list)) (c .before .before .before .before .before .before .before .before .before .before .«open» .result) (c .before .before .before .before .before .before .before .before .before .before .«open» .ensures) (c .before .before .before .before .if2 .taken) _ (c .before .open-clients .ensures)
 
--- src/program.rt:141:13
 same-length : tie.Need-same-length
 same-length c = search needs
 
--- src/program.rt:141:13
 returns : tie.Need-returns
 returns c = rw (c .before .before .before .before .before .before .before .before .before .before .before .before .before .before .before .before .if1 .taken) (started-on (c .before .before .before .before .before .before .before .before .before .before .before .before .before .before .before .before .before .before .before .args .f .n) (take (c .before .before .before .before .before .before .before .before .before .before .before .before .before .before .before .before .before .before .before .args .f .count) (c .before .before .before .before .before .before .before .before .before .before .before .before .before .before .before .before .before .before .before .args .f .list)) (c .before .before .before .before .before .before .before .before .before .before .before .before .before .«open» .result) (c .before .before .before .before .before .before .before .before .before .before .before .before .before .«open» .ensures) (c .before .before .before .before .before .before .before .if2 .taken) _ (c .before .before .before .before .open-clients .ensures) (linesOf (drop (c .before .before .before .before .before .before .before .before .before .before .before .before .before .before .before .before .before .before .before .args .from) (c .before .before .before .before .before .before .before .before .before .before .before .before .before .before .before .before .before .before .before .args .input .now))) (sink (c .before .before .before .before .before .before .before .before .before .before .before .before .before .before .before .before .before .before .before .args .out .now) 0) (c .before .before .before .before .before .before .before .before .before .before .before .reply .ensures) (c .before .before .commands .ensures))
 
--- src/program.rt:143:9
 same-length-2 : tie.Need-same-length-2
 same-length-2 c = search needs
 
--- src/program.rt:143:9
 returns-2 : tie.Need-returns-2
 returns-2 c = rw (c .before .before .before .before .before .before .before .before .before .if1 .taken) (started-off (c .before .before .before .before .before .before .before .before .before .before .before .before .args .f .n) (take (c .before .before .before .before .before .before .before .before .before .before .before .before .args .f .count) (c .before .before .before .before .before .before .before .before .before .before .before .before .args .f .list)) (c .before .before .before .before .before .before .«open» .result) (c .before .before .before .before .before .before .«open» .ensures) (c .if2 .left) (linesOf (drop (c .before .before .before .before .before .before .before .before .before .before .before .before .args .from) (c .before .before .before .before .before .before .before .before .before .before .before .before .args .input .now))) (sink (c .before .before .before .before .before .before .before .before .before .before .before .before .args .out .now) 0) (c .before .before .before .before .reply .ensures))
 
--- src/program.rt:145:5
 unknown-requires : tie.Need-unknown-requires
 unknown-requires c κs = search needs
 
--- src/program.rt:129:1
 same-length-3 : tie.Need-same-length-3
 same-length-3 c = search needs
 
--- src/program.rt:129:1
 returns-3 : tie.Need-returns-3
 returns-3 c = rw (c .before .before .before .before .if1 .left) (c .before .before .unknown .ensures)
 
