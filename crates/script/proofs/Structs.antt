@@ -36,10 +36,34 @@ use Rattle.convergence.proofs.Stored.{client-view, client-stored}
 use Rattle.script.specs.declared.ends.Ends.{Ends}
 use Rattle.script.specs.declared.parse.Command.{Command}
 use Rattle.script.specs.declared.parse.Command.the-variants.{Bad, Insert, Delete, Up, Down, Ack, Told}
-use Rattle.script.specs.Bench.{Bench, clientOf, onClient, onServer, delivered, room, step}
-use Rattle.script.specs.Ends.{viewEnds, Whole, Within, placeOf, upward, clientGets, serverGets, atClient, atServer, Done, storeStep, clientDone, serverDone}
+use Rattle.script.specs.Bench.{Bench, Step, clientOf, onClient, onServer, delivered, room, step}
+use Rattle.script.specs.Ends.{viewEnds, storeEnds, Whole, placeOf, upward, clientGets, serverGets, atClient, atServer}
 use Rattle.script.proofs.Sinks.{both}
 use Rattle.script.proofs.Benches.{every-at}
+
+-- the line of a command is one of 1 to n
+abbrev pub Within : ℕ → Command → Type 0
+Within n Bad = Unit {0}
+Within n (Insert l p x) = (1 ≤ l) × (l ≤ n)
+Within n (Delete l p) = (1 ≤ l) × (l ≤ n)
+Within n (Up l k) = (1 ≤ l) × (l ≤ n)
+Within n (Down l k) = (1 ≤ l) × (l ≤ n)
+Within n (Ack l) = (1 ≤ l) × (l ≤ n)
+Within n (Told l) = (1 ≤ l) × (l ≤ n)
+
+-- a refusal's number or 0, and the ends
+pub record Done : Type 0 where
+  pub refusal : ℕ
+  pub ends : Ends
+
+abbrev pub storeStep : Step → Done
+storeStep s = record { refusal = s .refusal; ends = storeEnds (s .bench) }
+
+abbrev pub clientDone : Ends → ℕ → clientAnswer.Answer → Done
+clientDone e i a = record { refusal = a .refusal; ends = record { server = e .server; clients = set (e .clients) i (a .client) } }
+
+abbrev pub serverDone : Ends → serverAnswer.Answer → Done
+serverDone e a = record { refusal = a .refusal; ends = record { server = a .server; clients = e .clients } }
 
 true-false : true ≡ false → ⊥
 true-false h = eqb-false 0 1 refl (ap (λ (t : Bool). cond t 1 0) (sym h))

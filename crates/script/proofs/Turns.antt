@@ -33,11 +33,11 @@ use Rattle.script.specs.Command.{withOne, afterNumber, verbOf, spoken, c
 use Rattle.script.specs.Text.{wordsOf}
 use Rattle.script.specs.Bench.{Bench, SoundBench, step, clientOf}
 use Rattle.script.specs.Output.{replies, clientList, clientLists, lists, ran}
-use Rattle.script.specs.Ends.{viewEnds, storeEnds, Whole, Within, placeOf, upward, atClient, atServer, Done, storeStep, clientDone, serverDone}
+use Rattle.script.specs.Ends.{viewEnds, storeEnds, Whole, placeOf, upward, atClient, atServer}
 use Rattle.script.proofs.Sinks.{both, and-left, and-right, puts-append}
 use Rattle.script.proofs.Texts.{lines-next, lines-none}
 use Rattle.script.proofs.Benches.{step-sound}
-use Rattle.script.proofs.Structs.{client-is, client-sound, server-is, place-few, at-client-is, at-server-is}
+use Rattle.script.proofs.Structs.{Within, Done, storeStep, clientDone, serverDone, client-is, client-sound, server-is, place-few, at-client-is, at-server-is}
 
 -- ---- the line of a command that was read is one of 1 to n
 

@@ -1,10 +1,10 @@
 -- The server and its clients as structs, what a command does to them, and the bench that they stand for.
-use Prim.Native.Nat.{ℕ, zero, suc, _-_, _≤_}
+use Prim.Native.Nat.{ℕ, zero, suc, _-_}
 use mathlib.Core.Path.{_≡_}
 use mathlib.Core.Bool.{Bool, true, false, cond}
 use mathlib.Core.List.{List, [], _∷_, map}
 use lib.Dec.{eqb}
-use lib.ListN.{take, set}
+use lib.ListN.{take}
 use Rattle.ot.specs.Items.{padded}
 use Rattle.model.specs.Limits.{maxLines}
 use Rattle.model.specs.Questions.{Sent}
@@ -20,7 +20,7 @@ use Rattle.server.specs.Calls.{refused, sends, tells, takes}
 use Rattle.script.specs.declared.ends.Ends.{Ends}
 use Rattle.script.specs.declared.parse.Command.{Command}
 use Rattle.script.specs.declared.parse.Command.the-variants.{Bad, Insert, Delete, Up, Down, Ack, Told}
-use Rattle.script.specs.Bench.{Bench, Step, SoundBench, room}
+use Rattle.script.specs.Bench.{Bench, SoundBench, room}
 
 -- the clients of lines 1 to n stand in the first n places
 abbrev pub viewEnds : Ends → Bench
@@ -36,17 +36,7 @@ pub record Whole (e : Ends) : Type 0 where
   pub whole : e ≡ storeEnds (viewEnds e)
   pub sound : SoundBench (viewEnds e)
 
--- the line of a command is one of 1 to n
-abbrev pub Within : ℕ → Command → Type 0
-Within n Bad = Unit {0}
-Within n (Insert l p x) = (1 ≤ l) × (l ≤ n)
-Within n (Delete l p) = (1 ≤ l) × (l ≤ n)
-Within n (Up l k) = (1 ≤ l) × (l ≤ n)
-Within n (Down l k) = (1 ≤ l) × (l ≤ n)
-Within n (Ack l) = (1 ≤ l) × (l ≤ n)
-Within n (Told l) = (1 ≤ l) × (l ≤ n)
-
--- the place of its client
+-- the place of a command's client
 unfoldable pub placeOf : Command → ℕ
 placeOf Bad = 0
 placeOf (Insert l p x) = l - 1
@@ -73,6 +63,7 @@ clientGets m c = cond (eqb (m .refusal) 0) (taken c (take (m .written) (m .buffe
 abbrev pub serverGets : Sent → Server → serverAnswer.Answer
 serverGets m s = cond (eqb (m .refusal) 0) (takes s (take (m .written) (m .buffer))) (refused s (m .refusal))
 
+-- what a command does to its client, and to the server; one that does not concern an end leaves it as it was
 unfoldable pub atClient : Server → Client → Command → clientAnswer.Answer
 atClient s c Bad = refusedWith 0 c
 atClient s c (Insert l p x) = inserted c p x
@@ -90,20 +81,6 @@ atServer s c (Up l k) = serverGets (sentEdit c l k room) s
 atServer s c (Down l k) = refused s 0
 atServer s c (Ack l) = serverGets (sentAck c l room) s
 atServer s c (Told l) = refused s 0
-
--- a refusal's number or 0, and the ends
-pub record Done : Type 0 where
-  pub refusal : ℕ
-  pub ends : Ends
-
-abbrev pub storeStep : Step → Done
-storeStep s = record { refusal = s .refusal; ends = storeEnds (s .bench) }
-
-abbrev pub clientDone : Ends → ℕ → clientAnswer.Answer → Done
-clientDone e i a = record { refusal = a .refusal; ends = record { server = e .server; clients = set (e .clients) i (a .client) } }
-
-abbrev pub serverDone : Ends → serverAnswer.Answer → Done
-serverDone e a = record { refusal = a .refusal; ends = record { server = a .server; clients = e .clients } }
 
 -- k clients, from line l on, of a sheet of n; opening refuses a line past n, and then gives an end that is all zeros
 abbrev pub opening : ℕ → List ℕ → ℕ → ℕ → List Client

@@ -14,7 +14,7 @@ use Rattle.script.specs.Text.{linesOf}
 use Rattle.script.specs.Decimal.{decimal, listed}
 use Rattle.script.specs.Command.{commandOf}
 use Rattle.script.specs.Opening.{Opening, none, sheet, openingOf}
-use Rattle.script.specs.Bench.{Bench, Step, step, openBench}
+use Rattle.script.specs.Bench.{Bench, step, openBench}
 
 -- `?`, `long`, `server` and `client`, as bytes
 abbrev pub unknown : List ℕ

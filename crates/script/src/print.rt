@@ -1,9 +1,9 @@
 // Printing into a lent buffer. Each function takes the place of the next byte and answers the place after what it wrote.
 ghost use mathlib.Core.Path.{_≡_};
-ghost use Prim.Native.Nat.{_+_, _*_, _<_, _≤_, _/_, _%_};
+ghost use Prim.Native.Nat.{_+_, _*_, _<_, _/_, _%_};
 ghost use mathlib.Core.Bool.{cond};
 ghost use mathlib.Core.List.{[], _∷_};
-ghost use lib.ListN.{length, getD};
+ghost use lib.ListN.{getD};
 ghost use Rattle.script.specs.Sink.{sink, put as Sink·put, puts};
 ghost use Rattle.script.specs.Output.{replied, serverList, clientList, unknown as Output·unknown};
 ghost use Rattle.script.specs.Decimal.{powers, listed, decimal as Decimal·decimal};
