@@ -106,7 +106,6 @@ as-same p q r g = rw (p, q, r) g
 module _ (s out : List ℕ) (i to : ℕ) (e : Ends) (z : Sink) (g : Running s out i to e z) where
   module _ (k : ℕ) (h : i < length s) (p : k ≡ length (before 10 (take (length s - i) (drop i s)))) (c : Command)
       (pc : c ≡ commandOf (e .server .n) (take (i + k - i) (drop i s))) where
-
     pub running-within : Within (e .server .n) c
     running-within = command-within (e .server .n) (take (i + k - i) (drop i s)) c pc
 

@@ -1,6 +1,4 @@
 // The run program over a text: reads lines, makes the calls they name, and prints.
-use client::Client;
-use server::Server;
 use crate::ends::Ends;
 use crate::ends::at_client;
 use crate::ends::at_server;
@@ -16,6 +14,8 @@ use crate::print::reply;
 use crate::print::server_list;
 use crate::print::text;
 use crate::print::unknown;
+use client::Client;
+use server::Server;
 ghost use mathlib.Core.Path.{_≡_};
 ghost use Prim.Native.Nat.{_≤_};
 ghost use lib.ListN.{length, take, drop};
