@@ -13,8 +13,8 @@ use Rattle.script.proofs.Sinks.{both}
 use Rattle.script.proofs.Texts.{words-some, words-cut, words-whole}
 
 -- a fifth word
-pub too-many : (bay : ℕ) (w : List ℕ) (k : ℕ) (x s : List ℕ) → Bad ≡ afterNumber bay w k (x ∷ wordsOf s)
-too-many bay w k x s = words-some (λ l. Bad ≡ afterNumber bay w k (x ∷ l)) (λ v vs. refl) s
+pub too-many : (l : ℕ) (w : List ℕ) (k : ℕ) (x s : List ℕ) → Bad ≡ afterNumber l w k (x ∷ wordsOf s)
+too-many l w k x s = words-some (λ vs. Bad ≡ afterNumber l w k (x ∷ vs)) (λ v vs. refl) s
 
 -- a line by its first word, where the search for its end answered e
 module _ (n : ℕ) (line : List ℕ) (e : ℕ) (p : e ≡ length (before 32 line)) where

@@ -36,33 +36,33 @@ itemsWord = 105 ∷ 116 ∷ 101 ∷ 109 ∷ 115 ∷ []
 
 -- a command of one word, after the client's line
 abbrev pub plain : ℕ → List ℕ → Command
-plain bay w = cond (same w ackWord) (Ack bay) (cond (same w toldWord) (Told bay) Bad)
+plain l w = cond (same w ackWord) (Ack l) (cond (same w toldWord) (Told l) Bad)
 
 -- of a word and a number of 16 bits
 abbrev pub withOne : ℕ → List ℕ → ℕ → Command
-withOne bay w k =
-    cond (ltb k 65536) (cond (same w delWord) (Delete bay k) (cond (same w upWord) (Up bay k) (cond (same w downWord) (Down bay k) Bad))) Bad
+withOne l w k =
+    cond (ltb k 65536) (cond (same w delWord) (Delete l k) (cond (same w upWord) (Up l k) (cond (same w downWord) (Down l k) Bad))) Bad
 
 -- of a word, a position of 16 bits and an item of 32
 abbrev pub withTwo : ℕ → List ℕ → ℕ → ℕ → Command
-withTwo bay w p x = cond (ltb p 65536 && ltb x tooWide && same w insWord) (Insert bay p x) Bad
+withTwo l w p x = cond (ltb p 65536 && ltb x tooWide && same w insWord) (Insert l p x) Bad
 
 -- the words after the first number
 abbrev pub afterNumber : ℕ → List ℕ → ℕ → List (List ℕ) → Command
-afterNumber bay w k [] = withOne bay w k
-afterNumber bay w k (x ∷ []) = withTwo bay w k (numberOf x)
-afterNumber bay w k (x ∷ y ∷ ws) = Bad
+afterNumber l w k [] = withOne l w k
+afterNumber l w k (x ∷ []) = withTwo l w k (numberOf x)
+afterNumber l w k (x ∷ y ∷ ws) = Bad
 
 -- the words after the client's line
 abbrev pub verbOf : ℕ → List (List ℕ) → Command
-verbOf bay [] = Bad
-verbOf bay (w ∷ []) = plain bay w
-verbOf bay (w ∷ k ∷ ws) = afterNumber bay w (numberOf k) ws
+verbOf l [] = Bad
+verbOf l (w ∷ []) = plain l w
+verbOf l (w ∷ k ∷ ws) = afterNumber l w (numberOf k) ws
 
 -- all words of a line, of a sheet with n clients (01: a bay outside 1 to n)
 abbrev pub spoken : ℕ → List (List ℕ) → Command
 spoken n [] = Bad
-spoken n (bay ∷ ws) = cond (between 1 n (numberOf bay)) (verbOf (numberOf bay) ws) Bad
+spoken n (l ∷ ws) = cond (between 1 n (numberOf l)) (verbOf (numberOf l) ws) Bad
 
 unfoldable pub commandOf : ℕ → List ℕ → Command
 commandOf n line = spoken n (wordsOf line)

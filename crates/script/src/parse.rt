@@ -7,13 +7,13 @@ ghost use Rattle.script.specs.Text.{before, wordsOf, same as Text·same}
 ghost use Rattle.script.specs.Decimal.{tooWide, withDigit, numberOf};
 ghost use Rattle.script.specs.Command.{plain as Command·plain, withOne, withTwo, afterNumber, verbOf, commandOf};
 
-// What a line says. Bay is the client's line, of 1 to the number of clients.
+// What a line of the script says. A client is named by its line (01: the bay), of 1 to the number of clients.
 pub enum Command {
     // of no form below, or with a number out of its range
     Bad,
-    // bay, position, item
+    // line, position, item
     Insert(u8, u16, u32),
-    // bay, position
+    // line, position
     Delete(u8, u16),
     // the client sends this number, and the server takes it
     Up(u8, u16),
@@ -98,39 +98,39 @@ pub fn number(w: &[u8]) -> u64
     n
 }
 
-fn plain(bay: u8, w: &[u8]) -> Command
-    ensures { λ r. ⌜ r ≡ Command·plain bay (now (w .entry)) ⌝ }
+fn plain(l: u8, w: &[u8]) -> Command
+    ensures { λ r. ⌜ r ≡ Command·plain l (now (w .entry)) ⌝ }
 {
     if same(w, b"ack") {
-        return Command::Ack(bay);
+        return Command::Ack(l);
     }
     if same(w, b"told") {
-        return Command::Told(bay);
+        return Command::Told(l);
     }
     Command::Bad
 }
 
-fn with_one(bay: u8, w: &[u8], k: u64) -> Command
-    ensures { λ r. ⌜ r ≡ withOne bay (now (w .entry)) k ⌝ }
+fn with_one(l: u8, w: &[u8], k: u64) -> Command
+    ensures { λ r. ⌜ r ≡ withOne l (now (w .entry)) k ⌝ }
 {
     if 65536 <= k {
         return Command::Bad;
     }
     let n = k as u16;
     if same(w, b"del") {
-        return Command::Delete(bay, n);
+        return Command::Delete(l, n);
     }
     if same(w, b"up") {
-        return Command::Up(bay, n);
+        return Command::Up(l, n);
     }
     if same(w, b"down") {
-        return Command::Down(bay, n);
+        return Command::Down(l, n);
     }
     Command::Bad
 }
 
-fn with_two(bay: u8, w: &[u8], p: u64, x: u64) -> Command
-    ensures { λ r. ⌜ r ≡ withTwo bay (now (w .entry)) p x ⌝ }
+fn with_two(l: u8, w: &[u8], p: u64, x: u64) -> Command
+    ensures { λ r. ⌜ r ≡ withTwo l (now (w .entry)) p x ⌝ }
 {
     if 65536 <= p {
         return Command::Bad;
@@ -139,43 +139,43 @@ fn with_two(bay: u8, w: &[u8], p: u64, x: u64) -> Command
         return Command::Bad;
     }
     if same(w, b"ins") {
-        return Command::Insert(bay, p as u16, x as u32);
+        return Command::Insert(l, p as u16, x as u32);
     }
     Command::Bad
 }
 
 // The words after a command's first number.
-fn after_number(bay: u8, w: &[u8], p: u64, s: &[u8]) -> Command
-    ensures { λ r. ⌜ r ≡ afterNumber bay (now (w .entry)) p (wordsOf (now (s .entry))) ⌝ }
+fn after_number(l: u8, w: &[u8], p: u64, s: &[u8]) -> Command
+    ensures { λ r. ⌜ r ≡ afterNumber l (now (w .entry)) p (wordsOf (now (s .entry))) ⌝ }
 {
     if end(s, 32) < s.len() {
         return Command::Bad;
     }
-    with_two(bay, w, p, number(s))
+    with_two(l, w, p, number(s))
 }
 
 // The words after a command's name.
-fn after_name(bay: u8, w: &[u8], s: &[u8]) -> Command
-    ensures { λ r. ⌜ r ≡ verbOf bay (now (w .entry) ∷ wordsOf (now (s .entry))) ⌝ }
+fn after_name(l: u8, w: &[u8], s: &[u8]) -> Command
+    ensures { λ r. ⌜ r ≡ verbOf l (now (w .entry) ∷ wordsOf (now (s .entry))) ⌝ }
 {
     let e = end(s, 32);
     if e < s.len() {
         let next = e + 1;
-        return after_number(bay, w, number(&s[..e]), &s[next..]);
+        return after_number(l, w, number(&s[..e]), &s[next..]);
     }
-    with_one(bay, w, number(s))
+    with_one(l, w, number(s))
 }
 
 // The words after the client's line.
-fn verb(bay: u8, s: &[u8]) -> Command
-    ensures { λ r. ⌜ r ≡ verbOf bay (wordsOf (now (s .entry))) ⌝ }
+fn verb(l: u8, s: &[u8]) -> Command
+    ensures { λ r. ⌜ r ≡ verbOf l (wordsOf (now (s .entry))) ⌝ }
 {
     let e = end(s, 32);
     if e < s.len() {
         let next = e + 1;
-        return after_name(bay, &s[..e], &s[next..]);
+        return after_name(l, &s[..e], &s[next..]);
     }
-    plain(bay, s)
+    plain(l, s)
 }
 
 // What a line says, of a sheet with n clients.
@@ -186,13 +186,13 @@ pub fn read_command(n: u8, line: &[u8]) -> Command
     if line.len() <= e {
         return Command::Bad;
     }
-    let bay = number(&line[..e]);
-    if bay < 1 {
+    let l = number(&line[..e]);
+    if l < 1 {
         return Command::Bad;
     }
-    if wide(n) < bay {
+    if wide(n) < l {
         return Command::Bad;
     }
     let next = e + 1;
-    verb(bay as u8, &line[next..])
+    verb(l as u8, &line[next..])
 }

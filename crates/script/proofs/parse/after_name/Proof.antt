@@ -39,7 +39,7 @@ with-one-requires : tie.Need-with-one-requires
 with-one-requires c κs = search needs
 
 returns-2 : tie.Need-returns-2
-returns-2 c = rw (words-whole _ _ (c .before .before .before .end .ensures) (c .before .before .if1 .left)) (c .with-one .ensures ∙ ap (withOne (c .before .before .before .before .before .before .args .bay) (c .before .before .before .before .before .before .args .w .now)) (c .before .number2 .ensures))
+returns-2 c = rw (words-whole _ _ (c .before .before .before .end .ensures) (c .before .before .if1 .left)) (c .with-one .ensures ∙ ap (withOne (c .before .before .before .before .before .before .args .l) (c .before .before .before .before .before .before .args .w .now)) (c .before .number2 .ensures))
 
 pub after-name-spec : {M : Type 1} → statement M
 after-name-spec =

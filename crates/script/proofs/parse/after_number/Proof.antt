@@ -19,7 +19,7 @@ with-two-requires : tie.Need-with-two-requires
 with-two-requires c κs = search needs
 
 returns-2 : tie.Need-returns-2
-returns-2 c = rw (words-whole _ _ (c .before .before .before .end .ensures) (c .before .before .if1 .left)) (c .with-two .ensures ∙ ap (withTwo (c .before .before .before .before .before .before .args .bay) (c .before .before .before .before .before .before .args .w .now) (c .before .before .before .before .before .before .args .p)) (c .before .number .ensures))
+returns-2 c = rw (words-whole _ _ (c .before .before .before .end .ensures) (c .before .before .if1 .left)) (c .with-two .ensures ∙ ap (withTwo (c .before .before .before .before .before .before .args .l) (c .before .before .before .before .before .before .args .w .now) (c .before .before .before .before .before .before .args .p)) (c .before .number .ensures))
 
 pub after-number-spec : {M : Type 1} → statement M
 after-number-spec =
