@@ -7,11 +7,11 @@ use Rattle.script.specs.Decimal.{digitsAt, decimal, listed, numberFrom, 
 use Rattle.script.specs.Command.{commandOf}
 use Rattle.script.specs.Opening.{openingOf}
 use Rattle.script.specs.Bench.{step}
-use Rattle.script.specs.Output.{clientLists, ran, output}
+use Rattle.script.specs.Output.{clientLists, understood, ran, output}
 
 -- opens every definition on the way
 unfoldable whole : Unit {0}
-unfolding computing before parts same digitsAt decimal listed numberFrom numberOf commandOf openingOf step clientLists ran output
+unfolding computing before parts same digitsAt decimal listed numberFrom numberOf commandOf openingOf step clientLists understood ran output
 whole = tt
 
 -- 01's marked case P11, with a byte 10 after the last line and without

@@ -27,7 +27,7 @@ use Rattle.script.specs.Decimal.{powers, digitsAt, decimal, listed}
 use Rattle.script.specs.Command.{commandOf}
 use Rattle.script.specs.Opening.{Opening, none, sheet, openingOf}
 use Rattle.script.specs.Bench.{Bench, Step, SoundBench, clientOf, onClient, onServer, delivered, room, step, openBench}
-use Rattle.script.specs.Output.{long, serverWord, clientWord, replied, replies, serverList, clientList, clientLists, lists, ran, started, printed, output, maxInput, maxOutput, OutputFits, AllPrinted}
+use Rattle.script.specs.Output.{unknown, long, serverWord, clientWord, replied, understood, replies, serverList, clientList, clientLists, lists, ran, started, printed, output, maxInput, maxOutput, OutputFits, AllPrinted}
 use Rattle.script.proofs.Sinks.{both, and-left, and-right}
 use Rattle.script.proofs.Benches.{step-sound, opened, open-sound}
 
@@ -157,13 +157,7 @@ module _ (b : Bench) where
   step-small (command.Told l) = down-small l (tellServer (b .server) l room) (sent-small _ _ _ (asks-length (tellServerQuestions (b .server) l room) refl))
 
 replies-length : (c : Command) (r : ℕ) → r ≤ 14 → length (replies c r) ≤ 3
-replies-length command.Bad r h = omega arith
-replies-length (command.Insert l p x) r h = reply-length r h
-replies-length (command.Delete l p) r h = reply-length r h
-replies-length (command.Up l k) r h = reply-length r h
-replies-length (command.Down l k) r h = reply-length r h
-replies-length (command.Ack l) r h = reply-length r h
-replies-length (command.Told l) r h = reply-length r h
+replies-length c r h = both (λ (l : List ℕ). length l ≤ 3) (understood c) (replied r) unknown (reply-length r h) (omega arith)
 
 -- The lists of sound ends.
 clients-length : (l : ℕ) (cs : List Client) → every (map soundClient cs) ≡ true → length (clientLists l cs) ≤ 5650 * length cs

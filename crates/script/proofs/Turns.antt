@@ -100,9 +100,6 @@ pub record Running (s out : List ℕ) (i to : ℕ) (e : Ends) (z : Sink) : Type 
   pub whole : Whole e
   pub rest : puts (ran (viewEnds e) (linesOf (drop i s))) (sink out to) ≡ z
 
-as-same : {s out′ out″ : List ℕ} {i to′ to″ : ℕ} {e′ e″ : Ends} {z : Sink} → out″ ≡ out′ → e″ ≡ e′ → to″ ≡ to′ → Running s out′ i to′ e′ z → Running s out″ i to″ e″ z
-as-same p q r g = rw (p, q, r) g
-
 module _ (s out : List ℕ) (i to : ℕ) (e : Ends) (z : Sink) (g : Running s out i to e z) where
   module _ (k : ℕ) (h : i < length s) (p : k ≡ length (before 10 (take (length s - i) (drop i s)))) (c : Command)
       (pc : c ≡ commandOf (e .server .n) (take (i + k - i) (drop i s))) where
@@ -144,17 +141,15 @@ module _ (s out : List ℕ) (i to : ℕ) (e : Ends) (z : Sink) (g : Running s ou
       placed = px ∙ ap (λ m. getD (e .clients) m d) pj
 
       -- by the arm of the server, and by that of the client
-      pub server-turn : (a : serverAnswer.Answer) → u ≡ true → a ≡ atServer (e .server) x c → {out′ out″ : List ℕ} {to′ to″ : ℕ} {e″ : Ends}
-          → sink out′ to′ ≡ puts (replies c (a .refusal)) (sink out to) → out″ ≡ out′ → e″ ≡ serverDone e a .ends → to″ ≡ to′ → Running s out″ (i + k + 1) to″ e″ z
-      server-turn a t pa q r₁ r₂ r₃ =
-          as-same r₁ r₂ r₃
-          (running-on (serverDone e a) (ap (serverDone e) pa ∙ at-server-is e (g .whole) c running-within (sym pu ∙ t) x d placed) _ _ q)
+      pub server-did : (a : serverAnswer.Answer) → u ≡ true → a ≡ atServer (e .server) x c → {r : ℕ} {e″ : Ends} → e″ ≡ serverDone e a .ends → r ≡ a .refusal
+          → _≡_ {A = Done} (record { refusal = r; ends = e″ }) (storeStep (step (viewEnds e) c))
+      server-did a t pa q₁ q₂ =
+          (λ i. record { refusal = q₂ i; ends = q₁ i }) ∙ ap (serverDone e) pa ∙ at-server-is e (g .whole) c running-within (sym pu ∙ t) x d placed
 
-      pub client-turn : (a : clientAnswer.Answer) → u ≡ false → a ≡ atClient (e .server) x c → {out′ out″ : List ℕ} {to′ to″ : ℕ} {e″ : Ends}
-          → sink out′ to′ ≡ puts (replies c (a .refusal)) (sink out to) → out″ ≡ out′ → e″ ≡ clientDone e j a .ends → to″ ≡ to′ → Running s out″ (i + k + 1) to″ e″ z
-      client-turn a t pa q r₁ r₂ r₃ =
-          as-same r₁ r₂ r₃
-          (running-on (clientDone e j a) (ap₂ (clientDone e) pj pa ∙ at-client-is e (g .whole) c running-within (sym pu ∙ t) x d placed) _ _ q)
+      pub client-did : (a : clientAnswer.Answer) → u ≡ false → a ≡ atClient (e .server) x c → {r : ℕ} {e″ : Ends} → e″ ≡ clientDone e j a .ends → r ≡ a .refusal
+          → _≡_ {A = Done} (record { refusal = r; ends = e″ }) (storeStep (step (viewEnds e) c))
+      client-did a t pa q₁ q₂ =
+          (λ i. record { refusal = q₂ i; ends = q₁ i }) ∙ ap₂ (clientDone e) pj pa ∙ at-client-is e (g .whole) c running-within (sym pu ∙ t) x d placed
 
   pub running-end : length s ≤ i → puts (lists (viewEnds e)) (sink out to) ≡ z
   unfolding ran

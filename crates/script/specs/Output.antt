@@ -1,7 +1,7 @@
 -- What the run program prints for its input (01: "Run program").
 use Prim.Native.Nat.{ℕ, suc, _≤_}
 use mathlib.Core.Path.{_≡_}
-use mathlib.Core.Bool.{cond}
+use mathlib.Core.Bool.{Bool, true, false, cond}
 use mathlib.Core.List.{List, [], _∷_, _++_}
 use lib.Dec.{ltb, eqb}
 use lib.ListN.{length, take}
@@ -33,15 +33,19 @@ clientWord = 99 ∷ 108 ∷ 105 ∷ 101 ∷ 110 ∷ 116 ∷ 32 ∷ []
 abbrev pub replied : ℕ → List ℕ
 replied r = decimal r ++ (10 ∷ [])
 
+-- whether a line was understood
+unfoldable pub understood : Command → Bool
+understood Bad = false
+understood (Insert l p x) = true
+understood (Delete l p) = true
+understood (Up l k) = true
+understood (Down l k) = true
+understood (Ack l) = true
+understood (Told l) = true
+
 -- the answer to a command
 abbrev pub replies : Command → ℕ → List ℕ
-replies Bad r = unknown
-replies (Insert l p x) r = replied r
-replies (Delete l p) r = replied r
-replies (Up l k) r = replied r
-replies (Down l k) r = replied r
-replies (Ack l) r = replied r
-replies (Told l) r = replied r
+replies c r = cond (understood c) (replied r) unknown
 
 abbrev pub serverList : List ℕ → List ℕ
 serverList items = serverWord ++ listed items

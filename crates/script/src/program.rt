@@ -22,22 +22,32 @@ ghost use lib.ListN.{length, take, drop};
 ghost use Rattle.script.specs.Sink.{sink, puts, Printed};
 ghost use Rattle.script.specs.Text.{linesOf};
 ghost use Rattle.script.specs.Opening.{maxHeld, held};
-ghost use Rattle.script.specs.Output.{replies, clientList, clientLists, lists as Output·lists, ran, started as Output·started, output};
+ghost use Rattle.script.specs.Output.{understood, replies, clientList, clientLists, lists as Output·lists, ran, started as Output·started, output};
 ghost use Rattle.script.specs.Ends.{Whole, viewEnds, opening};
+
+// Whether a line was understood.
+fn known(c: Command) -> bool
+    ensures { λ r. ⌜ r ≡ understood c ⌝ }
+{
+    match c {
+        Command::Bad => false,
+        Command::Insert(_, _, _) => true,
+        Command::Delete(_, _) => true,
+        Command::Up(_, _) => true,
+        Command::Down(_, _) => true,
+        Command::Ack(_) => true,
+        Command::Told(_) => true,
+    }
+}
 
 // The answer to a line.
 fn answer(out: &mut [u8], at: usize, c: Command, r: u8) -> usize
     ensures { λ r′. ⌜ sink (now (out .exit)) r′ ≡ puts (replies c r) (sink (now (out .entry)) at) ⌝ }
 {
-    match c {
-        Command::Bad => unknown(out, at),
-        Command::Insert(_, _, _) => reply(out, at, r),
-        Command::Delete(_, _) => reply(out, at, r),
-        Command::Up(_, _) => reply(out, at, r),
-        Command::Down(_, _) => reply(out, at, r),
-        Command::Ack(_) => reply(out, at, r),
-        Command::Told(_) => reply(out, at, r),
+    if known(c) {
+        return reply(out, at, r);
     }
+    unknown(out, at)
 }
 
 // The list of the client on a line.
@@ -91,17 +101,19 @@ fn commands(input: &[u8], from: usize, out: &mut [u8], at: usize, ends: Ends) ->
         let k = place(c);
         let s = now.server;
         let e = now.clients[k];
+        let mut r = 0;
         if goes_up(c) {
             let a = at_server(s, e, c);
-            to = answer(out, to, c, a.refusal);
+            r = a.refusal;
             let t = a.server;
             now.server = t;
         } else {
             let a = at_client(s, e, c);
-            to = answer(out, to, c, a.refusal);
+            r = a.refusal;
             let t = a.client;
             now.clients[k] = t;
         }
+        to = answer(out, to, c, r);
         i = b + 1;
     }
     lists(out, to, now)

@@ -1,15 +1,15 @@
 use Prim.Native.Nat.{_-_}
-use mathlib.Core.Path.{_≡_, refl, ap, _∙_}
+use mathlib.Core.Path.{_≡_, refl, _∙_}
+use mathlib.Core.Logic.{⊎-elim}
 use native.Mathlib.Omega.{arith}
 use borrow.Author.Needs.{needs}
-use mathlib.Core.Logic.{⊎-elim}
 use lib.ListN.{length, drop}
 use Rattle.script.specs.Sink.{sink, puts}
 use Rattle.script.specs.Text.{linesOf}
 use Rattle.script.specs.Output.{ran}
 use Rattle.script.specs.Ends.{viewEnds}
 use Rattle.script.proofs.Texts.{line-within}
-use Rattle.script.proofs.Turns.{Running, place-small, server-turn, client-turn, running-end}
+use Rattle.script.proofs.Turns.{Running, place-small, server-did, client-did, running-on, running-end}
 use Rattle.script.proofs.program.commands.Statement.{statement}
 use Rattle.script.proofs.program.commands.Tie as tie
 
@@ -65,29 +65,26 @@ goes-up-requires c κs = tt
 at-server-requires : tie.Need-at-server-requires Inv-loop μ-loop
 at-server-requires c κs = tt
 
-answer-requires : tie.Need-answer-requires Inv-loop μ-loop
-answer-requires c κs = tt
-
 at-client-requires : tie.Need-at-client-requires Inv-loop μ-loop
 at-client-requires c κs = tt
 
-answer-requires-2 : tie.Need-answer-requires-2 Inv-loop μ-loop
-answer-requires-2 c κs = tt
-
 mul-t : tie.Need-mul-t Inv-loop μ-loop
-mul-t c = let few = place-small _ _ (c .before .before .before .before .before .before .before .before .before .before .before .before .before .before .before .before .loop .i) _ _ _ (c .before .before .before .before .before .before .before .before .before .before .before .before .before .before .before .before .loop .inv .1) (c .before .before .before .before .before .before .before .before .before .before .before .before .before .end .result) (c .before .before .before .before .before .before .before .before .before .before .before .before .before .before .before .loop-test .taken) (c .before .before .before .before .before .before .before .before .before .before .before .before .before .end .ensures) (c .before .before .before .before .before .before .before .before .before .before .before .read-command .result) (c .before .before .before .before .before .before .before .before .before .before .before .read-command .ensures) (c .before .before .before .before .before .before .before .before .before .before .place .result) (c .before .before .before .before .before .before .before .before .before .before .place .ensures) in search needs
+mul-t c = let few = place-small _ _ (c .before .before .before .before .before .before .before .before .before .before .before .before .loop .i) _ _ _ (c .before .before .before .before .before .before .before .before .before .before .before .before .loop .inv .1) (c .before .before .before .before .before .before .before .before .before .end .result) (c .before .before .before .before .before .before .before .before .before .before .before .loop-test .taken) (c .before .before .before .before .before .before .before .before .before .end .ensures) (c .before .before .before .before .before .before .before .read-command .result) (c .before .before .before .before .before .before .before .read-command .ensures) (c .before .before .before .before .before .before .place .result) (c .before .before .before .before .before .before .place .ensures) in search needs
 
 element-set-from-t : tie.Need-element-set-from-t Inv-loop μ-loop
-element-set-from-t c = place-small _ _ (c .before .before .before .before .before .before .before .before .before .before .before .before .before .before .before .before .loop .i) _ _ _ (c .before .before .before .before .before .before .before .before .before .before .before .before .before .before .before .before .loop .inv .1) (c .before .before .before .before .before .before .before .before .before .before .before .before .before .end .result) (c .before .before .before .before .before .before .before .before .before .before .before .before .before .before .before .loop-test .taken) (c .before .before .before .before .before .before .before .before .before .before .before .before .before .end .ensures) (c .before .before .before .before .before .before .before .before .before .before .before .read-command .result) (c .before .before .before .before .before .before .before .before .before .before .before .read-command .ensures) (c .before .before .before .before .before .before .before .before .before .before .place .result) (c .before .before .before .before .before .before .before .before .before .before .place .ensures)
+element-set-from-t c = place-small _ _ (c .before .before .before .before .before .before .before .before .before .before .before .before .loop .i) _ _ _ (c .before .before .before .before .before .before .before .before .before .before .before .before .loop .inv .1) (c .before .before .before .before .before .before .before .before .before .end .result) (c .before .before .before .before .before .before .before .before .before .before .before .loop-test .taken) (c .before .before .before .before .before .before .before .before .before .end .ensures) (c .before .before .before .before .before .before .before .read-command .result) (c .before .before .before .before .before .before .before .read-command .ensures) (c .before .before .before .before .before .before .place .result) (c .before .before .before .before .before .before .place .ensures)
+
+answer-requires : tie.Need-answer-requires Inv-loop μ-loop
+answer-requires c κs = tt
 
 add-i : tie.Need-add-i Inv-loop μ-loop
-add-i c = let h = line-within (c .before .before .before .before .before .before .before .before .before .before .before .before .before .args .input .now) (c .before .before .before .before .before .before .before .before .before .before .loop .i) (c .before .before .before .before .before .before .before .end .result) (c .before .before .before .before .before .before .before .before .before .loop-test .taken) (c .before .before .before .before .before .before .before .end .ensures) in omega arith
+add-i c = let h = line-within (c .before .before .before .before .before .before .before .before .before .before .before .before .before .before .before .before .before .args .input .now) (c .before .before .before .before .before .before .before .before .before .before .before .before .before .before .loop .i) (c .before .before .before .before .before .before .before .before .before .before .before .end .result) (c .before .before .before .before .before .before .before .before .before .before .before .before .before .loop-test .taken) (c .before .before .before .before .before .before .before .before .before .before .before .end .ensures) in omega arith
 
 loop-less : tie.Need-loop-less Inv-loop μ-loop
 loop-less c = omega arith
 
 loop-again : tie.Need-loop-again Inv-loop μ-loop
-loop-again c = ⊎-elim (λ w. (ap length (w .7) ∙ w .3 .kept .0 ∙ c .before .before .before .before .before .before .before .before .before .before .loop .inv .0, server-turn _ _ (c .before .before .before .before .before .before .before .before .before .before .loop .i) _ _ _ (c .before .before .before .before .before .before .before .before .before .before .loop .inv .1) (c .before .before .before .before .before .before .before .end .result) (c .before .before .before .before .before .before .before .before .before .loop-test .taken) (c .before .before .before .before .before .before .before .end .ensures) (c .before .before .before .before .before .read-command .result) (c .before .before .before .before .before .read-command .ensures) (c .before .before .before .before .place .result) (c .before .before .before .before .place .ensures) (c .before .goes-up .result) (c .before .goes-up .ensures) _ _ refl (w .1 .result) (w .0 .taken) (w .1 .ensures) (w .3 .ensures) (w .7) (w .8) (w .9))) (λ w. (ap length (w .7) ∙ w .3 .kept .0 ∙ c .before .before .before .before .before .before .before .before .before .before .loop .inv .0, client-turn _ _ (c .before .before .before .before .before .before .before .before .before .before .loop .i) _ _ _ (c .before .before .before .before .before .before .before .before .before .before .loop .inv .1) (c .before .before .before .before .before .before .before .end .result) (c .before .before .before .before .before .before .before .before .before .loop-test .taken) (c .before .before .before .before .before .before .before .end .ensures) (c .before .before .before .before .before .read-command .result) (c .before .before .before .before .before .read-command .ensures) (c .before .before .before .before .place .result) (c .before .before .before .before .place .ensures) (c .before .goes-up .result) (c .before .goes-up .ensures) _ _ refl (w .1 .result) (w .0 .left) (w .1 .ensures) (w .3 .ensures) (w .7) (w .8) (w .9))) (c .if1 .came)
+loop-again c = (c .before .before .answer .kept .0 ∙ c .before .before .before .before .before .before .before .before .before .before .before .before .before .before .loop .inv .0, running-on _ _ (c .before .before .before .before .before .before .before .before .before .before .before .before .before .before .loop .i) _ _ _ (c .before .before .before .before .before .before .before .before .before .before .before .before .before .before .loop .inv .1) (c .before .before .before .before .before .before .before .before .before .before .before .end .result) (c .before .before .before .before .before .before .before .before .before .before .before .before .before .loop-test .taken) (c .before .before .before .before .before .before .before .before .before .before .before .end .ensures) (c .before .before .before .before .before .before .before .before .before .read-command .result) (c .before .before .before .before .before .before .before .before .before .read-command .ensures) (record { refusal = c .before .before .before .before .if1 .r; ends = c .before .before .before .before .if1 .now }) (⊎-elim (λ w. server-did _ _ (c .before .before .before .before .before .before .before .before .before .before .before .before .before .before .loop .i) _ _ _ (c .before .before .before .before .before .before .before .before .before .before .before .before .before .before .loop .inv .1) (c .before .before .before .before .before .before .before .before .before .before .before .end .result) (c .before .before .before .before .before .before .before .before .before .before .before .before .before .loop-test .taken) (c .before .before .before .before .before .before .before .before .before .before .before .end .ensures) (c .before .before .before .before .before .before .before .before .before .read-command .result) (c .before .before .before .before .before .before .before .before .before .read-command .ensures) (c .before .before .before .before .before .before .before .before .place .result) (c .before .before .before .before .before .before .before .before .place .ensures) (c .before .before .before .before .before .goes-up .result) (c .before .before .before .before .before .goes-up .ensures) _ _ refl (w .1 .result) (w .0 .taken) (w .1 .ensures) (w .3) (w .4)) (λ w. client-did _ _ (c .before .before .before .before .before .before .before .before .before .before .before .before .before .before .loop .i) _ _ _ (c .before .before .before .before .before .before .before .before .before .before .before .before .before .before .loop .inv .1) (c .before .before .before .before .before .before .before .before .before .before .before .end .result) (c .before .before .before .before .before .before .before .before .before .before .before .before .before .loop-test .taken) (c .before .before .before .before .before .before .before .before .before .before .before .end .ensures) (c .before .before .before .before .before .before .before .before .before .read-command .result) (c .before .before .before .before .before .before .before .before .before .read-command .ensures) (c .before .before .before .before .before .before .before .before .place .result) (c .before .before .before .before .before .before .before .before .place .ensures) (c .before .before .before .before .before .goes-up .result) (c .before .before .before .before .before .goes-up .ensures) _ _ refl (w .1 .result) (w .0 .left) (w .1 .ensures) (w .3) (w .4)) (c .before .before .before .before .if1 .came)) _ _ (c .before .before .answer .ensures))
 
 lists-requires : tie.Need-lists-requires Inv-loop μ-loop
 lists-requires c κs = c .before .before .loop .inv .1 .whole
@@ -119,11 +116,10 @@ commands-spec =
     element-copy-out-e
     goes-up-requires
     at-server-requires
-    answer-requires
     at-client-requires
-    answer-requires-2
     mul-t
     element-set-from-t
+    answer-requires
     add-i
     loop-less
     loop-again
