@@ -19,6 +19,7 @@ fn show(name: &[u8]) {
 
 // Each refusal that a script can reach, each form of a line that is not understood, and the limits.
 fn lines() {
+    show(b"p12");
     show(b"position");
     show(b"inserts");
     show(b"edits");
@@ -27,6 +28,7 @@ fn lines() {
     show(b"number");
     show(b"forms");
     show(b"one");
+    show(b"alone");
     show(b"eight");
     show(b"full");
     show(b"most");
