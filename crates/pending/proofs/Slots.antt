@@ -2,8 +2,8 @@
 use Prim.Native.Nat.{ℕ, zero, suc, _+_, _-_, _≤_, _<_}
 use native.Mathlib.Nat.{le-of-suc-le-suc, not-suc-le-zero}
 use native.Mathlib.Omega.{arith}
-use mathlib.Core.Path.{_≡_, refl, ap, _∙_, sym, subst}
-use mathlib.Core.Bool.{Bool, true, false, _&&_}
+use mathlib.Core.Path.{_≡_, refl, ap, _∙_, sym}
+use mathlib.Core.Bool.{Bool, true, false}
 use mathlib.Core.List.{List, [], _∷_, _++_, map, map-append}
 use lib.Dec.{ltb}
 use lib.ListN.{length, getD, take, drop, set, replicate, length-take, length-drop, length-map, List·getD-map, List·getD-eq-default}
@@ -141,9 +141,6 @@ module _ (from count : ℕ) (ps xs : List ℕ) (kept : Kept from count ps xs) wh
   unfolding editOf
   kept-at i h = go (ltb i count) refl
     where
-      es : List Edit
-      es = editsFrom ps xs from count
-
       go : (b : Bool) → ltb i count ≡ b → editAt ps xs (from + i) ≡ getD (editsFrom ps xs from count) i Nothing
       go true t = sym (edits-at ps xs from count i (ltb-true i count t))
       go false f =

@@ -96,7 +96,15 @@ fn is_right(place: u32, item: u32, n: u8, line: u8, own: bool) -> bool
 }
 
 // The slots in use, from up to but not at to: no early return and no branch, so that the compiler makes the loop wide.
-fn used_right(places: &[u32], items: &[u32], from: usize, to: usize, n: u8, line: u8, own: bool) -> bool
+fn used_right(
+    places: &[u32],
+    items: &[u32],
+    from: usize,
+    to: usize,
+    n: u8,
+    line: u8,
+    own: bool,
+) -> bool
     requires { ⌜ (from ≤ to) × ((to ≤ length (now places)) × (to ≤ length (now items))) ⌝ }
     ensures { λ r. ⌜ r ≡ allFrom (rightAt (rightPriority n line own) (now (places .entry)) (now (items .entry))) from (to - from) ⌝ }
 {
@@ -119,7 +127,15 @@ fn unused_empty(places: &[u32], items: &[u32], from: usize, to: usize) -> bool
 }
 
 // Question 2 about the line whose first slot is from: the pending edits of a client (own), or those that the server keeps for a line.
-pub fn sound(places: &[u32], items: &[u32], from: usize, count: usize, n: u8, line: u8, own: bool) -> bool
+pub fn sound(
+    places: &[u32],
+    items: &[u32],
+    from: usize,
+    count: usize,
+    n: u8,
+    line: u8,
+    own: bool,
+) -> bool
     requires { ⌜ Whole from (now places) (now items) ⌝ }
     ensures { λ r. ⌜ Tested (rightPriority n line own) from count (now (places .entry)) (now (items .entry)) r ⌝ }
 {
@@ -127,7 +143,8 @@ pub fn sound(places: &[u32], items: &[u32], from: usize, count: usize, n: u8, li
         return false;
     }
     let used = from + count;
-    used_right(places, items, from, used, n, line, own) & unused_empty(places, items, used, from + 64)
+    used_right(places, items, from, used, n, line, own)
+        & unused_empty(places, items, used, from + 64)
 }
 
 // ---- the line after an acknowledgement, and after an edit that arrives
