@@ -2,4 +2,3 @@ pub mod Sound
 pub mod Answers
 pub mod Messages
 pub mod Edits
-pub mod Takes

@@ -1,43 +1,52 @@
-use denote.Ref.{now}
-use mathlib.Core.Path.{sym, _∙_}
-use Rattle.wire.proofs.Codec.{codec}
-use Rattle.model.specs.Client.{takeClient}
-use Rattle.client.specs.Store.{view}
-use Rattle.client.proofs.Answers.{unsound}
-use Rattle.client.proofs.Takes.{read-refused, read-message}
 use borrow.Author.Needs.{needs}
 use Rattle.client.proofs.Client.take.Statement.{statement}
 use Rattle.client.proofs.Client.take.Tie as tie
+use Rattle.client.proofs.Client.take.Reads as reads
+use Rattle.client.proofs.Client.take.Lts as lts
+use Rattle.client.proofs.is_sound.Reads as is-sound-reads
+use Rattle.client.proofs.taking.decide.Reads as decide-reads
+use Rattle.ot.proofs.apply.Reads as apply-reads
+use Rattle.wire.proofs.parse.Reads as parse-reads
 
+-- src/taking.rt:162:12
 is-sound-requires : tie.Need-is-sound-requires
 is-sound-requires c κs = search needs
 
+-- src/taking.rt:163:36
 parse-requires : tie.Need-parse-requires
 parse-requires c κs = search needs
 
+-- src/taking.rt:163:31
 enum-known-m : tie.Need-enum-known-m
 enum-known-m c = search needs
 
+-- src/taking.rt:167:29
 enum-told : tie.Need-enum-told
 enum-told c = search needs
 
-refused-requires : tie.Need-refused-requires
-refused-requires c κs = search needs
-
+-- src/taking.rt:164:17
 returns : tie.Need-returns
-returns c = c .refused .ensures ∙ read-refused (c .before .before .before .before .before .before .before .args .self) (c .before .before .before .before .before .is-sound .ensures .1 (c .before .before .before .before .if1 .taken)) (now (c .before .before .before .before .before .before .before .args .bytes)) (sym (c .before .before .before .parse .ensures) ∙ c .before .enum-told .given .1)
+returns c = ?
 
-take-message-requires : tie.Need-take-message-requires
-take-message-requires c κs = (c .before .before .before .before .before .is-sound .ensures .1 (c .before .before .before .before .if1 .taken), codec .read-in-range (now (c .before .before .before .before .before .before .before .args .bytes)) _ (sym (c .before .before .before .parse .ensures) ∙ c .before .m .given .1))
+-- src/taking.rt:170:17
+decide-requires : tie.Need-decide-requires
+decide-requires c κs = ?
 
+-- src/taking.rt:177:28
+apply-requires : tie.Need-apply-requires
+apply-requires c κs = ?
+
+-- src/taking.rt:181:13
 returns-2 : tie.Need-returns-2
-returns-2 c = c .take-message .ensures ∙ read-message (c .before .before .before .before .before .before .before .before .args .self) (now (c .before .before .before .before .before .before .before .before .args .bytes)) _ (sym (c .before .before .before .before .parse .ensures) ∙ c .before .before .m .given .1)
+returns-2 c = ?
 
-refused-requires-2 : tie.Need-refused-requires-2
-refused-requires-2 c κs = search needs
-
+-- src/taking.rt:181:13
 returns-3 : tie.Need-returns-3
-returns-3 c = c .refused2 .ensures ∙ unsound (c .before .before .before .before .args .self) (takeClient (view (c .before .before .before .before .args .self)) (now (c .before .before .before .before .args .bytes))) (sym (c .before .before .is-sound .ensures .0) ∙ c .before .if1 .left)
+returns-3 c = ?
+
+-- src/taking.rt:150:5
+returns-4 : tie.Need-returns-4
+returns-4 c = ?
 
 pub take-spec : {M : Type 1} → statement M
 take-spec =
@@ -47,9 +56,9 @@ take-spec =
     parse-requires
     enum-known-m
     enum-told
-    refused-requires
     returns
-    take-message-requires
+    decide-requires
+    apply-requires
     returns-2
-    refused-requires-2
-    returns-3)
+    returns-3
+    returns-4)
