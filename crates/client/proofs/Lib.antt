@@ -2,3 +2,4 @@ pub mod Sound
 pub mod Answers
 pub mod Messages
 pub mod Edits
+pub mod Takes

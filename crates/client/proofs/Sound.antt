@@ -1,17 +1,17 @@
 -- The struct's question 2: what the code tests is the definition, and what a sound struct is.
-use Prim.Native.Nat.{ℕ, _-_, _≤_}
+use Prim.Native.Nat.{ℕ, _≤_}
 use native.Mathlib.Omega.{arith}
-use mathlib.Core.Path.{_≡_, ap, _∙_, sym, subst}
+use mathlib.Core.Path.{_≡_, ap, _∙_, sym}
 use mathlib.Core.Bool.{Bool, true, _&&_}
 use mathlib.Core.List.{List}
 use lib.Dec.{eqb}
 use lib.ListN.{length, take, drop, length-take}
 use borrow.Author.Tests.{leb-true, le-leb, eq-eqb}
-use Rattle.model.specs.Limits.{maxItems, maxPending}
+use Rattle.model.specs.Limits.{maxItems}
 use Rattle.model.specs.Questions.{every}
 use Rattle.model.specs.Client.{clientTests, soundClient}
 use Rattle.model.proofs.Tests.{both, and-left, and-right, hold, held}
-use Rattle.pending.specs.Slots.{placeOf, itemOf, editsFrom, filled, soundSlots, Kept, Whole}
+use Rattle.pending.specs.Slots.{placeOf, itemOf, filled, soundSlots, Kept, Whole}
 use Rattle.pending.specs.Slots as slots
 use Rattle.pending.proofs.Slots.{edits-length, stretch-all}
 use Rattle.pending.proofs.Tests.{sound-kept}

@@ -41,10 +41,10 @@ left k es seen = drop (seen - k .acked) es
 abbrev pub nine : Counts → List Edit → ℕ → Edit → Bool
 nine k es seen e = allPlaced (over e (left k es seen)) && roomy (past e (left k es seen)) (k .len)
 
-abbrev pub editDecided : Counts → List Edit → Header → Edit → Decision
-editDecided k es h e =
-    deciding (asks (takeAsked k h e ++ (ask 9 (nine k es (h .seen) e) ∷ [])))
-    (record {
+-- what an edit does: it is transformed past what is left, which is kept in its forms after it
+abbrev pub editDone : Counts → List Edit → Header → Edit → Decision
+editDone k es h e =
+    record {
       refusal = 0;
       passed = k .made - h .seen;
       taken = k .taken + 1;
@@ -52,12 +52,15 @@ editDecided k es h e =
       edit = past e (left k es (h .seen));
       places = filled placeOf (over e (left k es (h .seen)));
       items = filled itemOf (over e (left k es (h .seen)));
-    })
+    }
 
-abbrev pub ackDecided : Counts → List Edit → ℕ → ℕ → ℕ → Decision
-ackDecided k es line direction seen =
-    deciding (asks (ackAsked k line direction seen))
-    (record {
+abbrev pub editDecided : Counts → List Edit → Header → Edit → Decision
+editDecided k es h e = deciding (asks (takeAsked k h e ++ (ask 9 (nine k es (h .seen) e) ∷ []))) (editDone k es h e)
+
+-- what an acknowledgement does: it only drops
+abbrev pub ackDone : Counts → List Edit → ℕ → Decision
+ackDone k es seen =
+    record {
       refusal = 0;
       passed = 0;
       taken = k .taken;
@@ -65,7 +68,10 @@ ackDecided k es line direction seen =
       edit = Nothing;
       places = filled placeOf (left k es seen);
       items = filled itemOf (left k es seen);
-    })
+    }
+
+abbrev pub ackDecided : Counts → List Edit → ℕ → ℕ → ℕ → Decision
+ackDecided k es line direction seen = deciding (asks (ackAsked k line direction seen)) (ackDone k es seen)
 
 abbrev pub decided : Counts → List Edit → Message → Decision
 decided k es (message.Insert h p x r) = editDecided k es h (Insert p x r)

@@ -1,82 +1,63 @@
+use Rattle.client.proofs.Edits.{facts, edit-pending, edit-room, edit-made, edit-inserts, edited-is, edit-refused}
+use Rattle.client.proofs.Answers.{unsound}
+use Rattle.client.specs.Store.{view}
+use Rattle.model.specs.Client.{editClient}
+use mathlib.Core.Path.{sym, _∙_}
+use native.Mathlib.Omega.{arith}
 use borrow.Author.Needs.{needs}
 use Rattle.client.proofs.Client.edit.Statement.{statement}
 use Rattle.client.proofs.Client.edit.Tie as tie
-use Rattle.client.proofs.Client.edit.Reads as reads
-use Rattle.client.proofs.Client.edit.Lts as lts
-use Rattle.client.proofs.editing.ask_editing.Reads as ask-editing-reads
-use Rattle.client.proofs.is_sound.Reads as is-sound-reads
-use Rattle.endpoint.proofs.inserts_of.Reads as inserts-of-reads
-use Rattle.ot.proofs.apply.Reads as apply-reads
-use Rattle.pending.proofs.item_of.Reads as item-of-reads
-use Rattle.pending.proofs.place_of.Reads as place-of-reads
 
--- src/editing.rt:46:12
 is-sound-requires : tie.Need-is-sound-requires
 is-sound-requires c κs = search needs
 
--- src/editing.rt:47:17
 ask-editing-requires : tie.Need-ask-editing-requires
-ask-editing-requires c κs = ?
+ask-editing-requires c κs = let f = facts (c .before .before .before .before .before .before .before .before .before .args .t1) (c .before .is-sound .ensures .1 (c .if1 .taken)) in (f .inserts, f .acked)
 
--- src/editing.rt:49:30
 sub-count : tie.Need-sub-count
-sub-count c = ?
+sub-count c = omega (arith, facts (c .before .before .before .before .before .before .before .before .before .before .before .before .args .t1) (c .before .before .before .before .is-sound .ensures .1 (c .before .before .before .if1 .taken)) .acked)
 
--- src/editing.rt:49:29
 cast-count : tie.Need-cast-count
 cast-count c = search needs
 
--- src/editing.rt:50:46
 place-of-requires : tie.Need-place-of-requires
 place-of-requires c κs = search needs
 
--- src/editing.rt:50:17
 mul-self : tie.Need-mul-self
 mul-self c = search needs
 
--- src/editing.rt:50:17
 element-write-self : tie.Need-element-write-self
-element-write-self c = ?
+element-write-self c = edit-pending (c .before .before .before .before .before .before .before .before .before .before .before .before .before .args .t1) (c .before .before .before .before .before .is-sound .ensures .1 (c .before .before .before .before .if1 .taken)) (c .before .before .before .before .before .before .before .before .before .before .before .before .before .args .e) (sym (c .before .before .before .ask-editing .ensures) ∙ c .before .before .if2 .taken)
 
--- src/editing.rt:51:45
 item-of-requires : tie.Need-item-of-requires
 item-of-requires c κs = search needs
 
--- src/editing.rt:51:17
 mul-self-2 : tie.Need-mul-self-2
 mul-self-2 c = search needs
 
--- src/editing.rt:51:17
 element-write-self-2 : tie.Need-element-write-self-2
-element-write-self-2 c = ?
+element-write-self-2 c = edit-pending (c .before .before .before .before .before .before .before .before .before .before .before .before .before .before .args .t1) (c .before .before .before .before .before .before .is-sound .ensures .1 (c .before .before .before .before .before .if1 .taken)) (c .before .before .before .before .before .before .before .before .before .before .before .before .before .before .args .e) (sym (c .before .before .before .before .ask-editing .ensures) ∙ c .before .before .before .if2 .taken)
 
--- src/editing.rt:52:28
 apply-requires : tie.Need-apply-requires
-apply-requires c κs = ?
+apply-requires c κs = edit-room (c .before .before .before .before .before .before .before .before .before .before .before .before .before .before .before .args .t1) (c .before .before .before .before .before .before .before .is-sound .ensures .1 (c .before .before .before .before .before .before .if1 .taken)) (c .before .before .before .before .before .before .before .before .before .before .before .before .before .before .before .args .e) (sym (c .before .before .before .before .before .ask-editing .ensures) ∙ c .before .before .before .before .if2 .taken)
 
--- src/editing.rt:53:29
 add-self : tie.Need-add-self
-add-self c = ?
+add-self c = omega (arith, edit-made (c .before .before .before .before .before .before .before .before .before .before .before .before .before .before .before .before .before .args .t1) (c .before .before .before .before .before .before .before .before .before .is-sound .ensures .1 (c .before .before .before .before .before .before .before .before .if1 .taken)) (c .before .before .before .before .before .before .before .before .before .before .before .before .before .before .before .before .before .args .e) (sym (c .before .before .before .before .before .before .before .ask-editing .ensures) ∙ c .before .before .before .before .before .before .if2 .taken))
 
--- src/editing.rt:54:44
 inserts-of-requires : tie.Need-inserts-of-requires
 inserts-of-requires c κs = search needs
 
--- src/editing.rt:54:32
 add-self-2 : tie.Need-add-self-2
-add-self-2 c = ?
+add-self-2 c = omega (arith, edit-inserts (c .before .before .before .before .before .before .before .before .before .before .before .before .before .before .before .before .before .before .before .args .t1) (c .before .before .before .before .before .before .before .before .before .before .before .is-sound .ensures .1 (c .before .before .before .before .before .before .before .before .before .before .if1 .taken)) (c .before .before .before .before .before .before .before .before .before .before .before .before .before .before .before .before .before .before .before .args .e) (sym (c .before .before .before .before .before .before .before .before .before .ask-editing .ensures) ∙ c .before .before .before .before .before .before .before .before .if2 .taken), c .before .inserts-of .ensures)
 
--- src/editing.rt:56:13
 returns : tie.Need-returns
-returns c = ?
+returns c = edited-is (c .before .before .before .before .before .before .before .before .before .before .before .before .before .before .before .before .before .before .before .args .t1) (c .before .before .before .before .before .before .before .before .before .before .before .is-sound .ensures .1 (c .before .before .before .before .before .before .before .before .before .before .if1 .taken)) (c .before .before .before .before .before .before .before .before .before .before .before .before .before .before .before .before .before .before .before .args .e) (sym (c .before .before .before .before .before .before .before .before .before .ask-editing .ensures) ∙ c .before .before .before .before .before .before .before .before .if2 .taken) (c .before .before .before .before .before .before .before .before .before .ask-editing .result) (c .before .inserts-of .result) (c .before .before .before .apply .result) (c .before .before .before .before .before .before .place-of .result) (c .before .before .before .before .before .item-of .result) (c .before .before .before .apply .last .0) (c .before .before .before .before .before .before .before .before .before .ask-editing .ensures) (c .before .inserts-of .ensures) (c .before .before .before .before .before .before .place-of .ensures) (c .before .before .before .before .before .item-of .ensures) (c .before .before .before .apply .ensures)
 
--- src/editing.rt:56:13
 returns-2 : tie.Need-returns-2
-returns-2 c = ?
+returns-2 c = edit-refused (c .before .before .before .before .before .before .before .before .before .before .before .args .t1) (c .before .before .before .is-sound .ensures .1 (c .before .before .if1 .taken)) (c .before .before .before .before .before .before .before .before .before .before .before .args .e) (c .before .ask-editing .result) (c .before .ask-editing .ensures) (c .if2 .left)
 
--- src/editing.rt:34:5
 returns-3 : tie.Need-returns-3
-returns-3 c = ?
+returns-3 c = unsound (c .before .before .before .before .before .before .before .before .before .args .t1) (editClient (view (c .before .before .before .before .before .before .before .before .before .args .t1)) (c .before .before .before .before .before .before .before .before .before .args .e)) (sym (c .before .is-sound .ensures .0) ∙ c .if1 .left)
 
 pub edit-spec : {M : Type 1} → statement M
 edit-spec =

@@ -1,35 +1,30 @@
+use Rattle.client.proofs.Messages.{unsound-sending, sent-ack}
+use Rattle.client.specs.Store.{view}
+use Rattle.model.specs.Client.{tellClient}
+use Rattle.wire.specs.declared.Message.the-variants as message
+use mathlib.Core.Path.{_∙_, sym, refl}
+use denote.Ref.{now}
 use borrow.Author.Needs.{needs}
 use Rattle.client.proofs.Client.tell.Statement.{statement}
 use Rattle.client.proofs.Client.tell.Tie as tie
-use Rattle.client.proofs.Client.tell.Reads as reads
-use Rattle.client.proofs.Client.tell.Lts as lts
-use Rattle.client.proofs.is_sound.Reads as is-sound-reads
-use Rattle.client.proofs.sending.ask_line.Reads as ask-line-reads
-use Rattle.endpoint.proofs.finish.Reads as finish-reads
 
--- src/sending.rt:87:12
 is-sound-requires : tie.Need-is-sound-requires
 is-sound-requires c κs = search needs
 
--- src/sending.rt:88:17
 ask-line-requires : tie.Need-ask-line-requires
 ask-line-requires c κs = search needs
 
--- src/sending.rt:89:13
 finish-requires : tie.Need-finish-requires
 finish-requires c κs = search needs
 
--- src/sending.rt:89:13
 same-length : tie.Need-same-length
 same-length c = search needs
 
--- src/sending.rt:89:13
 returns : tie.Need-returns
-returns c = ?
+returns c = c .before .before .finish .ensures ∙ sent-ack (c .before .before .before .before .before .before .before .before .before .before .before .before .before .before .before .args .t1) (c .before .before .before .before .before .before .is-sound .ensures .1 (c .before .before .before .before .before .if1 .taken)) (c .before .before .before .before .before .before .before .before .before .before .before .before .before .before .before .args .line) (now (c .before .before .before .before .before .before .before .before .before .before .before .before .before .before .before .args .out)) (c .before .before .before .before .ask-line .result) (message.Ack (c .before .before .before .before .before .before .before .before .before .before .before .before .before .before .before .args .t1 .line) 0 (c .before .before .before .before .before .before .before .before .before .before .before .before .before .before .before .args .t1 .taken)) (c .before .before .before .before .ask-line .ensures) refl
 
--- src/sending.rt:75:5
 returns-2 : tie.Need-returns-2
-returns-2 c = ?
+returns-2 c = unsound-sending (c .before .before .before .before .before .before .before .before .before .before .args .t1) (tellClient (view (c .before .before .before .before .before .before .before .before .before .before .args .t1)) (c .before .before .before .before .before .before .before .before .before .before .args .line) (now (c .before .before .before .before .before .before .before .before .before .before .args .out))) (now (c .before .before .before .before .before .before .before .before .before .before .args .out)) (sym (c .before .is-sound .ensures .0) ∙ c .if1 .left)
 
 pub tell-spec : {M : Type 1} → statement M
 tell-spec =

@@ -1,58 +1,48 @@
+use Rattle.client.proofs.Takes.{insert-position, delete-position}
+use Rattle.client.specs.Taking.{decided}
+use Rattle.pending.specs.Slots.{editsFrom}
+use mathlib.Core.Path.{ap, sym, _∙_}
+use denote.Ref.{now}
+use Prim.Native.Nat.{_-_}
 use borrow.Author.Needs.{needs}
 use Rattle.client.proofs.taking.decide.Statement.{statement}
 use Rattle.client.proofs.taking.decide.Tie as tie
-use Rattle.client.proofs.taking.decide.Reads as reads
-use Rattle.client.proofs.taking.decide.Lts as lts
-use Rattle.client.proofs.taking.decide_ack.Reads as decide-ack-reads
-use Rattle.client.proofs.taking.decide_edit.Reads as decide-edit-reads
 
--- src/taking.rt:141:25
 enum-known-m : tie.Need-enum-known-m
 enum-known-m c = search needs
 
--- src/taking.rt:141:40
 decide-edit-requires : tie.Need-decide-edit-requires
-decide-edit-requires c κs = ?
+decide-edit-requires c κs = (insert-position (c .before .m .given .1) (c .before .before .before .before .before .pre .0), c .before .before .before .before .before .pre .1)
 
--- src/taking.rt:142:25
 enum-known-m-2 : tie.Need-enum-known-m-2
 enum-known-m-2 c = search needs
 
--- src/taking.rt:142:34
 decide-edit-requires-2 : tie.Need-decide-edit-requires-2
-decide-edit-requires-2 c κs = ?
+decide-edit-requires-2 c κs = (delete-position (c .before .m2 .given .1) (c .before .before .before .before .before .pre .0), c .before .before .before .before .before .pre .1)
 
--- src/taking.rt:143:26
 enum-known-m-3 : tie.Need-enum-known-m-3
 enum-known-m-3 c = search needs
 
--- src/taking.rt:143:32
 decide-edit-requires-3 : tie.Need-decide-edit-requires-3
 decide-edit-requires-3 c κs = search needs
 
--- src/taking.rt:144:22
 enum-known-m-4 : tie.Need-enum-known-m-4
 enum-known-m-4 c = search needs
 
--- src/taking.rt:144:34
 decide-ack-requires : tie.Need-decide-ack-requires
 decide-ack-requires c κs = search needs
 
--- src/taking.rt:136:1
 returns : tie.Need-returns
-returns c = ?
+returns c = c .decide-edit .ensures ∙ ap (decided (c .before .before .before .before .before .before .args .k) (editsFrom (now (c .before .before .before .before .before .before .args .places)) (now (c .before .before .before .before .before .before .args .items)) 0 (c .before .before .before .before .before .before .args .k .made - c .before .before .before .before .before .before .args .k .acked))) (sym (c .before .before .m .given .1))
 
--- src/taking.rt:136:1
 returns-2 : tie.Need-returns-2
-returns-2 c = ?
+returns-2 c = c .decide-edit2 .ensures ∙ ap (decided (c .before .before .before .before .before .before .args .k) (editsFrom (now (c .before .before .before .before .before .before .args .places)) (now (c .before .before .before .before .before .before .args .items)) 0 (c .before .before .before .before .before .before .args .k .made - c .before .before .before .before .before .before .args .k .acked))) (sym (c .before .before .m2 .given .1))
 
--- src/taking.rt:136:1
 returns-3 : tie.Need-returns-3
-returns-3 c = ?
+returns-3 c = c .decide-edit3 .ensures ∙ ap (decided (c .before .before .before .before .before .before .args .k) (editsFrom (now (c .before .before .before .before .before .before .args .places)) (now (c .before .before .before .before .before .before .args .items)) 0 (c .before .before .before .before .before .before .args .k .made - c .before .before .before .before .before .before .args .k .acked))) (sym (c .before .before .m3 .given .1))
 
--- src/taking.rt:136:1
 returns-4 : tie.Need-returns-4
-returns-4 c = ?
+returns-4 c = c .decide-ack .ensures ∙ ap (decided (c .before .before .before .before .before .before .args .k) (editsFrom (now (c .before .before .before .before .before .before .args .places)) (now (c .before .before .before .before .before .before .args .items)) 0 (c .before .before .before .before .before .before .args .k .made - c .before .before .before .before .before .before .args .k .acked))) (sym (c .before .before .m4 .given .1))
 
 pub decide-spec : {M : Type 1} → statement M
 decide-spec =

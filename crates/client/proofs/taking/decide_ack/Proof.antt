@@ -1,51 +1,46 @@
+use Rattle.client.proofs.Takes.{ack-seen, left-ready, ack-done, ack-refused}
+use Rattle.pending.specs.Slots.{editsFrom}
+use mathlib.Core.Path.{sym, _∙_}
+use denote.Ref.{now}
+use native.Mathlib.Omega.{arith}
+use Prim.Native.Nat.{_-_}
 use borrow.Author.Needs.{needs}
 use Rattle.client.proofs.taking.decide_ack.Statement.{statement}
 use Rattle.client.proofs.taking.decide_ack.Tie as tie
-use Rattle.client.proofs.taking.decide_ack.Reads as reads
-use Rattle.client.proofs.taking.decide_ack.Lts as lts
-use Rattle.client.proofs.taking.ask_ack.Reads as ask-ack-reads
-use Rattle.client.proofs.taking.refusing.Reads as refusing-reads
-use Rattle.pending.proofs.acked.Reads as acked-reads
 
--- src/taking.rt:91:9
 ask-ack-requires : tie.Need-ask-ack-requires
 ask-ack-requires c κs = search needs
 
--- src/taking.rt:93:21
 sub-gone : tie.Need-sub-gone
-sub-gone c = ?
+sub-gone c = omega (arith, ack-seen (c .before .before .before .before .before .args .k) (c .before .before .before .before .before .args .line) (c .before .before .before .before .before .args .direction) (c .before .before .before .before .before .args .seen) (sym (c .before .before .ask-ack .ensures) ∙ c .before .if1 .taken))
 
--- src/taking.rt:93:20
 cast-gone : tie.Need-cast-gone
 cast-gone c = search needs
 
--- src/taking.rt:94:22
 sub-count : tie.Need-sub-count
-sub-count c = ?
+sub-count c = omega (arith, ack-seen (c .before .before .before .before .before .before .args .k) (c .before .before .before .before .before .before .args .line) (c .before .before .before .before .before .before .args .direction) (c .before .before .before .before .before .before .args .seen) (sym (c .before .before .before .ask-ack .ensures) ∙ c .before .before .if1 .taken))
 
--- src/taking.rt:94:21
 cast-count : tie.Need-cast-count
 cast-count c = search needs
 
--- src/taking.rt:101:21
 acked-requires : tie.Need-acked-requires
-acked-requires c κs = ?
+acked-requires c κs = let t = ack-seen (c .before .before .before .before .before .before .args .k) (c .before .before .before .before .before .before .args .line) (c .before .before .before .before .before .before .args .direction) (c .before .before .before .before .before .before .args .seen) (sym (c .before .before .before .ask-ack .ensures) ∙ c .before .before .if1 .taken) in
+    let r = left-ready (c .before .before .before .before .before .before .args .k) (now (c .before .before .before .before .before .before .args .places)) (now (c .before .before .before .before .before .before .args .items)) (c .before .before .before .before .before .before .pre) (c .before .before .before .before .before .before .args .seen) (t .0) (t .1) in
+    (r .few, r .places)
 
--- src/taking.rt:102:20
 acked-requires-2 : tie.Need-acked-requires-2
-acked-requires-2 c κs = ?
+acked-requires-2 c κs = let t = ack-seen (c .before .before .before .before .before .before .before .args .k) (c .before .before .before .before .before .before .before .args .line) (c .before .before .before .before .before .before .before .args .direction) (c .before .before .before .before .before .before .before .args .seen) (sym (c .before .before .before .before .ask-ack .ensures) ∙ c .before .before .before .if1 .taken) in
+    let r = left-ready (c .before .before .before .before .before .before .before .args .k) (now (c .before .before .before .before .before .before .before .args .places)) (now (c .before .before .before .before .before .before .before .args .items)) (c .before .before .before .before .before .before .before .pre) (c .before .before .before .before .before .before .before .args .seen) (t .0) (t .1) in
+    (r .few, r .items)
 
--- src/taking.rt:95:9
 returns : tie.Need-returns
-returns c = ?
+returns c = ack-done (c .before .before .before .before .before .before .before .before .args .k) (now (c .before .before .before .before .before .before .before .before .args .places)) (now (c .before .before .before .before .before .before .before .before .args .items)) (c .before .before .before .before .before .before .before .before .pre) (c .before .before .before .before .before .before .before .before .args .line) (c .before .before .before .before .before .before .before .before .args .direction) (c .before .before .before .before .before .before .before .before .args .seen) (sym (c .before .before .before .before .before .ask-ack .ensures) ∙ c .before .before .before .before .if1 .taken) (c .before .acked .result) (c .acked2 .result) (c .before .acked .ensures) (c .acked2 .ensures)
 
--- src/taking.rt:105:5
 refusing-requires : tie.Need-refusing-requires
 refusing-requires c κs = search needs
 
--- src/taking.rt:80:1
 returns-2 : tie.Need-returns-2
-returns-2 c = ?
+returns-2 c = c .refusing .ensures ∙ ack-refused (c .before .before .before .before .before .args .k) (editsFrom (now (c .before .before .before .before .before .args .places)) (now (c .before .before .before .before .before .args .items)) 0 (c .before .before .before .before .before .args .k .made - c .before .before .before .before .before .args .k .acked)) (c .before .before .before .before .before .args .line) (c .before .before .before .before .before .args .direction) (c .before .before .before .before .before .args .seen) (c .before .before .ask-ack .result) (c .before .before .ask-ack .ensures) (c .before .if1 .left)
 
 pub decide-ack-spec : {M : Type 1} → statement M
 decide-ack-spec =

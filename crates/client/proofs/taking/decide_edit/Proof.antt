@@ -1,64 +1,51 @@
+use Rattle.client.proofs.Takes.{take-seen, left-ready, edit-done, edit-nine, edit-refused}
+use mathlib.Core.Bool.{Bool, _&&_}
+use mathlib.Core.Path.{ap, sym, _∙_}
+use denote.Ref.{now}
+use native.Mathlib.Omega.{arith}
 use borrow.Author.Needs.{needs}
 use Rattle.client.proofs.taking.decide_edit.Statement.{statement}
 use Rattle.client.proofs.taking.decide_edit.Tie as tie
-use Rattle.client.proofs.taking.decide_edit.Reads as reads
-use Rattle.client.proofs.taking.decide_edit.Lts as lts
-use Rattle.client.proofs.taking.ask_taking.Reads as ask-taking-reads
-use Rattle.client.proofs.taking.refusing.Reads as refusing-reads
-use Rattle.endpoint.proofs.has_room.Reads as has-room-reads
-use Rattle.pending.proofs.cross.Reads as cross-reads
 
--- src/taking.rt:113:9
 ask-taking-requires : tie.Need-ask-taking-requires
 ask-taking-requires c κs = search needs
 
--- src/taking.rt:115:21
 sub-gone : tie.Need-sub-gone
-sub-gone c = ?
+sub-gone c = omega (arith, take-seen (c .before .before .before .before .before .before .args .k) (c .before .before .before .before .before .before .args .h) (c .before .before .before .before .before .before .args .e) (sym (c .before .before .before .ask-taking .ensures) ∙ c .before .before .if1 .taken))
 
--- src/taking.rt:115:20
 cast-gone : tie.Need-cast-gone
 cast-gone c = search needs
 
--- src/taking.rt:116:54
 sub-cross : tie.Need-sub-cross
-sub-cross c = ?
+sub-cross c = omega (arith, take-seen (c .before .before .before .before .before .before .before .before .args .k) (c .before .before .before .before .before .before .before .before .args .h) (c .before .before .before .before .before .before .before .before .args .e) (sym (c .before .before .before .before .before .ask-taking .ensures) ∙ c .before .before .before .before .if1 .taken))
 
--- src/taking.rt:116:53
 cast-cross : tie.Need-cast-cross
 cast-cross c = search needs
 
--- src/taking.rt:116:13
 cross-requires : tie.Need-cross-requires
-cross-requires c κs = ?
+cross-requires c κs = let t = take-seen (c .before .before .before .before .before .before .before .before .args .k) (c .before .before .before .before .before .before .before .before .args .h) (c .before .before .before .before .before .before .before .before .args .e) (sym (c .before .before .before .before .before .ask-taking .ensures) ∙ c .before .before .before .before .if1 .taken) in
+    (c .before .before .before .before .before .before .before .before .pre .0, left-ready (c .before .before .before .before .before .before .before .before .args .k) (now (c .before .before .before .before .before .before .before .before .args .places)) (now (c .before .before .before .before .before .before .before .before .args .items)) (c .before .before .before .before .before .before .before .before .pre .1) (c .before .before .before .before .before .before .before .before .args .h .seen) (t .0) (t .1))
 
--- src/taking.rt:118:23
 has-room-requires : tie.Need-has-room-requires
 has-room-requires c κs = search needs
 
--- src/taking.rt:124:24
 add-t17 : tie.Need-add-t17
-add-t17 c = ?
+add-t17 c = omega (arith, c .before .before .before .before .before .before .before .before .before .before .before .before .before .before .before .pre .1 .taken)
 
--- src/taking.rt:121:13
 returns : tie.Need-returns
-returns c = ?
+returns c = edit-done (c .before .before .before .before .before .before .before .before .before .before .before .before .before .before .before .args .k) (now (c .before .before .before .before .before .before .before .before .before .before .before .before .before .before .before .args .places)) (now (c .before .before .before .before .before .before .before .before .before .before .before .before .before .before .before .args .items)) (c .before .before .before .before .before .before .before .before .before .before .before .before .before .before .before .pre .1) (c .before .before .before .before .before .before .before .before .before .before .before .before .before .before .before .args .h) (c .before .before .before .before .before .before .before .before .before .before .before .before .before .before .before .args .e) (sym (c .before .before .before .before .before .before .before .before .before .before .before .before .ask-taking .ensures) ∙ c .before .before .before .before .before .before .before .before .before .before .before .if1 .taken) (c .before .before .before .before .before .before .cross .result) (c .before .before .before .before .before .before .cross .ensures) (ap (λ (b : Bool). c .before .before .before .before .before .before .cross .result .placed && b) (sym (c .before .before .before .before .before .has-room .ensures)) ∙ c .before .before .before .if2 .taken)
 
--- src/taking.rt:131:9
 refusing-requires : tie.Need-refusing-requires
 refusing-requires c κs = search needs
 
--- src/taking.rt:131:9
 returns-2 : tie.Need-returns-2
-returns-2 c = ?
+returns-2 c = c .refusing .ensures ∙ edit-nine (c .before .before .before .before .before .before .before .before .before .before .before .before .before .args .k) (now (c .before .before .before .before .before .before .before .before .before .before .before .before .before .args .places)) (now (c .before .before .before .before .before .before .before .before .before .before .before .before .before .args .items)) (c .before .before .before .before .before .before .before .before .before .before .before .before .before .pre .1) (c .before .before .before .before .before .before .before .before .before .before .before .before .before .args .h) (c .before .before .before .before .before .before .before .before .before .before .before .before .before .args .e) (sym (c .before .before .before .before .before .before .before .before .before .before .ask-taking .ensures) ∙ c .before .before .before .before .before .before .before .before .before .if1 .taken) (c .before .before .before .before .cross .result) (c .before .before .before .before .cross .ensures) (ap (λ (b : Bool). c .before .before .before .before .cross .result .placed && b) (sym (c .before .before .before .has-room .ensures)) ∙ c .before .if2 .left)
 
--- src/taking.rt:133:5
 refusing-requires-2 : tie.Need-refusing-requires-2
 refusing-requires-2 c κs = search needs
 
--- src/taking.rt:109:1
 returns-3 : tie.Need-returns-3
-returns-3 c = ?
+returns-3 c = c .refusing2 .ensures ∙ edit-refused (c .before .before .before .before .before .args .k) (now (c .before .before .before .before .before .args .places)) (now (c .before .before .before .before .before .args .items)) (c .before .before .before .before .before .pre .1) (c .before .before .before .before .before .args .h) (c .before .before .before .before .before .args .e) (c .before .before .ask-taking .result) (c .before .before .ask-taking .ensures) (c .before .if1 .left)
 
 pub decide-edit-spec : {M : Type 1} → statement M
 decide-edit-spec =
