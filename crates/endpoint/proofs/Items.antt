@@ -6,14 +6,14 @@ use mathlib.Core.Path.{_≡_, refl, ap, _∙_, sym}
 use mathlib.Core.Bool.{Bool, true, _&&_}
 use mathlib.Core.List.{List, [], _∷_}
 use lib.Dec.{eqb}
-use lib.ListN.{length, getD, take, drop, set, replicate, length-take, length-drop, length-replicate, drop-of-length-le}
+use lib.ListN.{length, getD, take, drop, set, replicate, length-take, length-drop, drop-of-length-le}
 use lib.Seq.{drop-cons, getD-take}
 use borrow.Author.Tests.{eqb-true}
 use Rattle.model.specs.Limits.{maxItems}
 use Rattle.model.proofs.Tests.{and-left, and-right}
 use Rattle.ot.specs.Items.{padded}
-use Rattle.pending.proofs.Pad.{pad-getD, pad-length, pad-drop, pad-of}
-use Rattle.ot.proofs.Sweep.{swept, swept-store, swept-to}
+use Rattle.pending.proofs.Pad.{pad-of, fill-turn, fill-end}
+use Rattle.ot.proofs.Sweep.{swept}
 use Rattle.endpoint.specs.Items.{stored, allZero}
 use Rattle.endpoint.proofs.Bools.{and-true, and-assoc}
 
@@ -52,21 +52,9 @@ module _ (n m : ℕ) (l : List ℕ) (room : m ≤ n) where
   short : length (take m l) ≤ n
   short = simp length-take (omega arith)
 
-  same : length (padded 0 n (take m l)) ≡ length (replicate {A = ℕ} n 0)
-  same = pad-length n 0 (take m l) short ∙ sym (length-replicate {A = ℕ} n 0)
-
   pub initial-turn : (i v : ℕ) (a : List ℕ) → i < m → a ≡ swept (padded 0 n (take m l)) (replicate n 0) i → v ≡ getD l i 0
       → set a i v ≡ swept (padded 0 n (take m l)) (replicate n 0) (i + 1)
-  initial-turn i v a h e w =
-      let g : v ≡ getD (padded 0 n (take m l)) i 0 = w ∙ sym (getD-take m l i 0 h) ∙ sym (pad-getD n 0 (take m l) i) in
-      ap (λ (b : List ℕ). set b i v) e ∙ ap (set (swept (padded 0 n (take m l)) (replicate n 0) i) i) g
-      ∙ swept-store (padded 0 n (take m l)) (replicate n 0) i 0 same (omega (arith, length-replicate {A = ℕ} n 0))
-      ∙ ap (swept (padded 0 n (take m l)) (replicate n 0)) (sym (add-one i))
+  initial-turn i v a h e w = fill-turn n 0 (take m l) short i v a (omega arith) e (w ∙ sym (getD-take m l i 0 h))
 
   pub initial-end : (i : ℕ) (a : List ℕ) → i ≡ m → a ≡ swept (padded 0 n (take m l)) (replicate n 0) i → a ≡ padded 0 n (take m l)
-  initial-end i a k e =
-      let whole : n ≡ n - 0 = omega arith in
-      e ∙ ap (λ (j : ℕ). swept (padded 0 n (take m l)) (replicate n 0) j) k
-      ∙ swept-to (padded 0 n (take m l)) (replicate n 0) m
-      (pad-drop n 0 (take m l) m (simp length-take (omega arith))
-      ∙ sym (ap (λ (j : ℕ). drop m (replicate j 0)) whole ∙ pad-drop n 0 [] m (omega arith)))
+  initial-end i a k e = fill-end n 0 (take m l) short i a (simp length-take (omega arith)) e

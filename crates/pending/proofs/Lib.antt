@@ -1,4 +1,5 @@
 pub mod Pad
+pub mod Slot
 pub mod Slots
-pub mod Whole
+pub mod Tests
 pub mod Crossing

@@ -4,8 +4,10 @@ use native.Mathlib.Omega.{arith}
 use mathlib.Core.Path.{_≡_, refl, ap, _∙_, sym}
 use mathlib.Core.List.{List, [], _∷_, _++_}
 use lib.ListN.{length, getD, take, drop, set, replicate, length-append, length-replicate, take-append-drop}
+use native.Mathlib.Numerals.{add-one}
 use lib.Seq.{length-take-le, take-append-seam, drop-append-add, set-append-seam, append-snoc}
 use Rattle.ot.specs.Items.{padded}
+use Rattle.ot.proofs.Sweep.{swept, swept-store, swept-to}
 
 module _ {A : Type 0} where
   -- reading finds the list's own elements, and z past them
@@ -68,3 +70,17 @@ module _ {A : Type 0} where
       let rest : List A = replicate (n - (length l + 1)) z in
       ap (λ (j : ℕ). set (l ++ replicate j z) (length l) x) one ∙ set-append-seam l z rest x ∙ sym (append-snoc l x rest)
       ∙ ap (λ (j : ℕ). (l ++ (x ∷ [])) ++ replicate (n - j) z) (sym more)
+
+-- ---- a loop that puts a list into an array of z
+
+module _ {A : Type 0} (n : ℕ) (z : A) (l : List A) (short : length l ≤ n) where
+  pub fill-turn : (i : ℕ) (v : A) (a : List A) → i < n → a ≡ swept (padded z n l) (replicate n z) i → v ≡ getD l i z
+      → set a i v ≡ swept (padded z n l) (replicate n z) (i + 1)
+  fill-turn i v a h e w =
+      let same : length (padded z n l) ≡ length (replicate n z) = pad-length n z l short ∙ sym (length-replicate n z) in
+      ap (λ (b : List A). set b i v) e ∙ ap (set (swept (padded z n l) (replicate n z) i) i) (w ∙ sym (pad-getD n z l i))
+      ∙ swept-store (padded z n l) (replicate n z) i z same (omega (arith, length-replicate n z))
+      ∙ ap (swept (padded z n l) (replicate n z)) (sym (add-one i))
+
+  pub fill-end : (i : ℕ) (a : List A) → length l ≤ i → a ≡ swept (padded z n l) (replicate n z) i → a ≡ padded z n l
+  fill-end i a h e = e ∙ swept-to (padded z n l) (replicate n z) i (pad-drop n z l i h ∙ sym (drop-zeros n i z))

@@ -1,138 +1,172 @@
--- Laws of the slots: the array for a list of pending edits, and what the array is once the test has passed.
+-- Laws of the slots of a line: the edits that they mean, and the numbers for a list of edits.
 use Prim.Native.Nat.{ℕ, zero, suc, _+_, _-_, _≤_, _<_}
-use native.Mathlib.Nat.{add-comm}
-use native.Mathlib.Numerals.{add-one}
+use native.Mathlib.Nat.{le-of-suc-le-suc, not-suc-le-zero}
 use native.Mathlib.Omega.{arith}
 use mathlib.Core.Path.{_≡_, refl, ap, _∙_, sym}
+use mathlib.Core.Bool.{Bool, true, false}
 use mathlib.Core.List.{List, [], _∷_, _++_, map, map-append}
+use lib.Dec.{ltb}
 use lib.ListN.{length, getD, take, drop, set, replicate, length-take, length-drop, length-map, List·getD-map, List·getD-eq-default}
-use lib.Seq.{getD-drop}
+use lib.Seq.{getD-take, getD-drop, take-all, take-set-lt, drop-set-add, ext-getD}
+use borrow.Author.Tests.{ltb-true, ltb-false}
 use Rattle.ot.specs.declared.Edit.{Edit}
 use Rattle.ot.specs.declared.Edit.the-variants.{Nothing}
 use Rattle.ot.specs.Items.{padded}
-use Rattle.ot.proofs.Sweep.{swept, length-swept, swept-read, swept-store, swept-to}
 use Rattle.model.specs.Limits.{maxPending}
-use Rattle.pending.specs.declared.Slot.{Slot}
-use Rattle.pending.specs.Slots.{slot, edits, usedEdits, filled, Kept}
+use Rattle.model.specs.Cross.{allPlaced}
+use Rattle.model.proofs.Cross.{placed-drop}
+use Rattle.pending.specs.Slots.{placeOf, itemOf, editOf, editAt, editsFrom, stretch, filled, Kept, Whole, Ready}
 use Rattle.pending.proofs.Pad.{pad-getD, pad-length, pad-take, pad-drop, pad-snoc}
 
--- A slot is its edit, so a list of slots is its list of edits.
-pub slots-edits : (l : List Slot) → map slot (edits l) ≡ l
-slots-edits [] = refl
-slots-edits (s ∷ l) = ap (λ (r : List Slot). s ∷ r) (slots-edits l)
+-- ---- the edits that slots mean
 
-pub edits-slots : (es : List Edit) → edits (map slot es) ≡ es
-edits-slots [] = refl
-edits-slots (e ∷ es) = ap (λ (r : List Edit). e ∷ r) (edits-slots es)
+module _ (ps xs : List ℕ) where
+  pub edits-length : (from count : ℕ) → length (editsFrom ps xs from count) ≡ count
+  unfolding editsFrom
+  edits-length from zero = refl
+  edits-length from (suc count) = ap suc (edits-length (suc from) count)
 
-pub take-edits : (k : ℕ) (l : List Slot) → take k (edits l) ≡ edits (take k l)
-take-edits zero l = refl
-take-edits (suc k) [] = refl
-take-edits (suc k) (s ∷ l) = ap (λ (r : List Edit). s .edit ∷ r) (take-edits k l)
+  pub edits-at : (from count i : ℕ) → i < count → getD (editsFrom ps xs from count) i Nothing ≡ editAt ps xs (from + i)
+  unfolding editsFrom
+  edits-at from zero i h = absurd (not-suc-le-zero h)
+  edits-at from (suc count) zero h =
+      let e : from ≡ from + 0 = omega arith in
+      ap (editAt ps xs) e
+  edits-at from (suc count) (suc i) h =
+      let e : suc from + i ≡ from + suc i = omega arith in
+      edits-at (suc from) count i (le-of-suc-le-suc h) ∙ ap (editAt ps xs) e
 
-pub filled-length : (es : List Edit) → length es ≤ maxPending → length (filled es) ≡ maxPending
-unfolding filled
-filled-length es h = pad-length maxPending (slot Nothing) (map slot es) (rw length-map h)
+  pub edits-drop : (from count k : ℕ) → drop k (editsFrom ps xs from count) ≡ editsFrom ps xs (from + k) (count - k)
+  unfolding editsFrom
+  edits-drop from count zero =
+      let e : from ≡ from + 0 = omega arith in
+      let f : count ≡ count - 0 = omega arith in
+      ap (λ (i : ℕ). editsFrom ps xs i count) e ∙ ap (editsFrom ps xs (from + 0)) f
+  edits-drop from zero (suc k) =
+      let f : 0 ≡ 0 - suc k = omega arith in
+      ap (editsFrom ps xs (from + suc k)) f
+  edits-drop from (suc count) (suc k) =
+      let e : suc from + k ≡ from + suc k = omega arith in
+      let f : count - k ≡ suc count - suc k = omega arith in
+      edits-drop (suc from) count k ∙ ap (λ (i : ℕ). editsFrom ps xs i (count - k)) e ∙ ap (editsFrom ps xs (from + suc k)) f
 
-pub used-filled : (es : List Edit) → usedEdits (length es) (filled es) ≡ es
-unfolding filled
-used-filled es =
-    take-edits (length es) (filled es) ∙ ap (λ (k : ℕ). edits (take k (filled es))) (sym (length-map es slot))
-    ∙ ap edits (pad-take maxPending (slot Nothing) (map slot es))
-    ∙ edits-slots es
+-- They depend on the numbers of those slots only.
+pub edits-same : (ps xs qs ys : List ℕ) (from to count : ℕ) → ((i : ℕ) → i < count → getD ps (from + i) 0 ≡ getD qs (to + i) 0)
+    → ((i : ℕ) → i < count → getD xs (from + i) 0 ≡ getD ys (to + i) 0) → editsFrom ps xs from count ≡ editsFrom qs ys to count
+edits-same ps xs qs ys from to count p x =
+    ext-getD Nothing (editsFrom ps xs from count) (editsFrom qs ys to count)
+    (edits-length ps xs from count ∙ sym (edits-length qs ys to count))
+    (λ i h.
+    let inside : i < count = omega (arith, edits-length ps xs from count) in
+    edits-at ps xs from count i inside ∙ ap (λ (n : ℕ). editOf n (getD xs (from + i) 0)) (p i inside)
+    ∙ ap (editOf (getD qs (to + i) 0)) (x i inside) ∙ sym (edits-at qs ys to count i inside))
 
-pub filled-getD : (es : List Edit) (i : ℕ) → getD (filled es) i (slot Nothing) ≡ slot (getD es i Nothing)
-unfolding filled
-filled-getD es i = pad-getD maxPending (slot Nothing) (map slot es) i ∙ List·getD-map slot es i Nothing
+-- ---- the 64 numbers of a line
 
--- The array for each list of a length is its own.
-pub filled-injective : (es fs : List Edit) → length es ≡ length fs → filled es ≡ filled fs → es ≡ fs
-filled-injective es fs e p =
-    sym (used-filled es) ∙ ap (usedEdits (length es)) p ∙ ap (λ (k : ℕ). usedEdits k (filled fs)) e ∙ used-filled fs
+pub stretch-at : (from : ℕ) (ws : List ℕ) (i : ℕ) → i < maxPending → getD (stretch from ws) i 0 ≡ getD ws (from + i) 0
+stretch-at from ws i h = getD-take maxPending (drop from ws) i 0 h ∙ getD-drop from ws i 0
 
--- from any place past the edits on there is nothing
-pub filled-drop : (es : List Edit) (k : ℕ) → length es ≤ k → drop k (filled es) ≡ replicate (maxPending - k) (slot Nothing)
-unfolding filled
-filled-drop es k h = pad-drop maxPending (slot Nothing) (map slot es) k (rw length-map h)
+pub stretch-length : (from : ℕ) (ws : List ℕ) → from + maxPending ≤ length ws → length (stretch from ws) ≡ maxPending
+stretch-length from ws h = simp (length-take, length-drop) (omega arith)
 
-pub filled-push : (es : List Edit) (e : Edit) → length es < maxPending → set (filled es) (length es) (slot e) ≡ filled (es ++ (e ∷ []))
-unfolding filled
-filled-push es e h =
-    ap (λ (k : ℕ). set (filled es) k (slot e)) (sym (length-map es slot))
-    ∙ pad-snoc maxPending (slot Nothing) (map slot es) (slot e) (rw length-map h)
-    ∙ ap (padded (slot Nothing) maxPending) (sym (map-append slot es (e ∷ [])))
+pub stretch-all : (ws : List ℕ) → length ws ≡ maxPending → stretch 0 ws ≡ ws
+stretch-all ws h = take-all maxPending ws (omega arith)
 
--- Dropping moves each edit down.
-pub filled-shift : (es : List Edit) (k i : ℕ) → getD (filled (drop k es)) i (slot Nothing) ≡ getD (filled es) (k + i) (slot Nothing)
-filled-shift es k i = filled-getD (drop k es) i ∙ ap slot (getD-drop k es i Nothing) ∙ sym (filled-getD es (k + i))
+pub stretch-set : (from : ℕ) (ws : List ℕ) (i v : ℕ) → i < maxPending → stretch from (set ws (from + i) v) ≡ set (stretch from ws) i v
+stretch-set from ws i v h = ap (take maxPending) (drop-set-add from ws i v) ∙ take-set-lt maxPending (drop from ws) i v h
 
--- the array without its first k edits
-abbrev pub rest : ℕ → ℕ → List Slot → List Slot
-rest k count slots = filled (drop k (usedEdits count slots))
+-- lines with the same numbers mean the same edits, wherever they stand
+pub edits-stretch : (ps xs qs ys : List ℕ) (from to count : ℕ) → count ≤ maxPending → stretch from ps ≡ stretch to qs → stretch from xs ≡ stretch to ys
+    → editsFrom ps xs from count ≡ editsFrom qs ys to count
+edits-stretch ps xs qs ys from to count few p x = edits-same ps xs qs ys from to count (same ps qs p) (same xs ys x)
+  where
+    same : (as′ bs : List ℕ) → stretch from as′ ≡ stretch to bs → (i : ℕ) → i < count → getD as′ (from + i) 0 ≡ getD bs (to + i) 0
+    same as′ bs e i h =
+        sym (stretch-at from as′ i (omega arith)) ∙ ap (λ (l : List ℕ). getD l i 0) e ∙ stretch-at to bs i (omega arith)
 
-module _ (count : ℕ) (slots : List Slot) (kept : Kept count slots) where
-  used-short : length (usedEdits count slots) ≤ count
-  used-short = simp length-take (omega arith)
+-- ---- the numbers for a list of edits
 
-  pub kept-length : length slots ≡ maxPending
-  kept-length = ap length (kept .whole) ∙ filled-length (usedEdits count slots) (omega (arith, used-short, kept .few))
+module _ (word : Edit → ℕ) where
+  pub filled-length : (es : List Edit) → length es ≤ maxPending → length (filled word es) ≡ maxPending
+  unfolding filled
+  filled-length es h = pad-length maxPending 0 (map word es) (rw length-map h)
 
-  pub used-length : length (usedEdits count slots) ≡ count
-  used-length = simp (length-take, length-map) (omega (arith, kept-length, kept .few))
+  pub filled-at : word Nothing ≡ 0 → (es : List Edit) (i : ℕ) → getD (filled word es) i 0 ≡ word (getD es i Nothing)
+  unfolding filled
+  filled-at z es i =
+      pad-getD maxPending 0 (map word es) i ∙ ap (getD (map word es) i) (sym z) ∙ List·getD-map word es i Nothing
 
-  pub kept-push : (e : Edit) → count < maxPending → set slots count (slot e) ≡ filled (usedEdits count slots ++ (e ∷ []))
-  kept-push e h =
-      ap (λ (l : List Slot). set l count (slot e)) (kept .whole)
-      ∙ ap (λ (k : ℕ). set (filled (usedEdits count slots)) k (slot e)) (sym used-length)
-      ∙ filled-push (usedEdits count slots) e (rw used-length h)
+  pub filled-take : (es : List Edit) → take (length es) (filled word es) ≡ map word es
+  unfolding filled
+  filled-take es =
+      ap (λ (k : ℕ). take k (filled word es)) (sym (length-map es word)) ∙ pad-take maxPending 0 (map word es)
 
-  -- what stands where the first k have been dropped
-  pub kept-shift : (k i : ℕ) → getD (filled (drop k (usedEdits count slots))) i (slot Nothing) ≡ getD slots (k + i) (slot Nothing)
-  kept-shift k i =
-      filled-shift (usedEdits count slots) k i ∙ ap (λ (l : List Slot). getD l (k + i) (slot Nothing)) (sym (kept .whole))
+  -- from any place past the edits on there is nothing
+  pub filled-drop : (es : List Edit) (k : ℕ) → length es ≤ k → drop k (filled word es) ≡ replicate (maxPending - k) 0
+  unfolding filled
+  filled-drop es k h = pad-drop maxPending 0 (map word es) k (rw length-map h)
 
-  -- a loop over the slots in use is done: from count on, any list that is no longer has what the array had there
-  pub kept-end : (es : List Edit) → length es ≤ count → swept (filled es) slots count ≡ filled es
-  kept-end es h =
-      swept-to (filled es) slots count
-      (filled-drop es count h ∙ sym (filled-drop (usedEdits count slots) count (omega (arith, used-length)))
-      ∙ ap (drop count) (sym (kept .whole)))
+  -- one more edit takes the first unused slot
+  pub filled-push : (es : List Edit) (e : Edit) → length es < maxPending → set (filled word es) (length es) (word e) ≡ filled word (es ++ (e ∷ []))
+  unfolding filled
+  filled-push es e h =
+      ap (λ (k : ℕ). set (filled word es) k (word e)) (sym (length-map es word))
+      ∙ pad-snoc maxPending 0 (map word es) (word e) (rw length-map h)
+      ∙ ap (padded 0 maxPending) (sym (map-append word es (e ∷ [])))
 
-  rest-length : (k : ℕ) → length (rest k count slots) ≡ maxPending
-  rest-length k = filled-length (drop k (usedEdits count slots)) (simp length-drop (omega (arith, used-length, kept .few)))
+  module _ (z : word Nothing ≡ 0) (from : ℕ) (ws : List ℕ) (es : List Edit) (whole : stretch from ws ≡ filled word es) where
+    pub whole-at : (i : ℕ) → i < maxPending → getD ws (from + i) 0 ≡ word (getD es i Nothing)
+    whole-at i h = sym (stretch-at from ws i h) ∙ ap (λ (l : List ℕ). getD l i 0) whole ∙ filled-at z es i
 
-  -- One turn of the loop that drops the first k: slot i takes what stands k above it.
-  pub rest-turn : (k i : ℕ) (a : List Slot) → i < maxPending → a ≡ swept (rest k count slots) slots i
-      → set a i (getD a (i + k) (slot Nothing)) ≡ swept (rest k count slots) slots (i + 1)
-  rest-turn k i a h e =
-      let t : List Slot = rest k count slots in
-      let n : length t ≡ maxPending = rest-length k in
-      let m : length slots ≡ maxPending = kept-length in
-      let v : getD a (i + k) (slot Nothing) ≡ getD t i (slot Nothing) =
-      ap (λ (l : List Slot). getD l (i + k) (slot Nothing)) e
-      ∙ swept-read t slots i (i + k) (slot Nothing) (n ∙ sym m) (omega arith)
-      ∙ ap (λ (j : ℕ). getD slots j (slot Nothing)) (add-comm i k)
-      ∙ sym (kept-shift k i) in
-      ap (λ (l : List Slot). set l i (getD a (i + k) (slot Nothing))) e ∙ ap (set (swept t slots i) i) v
-      ∙ swept-store t slots i (slot Nothing) (n ∙ sym m) (omega arith) ∙ ap (swept t slots) (sym (add-one i))
+    -- Without the first k: the numbers behind them, moved down.
+    pub whole-rest : (count k : ℕ) → length es ≡ count → count ≤ maxPending → from + maxPending ≤ length ws
+        → padded 0 maxPending (take (count - k) (drop (from + k) ws)) ≡ filled word (drop k es)
+    unfolding filled
+    whole-rest count k n few room =
+        ap (padded 0 maxPending)
+        (ext-getD 0 (take (count - k) (drop (from + k) ws)) (map word (drop k es))
+        (simp (length-take, length-drop, length-map, length-drop) (omega arith))
+        (λ i h.
+        let inside : i < count - k = omega (arith, simp (length-take, length-drop) at h) in
+        let place : from + k + i ≡ from + (k + i) = omega arith in
+        getD-take (count - k) (drop (from + k) ws) i 0 inside ∙ getD-drop (from + k) ws i 0 ∙ ap (λ (j : ℕ). getD ws j 0) place
+        ∙ whole-at (k + i) (omega arith) ∙ ap word (sym (getD-drop k es i Nothing))
+        ∙ sym (List·getD-map word (drop k es) i Nothing) ∙ ap (getD (map word (drop k es)) i) z))
 
-  -- where there is no such slot, that is nothing
-  pub rest-none : (k i : ℕ) (a : List Slot) → i ≤ maxPending → a ≡ swept (rest k count slots) slots i → maxPending ≤ i + k
-      → slot Nothing ≡ getD a (i + k) (slot Nothing)
-  rest-none k i a h e b =
-      let n : length (rest k count slots) ≡ maxPending = rest-length k in
-      let m : length slots ≡ maxPending = kept-length in
-      let s : length a ≡ length slots = ap length e ∙ length-swept (rest k count slots) slots i (n ∙ sym m) in
-      sym (List·getD-eq-default a (slot Nothing) (omega arith))
+-- ---- a line that passed the test
 
-  pub rest-end : (k i : ℕ) (a : List Slot) → i ≡ count → a ≡ swept (rest k count slots) slots i → a ≡ rest k count slots
-  rest-end k i a h e =
-      e ∙ ap (swept (rest k count slots) slots) h
-      ∙ kept-end (drop k (usedEdits count slots)) (simp length-drop (omega (arith, used-length)))
-
+module _ (from count : ℕ) (ps xs : List ℕ) (kept : Kept from count ps xs) where
   -- reading a slot reads the list of pending edits, past its end too
-  pub kept-at : (i : ℕ) → getD (edits slots) i Nothing ≡ getD (usedEdits count slots) i Nothing
-  kept-at i =
-      List·getD-map (λ (s : Slot). s .edit) slots i (slot Nothing)
-      ∙ ap (λ (l : List Slot). getD l i (slot Nothing) .edit) (kept .whole)
-      ∙ ap (λ (s : Slot). s .edit) (filled-getD (usedEdits count slots) i)
+  pub kept-at : (i : ℕ) → i < maxPending → editAt ps xs (from + i) ≡ getD (editsFrom ps xs from count) i Nothing
+  unfolding editOf
+  kept-at i h = go (ltb i count) refl
+    where
+      go : (b : Bool) → ltb i count ≡ b → editAt ps xs (from + i) ≡ getD (editsFrom ps xs from count) i Nothing
+      go true t = sym (edits-at ps xs from count i (ltb-true i count t))
+      go false f =
+          let past : getD (editsFrom ps xs from count) i Nothing ≡ Nothing =
+          List·getD-eq-default (editsFrom ps xs from count) Nothing (omega (arith, edits-length ps xs from count, ltb-false i count f)) in
+          ap (λ (n : ℕ). editOf n (getD xs (from + i) 0)) (whole-at placeOf refl from ps (editsFrom ps xs from count) (kept .places) i h ∙ ap placeOf past)
+          ∙ ap (editOf 0) (whole-at itemOf refl from xs (editsFrom ps xs from count) (kept .items) i h ∙ ap itemOf past)
+          ∙ sym past
+
+  module _ (room : Whole from ps xs) where
+    -- the line's arrays once the first k edits are dropped
+    pub kept-places : (k : ℕ) → padded 0 maxPending (take (count - k) (drop (from + k) ps)) ≡ filled placeOf (drop k (editsFrom ps xs from count))
+    kept-places k =
+        whole-rest placeOf refl from ps (editsFrom ps xs from count) (kept .places) count k (edits-length ps xs from count) (kept .few) (room .places)
+
+    pub kept-items : (k : ℕ) → padded 0 maxPending (take (count - k) (drop (from + k) xs)) ≡ filled itemOf (drop k (editsFrom ps xs from count))
+    kept-items k =
+        whole-rest itemOf refl from xs (editsFrom ps xs from count) (kept .items) count k (edits-length ps xs from count) (kept .few) (room .items)
+
+    -- and what is left of it may cross an edit
+    pub kept-ready : (k : ℕ) → k ≤ count → Ready (from + k) (count - k) ps xs
+    kept-ready k h =
+        record {
+          few = omega (arith, kept .few);
+          places = omega (arith, kept .few, room .places);
+          items = omega (arith, kept .few, room .items);
+          placed =
+              ap allPlaced (sym (edits-drop ps xs from count k)) ∙ placed-drop k (editsFrom ps xs from count) (kept .placed);
+        }

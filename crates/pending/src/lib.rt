@@ -1,185 +1,205 @@
-// The outgoing buffer of a line: the pending edits, in slots of an array.
+// The outgoing buffer of a line: the pending edits, as numbers in two arrays. A slot is a number in each: its place, position * 256 +
+// priority, and its item. So the arrays can be lent, and question 2 looks at many slots at once. Functions that callers lend both arrays
+// have one lifetime for the two, since then they may be fields of one end.
 ghost use mathlib.Core.Path.{_≡_};
-ghost use mathlib.Core.Bool.{true};
-ghost use mathlib.Core.List.{[], _∷_, _++_};
-ghost use Prim.Native.Nat.{_<_, _≤_};
-ghost use lib.ListN.{length, getD, drop};
-ghost use Rattle.ot.specs.declared.Edit.the-variants as edit;
+ghost use Prim.Native.Nat.{_+_, _-_, _≤_};
+ghost use lib.ListN.{length, getD, take, drop};
 ghost use Rattle.model.specs.Limits.{maxItems, maxPending};
-ghost use Rattle.model.specs.Questions.{between};
-ghost use Rattle.model.specs.Cross.{placed, priority};
+ghost use Rattle.model.specs.Cross.{placed};
 ghost use Rattle.ot.specs.Edit.{positionOf};
-ghost use Rattle.pending.specs.Slots.{edits, usedEdits, filled, isNothing, allNothing, rightPriority, rightEdits, crossed, Kept, Tested};
+ghost use Rattle.ot.specs.Items.{padded};
+ghost use Rattle.pending.specs.Slots.{placeOf, itemOf, editOf, editAt, editsFrom, rightPriority, rightSlot, rightAt, allFrom, emptyAt, crossed, Ready, Whole, Tested};
 use ot::Edit;
-
-// One place of the buffer. An unused one holds Nothing.
-pub struct Slot {
-    pub edit: Edit,
-}
 
 // What an arriving edit leaves: the pending edits in their forms after it, its own form after them, whether those forms
 // have positions that a message can carry, and how many pending edits it was transformed past.
 pub struct Crossed {
-    pub slots: [Slot; 64],
+    pub places: [u32; 64],
+    pub items: [u32; 64],
     pub edit: Edit,
     pub placed: bool,
     pub passed: u16,
 }
 
+// ---- one slot
+
+// Where an edit stands: 0 for nothing; a delete has priority 0.
+pub fn place_of(e: Edit) -> u32
+    ensures { λ r. ⌜ r ≡ placeOf e ⌝ }
+{
+    match e {
+        Edit::Nothing => 0,
+        Edit::Delete(p) => p as u32 * 256,
+        Edit::Insert(p, _, r) => p as u32 * 256 + r as u32,
+    }
+}
+
+pub fn item_of(e: Edit) -> u32
+    ensures { λ r. ⌜ r ≡ itemOf e ⌝ }
+{
+    match e {
+        Edit::Nothing => 0,
+        Edit::Delete(_) => 0,
+        Edit::Insert(_, x, _) => x,
+    }
+}
+
+// What a slot means.
+pub fn edit_of(place: u32, item: u32) -> Edit
+    ensures { λ r. ⌜ r ≡ editOf place item ⌝ }
+{
+    let p = (place / 256 % 65536) as u16;
+    let r = (place % 256) as u8;
+    if p == 0 {
+        return Edit::Nothing;
+    }
+    if r == 0 {
+        return Edit::Delete(p);
+    }
+    Edit::Insert(p, item, r)
+}
+
+// The number at place i, counted from 0; 0 past the end.
+fn word_at(words: &[u32], i: usize) -> u32
+    ensures { λ r. ⌜ r ≡ getD (now (words .entry)) i 0 ⌝ }
+{
+    if i < words.len() { words[i] } else { 0 }
+}
+
 // The edit in slot i, counted from 0; nothing past the last.
-pub fn at(slots: [Slot; 64], i: usize) -> Edit
-    ensures { λ r. ⌜ r ≡ getD (edits slots) i edit.Nothing ⌝ }
+pub fn at<'a>(places: &'a [u32], items: &'a [u32], i: usize) -> Edit
+    ensures { λ r. ⌜ r ≡ editAt (now (places .entry)) (now (items .entry)) i ⌝ }
 {
-    if i < 64 {
-        let s = slots[i];
-        return s.edit;
-    }
-    Edit::Nothing
+    edit_of(word_at(places, i), word_at(items, i))
 }
 
-// One more pending edit.
-pub fn push(mut slots: [Slot; 64], count: usize, e: Edit) -> [Slot; 64]
-    requires { ⌜ (count < 64) × Kept count slots ⌝ }
-    ensures { λ r. ⌜ r ≡ filled (usedEdits count slots ++ (e ∷ [])) ⌝ }
-{
-    slots[count] = Slot { edit: e };
-    slots
-}
-
-// The first gone of the pending edits are acknowledged: the rest move down, and the places that this frees hold Nothing.
-pub fn acked(mut slots: [Slot; 64], count: usize, gone: usize) -> [Slot; 64]
-    requires { ⌜ (gone ≤ count) × Kept count slots ⌝ }
-    ensures { λ r. ⌜ r ≡ filled (drop gone (usedEdits count slots)) ⌝ }
-{
-    for i in 0..count {
-        let j = i + gone;
-        if j < 64 {
-            slots[i] = slots[j];
-        } else {
-            slots[i] = Slot {
-                edit: Edit::Nothing,
-            };
-        }
-    }
-    slots
-}
-
-// A position of 1 to 512.
-fn in_list(p: u16) -> bool
-    ensures { λ r. ⌜ r ≡ between 1 maxItems p ⌝ }
-{
-    (1 <= p) & (p <= 512)
-}
+// ---- question 2
 
 // The priority of a client's own insert (own) or of another's, kept by the server for a line.
 fn right_priority(n: u8, line: u8, own: bool, p: u8) -> bool
     ensures { λ r. ⌜ r ≡ rightPriority n line own p ⌝ }
 {
-    if own {
-        return line == p;
-    }
-    (1 <= p) & (p <= n) & !(p == line)
+    let mine = line == p;
+    let others = (1 <= p) & (p <= n) & !(p == line);
+    (own & mine) | (!own & others)
 }
 
-// A position, if there is one, of 1 to 512.
+// A slot in use, by its numbers alone: nothing, or a position of 1 to 512 with a delete or with an insert of the right priority.
+fn is_right(place: u32, item: u32, n: u8, line: u8, own: bool) -> bool
+    ensures { λ r. ⌜ r ≡ rightSlot (rightPriority n line own) place item ⌝ }
+{
+    let r = (place % 256) as u8;
+    let nothing = (place == 0) & (item == 0);
+    let position = (256 <= place) & (place < 131328);
+    let delete = (r == 0) & (item == 0);
+    let insert = (1 <= r) & right_priority(n, line, own, r);
+    nothing | (position & (delete | insert))
+}
+
+// The slots in use, from up to but not at to: no early return and no branch, so that the compiler makes the loop wide.
+fn used_right(
+    places: &[u32],
+    items: &[u32],
+    from: usize,
+    to: usize,
+    n: u8,
+    line: u8,
+    own: bool,
+) -> bool
+    requires { ⌜ (from ≤ to) × ((to ≤ length (now places)) × (to ≤ length (now items))) ⌝ }
+    ensures { λ r. ⌜ r ≡ allFrom (rightAt (rightPriority n line own) (now (places .entry)) (now (items .entry))) from (to - from) ⌝ }
+{
+    let mut right = true;
+    for i in from..to {
+        right = right & is_right(places[i], items[i], n, line, own);
+    }
+    right
+}
+
+fn unused_empty(places: &[u32], items: &[u32], from: usize, to: usize) -> bool
+    requires { ⌜ (from ≤ to) × ((to ≤ length (now places)) × (to ≤ length (now items))) ⌝ }
+    ensures { λ r. ⌜ r ≡ allFrom (emptyAt (now (places .entry)) (now (items .entry))) from (to - from) ⌝ }
+{
+    let mut empty = true;
+    for i in from..to {
+        empty = empty & ((places[i] == 0) & (items[i] == 0));
+    }
+    empty
+}
+
+// Question 2 about the line whose first slot is from: the pending edits of a client (own), or those that the server keeps for a line.
+pub fn sound<'a>(
+    places: &'a [u32],
+    items: &'a [u32],
+    from: usize,
+    count: usize,
+    n: u8,
+    line: u8,
+    own: bool,
+) -> bool
+    requires { ⌜ Whole from (now places) (now items) ⌝ }
+    ensures { λ r. ⌜ Tested (rightPriority n line own) from count (now (places .entry)) (now (items .entry)) r ⌝ }
+{
+    if 64 < count {
+        return false;
+    }
+    let used = from + count;
+    used_right(places, items, from, used, n, line, own)
+        & unused_empty(places, items, used, from + 64)
+}
+
+// ---- the line after an acknowledgement, and after an edit that arrives
+
+// The array of a line that has count numbers of another array, the first of them at from, and zeros behind them.
+pub fn acked(words: &[u32], from: usize, count: usize) -> [u32; 64]
+    requires { ⌜ (count ≤ maxPending) × (from + count ≤ length (now words)) ⌝ }
+    ensures { λ r. ⌜ r ≡ padded 0 maxPending (take count (drop from (now (words .entry)))) ⌝ }
+{
+    let mut a = [0u32; 64];
+    for i in 0..count {
+        let j = from + i;
+        a[i] = words[j];
+    }
+    a
+}
+
+// A position of 1 to 512, if there is one.
 fn is_placed(e: Edit) -> bool
     ensures { λ r. ⌜ r ≡ placed e ⌝ }
 {
     match e {
         Edit::Nothing => true,
-        Edit::Delete(p) => in_list(p),
-        Edit::Insert(p, _, _) => in_list(p),
+        Edit::Delete(p) => (1 <= p) & (p <= 512),
+        Edit::Insert(p, _, _) => (1 <= p) & (p <= 512),
     }
 }
 
-fn is_ranked(e: Edit, n: u8, line: u8, own: bool) -> bool
-    ensures { λ r. ⌜ r ≡ priority (rightPriority n line own) e ⌝ }
+// The arriving edit goes past the count pending ones whose first slot is from, in order, and each of these past the arriving edit as
+// it stood before that one.
+pub fn cross<'a>(places: &'a [u32], items: &'a [u32], from: usize, count: usize, e: Edit) -> Crossed
+    requires { ⌜ (positionOf e ≤ maxItems) × Ready from count (now places) (now items) ⌝ }
+    ensures { λ r. ⌜ r ≡ crossed e (editsFrom (now (places .entry)) (now (items .entry)) from count) ⌝ }
 {
-    match e {
-        Edit::Nothing => true,
-        Edit::Delete(_) => true,
-        Edit::Insert(_, _, p) => right_priority(n, line, own, p),
-    }
-}
-
-fn is_nothing(e: Edit) -> bool
-    ensures { λ r. ⌜ r ≡ isNothing e ⌝ }
-{
-    match e {
-        Edit::Nothing => true,
-        Edit::Delete(_) => false,
-        Edit::Insert(_, _, _) => false,
-    }
-}
-
-// The slots in use: no early return and no branch but on the kind of edit.
-fn used_right(slots: [Slot; 64], count: usize, n: u8, line: u8, own: bool) -> bool
-    requires { ⌜ count ≤ maxPending ⌝ }
-    ensures { λ r. ⌜ r ≡ rightEdits (rightPriority n line own) (usedEdits count slots) ⌝ }
-{
-    let mut right = true;
-    for i in 0..count {
-        let s = slots[i];
-        let e = s.edit;
-        right = right & (is_placed(e) & is_ranked(e, n, line, own));
-    }
-    right
-}
-
-// The slots from count on. A loop of its own: it looks at one byte of each slot, and the compiler makes it wide.
-fn unused_empty(slots: [Slot; 64], count: usize) -> bool
-    ensures { λ r. ⌜ r ≡ allNothing (drop count (edits slots)) ⌝ }
-{
-    let mut empty = true;
-    for i in count..64 {
-        let s = slots[i];
-        let e = s.edit;
-        empty = empty & is_nothing(e);
-    }
-    empty
-}
-
-// Question 2 about the pending edits: those of a client (own), or those that the server keeps for a line.
-pub fn sound(slots: [Slot; 64], count: usize, n: u8, line: u8, own: bool) -> bool
-    ensures { λ r. ⌜ Tested (rightPriority n line own) count slots r ⌝ }
-{
-    if 64 < count {
-        return false;
-    }
-    used_right(slots, count, n, line, own) & unused_empty(slots, count)
-}
-
-// The arriving edit goes past the pending ones in order, and each of these past the arriving edit as it stood before that one.
-fn cross_all(mut slots: [Slot; 64], count: usize, e: Edit) -> Crossed
-    requires { ⌜ (positionOf e ≤ maxItems) × Kept count slots ⌝ }
-    ensures { λ r. ⌜ r ≡ crossed e (usedEdits count slots) ⌝ }
-{
+    let mut later_places = [0u32; 64];
+    let mut later_items = [0u32; 64];
     let mut current = e;
     let mut good = true;
     let mut passed = 0;
     while passed < count {
-        let s = slots[passed];
-        let p = s.edit;
+        let j = from + passed;
+        let p = edit_of(places[j], items[j]);
         let form = ot::transform(p, current);
-        slots[passed] = Slot { edit: form };
+        later_places[passed] = place_of(form);
+        later_items[passed] = item_of(form);
         good = good & is_placed(form);
         current = ot::transform(current, p);
         passed += 1;
     }
     Crossed {
-        slots,
+        places: later_places,
+        items: later_items,
         edit: current,
         placed: good,
         passed: passed as u16,
     }
-}
-
-// An edit arrives that was made after the first gone of the pending edits: these are dropped, and the others and the edit
-// are transformed past each other.
-pub fn cross(slots: [Slot; 64], count: usize, gone: usize, e: Edit) -> Crossed
-    requires { ⌜ (gone ≤ count) × ((positionOf e ≤ maxItems) × Kept count slots) ⌝ }
-    ensures { λ r. ⌜ r ≡ crossed e (drop gone (usedEdits count slots)) ⌝ }
-{
-    let rest = acked(slots, count, gone);
-    cross_all(rest, count - gone, e)
 }

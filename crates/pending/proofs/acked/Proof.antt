@@ -1,18 +1,23 @@
-use Prim.Native.Nat.{_-_, _≤_}
-use native.Mathlib.Omega.{arith}
-use mathlib.Core.Path.{_≡_, refl, ap, _∙_}
-use mathlib.Core.Logic.{⊎-elim}
-use lib.ListN.{set}
+use Rattle.pending.proofs.Pad.{fill-turn, fill-end}
+use Rattle.model.specs.Limits.{maxPending}
 use Rattle.ot.proofs.Sweep.{swept}
-use Rattle.pending.proofs.Slots.{rest, rest-turn, rest-none, rest-end}
+use Rattle.ot.specs.Items.{padded}
+use lib.Seq.{getD-take, getD-drop}
+use lib.ListN.{take, drop, replicate, length-take}
+use mathlib.Core.Path.{_≡_, refl, _∙_, sym}
+use denote.Ref.{now}
+use native.Mathlib.Omega.{arith}
+use Prim.Native.Nat.{_-_, _≤_}
 use Rattle.pending.proofs.acked.Statement.{statement}
 use Rattle.pending.proofs.acked.Tie as tie
 
 abbrev Inv-loop : tie.InvT-loop
-Inv-loop count gone slots₀ i₀ slots i = (i ≤ count) × (slots ≡ swept (rest gone count slots₀) slots₀ i)
+Inv-loop words from count a₀ i₀ a i =
+    (i ≤ count) × (a ≡ swept (padded 0 maxPending (take count (drop from words))) (replicate maxPending 0) i)
 
 abbrev μ-loop : tie.MeasureT-loop
-μ-loop count gone slots₀ i₀ slots i = count - i
+μ-loop words from count a₀ i₀ a i =
+    count - i
 
 loop-holds : tie.Need-loop-holds Inv-loop μ-loop
 loop-holds c = (omega arith, refl)
@@ -20,23 +25,17 @@ loop-holds c = (omega arith, refl)
 add-j : tie.Need-add-j Inv-loop μ-loop
 add-j c = omega arith
 
-mul-slots : tie.Need-mul-slots Inv-loop μ-loop
-mul-slots c = omega arith
+mul-a : tie.Need-mul-a Inv-loop μ-loop
+mul-a c = omega arith
 
-array-copy-out-slots : tie.Need-array-copy-out-slots Inv-loop μ-loop
-array-copy-out-slots c = omega arith
+shared-slice-read-a : tie.Need-shared-slice-read-a Inv-loop μ-loop
+shared-slice-read-a c = omega arith
 
-mul-slots-2 : tie.Need-mul-slots-2 Inv-loop μ-loop
-mul-slots-2 c = omega arith
+mul-a-2 : tie.Need-mul-a-2 Inv-loop μ-loop
+mul-a-2 c = omega arith
 
-array-set-from-slots : tie.Need-array-set-from-slots Inv-loop μ-loop
-array-set-from-slots c = omega arith
-
-mul-slots-3 : tie.Need-mul-slots-3 Inv-loop μ-loop
-mul-slots-3 c = omega arith
-
-array-set-from-slots-2 : tie.Need-array-set-from-slots-2 Inv-loop μ-loop
-array-set-from-slots-2 c = omega arith
+array-write-a : tie.Need-array-write-a Inv-loop μ-loop
+array-write-a c = omega arith
 
 add-i : tie.Need-add-i Inv-loop μ-loop
 add-i c = omega arith
@@ -45,12 +44,10 @@ loop-less : tie.Need-loop-less Inv-loop μ-loop
 loop-less c = omega arith
 
 loop-again : tie.Need-loop-again Inv-loop μ-loop
-loop-again c = let turn = rest-turn (c .before .before .before .args .count) (c .before .before .before .args .t1) (c .before .before .before .pre .1) (c .before .before .before .args .gone) (c .before .before .loop .i) (c .before .before .loop .slots) (omega (arith, c .before .before .before .pre .1 .few)) (c .before .before .loop .inv .1) in
-    let none = rest-none (c .before .before .before .args .count) (c .before .before .before .args .t1) (c .before .before .before .pre .1) (c .before .before .before .args .gone) (c .before .before .loop .i) (c .before .before .loop .slots) (omega (arith, c .before .before .before .pre .1 .few)) (c .before .before .loop .inv .1) in
-    (omega (arith, c .before .before .loop .inv .0), ⊎-elim (λ w. w .2 ∙ turn) (λ w. w .1 ∙ ap (set (c .before .before .loop .slots) (c .before .before .loop .i)) (none (w .0 .left)) ∙ turn) (c .if1 .came))
+loop-again c = (omega arith, fill-turn maxPending 0 (take (c .before .before .before .args .count) (drop (c .before .before .before .args .from) (now (c .before .before .before .args .words)))) (simp length-take (omega arith)) (c .before .before .loop .i) _ (c .before .before .loop .a) (omega arith) (c .before .before .loop .inv .1) (sym (getD-take (c .before .before .before .args .count) (drop (c .before .before .before .args .from) (now (c .before .before .before .args .words))) (c .before .before .loop .i) 0 (omega (arith, c .before .loop-test)) ∙ getD-drop (c .before .before .before .args .from) (now (c .before .before .before .args .words)) (c .before .before .loop .i) 0)))
 
 returns : tie.Need-returns Inv-loop μ-loop
-returns c = rest-end (c .before .before .args .count) (c .before .before .args .t1) (c .before .before .pre .1) (c .before .before .args .gone) (c .before .loop .i) (c .before .loop .slots) (omega (arith, c .before .loop .inv .0, c .loop-test)) (c .before .loop .inv .1)
+returns c = fill-end maxPending 0 (take (c .before .before .args .count) (drop (c .before .before .args .from) (now (c .before .before .args .words)))) (simp length-take (omega arith)) (c .before .loop .i) (c .before .loop .a) (simp length-take (omega arith)) (c .before .loop .inv .1)
 
 pub acked-spec : {M : Type 1} → statement M
 acked-spec =
@@ -60,12 +57,10 @@ acked-spec =
     μ-loop
     loop-holds
     add-j
-    mul-slots
-    array-copy-out-slots
-    mul-slots-2
-    array-set-from-slots
-    mul-slots-3
-    array-set-from-slots-2
+    mul-a
+    shared-slice-read-a
+    mul-a-2
+    array-write-a
     add-i
     loop-less
     loop-again

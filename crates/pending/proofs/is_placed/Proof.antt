@@ -9,14 +9,8 @@ enum-told c = search needs
 enum-known-e : tie.Need-enum-known-e
 enum-known-e c = search needs
 
-in-list-requires : tie.Need-in-list-requires
-in-list-requires c κs = search needs
-
 enum-known-e-2 : tie.Need-enum-known-e-2
 enum-known-e-2 c = search needs
-
-in-list-requires-2 : tie.Need-in-list-requires-2
-in-list-requires-2 c κs = search needs
 
 returns : tie.Need-returns
 unfolding within
@@ -24,21 +18,12 @@ returns c = simp (c .enum-told .given .1)
 
 returns-2 : tie.Need-returns-2
 unfolding within
-returns-2 c = rw (c .before .before .e .given .1) (c .in-list .ensures)
+returns-2 c = rw (c .before .e .given .1)
 
 returns-3 : tie.Need-returns-3
 unfolding within
-returns-3 c = rw (c .before .before .e2 .given .1) (c .in-list2 .ensures)
+returns-3 c = rw (c .before .e2 .given .1)
 
 pub is-placed-spec : {M : Type 1} → statement M
 is-placed-spec =
-    tie.close
-    (tie.spec
-    enum-told
-    enum-known-e
-    in-list-requires
-    enum-known-e-2
-    in-list-requires-2
-    returns
-    returns-2
-    returns-3)
+    tie.close (tie.spec enum-told enum-known-e enum-known-e-2 returns returns-2 returns-3)

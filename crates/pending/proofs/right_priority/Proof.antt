@@ -1,11 +1,9 @@
+use Rattle.pending.proofs.Slot.{priority-is}
 use Rattle.pending.proofs.right_priority.Statement.{statement}
 use Rattle.pending.proofs.right_priority.Tie as tie
 
 returns : tie.Need-returns
-returns c = rw (c .if1 .taken)
-
-returns-2 : tie.Need-returns-2
-returns-2 c = rw (c .if1 .left)
+returns c = priority-is (c .args .n) (c .args .line) (c .args .p) (c .args .own)
 
 pub right-priority-spec : {M : Type 1} → statement M
-right-priority-spec = tie.close (tie.spec returns returns-2)
+right-priority-spec = tie.close (tie.spec returns)

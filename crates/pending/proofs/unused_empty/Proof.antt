@@ -1,31 +1,35 @@
-use Prim.Native.Nat.{_-_}
-use native.Mathlib.Omega.{arith}
-use borrow.Author.Needs.{needs}
-use mathlib.Core.Path.{_≡_, refl, _∙_, sym}
+use Rattle.pending.proofs.Tests.{all-turn, all-end}
+use Rattle.pending.specs.Slots.{emptyAt, allFrom}
 use mathlib.Core.Bool.{_&&_}
-use lib.ListN.{drop}
-use Rattle.pending.specs.Slots.{edits, allNothing}
-use Rattle.pending.proofs.Whole.{unused-turn, unused-end}
+use mathlib.Core.Path.{_≡_, refl, _∙_}
+use denote.Ref.{now}
+use native.Mathlib.Omega.{arith}
+use Prim.Native.Nat.{_-_, _≤_}
 use Rattle.pending.proofs.unused_empty.Statement.{statement}
 use Rattle.pending.proofs.unused_empty.Tie as tie
 
 abbrev Inv-loop : tie.InvT-loop
-Inv-loop count slots empty₀ i₀ empty i = (empty && allNothing (drop i (edits slots))) ≡ allNothing (drop count (edits slots))
+Inv-loop places items from to empty₀ i₀ empty i =
+    (i ≤ to) × ((empty && allFrom (emptyAt places items) i (to - i)) ≡ allFrom (emptyAt places items) from (to - from))
 
 abbrev μ-loop : tie.MeasureT-loop
-μ-loop count slots empty₀ i₀ empty i = 64 - i
+μ-loop places items from to empty₀ i₀ empty i =
+    to - i
 
 loop-holds : tie.Need-loop-holds Inv-loop μ-loop
-loop-holds c = refl
+loop-holds c = (c .pre .0, refl)
 
-mul-s : tie.Need-mul-s Inv-loop μ-loop
-mul-s c = omega arith
+mul-empty : tie.Need-mul-empty Inv-loop μ-loop
+mul-empty c = omega arith
 
-array-copy-out-s : tie.Need-array-copy-out-s Inv-loop μ-loop
-array-copy-out-s c = omega arith
+shared-slice-read-empty : tie.Need-shared-slice-read-empty Inv-loop μ-loop
+shared-slice-read-empty c = omega arith
 
-is-nothing-requires : tie.Need-is-nothing-requires Inv-loop μ-loop
-is-nothing-requires c κs = search needs
+mul-empty-2 : tie.Need-mul-empty-2 Inv-loop μ-loop
+mul-empty-2 c = omega arith
+
+shared-slice-read-empty-2 : tie.Need-shared-slice-read-empty-2 Inv-loop μ-loop
+shared-slice-read-empty-2 c = omega arith
 
 add-i : tie.Need-add-i Inv-loop μ-loop
 add-i c = omega arith
@@ -34,10 +38,10 @@ loop-less : tie.Need-loop-less Inv-loop μ-loop
 loop-less c = omega arith
 
 loop-again : tie.Need-loop-again Inv-loop μ-loop
-loop-again c = unused-turn (c .before .before .before .loop .i) (c .before .before .before .before .args .t1) (c .before .before .before .loop .empty) (c .is-nothing .result) (omega (arith, c .before .before .loop-test, c .before .before .before .before .good .0 .1 .0 .1)) (c .is-nothing .ensures) ∙ c .before .before .before .loop .inv
+loop-again c = (omega arith, all-turn (emptyAt (now (c .before .before .before .before .args .places)) (now (c .before .before .before .before .args .items))) (c .before .before .before .loop .i) (c .before .before .before .before .args .to) (c .before .before .before .loop .empty) _ (omega (arith, c .before .before .loop-test)) refl ∙ c .before .before .before .loop .inv .1)
 
 returns : tie.Need-returns Inv-loop μ-loop
-returns c = sym (unused-end (c .before .loop .i) (c .before .before .args .t1) (c .before .loop .empty) (omega (arith, c .loop-test, c .before .before .good .0 .1 .0 .1))) ∙ c .before .loop .inv
+returns c = all-end (emptyAt (now (c .before .before .args .places)) (now (c .before .before .args .items))) (c .before .loop .i) (c .before .before .args .to) (c .before .loop .empty) (omega arith) ∙ c .before .loop .inv .1
 
 pub unused-empty-spec : {M : Type 1} → statement M
 unused-empty-spec =
@@ -46,9 +50,10 @@ unused-empty-spec =
     Inv-loop
     μ-loop
     loop-holds
-    mul-s
-    array-copy-out-s
-    is-nothing-requires
+    mul-empty
+    shared-slice-read-empty
+    mul-empty-2
+    shared-slice-read-empty-2
     add-i
     loop-less
     loop-again

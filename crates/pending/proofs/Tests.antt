@@ -1,0 +1,230 @@
+-- Question 2 about a line: what the loops compute is the definition, and what the line is where the answer is yes.
+use Prim.Native.Nat.{ℕ, zero, suc, _+_, _-_, _≤_, _<_}
+use native.Mathlib.Nat.{le-of-suc-le-suc, not-suc-le-zero}
+use native.Mathlib.Numerals.{add-one}
+use native.Mathlib.Omega.{arith}
+use mathlib.Core.Path.{_≡_, refl, ap, _∙_, sym}
+use mathlib.Core.Bool.{Bool, true, false, _&&_, and-true, and-assoc}
+use mathlib.Core.List.{List, [], _∷_}
+use lib.Dec.{ltb, eqb}
+use lib.ListN.{length, getD, List·getD-eq-default}
+use lib.Seq.{ext-getD}
+use borrow.Author.Tests.{lt-leb, le-leb, eq-eqb, leb-true, eqb-true, ltb-true, ltb-false}
+use Rattle.ot.specs.declared.Edit.{Edit}
+use Rattle.ot.specs.declared.Edit.the-variants.{Nothing}
+use Rattle.ot.specs.Laws.{within}
+use Rattle.model.specs.Limits.{maxPending}
+use Rattle.model.specs.Cross.{placed, allPlaced, priority, priorities}
+use Rattle.model.proofs.Tests.{both, and-left, and-right, hold, held}
+use Rattle.pending.specs.Slots.{placeOf, itemOf, editOf, tidy, editAt, editsFrom, stretch, filled, allFrom, tidyAt, emptyAt, rightAt, soundTests, soundSlots, Kept, Tested, Whole}
+use Rattle.pending.proofs.Slot.{tidy-place, tidy-item, Ranks, slot-edit, tidy-edit}
+use Rattle.pending.proofs.Slots.{edits-length, edits-at, stretch-at, stretch-length, filled-length, filled-at, whole-at}
+
+-- ---- a test of each of some numbers
+
+module _ (test : ℕ → Bool) where
+  -- One turn of a loop: what was found so far, with what is still to be looked at, stays the same.
+  pub all-turn : (i to : ℕ) (flag t : Bool) → i < to → t ≡ test i → ((flag && t) && allFrom test (i + 1) (to - (i + 1))) ≡ (flag && allFrom test i (to - i))
+  unfolding allFrom
+  all-turn i to flag t h e =
+      let more : suc (to - (i + 1)) ≡ to - i = omega arith in
+      and-assoc flag t (allFrom test (i + 1) (to - (i + 1)))
+      ∙ ap (λ (b : Bool). flag && (b && allFrom test (i + 1) (to - (i + 1)))) e
+      ∙ ap (λ (k : ℕ). flag && (test i && allFrom test k (to - (i + 1)))) (add-one i)
+      ∙ ap (λ (k : ℕ). flag && allFrom test i k) more
+
+  pub all-end : (i to : ℕ) (flag : Bool) → to ≤ i → flag ≡ (flag && allFrom test i (to - i))
+  unfolding allFrom
+  all-end i to flag h =
+      let none′ : 0 ≡ to - i = omega arith in
+      sym (and-true flag) ∙ ap (λ (k : ℕ). flag && allFrom test i k) none′
+
+  pub all-each : (from count : ℕ) → allFrom test from count ≡ true → (i : ℕ) → i < count → test (from + i) ≡ true
+  unfolding allFrom
+  all-each from zero a i h = absurd (not-suc-le-zero h)
+  all-each from (suc count) a zero h =
+      let e : from + 0 ≡ from = omega arith in
+      ap test e ∙ and-left (test from) (allFrom test (suc from) count) a
+  all-each from (suc count) a (suc i) h =
+      let e : from + suc i ≡ suc from + i = omega arith in
+      ap test e ∙ all-each (suc from) count (and-right (test from) (allFrom test (suc from) count) a) i (le-of-suc-le-suc h)
+
+  pub each-all : (from count : ℕ) → ((i : ℕ) → i < count → test (from + i) ≡ true) → allFrom test from count ≡ true
+  unfolding allFrom
+  each-all from zero f = refl
+  each-all from (suc count) f =
+      both (test from) (allFrom test (suc from) count)
+      (let e : from ≡ from + 0 = omega arith in
+      ap test e ∙ f 0 (omega arith))
+      (each-all (suc from) count
+      (λ i h.
+      let e : suc from + i ≡ from + suc i = omega arith in
+      ap test e ∙ f (suc i) (omega arith)))
+
+-- ---- the tests of a line
+
+swap : (a b c p q r : Bool) → ((a && (b && c)) && (p && (q && r))) ≡ ((a && p) && ((b && q) && (c && r)))
+swap false b c p q r = refl
+swap true false c false q r = refl
+swap true false c true q r = refl
+swap true true false false q r = refl
+swap true true false true false r = refl
+swap true true false true true r = refl
+swap true true true false q r = refl
+swap true true true true q r = refl
+
+module _ (good : ℕ → Bool) (ps xs : List ℕ) where
+  right-all : (from count : ℕ) → allFrom (rightAt good ps xs) from count
+      ≡ (allPlaced (editsFrom ps xs from count) && (priorities good (editsFrom ps xs from count) && allFrom (tidyAt ps xs) from count))
+  unfolding allFrom editsFrom allPlaced priorities
+  right-all from zero = refl
+  right-all from (suc count) =
+      let es : List Edit = editsFrom ps xs (suc from) count in
+      ap (λ (b : Bool). rightAt good ps xs from && b) (right-all (suc from) count)
+      ∙ swap (placed (editAt ps xs from)) (priority good (editAt ps xs from)) (tidyAt ps xs from) (allPlaced es) (priorities good es) (allFrom (tidyAt ps xs) (suc from) count)
+
+  module _ (from count : ℕ) where
+    pub sound-many : maxPending < count → false ≡ soundSlots good from count ps xs
+    unfolding soundSlots
+    sound-many h = rw (lt-leb count maxPending h)
+
+    -- the two loops together; to and end are where they stop
+    pub sound-few : (to end : ℕ) (used unused : Bool) → count ≤ maxPending → to ≡ from + count → end ≡ from + maxPending
+        → used ≡ allFrom (rightAt good ps xs) from (to - from)
+        → unused ≡ allFrom (emptyAt ps xs) to (end - to) → (used && unused) ≡ soundSlots good from count ps xs
+    unfolding soundSlots
+    sound-few to end used unused h et ee eu en =
+        let n : to - from ≡ count = omega arith in
+        let m : end - to ≡ maxPending - count = omega arith in
+        let es : List Edit = editsFrom ps xs from count in
+        let u : used ≡ (allPlaced es && (priorities good es && allFrom (tidyAt ps xs) from count)) =
+        eu ∙ ap (allFrom (rightAt good ps xs) from) n ∙ right-all from count in
+        let v : unused ≡ allFrom (emptyAt ps xs) (from + count) (maxPending - count) =
+        en ∙ ap (allFrom (emptyAt ps xs) to) m ∙ ap (λ (k : ℕ). allFrom (emptyAt ps xs) k (maxPending - count)) et in
+        let t : Bool = allFrom (tidyAt ps xs) from count in
+        let z : Bool = allFrom (emptyAt ps xs) (from + count) (maxPending - count) in
+        ap (λ (b : Bool). b && unused) u ∙ ap (λ (b : Bool). (allPlaced es && (priorities good es && t)) && b) v
+        ∙ and-assoc (allPlaced es) (priorities good es && t) z
+        ∙ ap (λ (b : Bool). allPlaced es && b) (and-assoc (priorities good es) t z ∙ ap (λ (b : Bool). priorities good es && (t && b)) (sym (and-true z)))
+        ∙ ap (λ (b : Bool). b && (allPlaced es && (priorities good es && (t && (z && true))))) (sym (le-leb count maxPending h))
+
+    -- The numbers of a line are those for its edits, if each slot in use is that of its edit and each other slot is zero.
+    whole-line : (word : Edit → ℕ) → word Nothing ≡ 0 → (ws : List ℕ) → count ≤ maxPending → from + maxPending ≤ length ws
+        → ((i : ℕ) → i < count → getD ws (from + i) 0 ≡ word (editAt ps xs (from + i)))
+        → ((i : ℕ) → i < maxPending - count → getD ws (from + count + i) 0 ≡ 0)
+        → stretch from ws ≡ filled word (editsFrom ps xs from count)
+    whole-line word z ws few room used unused =
+        ext-getD 0 (stretch from ws) (filled word (editsFrom ps xs from count))
+        (stretch-length from ws room ∙ sym (filled-length word (editsFrom ps xs from count) (omega (arith, edits-length ps xs from count))))
+        (λ i h.
+        let inside : i < maxPending = omega (arith, stretch-length from ws room) in
+        stretch-at from ws i inside ∙ go i inside (ltb i count) refl ∙ sym (filled-at word z (editsFrom ps xs from count) i))
+      where
+        go : (i : ℕ) → i < maxPending → (b : Bool) → ltb i count ≡ b → getD ws (from + i) 0 ≡ word (getD (editsFrom ps xs from count) i Nothing)
+        go i h true t =
+            let k : i < count = ltb-true i count t in
+            used i k ∙ ap word (sym (edits-at ps xs from count i k))
+        go i h false f =
+            let k : count ≤ i = ltb-false i count f in
+            let e : from + i ≡ from + count + (i - count) = omega arith in
+            ap (λ (j : ℕ). getD ws j 0) e ∙ unused (i - count) (omega arith)
+            ∙ sym z ∙ ap word (sym (List·getD-eq-default (editsFrom ps xs from count) Nothing (omega (arith, edits-length ps xs from count))))
+
+    -- where the answer is yes
+    pub sound-kept : Whole from ps xs → soundSlots good from count ps xs ≡ true → Kept from count ps xs
+    unfolding soundSlots
+    sound-kept room h =
+        let f = hold (soundTests good from count ps xs) h in
+        let few : count ≤ maxPending = leb-true count maxPending (f .0) in
+        let tidied = all-each (tidyAt ps xs) from count (f .1 .1 .1 .0) in
+        let empty = all-each (emptyAt ps xs) (from + count) (maxPending - count) (f .1 .1 .1 .1 .0) in
+        record {
+          few = few;
+          places =
+              whole-line placeOf refl ps few (room .places)
+              (λ i k. tidy-place (getD ps (from + i) 0) (getD xs (from + i) 0) (tidied i k))
+              (λ i k. eqb-true (getD ps (from + count + i) 0) 0
+              (and-left (eqb (getD ps (from + count + i) 0) 0) (eqb (getD xs (from + count + i) 0) 0) (empty i k)));
+          items =
+              whole-line itemOf refl xs few (room .items)
+              (λ i k. tidy-item (getD ps (from + i) 0) (getD xs (from + i) 0) (tidied i k))
+              (λ i k. eqb-true (getD xs (from + count + i) 0) 0
+              (and-right (eqb (getD ps (from + count + i) 0) 0) (eqb (getD xs (from + count + i) 0) 0) (empty i k)));
+          placed = f .1 .0;
+        }
+
+    pub tested : Whole from ps xs → (r : Bool) → r ≡ soundSlots good from count ps xs → Tested good from count ps xs r
+    tested room r e = record { answer = e; kept = λ y. sound-kept room (sym e ∙ y) }
+
+-- ---- the line for a list of right edits
+
+placed-each : (es : List Edit) (i : ℕ) → allPlaced es ≡ true → placed (getD es i Nothing) ≡ true
+unfolding allPlaced within
+placed-each [] i h = refl
+placed-each (e ∷ es) zero h = and-left (placed e) (allPlaced es) h
+placed-each (e ∷ es) (suc i) h = placed-each es i (and-right (placed e) (allPlaced es) h)
+
+priority-each : (good : ℕ → Bool) (es : List Edit) (i : ℕ) → priorities good es ≡ true → priority good (getD es i Nothing) ≡ true
+unfolding priorities
+priority-each good [] i h = refl
+priority-each good (e ∷ es) zero h = and-left (priority good e) (priorities good es) h
+priority-each good (e ∷ es) (suc i) h = priority-each good es i (and-right (priority good e) (priorities good es) h)
+
+module _ (good : ℕ → Bool) (ranks : Ranks good) (from : ℕ) (ps xs : List ℕ) (es : List Edit) (few : length es ≤ maxPending)
+    (places : stretch from ps ≡ filled placeOf es) (items : stretch from xs ≡ filled itemOf es)
+    (fine : allPlaced es ≡ true) (right : priorities good es ≡ true) where
+  place-is : (i : ℕ) → i < maxPending → getD ps (from + i) 0 ≡ placeOf (getD es i Nothing)
+  place-is = whole-at placeOf refl from ps es places
+
+  item-is : (i : ℕ) → i < maxPending → getD xs (from + i) 0 ≡ itemOf (getD es i Nothing)
+  item-is = whole-at itemOf refl from xs es items
+
+  -- it means that list,
+  pub filled-edits : editsFrom ps xs from (length es) ≡ es
+  filled-edits =
+      ext-getD Nothing (editsFrom ps xs from (length es)) es (edits-length ps xs from (length es))
+      (λ i h.
+      let k : i < length es = omega (arith, edits-length ps xs from (length es)) in
+      edits-at ps xs from (length es) i k
+      ∙ ap (λ (n : ℕ). editOf n (getD xs (from + i) 0)) (place-is i (omega arith))
+      ∙ ap (editOf (placeOf (getD es i Nothing))) (item-is i (omega arith))
+      ∙ slot-edit good ranks (getD es i Nothing) (placed-each es i fine) (priority-each good es i right))
+
+  pub filled-tidy : allFrom (tidyAt ps xs) from (length es) ≡ true
+  filled-tidy =
+      each-all (tidyAt ps xs) from (length es)
+      (λ i h.
+      ap (λ (n : ℕ). tidy n (getD xs (from + i) 0)) (place-is i (omega arith))
+      ∙ ap (tidy (placeOf (getD es i Nothing))) (item-is i (omega arith))
+      ∙ tidy-edit good ranks (getD es i Nothing) (placed-each es i fine) (priority-each good es i right))
+
+  pub filled-empty : allFrom (emptyAt ps xs) (from + length es) (maxPending - length es) ≡ true
+  filled-empty =
+      each-all (emptyAt ps xs) (from + length es) (maxPending - length es)
+      (λ i h.
+      let e : from + length es + i ≡ from + (length es + i) = omega arith in
+      let none′ : getD es (length es + i) Nothing ≡ Nothing = List·getD-eq-default es Nothing (omega arith) in
+      let p : getD ps (from + length es + i) 0 ≡ 0 =
+      ap (λ (j : ℕ). getD ps j 0) e ∙ place-is (length es + i) (omega arith) ∙ ap placeOf none′ in
+      let x : getD xs (from + length es + i) 0 ≡ 0 =
+      ap (λ (j : ℕ). getD xs j 0) e ∙ item-is (length es + i) (omega arith) ∙ ap itemOf none′ in
+      both (eqb (getD ps (from + length es + i) 0) 0) (eqb (getD xs (from + length es + i) 0) 0)
+      (eq-eqb (getD ps (from + length es + i) 0) 0 p) (eq-eqb (getD xs (from + length es + i) 0) 0 x))
+
+  -- and passes the test.
+  pub sound-filled : soundSlots good from (length es) ps xs ≡ true
+  unfolding soundSlots
+  sound-filled =
+      held (soundTests good from (length es) ps xs) (
+        le-leb (length es) maxPending few,
+        (
+          ap allPlaced filled-edits ∙ fine,
+          (
+            ap (priorities good) filled-edits ∙ right,
+            (
+              filled-tidy,
+              (filled-empty, tt),
+            ),
+          ),
+        ),
+      )
