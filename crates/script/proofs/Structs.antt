@@ -32,7 +32,7 @@ use Rattle.server.specs.Calls.{answered, refused, sends, tells, takes}
 use Rattle.server.specs.Sound.{soundStruct}
 use Rattle.server.proofs.Lines.{getD-default, pad-set, set-map}
 use Rattle.server.proofs.Stored.{view-store, store-sound}
-use Rattle.convergence.proofs.Stored.{client-view, client-stored}
+use Rattle.client.proofs.Stored.{client-view, client-stored}
 use Rattle.script.specs.declared.ends.Ends.{Ends}
 use Rattle.script.specs.declared.parse.Command.{Command}
 use Rattle.script.specs.declared.parse.Command.the-variants.{Bad, Insert, Delete, Up, Down, Ack, Told}

@@ -22,7 +22,7 @@ use Rattle.server.specs.declared.Server.{Server}
 use Rattle.server.specs.declared.Answer as serverAnswer
 use Rattle.server.specs.View as server
 use Rattle.server.proofs.Stored.{view-store}
-use Rattle.convergence.proofs.Stored.{client-view}
+use Rattle.client.proofs.Stored.{client-view}
 use Rattle.script.specs.declared.ends.Ends.{Ends}
 use Rattle.script.specs.declared.parse.Command.{Command}
 use Rattle.script.specs.declared.parse.Command.the-variants.{Bad, Insert}

@@ -1,4 +1,4 @@
--- The struct of a sound client is sound, and means that client. (Of the server's the crate server proves it.)
+-- The struct of a sound client is sound, and means that client.
 use mathlib.Core.Path.{_≡_, refl, ap, sym, _∙_}
 use mathlib.Core.Bool.{Bool, true}
 use mathlib.Core.List.{List}
