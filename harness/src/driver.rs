@@ -237,13 +237,11 @@ fn set_line(line: &mut Line, call: &Call) -> Option<()> {
         field::ACKED => line.acked = small,
         field::INSERTS => line.inserts = small,
         field::PENDING => {
-            let edit = match call.size {
-                0 => Edit::NOTHING,
-                1 => Edit::delete(call.position),
-                2 => Edit::insert(call.position, call.value, call.priority),
-                _ => return None,
-            };
-            *line.pending.get_mut(call.number as usize)? = edit;
+            if call.size > 2 {
+                return None;
+            }
+            let place = (call.size as u32) << 24 | (call.position as u32) << 8 | call.priority as u32;
+            *line.pending.get_mut(call.number as usize)? = Edit::of_slot(place, call.value);
         }
         _ => return None,
     }
@@ -262,9 +260,7 @@ fn dump_line<'a>(line: &Line, mut out: &'a mut [u8]) -> &'a mut [u8] {
     }
     let (now, rest) = out.split_at_mut(8 * PENDING);
     for (eight, edit) in now.chunks_exact_mut(8).zip(&line.pending) {
-        eight[0] = edit.kind();
-        eight[1] = edit.priority();
-        eight[2..4].copy_from_slice(&edit.position().to_be_bytes());
+        eight[..4].copy_from_slice(&edit.place().to_be_bytes());
         eight[4..].copy_from_slice(&edit.item().to_be_bytes());
     }
     rest

@@ -155,7 +155,7 @@ impl Call {
             TAKE => format!("{who} takes slot {}", self.slot),
             POKE => format!("slot {} byte {} becomes {}, length {}", self.slot, self.number, self.value & 255, self.size),
             SET => format!(
-                "{who} line {} field {} index {} becomes {} (kind {}, position {}, priority {})",
+                "{who} line {} field {} index {} becomes {} (top {}, position {}, priority {})",
                 self.line, self.field, self.number, self.value, self.size, self.position, self.priority
             ),
             DUMP => format!("{who} is dumped"),
@@ -178,7 +178,7 @@ pub fn place(call: &Call, byte: usize) -> String {
     let (head, lines) = if call.end == 0 { (6, LINES) } else { (4, 1) };
     let line = |at: usize| match at {
         0..=7 => ["made", "taken", "acked", "inserts"][at / 2].to_string(),
-        _ => format!("pending[{}] {}", (at - 8) / 8, ["kind", "priority", "position", "position", "item", "item", "item", "item"][at % 8]),
+        _ => format!("pending[{}] {}", (at - 8) / 8, ["top", "position", "position", "priority", "item", "item", "item", "item"][at % 8]),
     };
     if at < head {
         let names =

@@ -11,7 +11,7 @@ struct Line {
     taken: u64,
     acked: u64,
     inserts: u64,
-    /// kind, priority, position, item
+    /// the place's top byte, position, priority; item
     pending: Vec<(u64, u64, u64, u64)>,
 }
 
@@ -26,7 +26,7 @@ impl Reader<'_> {
 
     fn line(&mut self) -> Line {
         let [made, taken, acked, inserts] = [(); 4].map(|_| self.number(2));
-        let pending = (0..PENDING).map(|_| (self.number(1), self.number(1), self.number(2), self.number(4))).collect();
+        let pending = (0..PENDING).map(|_| (self.number(1), self.number(2), self.number(1), self.number(4))).collect();
         Line { made, taken, acked, inserts, pending }
     }
 
@@ -45,10 +45,10 @@ fn sound_pending(line: &Line, priority_allowed: impl Fn(u64) -> bool) -> bool {
         return false;
     }
     let (used, unused) = line.pending.split_at((line.made - line.acked) as usize);
-    used.iter().all(|&(kind, priority, position, _)| {
-        let position = kind == 0 || (1..=512).contains(&position);
-        let priority = kind != 2 || priority_allowed(priority);
-        position && priority
+    used.iter().all(|&(top, position, priority, item)| {
+        let delete = priority == 0 && item == 0;
+        let insert = priority != 0 && priority_allowed(priority);
+        (top, position, priority, item) == (0, 0, 0, 0) || top == 0 && (1..=512).contains(&position) && (delete || insert)
     }) && unused.iter().all(|&edit| edit == (0, 0, 0, 0))
 }
 

@@ -67,13 +67,14 @@ impl Oracle {
         }
         let length = bytes.len() + 8 * PENDING;
         for number in counts.acked + 1..=counts.made {
-            let (kind, priority, position, item) = match self.pending(end, l, number) {
-                Edit::Nothing => (0, 0, 0, 0),
-                Edit::Delete(position) => (1, 0, position, 0),
-                Edit::Insert(position, item, priority) => (2, priority, position, item),
+            let (position, priority, item) = match self.pending(end, l, number) {
+                Edit::Nothing => (0, 0, 0),
+                Edit::Delete(position) => (position, 0, 0),
+                Edit::Insert(position, item, priority) => (position, priority, item),
             };
-            bytes.extend_from_slice(&[kind, priority]);
+            bytes.push(0);
             bytes.extend_from_slice(&position.to_be_bytes());
+            bytes.push(priority);
             bytes.extend_from_slice(&item.to_be_bytes());
         }
         bytes.resize(length, 0);
