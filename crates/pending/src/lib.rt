@@ -1,5 +1,6 @@
 // The outgoing buffer of a line: the pending edits, as numbers in two arrays. A slot is a number in each: its place, position * 256 +
-// priority, and its item. So the arrays can be lent, and question 2 looks at many slots at once.
+// priority, and its item. So the arrays can be lent, and question 2 looks at many slots at once. Functions that callers lend both arrays
+// have one lifetime for the two, since then they may be fields of one end.
 ghost use mathlib.Core.Path.{_≡_};
 ghost use Prim.Native.Nat.{_+_, _-_, _≤_};
 ghost use lib.ListN.{length, getD, take, drop};
@@ -66,7 +67,7 @@ fn word_at(words: &[u32], i: usize) -> u32
 }
 
 // The edit in slot i, counted from 0; nothing past the last.
-pub fn at(places: &[u32], items: &[u32], i: usize) -> Edit
+pub fn at<'a>(places: &'a [u32], items: &'a [u32], i: usize) -> Edit
     ensures { λ r. ⌜ r ≡ editAt (now (places .entry)) (now (items .entry)) i ⌝ }
 {
     edit_of(word_at(places, i), word_at(items, i))
@@ -127,9 +128,9 @@ fn unused_empty(places: &[u32], items: &[u32], from: usize, to: usize) -> bool
 }
 
 // Question 2 about the line whose first slot is from: the pending edits of a client (own), or those that the server keeps for a line.
-pub fn sound(
-    places: &[u32],
-    items: &[u32],
+pub fn sound<'a>(
+    places: &'a [u32],
+    items: &'a [u32],
     from: usize,
     count: usize,
     n: u8,
@@ -175,7 +176,7 @@ fn is_placed(e: Edit) -> bool
 
 // The arriving edit goes past the count pending ones whose first slot is from, in order, and each of these past the arriving edit as
 // it stood before that one.
-pub fn cross(places: &[u32], items: &[u32], from: usize, count: usize, e: Edit) -> Crossed
+pub fn cross<'a>(places: &'a [u32], items: &'a [u32], from: usize, count: usize, e: Edit) -> Crossed
     requires { ⌜ (positionOf e ≤ maxItems) × Ready from count (now places) (now items) ⌝ }
     ensures { λ r. ⌜ r ≡ crossed e (editsFrom (now (places .entry)) (now (items .entry)) from count) ⌝ }
 {

@@ -1,9 +1,0 @@
-pub mod Bools
-pub mod Places
-pub mod Whole
-pub mod Lines
-pub mod Answers
-pub mod Roomy
-pub mod Keeping
-pub mod Taking
-pub mod Stored
