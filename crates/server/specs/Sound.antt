@@ -52,8 +52,8 @@ structTests s =
     soundServer (view s)
     ∷ leb (s .len) maxItems
     ∷ allZero (drop (s .len) (s .items))
-    ∷ allFrom (tidyLine (countsOf s) (s .pending-places) (s .pending-items)) 0 (s .n)
-    ∷ allFrom (zeroLine (countsOf s) (s .pending-places) (s .pending-items)) (s .n) (maxLines - s .n)
+    ∷ allFrom (tidyLine (countsOf s) (s .«pending_places») (s .«pending_items»)) 0 (s .n)
+    ∷ allFrom (zeroLine (countsOf s) (s .«pending_places») (s .«pending_items»)) (s .n) (maxLines - s .n)
     ∷ []
 
 unfoldable pub soundStruct : Server → Bool
@@ -67,7 +67,7 @@ AllKept k ps xs = (i : ℕ) → i < maxLines → Kept (maxPending * i) (pendingC
 pub record Sound (s : Server) : Type 0 where
   pub well : soundStruct s ≡ true
   pub whole : s ≡ store (view s)
-  pub kept : AllKept (countsOf s) (s .pending-places) (s .pending-items)
+  pub kept : AllKept (countsOf s) (s .«pending_places») (s .«pending_items»)
 
 -- the sizes of the arrays that are lent
 pub record Sizes (items ps xs : List ℕ) : Type 0 where

@@ -17,7 +17,7 @@ use Rattle.pending.specs.Slots.{placeOf, itemOf, editsFrom, stretch, filled, al
 use Rattle.endpoint.specs.Items.{roomy}
 use Rattle.endpoint.specs.Line.{seenQuestions, editQuestions}
 use Rattle.server.specs.declared.Counts.{Counts}
-use Rattle.server.specs.declared.Decision.{Decision}
+use Rattle.server.specs.declared.taking.Decision.{Decision}
 use Rattle.server.specs.View.{pendingCount}
 use Rattle.server.specs.Sound.{AllKept}
 

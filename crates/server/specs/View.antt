@@ -26,8 +26,8 @@ serverOf k items ps xs =
       taken = k .taken;
       acked = k .acked;
       inserts = k .inserts;
-      pending-places = ps;
-      pending-items = xs;
+      «pending_places» = ps;
+      «pending_items» = xs;
     }
 
 -- how many edits are pending at place i
@@ -62,7 +62,7 @@ view s =
       n = s .n;
       initial = s .initial;
       items = take (s .len) (s .items);
-      lines = linesFrom (countsOf s) (s .pending-places) (s .pending-items) 0 (s .n);
+      lines = linesFrom (countsOf s) (s .«pending_places») (s .«pending_items») 0 (s .n);
     }
 
 -- the slots of some lines one after the other, the places or the items
@@ -85,8 +85,8 @@ store m =
       taken = map (λ v. v .taken) (allLines m);
       acked = map (λ v. v .acked) (allLines m);
       inserts = map (λ v. v .inserts) (allLines m);
-      pending-places = slotsOf placeOf (allLines m);
-      pending-items = slotsOf itemOf (allLines m);
+      «pending_places» = slotsOf placeOf (allLines m);
+      «pending_items» = slotsOf itemOf (allLines m);
     }
 
 -- an end over whose lines nothing has come
@@ -101,6 +101,6 @@ fresh n len items =
       taken = replicate 8 0;
       acked = replicate 8 0;
       inserts = replicate 8 0;
-      pending-places = replicate 512 0;
-      pending-items = replicate 512 0;
+      «pending_places» = replicate 512 0;
+      «pending_items» = replicate 512 0;
     }

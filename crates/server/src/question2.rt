@@ -76,7 +76,7 @@ fn places_sound(k: Counts, total: u32) -> bool
 }
 
 // The slots of all places. Of a line that is not in use the counts are 0, so that its pending edits are tested as none.
-fn slots_sound(k: Counts, places: &[u32], items: &[u32]) -> bool
+fn slots_sound<'a>(k: Counts, places: &'a [u32], items: &'a [u32]) -> bool
     requires { ⌜ (512 ≤ length (now places)) × (512 ≤ length (now items)) ⌝ }
     ensures { λ r. ⌜ r ≡ allFrom (slotsAt k (now (places .entry)) (now (items .entry))) 0 8 ⌝ }
 {
@@ -89,10 +89,10 @@ fn slots_sound(k: Counts, places: &[u32], items: &[u32]) -> bool
     well
 }
 
-pub fn is_sound(k: Counts, items: &[u32], pending_places: &[u32], pending_items: &[u32]) -> bool
-    requires { ⌜ Sizes (now items) (now pending_places) (now pending_items) ⌝ }
-    ensures answer { λ r. ⌜ r ≡ soundStruct (serverOf k (now (items .entry)) (now (pending_places .entry)) (now (pending_items .entry))) ⌝ }
-    ensures whole { λ r. ⌜ (r ≡ true → Sound (serverOf k (now (items .entry)) (now (pending_places .entry)) (now (pending_items .entry)))) ⌝ }
+pub fn is_sound<'a>(k: Counts, items: &'a [u32], places: &'a [u32], slots: &'a [u32]) -> bool
+    requires { ⌜ Sizes (now items) (now places) (now slots) ⌝ }
+    ensures answer { λ r. ⌜ r ≡ soundStruct (serverOf k (now (items .entry)) (now (places .entry)) (now (slots .entry))) ⌝ }
+    ensures whole { λ r. ⌜ (r ≡ true → Sound (serverOf k (now (items .entry)) (now (places .entry)) (now (slots .entry)))) ⌝ }
 {
     let lines = (1 <= k.n) & (k.n as usize <= Server::LINES);
     if lines & (k.initial as usize <= Server::INITIAL) & (k.len as usize <= Server::ITEMS) {
@@ -103,7 +103,7 @@ pub fn is_sound(k: Counts, items: &[u32], pending_places: &[u32], pending_items:
         return (k.len as u32 <= most)
             & endpoint::zero_from(items, k.len as usize)
             & places_sound(k, sum(m, taken))
-            & slots_sound(k, pending_places, pending_items);
+            & slots_sound(k, places, slots);
     }
     false
 }

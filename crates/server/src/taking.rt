@@ -129,7 +129,7 @@ fn refusing(refusal: u8) -> Decision
 }
 
 // An acknowledgement only drops pending edits.
-fn decide_ack(k: Counts, places: &[u32], items: &[u32], line: u8, direction: u8, seen: u16) -> Decision
+fn decide_ack<'a>(k: Counts, places: &'a [u32], items: &'a [u32], line: u8, direction: u8, seen: u16) -> Decision
     requires { ⌜ Ready k (now places) (now items) ⌝ }
     ensures { λ r. ⌜ r ≡ ackDecided k (now (places .entry)) (now (items .entry)) line direction seen ⌝ }
 {
@@ -155,7 +155,7 @@ fn decide_ack(k: Counts, places: &[u32], items: &[u32], line: u8, direction: u8,
 }
 
 // An edit drops the pending edits up to seen, is transformed past the others, and these past it.
-fn decide_edit(k: Counts, places: &[u32], items: &[u32], h: Header, e: Edit) -> Decision
+fn decide_edit<'a>(k: Counts, places: &'a [u32], items: &'a [u32], h: Header, e: Edit) -> Decision
     requires { ⌜ (positionOf e ≤ maxItems) × Ready k (now places) (now items) ⌝ }
     ensures { λ r. ⌜ r ≡ editDecided k (now (places .entry)) (now (items .entry)) h e ⌝ }
 {
@@ -187,7 +187,7 @@ fn decide_edit(k: Counts, places: &[u32], items: &[u32], h: Header, e: Edit) -> 
     refusing(refusal)
 }
 
-fn decide(k: Counts, places: &[u32], items: &[u32], m: Message) -> Decision
+fn decide<'a>(k: Counts, places: &'a [u32], items: &'a [u32], m: Message) -> Decision
     requires { ⌜ (inRange m ≡ true) × Ready k (now places) (now items) ⌝ }
     ensures { λ r. ⌜ r ≡ decided k (now (places .entry)) (now (items .entry)) m ⌝ }
 {
