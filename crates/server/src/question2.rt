@@ -62,15 +62,21 @@ fn pick(first: bool, a: bool, b: bool) -> bool
     if first { a } else { b }
 }
 
+// The counts of a place, used or not.
+fn place_sound(used: bool, total: u32, made: u16, taken: u16, acked: u16, inserts: u16) -> bool
+    ensures { λ r. ⌜ r ≡ cond used (countsSound total made taken acked inserts) (countsZero made taken acked inserts) ⌝ }
+{
+    pick(used, counts_sound(total, made, taken, acked, inserts), counts_zero(made, taken, acked, inserts))
+}
+
 // The counts of all places: one of the first n holds a line in use.
 fn places_sound(k: Counts, total: u32) -> bool
     ensures { λ r. ⌜ r ≡ allFrom (countsAt k total) 0 8 ⌝ }
 {
     let mut well = true;
     for i in 0..8 {
-        let sound = counts_sound(total, k.made[i], k.taken[i], k.acked[i], k.inserts[i]);
-        let zero = counts_zero(k.made[i], k.taken[i], k.acked[i], k.inserts[i]);
-        well = well & pick(i < k.n as usize, sound, zero);
+        let used = i < k.n as usize;
+        well = well & place_sound(used, total, k.made[i], k.taken[i], k.acked[i], k.inserts[i]);
     }
     well
 }

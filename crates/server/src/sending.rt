@@ -1,7 +1,9 @@
 // Sending: a pending edit, or an acknowledgement.
 ghost use mathlib.Core.Path.{_≡_};
 ghost use Rattle.endpoint.specs.Sending.{answered as sentAs};
-ghost use Rattle.server.specs.Calls.{sends, tells};
+ghost use Prim.Native.Nat.{_≤_};
+ghost use Rattle.model.specs.Questions.{asks};
+ghost use Rattle.server.specs.Calls.{sends, tells, sendAsked, messageAt};
 use crate::Counts;
 use crate::Server;
 use crate::question2::is_sound;
@@ -9,48 +11,94 @@ use endpoint::Sent;
 use wire::Header;
 use wire::Message;
 
+// Questions 4 and 13.
+fn ask_send(c: Counts, line: u8, k: u16) -> u8
+    requires { ⌜ c .n ≤ 8 ⌝ }
+    ensures { λ r. ⌜ r ≡ asks (sendAsked c line k) ⌝ }
+{
+    if (1 <= line) & (line <= c.n) {
+        let i = (line - 1) as usize;
+        if (c.acked[i] < k) & (k <= c.made[i]) {
+            return 0;
+        }
+        return 13;
+    }
+    4
+}
+
+// The message of number k of the pending edits of a line.
+fn message<'a>(c: Counts, places: &'a [u32], items: &'a [u32], line: u8, k: u16) -> Message
+    requires { ⌜ (c .n ≤ 8) × (asks (sendAsked c line k) ≡ 0) ⌝ }
+    ensures { λ r. ⌜ r ≡ messageAt c (now (places .entry)) (now (items .entry)) line k ⌝ }
+{
+    let i = (line - 1) as usize;
+    let at = 64 * i + (k - 1 - c.acked[i]) as usize;
+    let h = Header {
+        line,
+        direction: 1,
+        number: k,
+        seen: c.taken[i],
+    };
+    wire::of_edit(h, pending::at(places, items, at))
+}
+
 impl Server {
     // Number k of the pending edits of a line, in its present form.
     pub fn send(self, line: u8, k: u16, out: &mut [u8]) -> Sent
         ensures { λ r. ⌜ sentAs r (now (out .exit)) ≡ sends self line k (now (out .entry)) ⌝ }
     {
-        let made = self.made;
-        let taken = self.taken;
-        let acked = self.acked;
-        let inserts = self.inserts;
-        let counts = Counts { n: self.n, initial: self.initial, len: self.len, made, taken, acked, inserts };
-        if is_sound(counts, &self.items, &self.pending_places, &self.pending_items) {
-            if (1 <= line) & (line <= self.n) {
-                let i = (line - 1) as usize;
-                if (acked[i] < k) & (k <= made[i]) {
-                    let at = 64 * i + (k - 1 - acked[i]) as usize;
-                    let e = pending::at(&self.pending_places, &self.pending_items, at);
-                    let h = Header { line, direction: 1, number: k, seen: taken[i] };
-                    return endpoint::finish(0, wire::of_edit(h, e), out);
-                }
-                return Sent { refusal: 13, written: 0 };
+        let c = Counts {
+            n: self.n,
+            initial: self.initial,
+            len: self.len,
+            made: self.made,
+            taken: self.taken,
+            acked: self.acked,
+            inserts: self.inserts,
+        };
+        if is_sound(c, &self.items, &self.pending_places, &self.pending_items) {
+            let refusal = ask_send(c, line, k);
+            if refusal == 0 {
+                let m = message(c, &self.pending_places, &self.pending_items, line, k);
+                return endpoint::finish(0, m, out);
             }
-            return Sent { refusal: 4, written: 0 };
+            return Sent {
+                refusal,
+                written: 0,
+            };
         }
-        Sent { refusal: 2, written: 0 }
+        Sent {
+            refusal: 2,
+            written: 0,
+        }
     }
 
     // An acknowledgement of what was taken on a line.
     pub fn tell(self, line: u8, out: &mut [u8]) -> Sent
         ensures { λ r. ⌜ sentAs r (now (out .exit)) ≡ tells self line (now (out .entry)) ⌝ }
     {
-        let made = self.made;
-        let taken = self.taken;
-        let acked = self.acked;
-        let inserts = self.inserts;
-        let counts = Counts { n: self.n, initial: self.initial, len: self.len, made, taken, acked, inserts };
-        if is_sound(counts, &self.items, &self.pending_places, &self.pending_items) {
-            if (1 <= line) & (line <= self.n) {
+        let c = Counts {
+            n: self.n,
+            initial: self.initial,
+            len: self.len,
+            made: self.made,
+            taken: self.taken,
+            acked: self.acked,
+            inserts: self.inserts,
+        };
+        if is_sound(c, &self.items, &self.pending_places, &self.pending_items) {
+            if (1 <= line) & (line <= c.n) {
                 let i = (line - 1) as usize;
-                return endpoint::finish(0, Message::Ack(line, 1, taken[i]), out);
+                return endpoint::finish(0, Message::Ack(line, 1, c.taken[i]), out);
             }
-            return Sent { refusal: 4, written: 0 };
+            return Sent {
+                refusal: 4,
+                written: 0,
+            };
         }
-        Sent { refusal: 2, written: 0 }
+        Sent {
+            refusal: 2,
+            written: 0,
+        }
     }
 }

@@ -203,7 +203,7 @@ fn decide<'a>(k: Counts, places: &'a [u32], items: &'a [u32], m: Message) -> Dec
 
 // Puts the numbers of one line into their places.
 fn put(words: &mut [u32; 512], at: usize, part: &[u32])
-    requires { ⌜ (at < 8) × (maxPending ≤ length (now part)) ⌝ }
+    requires { ⌜ (at < 8) × (length (now part) ≡ maxPending) ⌝ }
     ensures { λ r. ⌜ Replaced at (now (part .entry)) (now (words .entry)) (now (words .exit)) ⌝ }
 {
     let from = 64 * at;
@@ -219,10 +219,11 @@ fn keep(words: &mut [u32; 512], n: usize, at: usize, made: [u16; 8], acked: [u16
     ensures { λ r. ⌜ Kept n at made acked word (now (words .entry)) (now (words .exit)) ⌝ }
 {
     for i in 0..n {
-        if i != at {
-            let j = 64 * i + less(made[i], acked[i]) as usize;
-            words[j] = word;
+        if i == at {
+            continue;
         }
+        let j = 64 * i + less(made[i], acked[i]) as usize;
+        words[j] = word;
     }
 }
 
@@ -233,9 +234,10 @@ fn raised(n: usize, at: usize, made: [u16; 8]) -> [u16; 8]
 {
     let mut more = made;
     for i in 0..n {
-        if i != at {
-            more[i] = made[i] + 1;
+        if i == at {
+            continue;
         }
+        more[i] = made[i] + 1;
     }
     more
 }
@@ -245,11 +247,15 @@ impl Server {
     pub fn take(mut self, bytes: &[u8]) -> Answer
         ensures { λ r. ⌜ r ≡ takes self (now (bytes .entry)) ⌝ }
     {
-        let made = self.made;
-        let taken = self.taken;
-        let acked = self.acked;
-        let inserts = self.inserts;
-        let k = Counts { n: self.n, initial: self.initial, len: self.len, made, taken, acked, inserts };
+        let k = Counts {
+            n: self.n,
+            initial: self.initial,
+            len: self.len,
+            made: self.made,
+            taken: self.taken,
+            acked: self.acked,
+            inserts: self.inserts,
+        };
         if is_sound(k, &self.items, &self.pending_places, &self.pending_items) {
             let Read::Message(m) = wire::parse(bytes) else {
                 return Answer { refusal: 3, passed: 0, server: self };
@@ -263,9 +269,9 @@ impl Server {
                 self.len = ot::apply(&mut self.items, k.len, e);
                 put(&mut self.pending_places, i, &places);
                 put(&mut self.pending_items, i, &items);
-                keep(&mut self.pending_places, d.others, i, made, acked, pending::place_of(e));
-                keep(&mut self.pending_items, d.others, i, made, acked, pending::item_of(e));
-                self.made = raised(d.others, i, made);
+                keep(&mut self.pending_places, d.others, i, k.made, k.acked, pending::place_of(e));
+                keep(&mut self.pending_items, d.others, i, k.made, k.acked, pending::item_of(e));
+                self.made = raised(d.others, i, k.made);
                 self.taken[i] = d.taken;
                 self.acked[i] = d.acked;
                 self.inserts[i] = d.inserts;
