@@ -1,3 +1,6 @@
 pub mod Rows
 pub mod Places
+pub mod Whole
 pub mod Writing
+pub mod Asked
+pub mod Deciding

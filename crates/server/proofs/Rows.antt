@@ -18,6 +18,7 @@ use Rattle.pending.proofs.Pad.{pad-getD, pad-length}
 use Rattle.pending.proofs.Slots.{filled-length}
 use Rattle.server.specs.declared.Server.{Server}
 use Rattle.server.specs.View.{slotsOf, allLines, store}
+use Rattle.server.specs.Sound.{Sized}
 
 -- ---- the 64 numbers of a line
 
@@ -100,15 +101,6 @@ pub record Row (s : Server) (i : ℕ) (v : model.Line) : Type 0 where
   pub inserts : getD (s .inserts) i 0 ≡ v .inserts
   pub places : stretch (maxPending * i) (s .«pending_places») ≡ filled placeOf (v .pending)
   pub items : stretch (maxPending * i) (s .«pending_items») ≡ filled itemOf (v .pending)
-
--- its arrays have their lengths
-pub record Sized (s : Server) : Type 0 where
-  pub made : length (s .made) ≡ 8
-  pub taken : length (s .taken) ≡ 8
-  pub acked : length (s .acked) ≡ 8
-  pub inserts : length (s .inserts) ≡ 8
-  pub places : length (s .«pending_places») ≡ 512
-  pub items : length (s .«pending_items») ≡ 512
 
 module _ (m : model.Server) (few : length (m .lines) ≤ maxLines) where
   eight : length (allLines m) ≡ 8

@@ -63,11 +63,21 @@ soundStruct s = every (structTests s)
 abbrev pub AllKept : Counts → List ℕ → List ℕ → Type 0
 AllKept k ps xs = (i : ℕ) → i < maxLines → Kept (maxPending * i) (pendingCount k i) ps xs
 
+-- its arrays have their lengths
+pub record Sized (s : Server) : Type 0 where
+  pub made : length (s .made) ≡ 8
+  pub taken : length (s .taken) ≡ 8
+  pub acked : length (s .acked) ≡ 8
+  pub inserts : length (s .inserts) ≡ 8
+  pub places : length (s .«pending_places») ≡ 512
+  pub items : length (s .«pending_items») ≡ 512
+
 -- What the calls may assume once question 2 has been answered yes: such a struct is the one for its meaning.
 pub record Sound (s : Server) : Type 0 where
   pub well : soundStruct s ≡ true
   pub whole : s ≡ store (view s)
   pub kept : AllKept (countsOf s) (s .«pending_places») (s .«pending_items»)
+  pub sized : Sized s
 
 -- the sizes of the arrays that are lent
 pub record Sizes (items ps xs : List ℕ) : Type 0 where

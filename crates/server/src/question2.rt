@@ -23,6 +23,13 @@ pub fn less(made: u16, acked: u16) -> u16
     if acked < made { made - acked } else { 0 }
 }
 
+// 0 where b is the larger.
+fn minus(a: u32, b: u32) -> u32
+    ensures { λ r. ⌜ r ≡ a - b ⌝ }
+{
+    if b < a { a - b } else { 0 }
+}
+
 // The first n of eight counts together.
 fn sum(n: usize, xs: [u16; 8]) -> u32
     requires { ⌜ n ≤ 8 ⌝ }
@@ -39,8 +46,7 @@ fn sum(n: usize, xs: [u16; 8]) -> u32
 fn counts_sound(total: u32, made: u16, taken: u16, acked: u16, inserts: u16) -> bool
     ensures { λ r. ⌜ r ≡ countsSound total made taken acked inserts ⌝ }
 {
-    let t = taken as u32;
-    let others = if t < total { total - t } else { 0 };
+    let others = minus(total, taken as u32);
     (taken <= Server::EDITS)
         & (made as u32 == others)
         & (acked <= made)

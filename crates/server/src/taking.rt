@@ -203,7 +203,7 @@ fn decide<'a>(k: Counts, places: &'a [u32], items: &'a [u32], m: Message) -> Dec
 
 // Puts the numbers of one line into their places.
 fn put(words: &mut [u32; 512], at: usize, part: &[u32])
-    requires { ⌜ (at < 8) × (length (now part) ≡ maxPending) ⌝ }
+    requires { ⌜ (at < 8) × ((length (now part) ≡ maxPending) × (512 ≤ length (now words))) ⌝ }
     ensures { λ r. ⌜ Replaced at (now (part .entry)) (now (words .entry)) (now (words .exit)) ⌝ }
 {
     let from = 64 * at;
@@ -266,17 +266,21 @@ impl Server {
                 let e = d.edit;
                 let places = d.places;
                 let items = d.items;
+                let made = k.made;
+                let acked = k.acked;
                 self.len = ot::apply(&mut self.items, k.len, e);
                 put(&mut self.pending_places, i, &places);
                 put(&mut self.pending_items, i, &items);
-                keep(&mut self.pending_places, d.others, i, k.made, k.acked, pending::place_of(e));
-                keep(&mut self.pending_items, d.others, i, k.made, k.acked, pending::item_of(e));
-                self.made = raised(d.others, i, k.made);
+                keep(&mut self.pending_places, d.others, i, made, acked, pending::place_of(e));
+                keep(&mut self.pending_items, d.others, i, made, acked, pending::item_of(e));
+                let more = raised(d.others, i, made);
+                self.made = more;
                 self.taken[i] = d.taken;
                 self.acked[i] = d.acked;
                 self.inserts[i] = d.inserts;
+                return Answer { refusal: 0, passed: d.passed, server: self };
             }
-            return Answer { refusal: d.refusal, passed: d.passed, server: self };
+            return Answer { refusal: d.refusal, passed: 0, server: self };
         }
         Answer { refusal: 2, passed: 0, server: self }
     }

@@ -1,16 +1,13 @@
 use borrow.Author.Needs.{needs}
+use mathlib.Core.Bool.{and-assoc, and-true}
 use Rattle.server.proofs.question2.counts_sound.Statement.{statement}
 use Rattle.server.proofs.question2.counts_sound.Tie as tie
-use Rattle.server.proofs.question2.counts_sound.Reads as reads
-use Rattle.server.proofs.question2.counts_sound.Lts as lts
 
--- src/question2.rt:43:33
-sub-others : tie.Need-sub-others
-sub-others c = search needs
+minus-requires : tie.Need-minus-requires
+minus-requires c κs = search needs
 
--- src/question2.rt:39:1
 returns : tie.Need-returns
-returns c = ?
+returns c = simp (c .minus .ensures, and-assoc, and-true)
 
 pub counts-sound-spec : {M : Type 1} → statement M
-counts-sound-spec = tie.close (tie.spec sub-others returns)
+counts-sound-spec = tie.close (tie.spec minus-requires returns)

@@ -1,50 +1,44 @@
+use borrow.Author.Needs.{needs}
+use mathlib.Core.Path.{_≡_}
+use native.Mathlib.Omega.{arith}
+use Prim.Native.Nat.{_+_, _-_, _*_, _≤_}
+use Rattle.server.specs.View.{sumFrom}
+use Rattle.server.proofs.Writing.{sum-start, sum-turn, sum-end}
 use Rattle.server.proofs.question2.sum.Statement.{statement}
 use Rattle.server.proofs.question2.sum.Tie as tie
-use Rattle.server.proofs.question2.sum.Reads as reads
-use Rattle.server.proofs.question2.sum.Lts as lts
-use Rattle.server.proofs.question2.wide.Reads as wide-reads
 
 abbrev Inv-loop : tie.InvT-loop
-Inv-loop n xs s₀ i₀ s i = ?
+Inv-loop n xs s₀ i₀ s i = (i ≤ n) × ((s + sumFrom xs i (n - i) ≡ sumFrom xs 0 n) × (s ≤ 65535 * i))
 
 abbrev μ-loop : tie.MeasureT-loop
-μ-loop n xs s₀ i₀ s i = ?
+μ-loop n xs s₀ i₀ s i = n - i
 
--- src/question2.rt:32:5
 loop-holds : tie.Need-loop-holds Inv-loop μ-loop
-loop-holds c = ?
+loop-holds c = (omega arith, (sum-start (c .args .t2) (c .args .n), omega arith))
 
--- src/question2.rt:33:19
 mul-wide : tie.Need-mul-wide Inv-loop μ-loop
-mul-wide c = ?
+mul-wide c = omega (arith, c .before .before .pre)
 
--- src/question2.rt:33:19
 array-read-wide : tie.Need-array-read-wide Inv-loop μ-loop
-array-read-wide c = ?
+array-read-wide c = omega (arith, c .before .before .pre)
 
--- src/question2.rt:33:14
 wide-requires : tie.Need-wide-requires Inv-loop μ-loop
-wide-requires c κs = ?
+wide-requires c κs = search needs
 
--- src/question2.rt:33:9
 add-s : tie.Need-add-s Inv-loop μ-loop
-add-s c = ?
+add-s c = omega (arith, c .before .before .before .pre)
 
--- src/question2.rt:32:9
 add-i : tie.Need-add-i Inv-loop μ-loop
-add-i c = ?
+add-i c = omega arith
 
--- src/question2.rt:32:5
 loop-less : tie.Need-loop-less Inv-loop μ-loop
-loop-less c = ?
+loop-less c = omega arith
 
--- src/question2.rt:32:5
 loop-again : tie.Need-loop-again Inv-loop μ-loop
-loop-again c = ?
+loop-again c = (omega arith, (omega (arith, c .wide .ensures .0, sum-turn (c .before .before .before .args .t2) (c .before .before .loop .i) (c .before .before .before .args .n) (omega arith)), omega arith))
 
--- src/question2.rt:27:1
 returns : tie.Need-returns Inv-loop μ-loop
-returns c = ?
+returns c = (omega (arith, sum-end (c .before .before .args .t2) (c .before .loop .i) (c .before .before .args .n) (omega arith)), omega (arith, c .before .before .pre))
 
 pub sum-spec : {M : Type 1} → statement M
 sum-spec =

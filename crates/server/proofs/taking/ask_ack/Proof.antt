@@ -1,45 +1,43 @@
 use borrow.Author.Needs.{needs}
+use mathlib.Core.Path.{sym, _∙_}
+use mathlib.Core.Bool.{_&&_}
+use native.Mathlib.Omega.{arith}
+use lib.Dec.{eqb}
+use lib.ListN.{getD}
+use Prim.Native.Nat.{_-_}
+use Rattle.model.specs.Questions.{between}
+use Rattle.model.proofs.Tests.{and-right}
+use Rattle.endpoint.specs.Line.{seenQuestions}
+use Rattle.server.proofs.Asked.{asks-yes, asks-no, on-line}
 use Rattle.server.proofs.taking.ask_ack.Statement.{statement}
 use Rattle.server.proofs.taking.ask_ack.Tie as tie
-use Rattle.server.proofs.taking.ask_ack.Reads as reads
-use Rattle.server.proofs.taking.ask_ack.Lts as lts
-use Rattle.endpoint.proofs.ask_seen.Reads as ask-seen-reads
 
--- src/taking.rt:74:18
 sub-i : tie.Need-sub-i
-sub-i c = ?
+sub-i c = omega (arith, c .before .pre, on-line (c .before .args .t1 .n) (c .before .args .line) (and-right (eqb (c .before .args .direction) 0) (between 1 (c .before .args .t1 .n) (c .before .args .line)) (c .if1 .taken)))
 
--- src/taking.rt:74:17
 cast-i : tie.Need-cast-i
-cast-i c = search needs
+cast-i c = omega (arith, c .before .pre, on-line (c .before .args .t1 .n) (c .before .args .line) (and-right (eqb (c .before .args .direction) 0) (between 1 (c .before .args .t1 .n) (c .before .args .line)) (c .if1 .taken)))
 
--- src/taking.rt:75:41
 mul-ask-seen : tie.Need-mul-ask-seen
-mul-ask-seen c = search needs
+mul-ask-seen c = omega (arith, c .before .pre, on-line (c .before .args .t1 .n) (c .before .args .line) (and-right (eqb (c .before .args .direction) 0) (between 1 (c .before .args .t1 .n) (c .before .args .line)) (c .if1 .taken)))
 
--- src/taking.rt:75:41
 element-copy-out-ask-seen : tie.Need-element-copy-out-ask-seen
-element-copy-out-ask-seen c = ?
+element-copy-out-ask-seen c = omega (arith, c .before .pre, on-line (c .before .args .t1 .n) (c .before .args .line) (and-right (eqb (c .before .args .direction) 0) (between 1 (c .before .args .t1 .n) (c .before .args .line)) (c .if1 .taken)))
 
--- src/taking.rt:75:53
 mul-ask-seen-2 : tie.Need-mul-ask-seen-2
-mul-ask-seen-2 c = search needs
+mul-ask-seen-2 c = omega (arith, c .before .before .pre, on-line (c .before .before .args .t1 .n) (c .before .before .args .line) (and-right (eqb (c .before .before .args .direction) 0) (between 1 (c .before .before .args .t1 .n) (c .before .before .args .line)) (c .before .if1 .taken)))
 
--- src/taking.rt:75:53
 element-copy-out-ask-seen-2 : tie.Need-element-copy-out-ask-seen-2
-element-copy-out-ask-seen-2 c = ?
+element-copy-out-ask-seen-2 c = omega (arith, c .before .before .pre, on-line (c .before .before .args .t1 .n) (c .before .before .args .line) (and-right (eqb (c .before .before .args .direction) 0) (between 1 (c .before .before .args .t1 .n) (c .before .before .args .line)) (c .before .if1 .taken)))
 
--- src/taking.rt:75:9
 ask-seen-requires : tie.Need-ask-seen-requires
 ask-seen-requires c κs = search needs
 
--- src/taking.rt:75:9
 returns : tie.Need-returns
-returns c = ?
+returns c = c .ask-seen .ensures ∙ sym (asks-yes 4 (eqb (c .before .before .before .before .args .direction) 0 && between 1 (c .before .before .before .before .args .t1 .n) (c .before .before .before .before .args .line)) (seenQuestions (c .before .before .before .before .args .seen) (getD (c .before .before .before .before .args .t1 .acked) (c .before .before .before .before .args .line - 1) 0) (getD (c .before .before .before .before .args .t1 .made) (c .before .before .before .before .args .line - 1) 0)) (c .before .before .before .if1 .taken))
 
--- src/taking.rt:69:1
 returns-2 : tie.Need-returns-2
-returns-2 c = ?
+returns-2 c = sym (asks-no 4 (eqb (c .before .args .direction) 0 && between 1 (c .before .args .t1 .n) (c .before .args .line)) (seenQuestions (c .before .args .seen) (getD (c .before .args .t1 .acked) (c .before .args .line - 1) 0) (getD (c .before .args .t1 .made) (c .before .args .line - 1) 0)) (c .if1 .left))
 
 pub ask-ack-spec : {M : Type 1} → statement M
 ask-ack-spec =

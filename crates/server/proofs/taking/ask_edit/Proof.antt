@@ -1,58 +1,55 @@
 use borrow.Author.Needs.{needs}
+use mathlib.Core.Path.{ap, sym, _∙_, _≡_}
+use mathlib.Core.Bool.{Bool, _&&_, true, false}
+use native.Mathlib.Omega.{arith}
+use lib.Dec.{eqb}
+use lib.ListN.{getD}
+use Prim.Native.Nat.{_-_}
+use Rattle.model.specs.Questions.{between}
+use Rattle.model.specs.Cross.{priority}
+use Rattle.model.proofs.Tests.{and-left, and-right}
+use Rattle.endpoint.specs.Line.{editQuestions}
+use Rattle.server.proofs.Asked.{asks-yes, asks-no, on-line}
 use Rattle.server.proofs.taking.ask_edit.Statement.{statement}
 use Rattle.server.proofs.taking.ask_edit.Tie as tie
-use Rattle.server.proofs.taking.ask_edit.Reads as reads
-use Rattle.server.proofs.taking.ask_edit.Lts as lts
-use Rattle.endpoint.proofs.ask_edit.Reads as ask-edit-reads
-use Rattle.server.proofs.taking.is_own.Reads as is-own-reads
 
--- src/taking.rt:60:9
 is-own-requires : tie.Need-is-own-requires
 is-own-requires c κs = search needs
 
--- src/taking.rt:62:18
 sub-i : tie.Need-sub-i
-sub-i c = ?
+sub-i c = omega (arith, c .before .before .before .before .before .before .pre, on-line (c .before .before .before .before .before .before .args .t1 .n) (c .before .before .before .before .before .before .args .h .line) (and-right (eqb (c .before .before .before .before .before .before .args .h .direction) 0) (between 1 (c .before .before .before .before .before .before .args .t1 .n) (c .before .before .before .before .before .before .args .h .line)) (and-left (eqb (c .before .before .before .before .before .before .args .h .direction) 0 && between 1 (c .before .before .before .before .before .before .args .t1 .n) (c .before .before .before .before .before .before .args .h .line)) (c .before .before .before .before .before .is-own .result) (c .before .if1 .taken))))
 
--- src/taking.rt:62:17
 cast-i : tie.Need-cast-i
-cast-i c = search needs
+cast-i c = omega (arith, c .before .before .before .before .before .before .pre, on-line (c .before .before .before .before .before .before .args .t1 .n) (c .before .before .before .before .before .before .args .h .line) (and-right (eqb (c .before .before .before .before .before .before .args .h .direction) 0) (between 1 (c .before .before .before .before .before .before .args .t1 .n) (c .before .before .before .before .before .before .args .h .line)) (and-left (eqb (c .before .before .before .before .before .before .args .h .direction) 0 && between 1 (c .before .before .before .before .before .before .args .t1 .n) (c .before .before .before .before .before .before .args .h .line)) (c .before .before .before .before .before .is-own .result) (c .before .if1 .taken))))
 
--- src/taking.rt:63:53
 mul-ask-edit : tie.Need-mul-ask-edit
-mul-ask-edit c = search needs
+mul-ask-edit c = omega (arith, c .before .before .before .before .before .before .pre, on-line (c .before .before .before .before .before .before .args .t1 .n) (c .before .before .before .before .before .before .args .h .line) (and-right (eqb (c .before .before .before .before .before .before .args .h .direction) 0) (between 1 (c .before .before .before .before .before .before .args .t1 .n) (c .before .before .before .before .before .before .args .h .line)) (and-left (eqb (c .before .before .before .before .before .before .args .h .direction) 0 && between 1 (c .before .before .before .before .before .before .args .t1 .n) (c .before .before .before .before .before .before .args .h .line)) (c .before .before .before .before .before .is-own .result) (c .before .if1 .taken))))
 
--- src/taking.rt:63:53
 element-copy-out-ask-edit : tie.Need-element-copy-out-ask-edit
-element-copy-out-ask-edit c = ?
+element-copy-out-ask-edit c = omega (arith, c .before .before .before .before .before .before .pre, on-line (c .before .before .before .before .before .before .args .t1 .n) (c .before .before .before .before .before .before .args .h .line) (and-right (eqb (c .before .before .before .before .before .before .args .h .direction) 0) (between 1 (c .before .before .before .before .before .before .args .t1 .n) (c .before .before .before .before .before .before .args .h .line)) (and-left (eqb (c .before .before .before .before .before .before .args .h .direction) 0 && between 1 (c .before .before .before .before .before .before .args .t1 .n) (c .before .before .before .before .before .before .args .h .line)) (c .before .before .before .before .before .is-own .result) (c .before .if1 .taken))))
 
--- src/taking.rt:63:65
 mul-ask-edit-2 : tie.Need-mul-ask-edit-2
-mul-ask-edit-2 c = search needs
+mul-ask-edit-2 c = omega (arith, c .before .before .before .before .before .before .before .pre, on-line (c .before .before .before .before .before .before .before .args .t1 .n) (c .before .before .before .before .before .before .before .args .h .line) (and-right (eqb (c .before .before .before .before .before .before .before .args .h .direction) 0) (between 1 (c .before .before .before .before .before .before .before .args .t1 .n) (c .before .before .before .before .before .before .before .args .h .line)) (and-left (eqb (c .before .before .before .before .before .before .before .args .h .direction) 0 && between 1 (c .before .before .before .before .before .before .before .args .t1 .n) (c .before .before .before .before .before .before .before .args .h .line)) (c .before .before .before .before .before .before .is-own .result) (c .before .before .if1 .taken))))
 
--- src/taking.rt:63:65
 element-copy-out-ask-edit-2 : tie.Need-element-copy-out-ask-edit-2
-element-copy-out-ask-edit-2 c = ?
+element-copy-out-ask-edit-2 c = omega (arith, c .before .before .before .before .before .before .before .pre, on-line (c .before .before .before .before .before .before .before .args .t1 .n) (c .before .before .before .before .before .before .before .args .h .line) (and-right (eqb (c .before .before .before .before .before .before .before .args .h .direction) 0) (between 1 (c .before .before .before .before .before .before .before .args .t1 .n) (c .before .before .before .before .before .before .before .args .h .line)) (and-left (eqb (c .before .before .before .before .before .before .before .args .h .direction) 0 && between 1 (c .before .before .before .before .before .before .before .args .t1 .n) (c .before .before .before .before .before .before .before .args .h .line)) (c .before .before .before .before .before .before .is-own .result) (c .before .before .if1 .taken))))
 
--- src/taking.rt:63:77
 mul-ask-edit-3 : tie.Need-mul-ask-edit-3
-mul-ask-edit-3 c = search needs
+mul-ask-edit-3 c = omega (arith, c .before .before .before .before .before .before .before .before .pre, on-line (c .before .before .before .before .before .before .before .before .args .t1 .n) (c .before .before .before .before .before .before .before .before .args .h .line) (and-right (eqb (c .before .before .before .before .before .before .before .before .args .h .direction) 0) (between 1 (c .before .before .before .before .before .before .before .before .args .t1 .n) (c .before .before .before .before .before .before .before .before .args .h .line)) (and-left (eqb (c .before .before .before .before .before .before .before .before .args .h .direction) 0 && between 1 (c .before .before .before .before .before .before .before .before .args .t1 .n) (c .before .before .before .before .before .before .before .before .args .h .line)) (c .before .before .before .before .before .before .before .is-own .result) (c .before .before .before .if1 .taken))))
 
--- src/taking.rt:63:77
 element-copy-out-ask-edit-3 : tie.Need-element-copy-out-ask-edit-3
-element-copy-out-ask-edit-3 c = ?
+element-copy-out-ask-edit-3 c = omega (arith, c .before .before .before .before .before .before .before .before .pre, on-line (c .before .before .before .before .before .before .before .before .args .t1 .n) (c .before .before .before .before .before .before .before .before .args .h .line) (and-right (eqb (c .before .before .before .before .before .before .before .before .args .h .direction) 0) (between 1 (c .before .before .before .before .before .before .before .before .args .t1 .n) (c .before .before .before .before .before .before .before .before .args .h .line)) (and-left (eqb (c .before .before .before .before .before .before .before .before .args .h .direction) 0 && between 1 (c .before .before .before .before .before .before .before .before .args .t1 .n) (c .before .before .before .before .before .before .before .before .args .h .line)) (c .before .before .before .before .before .before .before .is-own .result) (c .before .before .before .if1 .taken))))
 
--- src/taking.rt:63:9
 ask-edit-requires : tie.Need-ask-edit-requires
 ask-edit-requires c κs = search needs
 
--- src/taking.rt:63:9
 returns : tie.Need-returns
-returns c = ?
+returns c = let t : (eqb (c .before .before .before .before .before .before .before .before .before .before .args .h .direction) 0 && between 1 (c .before .before .before .before .before .before .before .before .before .before .args .t1 .n) (c .before .before .before .before .before .before .before .before .before .before .args .h .line) && priority (eqb (c .before .before .before .before .before .before .before .before .before .before .args .h .line)) (c .before .before .before .before .before .before .before .before .before .before .args .e)) ≡ true = sym (ap (λ (b : Bool). eqb (c .before .before .before .before .before .before .before .before .before .before .args .h .direction) 0 && between 1 (c .before .before .before .before .before .before .before .before .before .before .args .t1 .n) (c .before .before .before .before .before .before .before .before .before .before .args .h .line) && b) (c .before .before .before .before .before .before .before .before .before .is-own .ensures)) ∙ c .before .before .before .before .before .if1 .taken in
+    c .ask-edit .ensures ∙ sym (asks-yes 4 (eqb (c .before .before .before .before .before .before .before .before .before .before .args .h .direction) 0 && between 1 (c .before .before .before .before .before .before .before .before .before .before .args .t1 .n) (c .before .before .before .before .before .before .before .before .before .before .args .h .line) && priority (eqb (c .before .before .before .before .before .before .before .before .before .before .args .h .line)) (c .before .before .before .before .before .before .before .before .before .before .args .e)) (editQuestions (c .before .before .before .before .before .before .before .before .before .before .args .h .number) (c .before .before .before .before .before .before .before .before .before .before .args .h .seen) (getD (c .before .before .before .before .before .before .before .before .before .before .args .t1 .taken) (c .before .before .before .before .before .before .before .before .before .before .args .h .line - 1) 0) (getD (c .before .before .before .before .before .before .before .before .before .before .args .t1 .acked) (c .before .before .before .before .before .before .before .before .before .before .args .h .line - 1) 0) (getD (c .before .before .before .before .before .before .before .before .before .before .args .t1 .made) (c .before .before .before .before .before .before .before .before .before .before .args .h .line - 1) 0)) t)
 
--- src/taking.rt:56:1
 returns-2 : tie.Need-returns-2
-returns-2 c = ?
+returns-2 c = let t : (eqb (c .before .before .before .before .before .args .h .direction) 0 && between 1 (c .before .before .before .before .before .args .t1 .n) (c .before .before .before .before .before .args .h .line) && priority (eqb (c .before .before .before .before .before .args .h .line)) (c .before .before .before .before .before .args .e)) ≡ false = sym (ap (λ (b : Bool). eqb (c .before .before .before .before .before .args .h .direction) 0 && between 1 (c .before .before .before .before .before .args .t1 .n) (c .before .before .before .before .before .args .h .line) && b) (c .before .before .before .before .is-own .ensures)) ∙ c .if1 .left in
+    sym (asks-no 4 (eqb (c .before .before .before .before .before .args .h .direction) 0 && between 1 (c .before .before .before .before .before .args .t1 .n) (c .before .before .before .before .before .args .h .line) && priority (eqb (c .before .before .before .before .before .args .h .line)) (c .before .before .before .before .before .args .e)) (editQuestions (c .before .before .before .before .before .args .h .number) (c .before .before .before .before .before .args .h .seen) (getD (c .before .before .before .before .before .args .t1 .taken) (c .before .before .before .before .before .args .h .line - 1) 0) (getD (c .before .before .before .before .before .args .t1 .acked) (c .before .before .before .before .before .args .h .line - 1) 0) (getD (c .before .before .before .before .before .args .t1 .made) (c .before .before .before .before .before .args .h .line - 1) 0)) t)
 
 pub ask-edit-spec : {M : Type 1} → statement M
 ask-edit-spec =

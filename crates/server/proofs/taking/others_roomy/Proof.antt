@@ -1,58 +1,53 @@
+use borrow.Author.Needs.{needs}
+use mathlib.Core.Path.{_≡_, refl, ap, sym, _∙_}
+use mathlib.Core.Bool.{_&&_, _||_}
+use native.Mathlib.Omega.{arith}
+use Prim.Native.Nat.{ℕ, _-_, _≤_}
+use lib.Dec.{eqb, ltb}
+use Rattle.pending.specs.Slots.{allFrom}
+use Rattle.pending.proofs.Tests.{all-turn, all-end}
+use Rattle.server.specs.Taking.{roomyAt}
 use Rattle.server.proofs.taking.others_roomy.Statement.{statement}
 use Rattle.server.proofs.taking.others_roomy.Tie as tie
-use Rattle.server.proofs.taking.others_roomy.Reads as reads
-use Rattle.server.proofs.taking.others_roomy.Lts as lts
-use Rattle.server.proofs.question2.less.Reads as less-reads
 
 abbrev Inv-loop : tie.InvT-loop
-Inv-loop at k roomy₀ n i₀ roomy i = ?
+Inv-loop at k roomy₀ n i₀ roomy i = (i ≤ n) × ((n ≡ k .n) × ((roomy && allFrom (roomyAt k at) i (k .n - i)) ≡ allFrom (roomyAt k at) 0 (k .n)))
 
 abbrev μ-loop : tie.MeasureT-loop
-μ-loop at k roomy₀ n i₀ roomy i = ?
+μ-loop at k roomy₀ n i₀ roomy i = n - i
 
--- src/taking.rt:86:13
 cast-n : tie.Need-cast-n Inv-loop μ-loop
-cast-n c = ?
+cast-n c = search needs
 
--- src/taking.rt:87:5
 loop-holds : tie.Need-loop-holds Inv-loop μ-loop
-loop-holds c = ?
+loop-holds c = let e : c .args .t1 .n - 0 ≡ c .args .t1 .n = omega arith in (omega arith, (refl, ap (allFrom (roomyAt (c .args .t1) (c .args .at)) 0) e))
 
--- src/taking.rt:88:26
 mul-less : tie.Need-mul-less Inv-loop μ-loop
-mul-less c = ?
+mul-less c = omega (arith, c .before .before .pre, c .before .loop .inv .1 .0, c .loop-test)
 
--- src/taking.rt:88:26
 element-copy-out-less : tie.Need-element-copy-out-less Inv-loop μ-loop
-element-copy-out-less c = ?
+element-copy-out-less c = omega (arith, c .before .before .pre, c .before .loop .inv .1 .0, c .loop-test)
 
--- src/taking.rt:88:37
 mul-less-2 : tie.Need-mul-less-2 Inv-loop μ-loop
-mul-less-2 c = ?
+mul-less-2 c = omega (arith, c .before .before .before .pre, c .before .before .loop .inv .1 .0, c .before .loop-test)
 
--- src/taking.rt:88:37
 element-copy-out-less-2 : tie.Need-element-copy-out-less-2 Inv-loop μ-loop
-element-copy-out-less-2 c = ?
+element-copy-out-less-2 c = omega (arith, c .before .before .before .pre, c .before .before .loop .inv .1 .0, c .before .loop-test)
 
--- src/taking.rt:88:13
 less-requires : tie.Need-less-requires Inv-loop μ-loop
-less-requires c κs = ?
+less-requires c κs = search needs
 
--- src/taking.rt:87:9
 add-i : tie.Need-add-i Inv-loop μ-loop
-add-i c = ?
+add-i c = omega (arith, c .before .before .before .before .before .pre, c .before .before .before .before .loop .inv .1 .0, c .before .before .before .loop-test)
 
--- src/taking.rt:87:5
 loop-less : tie.Need-loop-less Inv-loop μ-loop
-loop-less c = ?
+loop-less c = omega arith
 
--- src/taking.rt:87:5
 loop-again : tie.Need-loop-again Inv-loop μ-loop
-loop-again c = ?
+loop-again c = (omega arith, (c .before .before .before .before .loop .inv .1 .0, all-turn (roomyAt (c .before .before .before .before .before .args .t1) (c .before .before .before .before .before .args .at)) (c .before .before .before .before .loop .i) (c .before .before .before .before .before .args .t1 .n) (c .before .before .before .before .loop .roomy) (eqb (c .before .before .before .before .loop .i) (c .before .before .before .before .before .args .at) || ltb (c .less .result) 64) (omega (arith, c .before .before .before .before .loop .inv .1 .0, c .before .before .before .loop-test)) (ap (λ (c : ℕ). eqb (c .before .before .before .before .loop .i) (c .before .before .before .before .before .args .at) || ltb c 64) (c .less .ensures)) ∙ c .before .before .before .before .loop .inv .1 .1))
 
--- src/taking.rt:81:1
 returns : tie.Need-returns Inv-loop μ-loop
-returns c = ?
+returns c = all-end (roomyAt (c .before .before .args .t1) (c .before .before .args .at)) (c .before .loop .i) (c .before .before .args .t1 .n) (c .before .loop .roomy) (omega (arith, c .before .loop .inv .1 .0, c .loop-test)) ∙ c .before .loop .inv .1 .1
 
 pub others-roomy-spec : {M : Type 1} → statement M
 others-roomy-spec =
