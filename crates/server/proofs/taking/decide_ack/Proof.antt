@@ -1,99 +1,77 @@
 use borrow.Author.Needs.{needs}
+use mathlib.Core.Path.{sym, _∙_}
+use native.Mathlib.Omega.{arith}
+use denote.Ref.{now}
+use Rattle.server.proofs.Asked.{ack-here, left-ready, left-places, left-items}
+use Rattle.server.proofs.Decided.{ack-no, ack-made}
 use Rattle.server.proofs.taking.decide_ack.Statement.{statement}
 use Rattle.server.proofs.taking.decide_ack.Tie as tie
-use Rattle.server.proofs.taking.decide_ack.Reads as reads
-use Rattle.server.proofs.taking.decide_ack.Lts as lts
-use Rattle.pending.proofs.acked.Reads as acked-reads
-use Rattle.server.proofs.taking.ask_ack.Reads as ask-ack-reads
-use Rattle.server.proofs.taking.refusing.Reads as refusing-reads
 
--- src/taking.rt:136:9
 ask-ack-requires : tie.Need-ask-ack-requires
-ask-ack-requires c κs = search needs
+ask-ack-requires c κs = c .before .before .pre .few
 
--- src/taking.rt:138:18
 sub-i : tie.Need-sub-i
-sub-i c = ?
+sub-i c = let h = ack-here (c .before .before .before .before .args .t1) (c .before .before .before .before .args .line) (c .before .before .before .before .args .direction) (c .before .before .before .before .args .seen) (sym (c .before .ask-ack .ensures) ∙ c .if1 .taken) in omega (arith, c .before .before .before .before .pre .few, h .low, h .used, h .old, h .new)
 
--- src/taking.rt:138:17
 cast-i : tie.Need-cast-i
-cast-i c = search needs
+cast-i c = let h = ack-here (c .before .before .before .before .args .t1) (c .before .before .before .before .args .line) (c .before .before .before .before .args .direction) (c .before .before .before .before .args .seen) (sym (c .before .ask-ack .ensures) ∙ c .if1 .taken) in omega (arith, c .before .before .before .before .pre .few, h .low, h .used, h .old, h .new)
 
--- src/taking.rt:139:20
 mul-from : tie.Need-mul-from
-mul-from c = search needs
+mul-from c = let h = ack-here (c .before .before .before .before .args .t1) (c .before .before .before .before .args .line) (c .before .before .before .before .args .direction) (c .before .before .before .before .args .seen) (sym (c .before .ask-ack .ensures) ∙ c .if1 .taken) in omega (arith, c .before .before .before .before .pre .few, h .low, h .used, h .old, h .new)
 
--- src/taking.rt:139:37
 mul-from-2 : tie.Need-mul-from-2
-mul-from-2 c = search needs
+mul-from-2 c = let h = ack-here (c .before .before .before .before .args .t1) (c .before .before .before .before .args .line) (c .before .before .before .before .args .direction) (c .before .before .before .before .args .seen) (sym (c .before .ask-ack .ensures) ∙ c .if1 .taken) in omega (arith, c .before .before .before .before .pre .few, h .low, h .used, h .old, h .new)
 
--- src/taking.rt:139:37
 element-copy-out-from : tie.Need-element-copy-out-from
-element-copy-out-from c = ?
+element-copy-out-from c = let h = ack-here (c .before .before .before .before .args .t1) (c .before .before .before .before .args .line) (c .before .before .before .before .args .direction) (c .before .before .before .before .args .seen) (sym (c .before .ask-ack .ensures) ∙ c .if1 .taken) in omega (arith, c .before .before .before .before .pre .few, h .low, h .used, h .old, h .new)
 
--- src/taking.rt:139:30
 sub-from : tie.Need-sub-from
-sub-from c = ?
+sub-from c = let h = ack-here (c .before .before .before .before .before .args .t1) (c .before .before .before .before .before .args .line) (c .before .before .before .before .before .args .direction) (c .before .before .before .before .before .args .seen) (sym (c .before .before .ask-ack .ensures) ∙ c .before .if1 .taken) in omega (arith, c .before .before .before .before .before .pre .few, h .low, h .used, h .old, h .new)
 
--- src/taking.rt:139:29
 cast-from : tie.Need-cast-from
-cast-from c = search needs
+cast-from c = let h = ack-here (c .before .before .before .before .before .args .t1) (c .before .before .before .before .before .args .line) (c .before .before .before .before .before .args .direction) (c .before .before .before .before .before .args .seen) (sym (c .before .before .ask-ack .ensures) ∙ c .before .if1 .taken) in omega (arith, c .before .before .before .before .before .pre .few, h .low, h .used, h .old, h .new)
 
--- src/taking.rt:139:20
 add-from : tie.Need-add-from
-add-from c = search needs
+add-from c = let h = ack-here (c .before .before .before .before .before .args .t1) (c .before .before .before .before .before .args .line) (c .before .before .before .before .before .args .direction) (c .before .before .before .before .before .args .seen) (sym (c .before .before .ask-ack .ensures) ∙ c .before .if1 .taken) in omega (arith, c .before .before .before .before .before .pre .few, h .low, h .used, h .old, h .new)
 
--- src/taking.rt:140:22
 mul-count : tie.Need-mul-count
-mul-count c = search needs
+mul-count c = let h = ack-here (c .before .before .before .before .before .args .t1) (c .before .before .before .before .before .args .line) (c .before .before .before .before .before .args .direction) (c .before .before .before .before .before .args .seen) (sym (c .before .before .ask-ack .ensures) ∙ c .before .if1 .taken) in omega (arith, c .before .before .before .before .before .pre .few, h .low, h .used, h .old, h .new)
 
--- src/taking.rt:140:22
 element-copy-out-count : tie.Need-element-copy-out-count
-element-copy-out-count c = ?
+element-copy-out-count c = let h = ack-here (c .before .before .before .before .before .args .t1) (c .before .before .before .before .before .args .line) (c .before .before .before .before .before .args .direction) (c .before .before .before .before .before .args .seen) (sym (c .before .before .ask-ack .ensures) ∙ c .before .if1 .taken) in omega (arith, c .before .before .before .before .before .pre .few, h .low, h .used, h .old, h .new)
 
--- src/taking.rt:140:22
 sub-count : tie.Need-sub-count
-sub-count c = ?
+sub-count c = let h = ack-here (c .before .before .before .before .before .before .args .t1) (c .before .before .before .before .before .before .args .line) (c .before .before .before .before .before .before .args .direction) (c .before .before .before .before .before .before .args .seen) (sym (c .before .before .before .ask-ack .ensures) ∙ c .before .before .if1 .taken) in omega (arith, c .before .before .before .before .before .before .pre .few, h .low, h .used, h .old, h .new)
 
--- src/taking.rt:140:21
 cast-count : tie.Need-cast-count
-cast-count c = ?
+cast-count c = search needs
 
--- src/taking.rt:145:20
 mul-t21 : tie.Need-mul-t21
-mul-t21 c = search needs
+mul-t21 c = let h = ack-here (c .before .before .before .before .before .before .args .t1) (c .before .before .before .before .before .before .args .line) (c .before .before .before .before .before .before .args .direction) (c .before .before .before .before .before .before .args .seen) (sym (c .before .before .before .ask-ack .ensures) ∙ c .before .before .if1 .taken) in omega (arith, c .before .before .before .before .before .before .pre .few, h .low, h .used, h .old, h .new)
 
--- src/taking.rt:145:20
 element-copy-out-t20 : tie.Need-element-copy-out-t20
-element-copy-out-t20 c = ?
+element-copy-out-t20 c = let h = ack-here (c .before .before .before .before .before .before .args .t1) (c .before .before .before .before .before .before .args .line) (c .before .before .before .before .before .before .args .direction) (c .before .before .before .before .before .before .args .seen) (sym (c .before .before .before .ask-ack .ensures) ∙ c .before .before .if1 .taken) in omega (arith, c .before .before .before .before .before .before .pre .few, h .low, h .used, h .old, h .new)
 
--- src/taking.rt:147:22
 mul-t16 : tie.Need-mul-t16
-mul-t16 c = search needs
+mul-t16 c = let h = ack-here (c .before .before .before .before .before .before .before .args .t1) (c .before .before .before .before .before .before .before .args .line) (c .before .before .before .before .before .before .before .args .direction) (c .before .before .before .before .before .before .before .args .seen) (sym (c .before .before .before .before .ask-ack .ensures) ∙ c .before .before .before .if1 .taken) in omega (arith, c .before .before .before .before .before .before .before .pre .few, h .low, h .used, h .old, h .new)
 
--- src/taking.rt:147:22
 element-copy-out-t19 : tie.Need-element-copy-out-t19
-element-copy-out-t19 c = ?
+element-copy-out-t19 c = let h = ack-here (c .before .before .before .before .before .before .before .args .t1) (c .before .before .before .before .before .before .before .args .line) (c .before .before .before .before .before .before .before .args .direction) (c .before .before .before .before .before .before .before .args .seen) (sym (c .before .before .before .before .ask-ack .ensures) ∙ c .before .before .before .if1 .taken) in omega (arith, c .before .before .before .before .before .before .before .pre .few, h .low, h .used, h .old, h .new)
 
--- src/taking.rt:148:21
 acked-requires : tie.Need-acked-requires
-acked-requires c κs = ?
+acked-requires c κs = let h = ack-here (c .before .before .before .before .before .before .before .before .args .t1) (c .before .before .before .before .before .before .before .before .args .line) (c .before .before .before .before .before .before .before .before .args .direction) (c .before .before .before .before .before .before .before .before .args .seen) (sym (c .before .before .before .before .before .ask-ack .ensures) ∙ c .before .before .before .before .if1 .taken) in let r = left-ready (c .before .before .before .before .before .before .before .before .args .t1) (now (c .before .before .before .before .before .before .before .before .args .places)) (now (c .before .before .before .before .before .before .before .before .args .items)) (c .before .before .before .before .before .before .before .before .pre) (c .before .before .before .before .before .before .before .before .args .line) (c .before .before .before .before .before .before .before .before .args .seen) h in (r .few, r .places)
 
--- src/taking.rt:149:20
 acked-requires-2 : tie.Need-acked-requires-2
-acked-requires-2 c κs = ?
+acked-requires-2 c κs = let h = ack-here (c .before .before .before .before .before .before .before .before .before .args .t1) (c .before .before .before .before .before .before .before .before .before .args .line) (c .before .before .before .before .before .before .before .before .before .args .direction) (c .before .before .before .before .before .before .before .before .before .args .seen) (sym (c .before .before .before .before .before .before .ask-ack .ensures) ∙ c .before .before .before .before .before .if1 .taken) in let r = left-ready (c .before .before .before .before .before .before .before .before .before .args .t1) (now (c .before .before .before .before .before .before .before .before .before .args .places)) (now (c .before .before .before .before .before .before .before .before .before .args .items)) (c .before .before .before .before .before .before .before .before .before .pre) (c .before .before .before .before .before .before .before .before .before .args .line) (c .before .before .before .before .before .before .before .before .before .args .seen) h in (r .few, r .items)
 
--- src/taking.rt:141:9
 returns : tie.Need-returns
-returns c = ?
+returns c = let z = sym (c .before .before .before .before .before .before .before .ask-ack .ensures) ∙ c .before .before .before .before .before .before .if1 .taken in let h = ack-here (c .before .before .before .before .before .before .before .before .before .before .args .t1) (c .before .before .before .before .before .before .before .before .before .before .args .line) (c .before .before .before .before .before .before .before .before .before .before .args .direction) (c .before .before .before .before .before .before .before .before .before .before .args .seen) z in ack-made (c .before .before .before .before .before .before .before .before .before .before .args .t1) (now (c .before .before .before .before .before .before .before .before .before .before .args .places)) (now (c .before .before .before .before .before .before .before .before .before .before .args .items)) (c .before .before .before .before .before .before .before .before .before .before .args .line) (c .before .before .before .before .before .before .before .before .before .before .args .direction) (c .before .before .before .before .before .before .before .before .before .before .args .seen) (c .before .acked .result) (c .acked2 .result) z (c .before .acked .ensures ∙ left-places (c .before .before .before .before .before .before .before .before .before .before .args .t1) (now (c .before .before .before .before .before .before .before .before .before .before .args .places)) (now (c .before .before .before .before .before .before .before .before .before .before .args .items)) (c .before .before .before .before .before .before .before .before .before .before .pre) (c .before .before .before .before .before .before .before .before .before .before .args .line) (c .before .before .before .before .before .before .before .before .before .before .args .seen) h) (c .acked2 .ensures ∙ left-items (c .before .before .before .before .before .before .before .before .before .before .args .t1) (now (c .before .before .before .before .before .before .before .before .before .before .args .places)) (now (c .before .before .before .before .before .before .before .before .before .before .args .items)) (c .before .before .before .before .before .before .before .before .before .before .pre) (c .before .before .before .before .before .before .before .before .before .before .args .line) (c .before .before .before .before .before .before .before .before .before .before .args .seen) h)
 
--- src/taking.rt:154:5
 refusing-requires : tie.Need-refusing-requires
 refusing-requires c κs = search needs
 
--- src/taking.rt:132:1
 returns-2 : tie.Need-returns-2
-returns-2 c = ?
+returns-2 c = c .refusing .ensures ∙ ack-no (c .before .before .before .before .before .args .t1) (now (c .before .before .before .before .before .args .places)) (now (c .before .before .before .before .before .args .items)) (c .before .before .before .before .before .args .line) (c .before .before .before .before .before .args .direction) (c .before .before .before .before .before .args .seen) (c .before .before .ask-ack .result) (c .before .before .ask-ack .ensures) (c .before .if1 .left)
 
 pub decide-ack-spec : {M : Type 1} → statement M
 decide-ack-spec =

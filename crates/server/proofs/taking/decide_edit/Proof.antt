@@ -1,125 +1,96 @@
 use borrow.Author.Needs.{needs}
+use mathlib.Core.Path.{sym, _∙_}
+use native.Mathlib.Omega.{arith}
+use denote.Ref.{now}
+use Prim.Native.Nat.{_-_}
+use Rattle.server.proofs.Asked.{edit-here, left-ready}
+use Rattle.server.proofs.Decided.{last-few, edit-no, edit-late, edit-made, late-asked}
 use Rattle.server.proofs.taking.decide_edit.Statement.{statement}
 use Rattle.server.proofs.taking.decide_edit.Tie as tie
-use Rattle.server.proofs.taking.decide_edit.Reads as reads
-use Rattle.server.proofs.taking.decide_edit.Lts as lts
-use Rattle.endpoint.proofs.inserts_of.Reads as inserts-of-reads
-use Rattle.pending.proofs.cross.Reads as cross-reads
-use Rattle.server.proofs.taking.ask_edit.Reads as ask-edit-reads
-use Rattle.server.proofs.taking.ask_last.Reads as ask-last-reads
-use Rattle.server.proofs.taking.refusing.Reads as refusing-reads
 
--- src/taking.rt:162:9
 ask-edit-requires : tie.Need-ask-edit-requires
-ask-edit-requires c κs = search needs
+ask-edit-requires c κs = c .before .before .pre .1 .few
 
--- src/taking.rt:164:18
 sub-i : tie.Need-sub-i
-sub-i c = ?
+sub-i c = let h = edit-here (c .before .before .before .before .before .args .t1) (c .before .before .before .before .before .args .h) (c .before .before .before .before .before .args .e) (sym (c .before .before .ask-edit .ensures) ∙ c .before .if1 .taken) in omega (arith, c .before .before .before .before .before .pre .1 .few, h .low, h .used, h .old, h .new)
 
--- src/taking.rt:164:17
 cast-i : tie.Need-cast-i
-cast-i c = search needs
+cast-i c = let h = edit-here (c .before .before .before .before .before .args .t1) (c .before .before .before .before .before .args .h) (c .before .before .before .before .before .args .e) (sym (c .before .before .ask-edit .ensures) ∙ c .before .if1 .taken) in omega (arith, c .before .before .before .before .before .pre .1 .few, h .low, h .used, h .old, h .new)
 
--- src/taking.rt:165:20
 mul-from : tie.Need-mul-from
-mul-from c = search needs
+mul-from c = let h = edit-here (c .before .before .before .before .before .args .t1) (c .before .before .before .before .before .args .h) (c .before .before .before .before .before .args .e) (sym (c .before .before .ask-edit .ensures) ∙ c .before .if1 .taken) in omega (arith, c .before .before .before .before .before .pre .1 .few, h .low, h .used, h .old, h .new)
 
--- src/taking.rt:165:39
 mul-from-2 : tie.Need-mul-from-2
-mul-from-2 c = search needs
+mul-from-2 c = let h = edit-here (c .before .before .before .before .before .args .t1) (c .before .before .before .before .before .args .h) (c .before .before .before .before .before .args .e) (sym (c .before .before .ask-edit .ensures) ∙ c .before .if1 .taken) in omega (arith, c .before .before .before .before .before .pre .1 .few, h .low, h .used, h .old, h .new)
 
--- src/taking.rt:165:39
 element-copy-out-from : tie.Need-element-copy-out-from
-element-copy-out-from c = ?
+element-copy-out-from c = let h = edit-here (c .before .before .before .before .before .args .t1) (c .before .before .before .before .before .args .h) (c .before .before .before .before .before .args .e) (sym (c .before .before .ask-edit .ensures) ∙ c .before .if1 .taken) in omega (arith, c .before .before .before .before .before .pre .1 .few, h .low, h .used, h .old, h .new)
 
--- src/taking.rt:165:30
 sub-from : tie.Need-sub-from
-sub-from c = ?
+sub-from c = let h = edit-here (c .before .before .before .before .before .before .before .args .t1) (c .before .before .before .before .before .before .before .args .h) (c .before .before .before .before .before .before .before .args .e) (sym (c .before .before .before .before .ask-edit .ensures) ∙ c .before .before .before .if1 .taken) in omega (arith, c .before .before .before .before .before .before .before .pre .1 .few, h .low, h .used, h .old, h .new)
 
--- src/taking.rt:165:29
 cast-from : tie.Need-cast-from
-cast-from c = search needs
+cast-from c = let h = edit-here (c .before .before .before .before .before .before .before .args .t1) (c .before .before .before .before .before .before .before .args .h) (c .before .before .before .before .before .before .before .args .e) (sym (c .before .before .before .before .ask-edit .ensures) ∙ c .before .before .before .if1 .taken) in omega (arith, c .before .before .before .before .before .before .before .pre .1 .few, h .low, h .used, h .old, h .new)
 
--- src/taking.rt:165:20
 add-from : tie.Need-add-from
-add-from c = search needs
+add-from c = let h = edit-here (c .before .before .before .before .before .before .before .args .t1) (c .before .before .before .before .before .before .before .args .h) (c .before .before .before .before .before .before .before .args .e) (sym (c .before .before .before .before .ask-edit .ensures) ∙ c .before .before .before .if1 .taken) in omega (arith, c .before .before .before .before .before .before .before .pre .1 .few, h .low, h .used, h .old, h .new)
 
--- src/taking.rt:166:54
 mul-cross : tie.Need-mul-cross
-mul-cross c = search needs
+mul-cross c = let h = edit-here (c .before .before .before .before .before .before .before .args .t1) (c .before .before .before .before .before .before .before .args .h) (c .before .before .before .before .before .before .before .args .e) (sym (c .before .before .before .before .ask-edit .ensures) ∙ c .before .before .before .if1 .taken) in omega (arith, c .before .before .before .before .before .before .before .pre .1 .few, h .low, h .used, h .old, h .new)
 
--- src/taking.rt:166:54
 element-copy-out-cross : tie.Need-element-copy-out-cross
-element-copy-out-cross c = ?
+element-copy-out-cross c = let h = edit-here (c .before .before .before .before .before .before .before .args .t1) (c .before .before .before .before .before .before .before .args .h) (c .before .before .before .before .before .before .before .args .e) (sym (c .before .before .before .before .ask-edit .ensures) ∙ c .before .before .before .if1 .taken) in omega (arith, c .before .before .before .before .before .before .before .pre .1 .few, h .low, h .used, h .old, h .new)
 
--- src/taking.rt:166:54
 sub-cross : tie.Need-sub-cross
-sub-cross c = ?
+sub-cross c = let h = edit-here (c .before .before .before .before .before .before .before .before .before .args .t1) (c .before .before .before .before .before .before .before .before .before .args .h) (c .before .before .before .before .before .before .before .before .before .args .e) (sym (c .before .before .before .before .before .before .ask-edit .ensures) ∙ c .before .before .before .before .before .if1 .taken) in omega (arith, c .before .before .before .before .before .before .before .before .before .pre .1 .few, h .low, h .used, h .old, h .new)
 
--- src/taking.rt:166:53
 cast-cross : tie.Need-cast-cross
-cast-cross c = ?
+cast-cross c = search needs
 
--- src/taking.rt:166:13
 cross-requires : tie.Need-cross-requires
-cross-requires c κs = ?
+cross-requires c κs = let h = edit-here (c .before .before .before .before .before .before .before .before .before .args .t1) (c .before .before .before .before .before .before .before .before .before .args .h) (c .before .before .before .before .before .before .before .before .before .args .e) (sym (c .before .before .before .before .before .before .ask-edit .ensures) ∙ c .before .before .before .before .before .if1 .taken) in (c .before .before .before .before .before .before .before .before .before .pre .0, left-ready (c .before .before .before .before .before .before .before .before .before .args .t1) (now (c .before .before .before .before .before .before .before .before .before .args .places)) (now (c .before .before .before .before .before .before .before .before .before .args .items)) (c .before .before .before .before .before .before .before .before .before .pre .1) (c .before .before .before .before .before .before .before .before .before .args .h .line) (c .before .before .before .before .before .before .before .before .before .args .h .seen) h)
 
--- src/taking.rt:168:13
 ask-last-requires : tie.Need-ask-last-requires
-ask-last-requires c κs = ?
+ask-last-requires c κs = let h = edit-here (c .before .before .before .before .before .before .before .before .before .before .args .t1) (c .before .before .before .before .before .before .before .before .before .before .args .h) (c .before .before .before .before .before .before .before .before .before .before .args .e) (sym (c .before .before .before .before .before .before .before .ask-edit .ensures) ∙ c .before .before .before .before .before .before .if1 .taken) in (c .before .before .before .before .before .before .before .before .before .before .pre .1 .few, omega (arith, c .before .before .before .before .before .before .before .before .before .before .pre .1 .few, h .low, h .used))
 
--- src/taking.rt:176:24
 mul-t29 : tie.Need-mul-t29
-mul-t29 c = search needs
+mul-t29 c = let h = edit-here (c .before .before .before .before .before .before .before .before .before .before .before .before .before .before .args .t1) (c .before .before .before .before .before .before .before .before .before .before .before .before .before .before .args .h) (c .before .before .before .before .before .before .before .before .before .before .before .before .before .before .args .e) (sym (c .before .before .before .before .before .before .before .before .before .before .before .ask-edit .ensures) ∙ c .before .before .before .before .before .before .before .before .before .before .if1 .taken) in omega (arith, c .before .before .before .before .before .before .before .before .before .before .before .before .before .before .pre .1 .few, h .low, h .used, h .old, h .new)
 
--- src/taking.rt:176:24
 element-copy-out-t32 : tie.Need-element-copy-out-t32
-element-copy-out-t32 c = ?
+element-copy-out-t32 c = let h = edit-here (c .before .before .before .before .before .before .before .before .before .before .before .before .before .before .args .t1) (c .before .before .before .before .before .before .before .before .before .before .before .before .before .before .args .h) (c .before .before .before .before .before .before .before .before .before .before .before .before .before .before .args .e) (sym (c .before .before .before .before .before .before .before .before .before .before .before .ask-edit .ensures) ∙ c .before .before .before .before .before .before .before .before .before .before .if1 .taken) in omega (arith, c .before .before .before .before .before .before .before .before .before .before .before .before .before .before .pre .1 .few, h .low, h .used, h .old, h .new)
 
--- src/taking.rt:176:24
 add-t33 : tie.Need-add-t33
-add-t33 c = ?
+add-t33 c = let h = edit-here (c .before .before .before .before .before .before .before .before .before .before .before .before .before .before .before .args .t1) (c .before .before .before .before .before .before .before .before .before .before .before .before .before .before .before .args .h) (c .before .before .before .before .before .before .before .before .before .before .before .before .before .before .before .args .e) (sym (c .before .before .before .before .before .before .before .before .before .before .before .before .ask-edit .ensures) ∙ c .before .before .before .before .before .before .before .before .before .before .before .if1 .taken) in omega (arith, c .before .before .before .before .before .before .before .before .before .before .before .before .before .before .before .pre .1 .taken (c .before .before .before .before .before .before .before .before .before .before .before .before .before .before .before .args .h .line - 1) (h .used))
 
--- src/taking.rt:178:26
 mul-t34 : tie.Need-mul-t34
-mul-t34 c = search needs
+mul-t34 c = let h = edit-here (c .before .before .before .before .before .before .before .before .before .before .before .before .before .before .before .args .t1) (c .before .before .before .before .before .before .before .before .before .before .before .before .before .before .before .args .h) (c .before .before .before .before .before .before .before .before .before .before .before .before .before .before .before .args .e) (sym (c .before .before .before .before .before .before .before .before .before .before .before .before .ask-edit .ensures) ∙ c .before .before .before .before .before .before .before .before .before .before .before .if1 .taken) in omega (arith, c .before .before .before .before .before .before .before .before .before .before .before .before .before .before .before .pre .1 .few, h .low, h .used, h .old, h .new)
 
--- src/taking.rt:178:26
 element-copy-out-t37 : tie.Need-element-copy-out-t37
-element-copy-out-t37 c = ?
+element-copy-out-t37 c = let h = edit-here (c .before .before .before .before .before .before .before .before .before .before .before .before .before .before .before .args .t1) (c .before .before .before .before .before .before .before .before .before .before .before .before .before .before .before .args .h) (c .before .before .before .before .before .before .before .before .before .before .before .before .before .before .before .args .e) (sym (c .before .before .before .before .before .before .before .before .before .before .before .before .ask-edit .ensures) ∙ c .before .before .before .before .before .before .before .before .before .before .before .if1 .taken) in omega (arith, c .before .before .before .before .before .before .before .before .before .before .before .before .before .before .before .pre .1 .few, h .low, h .used, h .old, h .new)
 
--- src/taking.rt:178:41
 inserts-of-requires : tie.Need-inserts-of-requires
 inserts-of-requires c κs = search needs
 
--- src/taking.rt:178:26
 add-t39 : tie.Need-add-t39
-add-t39 c = ?
+add-t39 c = omega (arith, c .inserts-of .ensures, last-few (c .before .before .before .before .before .before .before .before .before .before .before .before .before .before .before .before .before .args .t1) (c .before .before .before .before .before .before .before .before .before .before .before .before .before .before .before .before .before .args .h .line - 1) (c .before .before .before .before .before .before .before .before .before .before .before .before .before .before .before .before .before .args .e) (c .before .before .before .before .before .before .before .cross .result .edit) (c .before .before .before .before .before .before .before .cross .result .placed) (sym (c .before .before .before .before .before .before .ask-last .ensures) ∙ c .before .before .before .before .before .if2 .taken))
 
--- src/taking.rt:182:25
 cast-t41 : tie.Need-cast-t41
 cast-t41 c = search needs
 
--- src/taking.rt:172:13
 returns : tie.Need-returns
-returns c = ?
+returns c = edit-made (c .before .before .before .before .before .before .before .before .before .before .before .before .before .before .before .before .before .args .t1) (now (c .before .before .before .before .before .before .before .before .before .before .before .before .before .before .before .before .before .args .places)) (now (c .before .before .before .before .before .before .before .before .before .before .before .before .before .before .before .before .before .args .items)) (c .before .before .before .before .before .before .before .before .before .before .before .before .before .before .before .before .before .args .h) (c .before .before .before .before .before .before .before .before .before .before .before .before .before .before .before .before .before .args .e) (c .before .before .before .before .before .before .before .cross .result) (c .before .before .before .before .before .before .before .cross .ensures) (c .inserts-of .result) (sym (c .before .before .before .before .before .before .before .before .before .before .before .before .before .before .ask-edit .ensures) ∙ c .before .before .before .before .before .before .before .before .before .before .before .before .before .if1 .taken) (sym (c .before .before .before .before .before .before .ask-last .ensures) ∙ c .before .before .before .before .before .if2 .taken) (c .inserts-of .ensures)
 
--- src/taking.rt:185:9
 refusing-requires : tie.Need-refusing-requires
 refusing-requires c κs = search needs
 
--- src/taking.rt:185:9
 returns-2 : tie.Need-returns-2
-returns-2 c = ?
+returns-2 c = c .refusing .ensures ∙ edit-late (c .before .before .before .before .before .before .before .before .before .before .before .before .before .args .t1) (now (c .before .before .before .before .before .before .before .before .before .before .before .before .before .args .places)) (now (c .before .before .before .before .before .before .before .before .before .before .before .before .before .args .items)) (c .before .before .before .before .before .before .before .before .before .before .before .before .before .args .h) (c .before .before .before .before .before .before .before .before .before .before .before .before .before .args .e) (sym (c .before .before .before .before .before .before .before .before .before .before .ask-edit .ensures) ∙ c .before .before .before .before .before .before .before .before .before .if1 .taken) (c .before .before .ask-last .result) (c .before .before .ask-last .ensures ∙ late-asked (c .before .before .before .before .before .before .before .before .before .before .before .before .before .args .t1) (now (c .before .before .before .before .before .before .before .before .before .before .before .before .before .args .places)) (now (c .before .before .before .before .before .before .before .before .before .before .before .before .before .args .items)) (c .before .before .before .before .before .before .before .before .before .before .before .before .before .args .h) (c .before .before .before .before .before .before .before .before .before .before .before .before .before .args .e) (c .before .before .before .cross .result) (c .before .before .before .cross .ensures)) (c .before .if2 .left)
 
--- src/taking.rt:187:5
 refusing-requires-2 : tie.Need-refusing-requires-2
 refusing-requires-2 c κs = search needs
 
--- src/taking.rt:158:1
 returns-3 : tie.Need-returns-3
-returns-3 c = ?
+returns-3 c = c .refusing2 .ensures ∙ edit-no (c .before .before .before .before .before .args .t1) (now (c .before .before .before .before .before .args .places)) (now (c .before .before .before .before .before .args .items)) (c .before .before .before .before .before .args .h) (c .before .before .before .before .before .args .e) (c .before .before .ask-edit .result) (c .before .before .ask-edit .ensures) (c .before .if1 .left)
 
 pub decide-edit-spec : {M : Type 1} → statement M
 decide-edit-spec =

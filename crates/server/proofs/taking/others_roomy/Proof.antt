@@ -44,7 +44,7 @@ loop-less : tie.Need-loop-less Inv-loop μ-loop
 loop-less c = omega arith
 
 loop-again : tie.Need-loop-again Inv-loop μ-loop
-loop-again c = (omega arith, (c .before .before .before .before .loop .inv .1 .0, all-turn (roomyAt (c .before .before .before .before .before .args .t1) (c .before .before .before .before .before .args .at)) (c .before .before .before .before .loop .i) (c .before .before .before .before .before .args .t1 .n) (c .before .before .before .before .loop .roomy) (eqb (c .before .before .before .before .loop .i) (c .before .before .before .before .before .args .at) || ltb (c .less .result) 64) (omega (arith, c .before .before .before .before .loop .inv .1 .0, c .before .before .before .loop-test)) (ap (λ (c : ℕ). eqb (c .before .before .before .before .loop .i) (c .before .before .before .before .before .args .at) || ltb c 64) (c .less .ensures)) ∙ c .before .before .before .before .loop .inv .1 .1))
+loop-again c = (omega arith, (c .before .before .before .before .loop .inv .1 .0, all-turn (roomyAt (c .before .before .before .before .before .args .t1) (c .before .before .before .before .before .args .at)) (c .before .before .before .before .loop .i) (c .before .before .before .before .before .args .t1 .n) (c .before .before .before .before .loop .roomy) (eqb (c .before .before .before .before .loop .i) (c .before .before .before .before .before .args .at) || ltb (c .less .result) 64) (omega (arith, c .before .before .before .before .loop .inv .1 .0, c .before .before .before .loop-test)) (ap (λ (x : ℕ). eqb (c .before .before .before .before .loop .i) (c .before .before .before .before .before .args .at) || ltb x 64) (c .less .ensures)) ∙ c .before .before .before .before .loop .inv .1 .1))
 
 returns : tie.Need-returns Inv-loop μ-loop
 returns c = all-end (roomyAt (c .before .before .args .t1) (c .before .before .args .at)) (c .before .loop .i) (c .before .before .args .t1 .n) (c .before .loop .roomy) (omega (arith, c .before .loop .inv .1 .0, c .loop-test)) ∙ c .before .loop .inv .1 .1
