@@ -5,3 +5,5 @@ pub mod Writing
 pub mod Asked
 pub mod Decided
 pub mod Deciding
+pub mod Taken
+pub mod Answers

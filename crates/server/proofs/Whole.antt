@@ -128,6 +128,37 @@ module _ (s : Server) (long : length (s .items) ≡ 512) where
   pub struct-sound : every (codeTests s) ≡ soundStruct s
   struct-sound = bool-ext (every (codeTests s)) (soundStruct s) code-struct struct-code
 
+  -- as the code joins them
+  four : (a b c d e : Bool) → (a && (b && (c && (d && e)))) ≡ ((((a && b) && c) && d) && e)
+  four a b c d e = simp and-assoc
+
+  abbrev limits : Bool
+  limits = ((leb 1 (s .n) && leb (s .n) 8) && leb (s .initial) 128) && leb (s .len) 512
+
+  abbrev rest : Bool
+  rest =
+      every (leb (s .len) (s .initial + sumFrom (s .inserts) 0 (s .n)) ∷ allZero (drop (s .len) (s .items)) ∷ allFrom (countsAt (countsOf s) (sumFrom (s .taken) 0 (s .n))) 0 8 ∷ allFrom (slotsAt (countsOf s) ps xs) 0 8 ∷ [])
+
+  in-parts : (b : Bool) → limits ≡ b → (b && rest) ≡ soundStruct s
+  in-parts b t = ap (λ (x : Bool). x && rest) (sym t) ∙ sym (four (leb 1 (s .n)) (leb (s .n) 8) (leb (s .initial) 128) (leb (s .len) 512) rest) ∙ struct-sound
+
+  pub sound-no : limits ≡ false → false ≡ soundStruct s
+  sound-no t = in-parts false t
+
+  pub sound-yes : (most taken : ℕ) (zero′ places slots : Bool) → limits ≡ true → most ≡ s .initial + sumFrom (s .inserts) 0 (s .n) → taken ≡ sumFrom (s .taken) 0 (s .n)
+      → zero′ ≡ allZero (drop (s .len) (s .items)) → places ≡ allFrom (countsAt (countsOf s) taken) 0 8 → slots ≡ allFrom (slotsAt (countsOf s) ps xs) 0 8
+      → (((leb (s .len) most && zero′) && places) && slots) ≡ soundStruct s
+  sound-yes most taken zero′ places slots t m k z p l =
+      chain (leb (s .len) most) zero′ places slots
+      ∙ ap (λ (n : ℕ). every (leb (s .len) n ∷ zero′ ∷ places ∷ slots ∷ [])) m
+      ∙ ap (λ (b : Bool). every (leb (s .len) (s .initial + sumFrom (s .inserts) 0 (s .n)) ∷ b ∷ places ∷ slots ∷ [])) z
+      ∙ ap (λ (b : Bool). every (leb (s .len) (s .initial + sumFrom (s .inserts) 0 (s .n)) ∷ allZero (drop (s .len) (s .items)) ∷ b ∷ slots ∷ [])) (p ∙ ap (λ (n : ℕ). allFrom (countsAt (countsOf s) n) 0 8) k)
+      ∙ ap (λ (b : Bool). every (leb (s .len) (s .initial + sumFrom (s .inserts) 0 (s .n)) ∷ allZero (drop (s .len) (s .items)) ∷ allFrom (countsAt (countsOf s) (sumFrom (s .taken) 0 (s .n))) 0 8 ∷ b ∷ [])) l
+      ∙ in-parts true t
+    where
+      chain : (a b c d : Bool) → (((a && b) && c) && d) ≡ every (a ∷ b ∷ c ∷ d ∷ [])
+      chain a b c d = simp (and-assoc, and-true)
+
   -- ---- a struct that passes
 
   module _ (z : Sized s) (e : soundStruct s ≡ true) where

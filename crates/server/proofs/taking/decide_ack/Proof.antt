@@ -44,7 +44,7 @@ sub-count : tie.Need-sub-count
 sub-count c = let h = ack-here (c .before .before .before .before .before .before .args .t1) (c .before .before .before .before .before .before .args .line) (c .before .before .before .before .before .before .args .direction) (c .before .before .before .before .before .before .args .seen) (sym (c .before .before .before .ask-ack .ensures) ∙ c .before .before .if1 .taken) in omega (arith, c .before .before .before .before .before .before .pre .few, h .low, h .used, h .old, h .new)
 
 cast-count : tie.Need-cast-count
-cast-count c = search needs
+cast-count c = let h = ack-here (c .before .before .before .before .before .before .args .t1) (c .before .before .before .before .before .before .args .line) (c .before .before .before .before .before .before .args .direction) (c .before .before .before .before .before .before .args .seen) (sym (c .before .before .before .ask-ack .ensures) ∙ c .before .before .if1 .taken) in omega (arith, left-ready (c .before .before .before .before .before .before .args .t1) (now (c .before .before .before .before .before .before .args .places)) (now (c .before .before .before .before .before .before .args .items)) (c .before .before .before .before .before .before .pre) (c .before .before .before .before .before .before .args .line) (c .before .before .before .before .before .before .args .seen) h .few)
 
 mul-t21 : tie.Need-mul-t21
 mul-t21 c = let h = ack-here (c .before .before .before .before .before .before .args .t1) (c .before .before .before .before .before .before .args .line) (c .before .before .before .before .before .before .args .direction) (c .before .before .before .before .before .before .args .seen) (sym (c .before .before .before .ask-ack .ensures) ∙ c .before .before .if1 .taken) in omega (arith, c .before .before .before .before .before .before .pre .few, h .low, h .used, h .old, h .new)

@@ -45,7 +45,7 @@ sub-cross : tie.Need-sub-cross
 sub-cross c = let h = edit-here (c .before .before .before .before .before .before .before .before .before .args .t1) (c .before .before .before .before .before .before .before .before .before .args .h) (c .before .before .before .before .before .before .before .before .before .args .e) (sym (c .before .before .before .before .before .before .ask-edit .ensures) ∙ c .before .before .before .before .before .if1 .taken) in omega (arith, c .before .before .before .before .before .before .before .before .before .pre .1 .few, h .low, h .used, h .old, h .new)
 
 cast-cross : tie.Need-cast-cross
-cast-cross c = search needs
+cast-cross c = let h = edit-here (c .before .before .before .before .before .before .before .before .before .args .t1) (c .before .before .before .before .before .before .before .before .before .args .h) (c .before .before .before .before .before .before .before .before .before .args .e) (sym (c .before .before .before .before .before .before .ask-edit .ensures) ∙ c .before .before .before .before .before .if1 .taken) in omega (arith, left-ready (c .before .before .before .before .before .before .before .before .before .args .t1) (now (c .before .before .before .before .before .before .before .before .before .args .places)) (now (c .before .before .before .before .before .before .before .before .before .args .items)) (c .before .before .before .before .before .before .before .before .before .pre .1) (c .before .before .before .before .before .before .before .before .before .args .h .line) (c .before .before .before .before .before .before .before .before .before .args .h .seen) h .few)
 
 cross-requires : tie.Need-cross-requires
 cross-requires c κs = let h = edit-here (c .before .before .before .before .before .before .before .before .before .args .t1) (c .before .before .before .before .before .before .before .before .before .args .h) (c .before .before .before .before .before .before .before .before .before .args .e) (sym (c .before .before .before .before .before .before .ask-edit .ensures) ∙ c .before .before .before .before .before .if1 .taken) in (c .before .before .before .before .before .before .before .before .before .pre .0, left-ready (c .before .before .before .before .before .before .before .before .before .args .t1) (now (c .before .before .before .before .before .before .before .before .before .args .places)) (now (c .before .before .before .before .before .before .before .before .before .args .items)) (c .before .before .before .before .before .before .before .before .before .pre .1) (c .before .before .before .before .before .before .before .before .before .args .h .line) (c .before .before .before .before .before .before .before .before .before .args .h .seen) h)
