@@ -41,7 +41,7 @@ blank-at zero i z = refl
 blank-at (suc n) zero z = refl
 blank-at (suc n) (suc i) z = blank-at n i z
 
-take-blank : (n m : ℕ) → n ≤ m → take n (replicate m 0) ≡ replicate n 0
+take-blank : (n m : ℕ) → n ≤ m → take {A = ℕ} n (replicate m 0) ≡ replicate n 0
 take-blank zero m h = refl
 take-blank (suc n) zero h = absurd (omega arith)
 take-blank (suc n) (suc m) h = ap (λ (l : List ℕ). 0 ∷ l) (take-blank n m (omega arith))
@@ -56,7 +56,7 @@ module _ (n : ℕ) (few : n ≤ maxLines) (a l : List ℕ) (e : a ≡ padded 0 m
   unfolding filled
   fresh-is =
       store-is (record { n = n; initial = length l; items = l; lines = replicate n model.noLine }) (omega (arith, length-replicate n model.noLine)) (fresh n (length l) a)
-      (record { made = refl; taken = refl; acked = refl; inserts = refl; places = length-replicate 512 0; items = length-replicate 512 0 })
+      (record { made = refl; taken = refl; acked = refl; inserts = refl; places = length-replicate {A = ℕ} 512 0; items = length-replicate {A = ℕ} 512 0 })
       refl refl refl e
       (λ i h. subst (λ (v : model.Line). Row (fresh n (length l) a) i v) (sym (blank-at n i model.noLine)) (row i h))
     where
@@ -151,7 +151,7 @@ module _ (s : Server) (l k : ℕ) (lent : List ℕ) where
         ∙ ap (λ (r : ℕ). sent r (bytesOf (model.serverMessage (view s) l k)) lent) z
         ∙ sends-yes
       where
-        go : (a b : Bool) → (cond a (cond b 0 13) 4 ≡ 0 → ⊥) → cond a (cond b 0 13) 4 ≡ cond a (cond b (asks last) 13) 4
+        go : (a b : Bool) → (_≡_ {A = ℕ} (cond a (cond b 0 13) 4) 0 → ⊥) → cond {A = ℕ} a (cond b 0 13) 4 ≡ cond a (cond b (asks last) 13) 4
         go true true m = absurd (m refl)
         go true false m = refl
         go false b m = refl

@@ -19,9 +19,10 @@ use Rattle.model.specs.Questions.{Question, ask, asks, every, between, Answer, 
 use Rattle.model.specs.Cross.{past, over, allPlaced, priority, insertsOf}
 use Rattle.model.specs.Server as model
 use Rattle.model.proofs.Tests.{and-left, and-right, yes-all}
+use Rattle.model.proofs.Cross.{length-over}
 use Rattle.model.proofs.SoundServer.{length-atPlace}
 use Rattle.pending.specs.Slots.{placeOf, itemOf, editsFrom, filled, allFrom, steps}
-use Rattle.pending.proofs.Slots.{edits-drop, edits-length}
+use Rattle.pending.proofs.Slots.{edits-length, filled-length}
 use Rattle.pending.proofs.Crossing.{steps-length}
 use Rattle.endpoint.specs.Items.{roomy}
 use Rattle.endpoint.specs.Line.{seenQuestions, editQuestions, thenAsked}
@@ -33,7 +34,7 @@ use Rattle.server.specs.declared.taking.Decision.{Decision}
 use Rattle.server.specs.View.{countsOf, pendingCount, lineAt, linesFrom, view}
 use Rattle.server.specs.Sound.{Sound}
 use Rattle.server.specs.Taking.{editAsked, ackAsked, roomyAt, lastAsked, leftAsked, leftAt, refusing, ackAccepted, ackDecided, editAccepted, editDecided, decided, Ready, Roomy}
-use Rattle.server.proofs.Asked.{asks-yes, asks-no, Here, ack-here, edit-here, left-line}
+use Rattle.server.proofs.Asked.{asks-yes, asks-no, Here, ack-here, edit-here, left-ready, left-line}
 use Rattle.server.proofs.Decided.{ack-yes, edit-yes}
 use Rattle.server.proofs.Places.{each-first}
 use Rattle.server.proofs.Whole.{line, means, facts, lines-few, lines-count, len-view, at-view, at-facts, place-used, line-of}
@@ -86,6 +87,8 @@ pub record Decides (s : Server) (d : Decision) (m : model.Server) : Type 0 where
   pub own-inserts : getD (m .lines) (d .at) model.noLine .inserts ≡ d .inserts
   pub own-places : d .places ≡ filled placeOf (getD (m .lines) (d .at) model.noLine .pending)
   pub own-items : d .items ≡ filled itemOf (getD (m .lines) (d .at) model.noLine .pending)
+  pub size-places : length (d .places) ≡ maxPending
+  pub size-items : length (d .items) ≡ maxPending
   -- the others
   pub few : d .others ≤ s .n
   pub others : (i : ℕ) → (i ≡ d .at → ⊥) → getD (m .lines) i model.noLine
@@ -198,6 +201,10 @@ module _ (s : Server) (h : Sound s) where
   own-line : (l seen : ℕ) → Here k l seen → model.lineOf (view s) l ≡ line s (l - 1)
   own-line l seen here = at-view s h (l - 1) (here .used)
 
+  left-few : (l seen : ℕ) → Here k l seen → length (leftAt k ps xs (l - 1) seen) ≤ maxPending
+  left-few l seen here =
+      omega (arith, left-ready k ps xs ready l seen here .few, edits-length ps xs (maxPending * (l - 1) + (seen - getD (s .acked) (l - 1) 0)) (getD (s .made) (l - 1) 0 - seen))
+
   in-lines : (l seen : ℕ) → Here k l seen → l - 1 < length (view s .lines)
   in-lines l seen here = omega (arith, lines-count s h, here .used)
 
@@ -215,7 +222,7 @@ module _ (s : Server) (h : Sound s) where
         go false t = refl
 
     ack-decides : asks (ackAsked k l direction seen) ≡ 0 → Decides s (ackAccepted k (leftAt k ps xs (l - 1) seen) (l - 1) seen) (model.serverAcked (view s) l seen)
-    unfolding ackAccepted
+    unfolding ackAccepted applied
     ack-decides z =
         let here = ack-here k l direction seen z in
         let own : getD (model.atPlace (l - 1) (model.lineAcked seen) (λ v. v) (view s .lines)) (l - 1) model.noLine ≡ model.lineAcked seen (line s (l - 1)) =
@@ -234,6 +241,8 @@ module _ (s : Server) (h : Sound s) where
           own-inserts = ap (λ (v : model.Line). v .inserts) own;
           own-places = ap (filled placeOf) (sym left) ∙ ap (λ (v : model.Line). filled placeOf (v .pending)) (sym own);
           own-items = ap (filled itemOf) (sym left) ∙ ap (λ (v : model.Line). filled itemOf (v .pending)) (sym own);
+          size-places = filled-length placeOf (leftAt k ps xs (l - 1) seen) (left-few l seen here);
+          size-items = filled-length itemOf (leftAt k ps xs (l - 1) seen) (left-few l seen here);
           few = omega arith;
           others = λ i n. place-still (l - 1) (model.lineAcked seen) (view s .lines) i n
           ∙ sym (ap (λ (b : Bool). cond b (model.lineKeeps Nothing (getD (view s .lines) i model.noLine)) (getD (view s .lines) i model.noLine)) (le-ltb i 0 (omega arith)));
@@ -363,6 +372,8 @@ module _ (s : Server) (h : Sound s) where
           own-inserts = ap (λ (v : model.Line). v .inserts) own;
           own-places = ap (λ (es : List Edit). filled placeOf (over e es)) (sym mine) ∙ ap (λ (v : model.Line). filled placeOf (v .pending)) (sym own);
           own-items = ap (λ (es : List Edit). filled itemOf (over e es)) (sym mine) ∙ ap (λ (v : model.Line). filled itemOf (v .pending)) (sym own);
+          size-places = filled-length placeOf (over e left) (omega (arith, length-over e left, left-few (hd .line) (hd .seen) here));
+          size-items = filled-length itemOf (over e left) (omega (arith, length-over e left, left-few (hd .line) (hd .seen) here));
           few = omega arith;
           others = λ i n. place-other at (model.lineTaken (hd .seen) e) (model.lineKeeps carry) (view s .lines) i n
           ∙ ap (λ (m : ℕ). cond (ltb i m) (model.lineKeeps carry (getD (view s .lines) i model.noLine)) model.noLine) (lines-count s h)

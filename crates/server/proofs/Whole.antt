@@ -48,6 +48,14 @@ codeTests s =
     ∷ allFrom (slotsAt (countsOf s) (s .«pending_places») (s .«pending_items»)) 0 8
     ∷ []
 
+pub never : {A : Type 0} → false ≡ true → A
+never e = absurd (let z : _≡_ {A = ℕ} 0 1 = cc in omega arith)
+
+pub limits-few : (n initial len : ℕ) → (((leb 1 n && leb n 8) && leb initial 128) && leb len 512) ≡ true → n ≤ 8
+limits-few n initial len t =
+    leb-true n 8
+    (and-right (leb 1 n) (leb n 8) (and-left (leb 1 n && leb n 8) (leb initial 128) (and-left ((leb 1 n && leb n 8) && leb initial 128) (leb len 512) t)))
+
 module _ (s : Server) (long : length (s .items) ≡ 512) where
   abbrev ps : List ℕ
   ps = s .«pending_places»

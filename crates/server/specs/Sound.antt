@@ -13,7 +13,7 @@ use Rattle.pending.specs.Slots.{allFrom, tidyAt, emptyAt, soundSlots, Kept}
 use Rattle.endpoint.specs.Items.{allZero}
 use Rattle.server.specs.declared.Counts.{Counts}
 use Rattle.server.specs.declared.Server.{Server}
-use Rattle.server.specs.View.{countsOf, pendingCount, view, store}
+use Rattle.server.specs.View.{countsOf, serverOf, pendingCount, view, store}
 
 -- question 2 about the counts of a line, in use and not in use
 abbrev pub countsSound : ℕ → ℕ → ℕ → ℕ → ℕ → Bool
@@ -79,8 +79,7 @@ pub record Sound (s : Server) : Type 0 where
   pub kept : AllKept (countsOf s) (s .«pending_places») (s .«pending_items»)
   pub sized : Sized s
 
--- the sizes of the arrays that are lent
-pub record Sizes (items ps xs : List ℕ) : Type 0 where
+-- the sizes of all arrays
+pub record Sizes (k : Counts) (items ps xs : List ℕ) : Type 0 where
   pub list : length items ≡ 512
-  pub places : length ps ≡ 512
-  pub slots : length xs ≡ 512
+  pub sized : Sized (serverOf k items ps xs)

@@ -102,7 +102,7 @@ fn slots_sound<'a>(k: Counts, places: &'a [u32], items: &'a [u32]) -> bool
 }
 
 pub fn is_sound<'a>(k: Counts, items: &'a [u32], places: &'a [u32], slots: &'a [u32]) -> bool
-    requires { ⌜ Sizes (now items) (now places) (now slots) ⌝ }
+    requires { ⌜ Sizes k (now items) (now places) (now slots) ⌝ }
     ensures answer { λ r. ⌜ r ≡ soundStruct (serverOf k (now (items .entry)) (now (places .entry)) (now (slots .entry))) ⌝ }
     ensures whole { λ r. ⌜ (r ≡ true → Sound (serverOf k (now (items .entry)) (now (places .entry)) (now (slots .entry)))) ⌝ }
 {

@@ -1,34 +1,27 @@
 use borrow.Author.Needs.{needs}
+use mathlib.Core.Path.{_∙_}
+use native.Mathlib.Omega.{arith}
+use Rattle.server.proofs.Answers.{open-short, open-done, open-refused}
 use Rattle.server.proofs.Server.open.Statement.{statement}
 use Rattle.server.proofs.Server.open.Tie as tie
-use Rattle.server.proofs.Server.open.Reads as reads
-use Rattle.server.proofs.Server.open.Lts as lts
-use Rattle.endpoint.proofs.initial.Reads as initial-reads
-use Rattle.server.proofs.fresh.Reads as fresh-reads
 
--- src/lib.rt:89:35
 cast-fresh : tie.Need-cast-fresh
-cast-fresh c = ?
+cast-fresh c = omega (arith, open-short (c .before .before .args .n) (c .before .before .args .items .now) (c .if1 .taken))
 
--- src/lib.rt:89:55
 initial-requires : tie.Need-initial-requires
 initial-requires c κs = search needs
 
--- src/lib.rt:89:17
 fresh-requires : tie.Need-fresh-requires
 fresh-requires c κs = search needs
 
--- src/lib.rt:90:13
 returns : tie.Need-returns
-returns c = ?
+returns c = open-done (c .before .before .before .before .args .n) (c .before .before .before .before .args .items .now) (c .before .initial .result) (c .fresh .result) (c .before .before .if1 .taken) (c .before .initial .ensures) (c .fresh .ensures)
 
--- src/lib.rt:96:13
 fresh-requires-2 : tie.Need-fresh-requires-2
 fresh-requires-2 c κs = search needs
 
--- src/lib.rt:84:5
 returns-2 : tie.Need-returns-2
-returns-2 c = ?
+returns-2 c = open-refused (c .before .before .before .args .n) (c .before .before .before .args .items .now) (c .fresh2 .result) (c .before .if1 .left) (c .fresh2 .ensures)
 
 pub open-spec : {M : Type 1} → statement M
 open-spec =

@@ -1,50 +1,40 @@
 use borrow.Author.Needs.{needs}
+use mathlib.Core.Path.{sym, _∙_}
+use native.Mathlib.Omega.{arith}
+use Rattle.server.proofs.Whole.{lines-few, line-low, place-used}
+use Rattle.server.proofs.Answers.{tells-no, tell-elsewhere, tell-done}
 use Rattle.server.proofs.Server.tell.Statement.{statement}
 use Rattle.server.proofs.Server.tell.Tie as tie
-use Rattle.server.proofs.Server.tell.Reads as reads
-use Rattle.server.proofs.Server.tell.Lts as lts
-use Rattle.endpoint.proofs.finish.Reads as finish-reads
-use Rattle.server.proofs.question2.is_sound.Reads as is-sound-reads
 
--- src/sending.rt:89:12
 is-sound-requires : tie.Need-is-sound-requires
-is-sound-requires c κs = search needs
+is-sound-requires c κs = record { list = search needs; sized = record { made = search needs; taken = search needs; acked = search needs; inserts = search needs; places = search needs; items = search needs } }
 
--- src/sending.rt:91:26
 sub-i : tie.Need-sub-i
-sub-i c = ?
+sub-i c = line-low (c .before .before .before .before .before .before .before .before .before .before .before .before .before .before .before .args .t1) (c .before .before .is-sound .ensures .1 (c .before .if1 .taken)) (c .before .before .before .before .before .before .before .before .before .before .before .before .before .before .before .args .line) (c .if2 .taken)
 
--- src/sending.rt:91:25
 cast-i : tie.Need-cast-i
 cast-i c = search needs
 
--- src/sending.rt:92:66
 mul-t27 : tie.Need-mul-t27
-mul-t27 c = search needs
+mul-t27 c = omega (arith, lines-few (c .before .before .before .before .before .before .before .before .before .before .before .before .before .before .before .args .t1) (c .before .before .is-sound .ensures .1 (c .before .if1 .taken)), place-used (c .before .before .before .before .before .before .before .before .before .before .before .before .before .before .before .args .t1) (c .before .before .is-sound .ensures .1 (c .before .if1 .taken)) (c .before .before .before .before .before .before .before .before .before .before .before .before .before .before .before .args .line) (c .if2 .taken))
 
--- src/sending.rt:92:66
 element-copy-out-t30 : tie.Need-element-copy-out-t30
-element-copy-out-t30 c = ?
+element-copy-out-t30 c = omega (arith, lines-few (c .before .before .before .before .before .before .before .before .before .before .before .before .before .before .before .args .t1) (c .before .before .is-sound .ensures .1 (c .before .if1 .taken)), place-used (c .before .before .before .before .before .before .before .before .before .before .before .before .before .before .before .args .t1) (c .before .before .is-sound .ensures .1 (c .before .if1 .taken)) (c .before .before .before .before .before .before .before .before .before .before .before .before .before .before .before .args .line) (c .if2 .taken))
 
--- src/sending.rt:92:17
 finish-requires : tie.Need-finish-requires
 finish-requires c κs = search needs
 
--- src/sending.rt:92:17
 same-length : tie.Need-same-length
 same-length c = search needs
 
--- src/sending.rt:92:17
 returns : tie.Need-returns
-returns c = ?
+returns c = c .before .before .finish .ensures ∙ tell-done (c .before .before .before .before .before .before .before .before .before .before .before .before .before .before .before .before .before .before .before .before .args .t1) (c .before .before .before .before .before .before .before .before .before .before .before .before .before .before .before .before .before .before .before .before .args .line) (c .before .before .before .before .before .before .before .before .before .before .before .before .before .before .before .before .before .before .before .before .args .out .now) (c .before .before .before .before .before .before .before .is-sound .ensures .1 (c .before .before .before .before .before .before .if1 .taken)) (c .before .before .before .before .before .if2 .taken)
 
--- src/sending.rt:94:13
 returns-2 : tie.Need-returns-2
-returns-2 c = ?
+returns-2 c = tell-elsewhere (c .before .before .before .before .before .before .before .before .before .before .before .before .before .before .before .args .t1) (c .before .before .before .before .before .before .before .before .before .before .before .before .before .before .before .args .line) (c .before .before .before .before .before .before .before .before .before .before .before .before .before .before .before .args .out .now) (c .before .before .is-sound .ensures .1 (c .before .if1 .taken)) (c .if2 .left)
 
--- src/sending.rt:77:5
 returns-3 : tie.Need-returns-3
-returns-3 c = ?
+returns-3 c = tells-no (c .before .before .before .before .before .before .before .before .before .before .before .before .before .before .args .t1) (c .before .before .before .before .before .before .before .before .before .before .before .before .before .before .args .line) (c .before .before .before .before .before .before .before .before .before .before .before .before .before .before .args .out .now) (sym (c .before .is-sound .ensures .0) ∙ c .if1 .left)
 
 pub tell-spec : {M : Type 1} → statement M
 tell-spec =

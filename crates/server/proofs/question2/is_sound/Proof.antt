@@ -1,72 +1,65 @@
 use borrow.Author.Needs.{needs}
+use mathlib.Core.Path.{_≡_, ap, sym, _∙_}
+use mathlib.Core.Bool.{Bool, _&&_}
+use Prim.Native.Nat.{ℕ, _+_, _≤_}
+use native.Mathlib.Omega.{arith}
+use denote.Ref.{now}
+use lib.Dec.{leb}
+use borrow.Author.Tests.{leb-true, eqb-false}
+use Rattle.model.proofs.Tests.{and-left, and-right}
+use Rattle.server.specs.declared.Server.{Server}
+use Rattle.server.specs.View.{serverOf}
+use Rattle.server.specs.Sound.{Sized}
+use Rattle.server.proofs.Whole.{limits-few, never, sound-no, sound-yes, struct-whole}
 use Rattle.server.proofs.question2.is_sound.Statement.{statement}
 use Rattle.server.proofs.question2.is_sound.Tie as tie
-use Rattle.server.proofs.question2.is_sound.Reads as reads
-use Rattle.server.proofs.question2.is_sound.Lts as lts
-use Rattle.endpoint.proofs.zero_from.Reads as zero-from-reads
-use Rattle.server.proofs.question2.places_sound.Reads as places-sound-reads
-use Rattle.server.proofs.question2.slots_sound.Reads as slots-sound-reads
-use Rattle.server.proofs.question2.sum.Reads as sum-reads
 
--- src/question2.rt:109:31
 cast-lines : tie.Need-cast-lines
 cast-lines c = search needs
 
--- src/question2.rt:110:17
 cast-if1 : tie.Need-cast-if1
 cast-if1 c = search needs
 
--- src/question2.rt:110:59
 cast-if1-2 : tie.Need-cast-if1-2
 cast-if1-2 c = search needs
 
--- src/question2.rt:111:17
 cast-m : tie.Need-cast-m
 cast-m c = search needs
 
--- src/question2.rt:114:20
 cast-most : tie.Need-cast-most
 cast-most c = search needs
 
--- src/question2.rt:114:39
 sum-requires : tie.Need-sum-requires
-sum-requires c κs = ?
+sum-requires c κs = limits-few (c .before .before .before .before .before .before .before .before .before .before .before .before .args .k .n) (c .before .before .before .before .before .before .before .before .before .before .before .before .args .k .initial) (c .before .before .before .before .before .before .before .before .before .before .before .before .args .k .len) (c .before .before .before .before .if1 .taken)
 
--- src/question2.rt:114:20
 add-most : tie.Need-add-most
-add-most c = search needs
+add-most c = omega (arith, c .sum .ensures .1)
 
--- src/question2.rt:115:17
 cast-result : tie.Need-cast-result
 cast-result c = search needs
 
--- src/question2.rt:116:42
 cast-zero-from : tie.Need-cast-zero-from
 cast-zero-from c = search needs
 
--- src/question2.rt:116:15
 zero-from-requires : tie.Need-zero-from-requires
 zero-from-requires c κs = search needs
 
--- src/question2.rt:117:31
 sum-requires-2 : tie.Need-sum-requires-2
-sum-requires-2 c κs = ?
+sum-requires-2 c κs = limits-few (c .before .before .before .before .before .before .before .before .before .before .before .before .before .before .before .before .args .k .n) (c .before .before .before .before .before .before .before .before .before .before .before .before .before .before .before .before .args .k .initial) (c .before .before .before .before .before .before .before .before .before .before .before .before .before .before .before .before .args .k .len) (c .before .before .before .before .before .before .before .before .if1 .taken)
 
--- src/question2.rt:117:15
 places-sound-requires : tie.Need-places-sound-requires
 places-sound-requires c κs = search needs
 
--- src/question2.rt:118:15
 slots-sound-requires : tie.Need-slots-sound-requires
-slots-sound-requires c κs = ?
+slots-sound-requires c κs = (omega (arith, c .before .before .before .before .before .before .before .before .before .before .before .before .before .before .before .before .before .before .pre .sized .places), omega (arith, c .before .before .before .before .before .before .before .before .before .before .before .before .before .before .before .before .before .before .pre .sized .items))
 
--- src/question2.rt:115:9
 returns : tie.Need-returns
-returns c = ?
+returns c = let z : Sized (serverOf (c .before .before .before .before .before .before .before .before .before .before .before .before .before .before .before .before .before .before .before .args .k) (now (c .before .before .before .before .before .before .before .before .before .before .before .before .before .before .before .before .before .before .before .args .items)) (now (c .before .before .before .before .before .before .before .before .before .before .before .before .before .before .before .before .before .before .before .args .places)) (now (c .before .before .before .before .before .before .before .before .before .before .before .before .before .before .before .before .before .before .before .args .slots))) = c .before .before .before .before .before .before .before .before .before .before .before .before .before .before .before .before .before .before .before .pre .sized in
+    let e = sound-yes (serverOf (c .before .before .before .before .before .before .before .before .before .before .before .before .before .before .before .before .before .before .before .args .k) (now (c .before .before .before .before .before .before .before .before .before .before .before .before .before .before .before .before .before .before .before .args .items)) (now (c .before .before .before .before .before .before .before .before .before .before .before .before .before .before .before .before .before .before .before .args .places)) (now (c .before .before .before .before .before .before .before .before .before .before .before .before .before .before .before .before .before .before .before .args .slots))) (c .before .before .before .before .before .before .before .before .before .before .before .before .before .before .before .before .before .before .before .pre .list) (c .before .before .before .before .before .before .before .before .before .before .before .before .before .before .before .before .before .before .before .args .k .initial + c .before .before .before .before .before .before .sum .result) (c .before .before .sum2 .result) (c .before .before .before .zero-from .result) (c .before .places-sound .result) (c .slots-sound .result) (c .before .before .before .before .before .before .before .before .before .before .before .if1 .taken) (ap (λ (n : ℕ). c .before .before .before .before .before .before .before .before .before .before .before .before .before .before .before .before .before .before .before .args .k .initial + n) (c .before .before .before .before .before .before .sum .ensures .0)) (c .before .before .sum2 .ensures .0) (c .before .before .before .zero-from .ensures) (c .before .places-sound .ensures) (c .slots-sound .ensures) in
+    (e, λ y. struct-whole (serverOf (c .before .before .before .before .before .before .before .before .before .before .before .before .before .before .before .before .before .before .before .args .k) (now (c .before .before .before .before .before .before .before .before .before .before .before .before .before .before .before .before .before .before .before .args .items)) (now (c .before .before .before .before .before .before .before .before .before .before .before .before .before .before .before .before .before .before .before .args .places)) (now (c .before .before .before .before .before .before .before .before .before .before .before .before .before .before .before .before .before .before .before .args .slots))) (c .before .before .before .before .before .before .before .before .before .before .before .before .before .before .before .before .before .before .before .pre .list) z (sym e ∙ y))
 
--- src/question2.rt:104:1
 returns-2 : tie.Need-returns-2
-returns-2 c = ?
+returns-2 c = (sound-no (serverOf (c .before .before .before .before .before .before .before .before .args .k) (now (c .before .before .before .before .before .before .before .before .args .items)) (now (c .before .before .before .before .before .before .before .before .args .places)) (now (c .before .before .before .before .before .before .before .before .args .slots))) (c .before .before .before .before .before .before .before .before .pre .list) (c .if1 .left), never)
 
 pub is-sound-spec : {M : Type 1} → statement M
 is-sound-spec =
