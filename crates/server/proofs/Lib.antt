@@ -7,3 +7,4 @@ pub mod Decided
 pub mod Deciding
 pub mod Taken
 pub mod Answers
+pub mod Stored

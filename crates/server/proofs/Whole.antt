@@ -225,7 +225,7 @@ module _ (s : Server) (long : length (s .items) ≡ 512) where
 
 -- ---- a sound struct
 
-facts-at : (n sum l : ℕ) (vs : List model.Line) (i : ℕ) → i < length vs → LinesFacts n sum l vs → LineFacts n sum (l + i) (getD vs i model.noLine)
+pub facts-at : (n sum l : ℕ) (vs : List model.Line) (i : ℕ) → i < length vs → LinesFacts n sum l vs → LineFacts n sum (l + i) (getD vs i model.noLine)
 facts-at n sum l [] i h f = absurd (omega arith)
 facts-at n sum l (v ∷ vs) zero h f =
     let e : l ≡ l + 0 = omega arith in
