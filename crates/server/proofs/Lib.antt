@@ -1,9 +1,10 @@
-pub mod Bools
+pub mod Rows
 pub mod Places
 pub mod Whole
-pub mod Lines
+pub mod Writing
+pub mod Asked
+pub mod Decided
+pub mod Deciding
+pub mod Taken
 pub mod Answers
-pub mod Roomy
-pub mod Keeping
-pub mod Taking
 pub mod Stored

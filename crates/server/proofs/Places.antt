@@ -1,190 +1,200 @@
--- Question 2 about the places of the lines: what the code computes for one place is its definition, and one turn of each loop.
+-- Question 2 about the places of the lines: what the code tests of each place, and what the definition asks of it.
 use mathlib.Core.Path.{_≡_, refl, ap, sym, _∙_, subst}
 use mathlib.Core.Bool.{Bool, true, false, _&&_, cond}
-use mathlib.Core.List.{List, [], _∷_, _++_, map, map-append}
-use Prim.Native.Nat.{ℕ, suc, _+_, _-_, _≤_, _<_, min}
+use mathlib.Core.List.{List, [], _∷_}
+use Prim.Native.Nat.{ℕ, zero, suc, _+_, _-_, _*_, _≤_, _<_}
 use native.Mathlib.Numerals.{add-one}
 use native.Mathlib.Omega.{arith}
 use lib.Dec.{leb, ltb, eqb}
-use lib.ListN.{length, getD, take, drop, length-map, drop-of-length-le}
-use lib.Seq.{take-suc, drop-cons, take-all, take-nil, drop-nil}
-use borrow.Author.Tests.{eqb-true, leb-true, leb-false, ltb-true, ltb-false}
-use Rattle.model.specs.Limits.{maxInserts, maxEdits}
+use lib.ListN.{length, getD, List·getD-eq-default}
+use borrow.Author.Tests.{eqb-true, eq-eqb, le-leb, lt-ltb, le-ltb, ltb-true, ltb-false}
+use Rattle.model.specs.Limits.{maxInserts, maxEdits, maxPending, maxLines}
 use Rattle.model.specs.Questions.{every}
 use Rattle.model.specs.Cross.{allPlaced, priorities}
 use Rattle.model.specs.Client.{other}
 use Rattle.model.specs.Server as model
 use Rattle.model.proofs.Tests.{both, and-left, and-right, hold, held}
-use Rattle.pending.specs.Slots.{edits, allNothing, soundTests, soundSlots}
-use Rattle.server.specs.declared.Line.{Line}
-use Rattle.server.specs.View.{viewLine}
-use Rattle.server.specs.Sound.{tidyLine, countsSound, countsZero, zeroLine, soundPlace, soundPlaces, KeptLine, KeptLines}
-use Rattle.server.proofs.Bools.{bool-ext, and-assoc, and-true}
+use Rattle.pending.specs.Slots.{editsFrom, allFrom, tidyAt, emptyAt, soundTests, soundSlots}
+use Rattle.pending.proofs.Slots.{edits-length}
+use Rattle.pending.proofs.Tests.{all-each, each-all}
+use Rattle.server.specs.declared.Counts.{Counts}
+use Rattle.server.specs.View.{pendingCount, lineAt, linesFrom, sumFrom}
+use Rattle.server.specs.Sound.{countsSound, countsZero, countsAt, slotsAt, tidyLine, zeroLine}
 
--- what lies past an array's end
-abbrev pub blank : Line
-blank = record { made = 0; taken = 0; acked = 0; inserts = 0; pending = [] }
+-- ---- tests of the first places
 
-module _ (n sum i : ℕ) (v : Line) where
-  abbrev sound : Bool
-  sound = countsSound sum (v .made) (v .taken) (v .acked) (v .inserts)
+pub each-first : (test : ℕ → Bool) (count : ℕ) → allFrom test 0 count ≡ true → (i : ℕ) → i < count → test i ≡ true
+each-first test count a i h =
+    let e : i ≡ 0 + i = omega arith in
+    ap test e ∙ all-each test 0 count a i h
 
-  abbrev zeros : Bool
-  zeros = countsZero (v .made) (v .taken) (v .acked) (v .inserts)
+pub first-each : (test : ℕ → Bool) (count : ℕ) → ((i : ℕ) → i < count → test i ≡ true) → allFrom test 0 count ≡ true
+first-each test count f =
+    each-all test 0 count (λ i h.
+    let e : 0 + i ≡ i = omega arith in
+    ap test e ∙ f i h)
 
-  abbrev slots : ℕ → Bool
-  slots count = soundSlots (other n (suc i)) count (v .pending)
+-- the places from n on, of m
+pub each-last : (test : ℕ → Bool) (n m : ℕ) → allFrom test n (m - n) ≡ true → (i : ℕ) → n ≤ i → i < m → test i ≡ true
+each-last test n m a i h k =
+    let e : i ≡ n + (i - n) = omega arith in
+    ap test e ∙ all-each test n (m - n) a (i - n) (omega arith)
 
-  in-use : (sound && slots (v .made - v .acked)) ≡ (model.soundLine n sum (suc i) (viewLine v) && tidyLine v)
-  unfolding model.soundLine soundSlots
-  in-use =
-      bool-ext (sound && slots (v .made - v .acked)) (model.soundLine n sum (suc i) (viewLine v) && tidyLine v)
-      (λ h.
-      let a = hold (leb (v .taken) maxEdits ∷ eqb (v .made) (sum - v .taken) ∷ leb (v .acked) (v .made) ∷ leb (v .inserts) maxInserts ∷ leb (v .inserts) (v .taken) ∷ []) (and-left sound (slots (v .made - v .acked)) h) in
-      let b = hold (soundTests (other n (suc i)) (v .made - v .acked) (v .pending)) (and-right sound (slots (v .made - v .acked)) h) in
-      both (every (model.lineTests n sum (suc i) (viewLine v))) (tidyLine v)
-      (held (model.lineTests n sum (suc i) (viewLine v))
-      (a .0, (a .1 .0, (a .1 .1 .0, (b .0, (b .1 .0, (b .1 .1 .0, (b .1 .1 .1 .0, (a .1 .1 .1 .0, (a .1 .1 .1 .1 .0, tt))))))))))
-      (b .1 .1 .1 .1 .0))
-      (λ h.
-      let c = hold (model.lineTests n sum (suc i) (viewLine v)) (and-left (every (model.lineTests n sum (suc i) (viewLine v))) (tidyLine v) h) in
-      let t = and-right (every (model.lineTests n sum (suc i) (viewLine v))) (tidyLine v) h in
-      both sound (slots (v .made - v .acked))
-      (held (leb (v .taken) maxEdits ∷ eqb (v .made) (sum - v .taken) ∷ leb (v .acked) (v .made) ∷ leb (v .inserts) maxInserts ∷ leb (v .inserts) (v .taken) ∷ [])
-      (c .0, (c .1 .0, (c .1 .1 .0, (c .1 .1 .1 .1 .1 .1 .1 .0, (c .1 .1 .1 .1 .1 .1 .1 .1 .0, tt))))))
-      (held (soundTests (other n (suc i)) (v .made - v .acked) (v .pending))
-      (c .1 .1 .1 .0, (c .1 .1 .1 .1 .0, (c .1 .1 .1 .1 .1 .0, (c .1 .1 .1 .1 .1 .1 .0, (t, tt)))))))
+pub last-each : (test : ℕ → Bool) (n m : ℕ) → ((i : ℕ) → n ≤ i → i < m → test i ≡ true) → allFrom test n (m - n) ≡ true
+last-each test n m f = each-all test n (m - n) (λ i h. f (n + i) (omega arith) (omega arith))
 
-  -- where made and acked are 0, no slot is in use
-  none : zeros ≡ true → v .made - v .acked ≡ 0
-  none z =
-      let h = hold (eqb (v .made) 0 ∷ eqb (v .taken) 0 ∷ eqb (v .acked) 0 ∷ eqb (v .inserts) 0 ∷ []) z in
-      omega (arith, eqb-true (v .made) 0 (h .0))
+module _ (k : Counts) (ps xs : List ℕ) where
+  -- ---- the lines of a struct
 
-  not-in-use : (zeros && slots (v .made - v .acked)) ≡ zeroLine v
-  unfolding soundSlots allPlaced priorities
-  not-in-use =
-      bool-ext (zeros && slots (v .made - v .acked)) (zeros && allNothing (edits (v .pending)))
-      (λ h.
-      let z = and-left zeros (slots (v .made - v .acked)) h in
-      let b = hold (soundTests (other n (suc i)) (v .made - v .acked) (v .pending)) (and-right zeros (slots (v .made - v .acked)) h) in
-      both zeros (allNothing (edits (v .pending))) z
-      (subst (λ (k : ℕ). allNothing (drop k (edits (v .pending))) ≡ true) (none z) (b .1 .1 .1 .1 .0)))
-      (λ h.
-      let z = and-left zeros (allNothing (edits (v .pending))) h in
-      both zeros (slots (v .made - v .acked)) z
-      (subst (λ (k : ℕ). slots k ≡ true) (sym (none z))
-      (held (soundTests (other n (suc i)) 0 (v .pending)) (refl, (refl, (refl, (refl, (and-right zeros (allNothing (edits (v .pending))) h, tt))))))))
+  pub lines-length : (i count : ℕ) → length (linesFrom k ps xs i count) ≡ count
+  unfolding linesFrom
+  lines-length i zero = refl
+  lines-length i (suc count) = ap suc (lines-length (suc i) count)
 
-  pub place-sound : (cond (ltb i n) sound zeros && slots (v .made - v .acked)) ≡ soundPlace n sum i v
-  place-sound = go (ltb i n)
-    where
-      go : (b : Bool) → (cond b sound zeros && slots (v .made - v .acked)) ≡ cond b (model.soundLine n sum (suc i) (viewLine v) && tidyLine v) (zeroLine v)
-      go true = in-use
-      go false = not-in-use
+  pub lines-at : (i count j : ℕ) → j < count → getD (linesFrom k ps xs i count) j model.noLine ≡ lineAt k ps xs (i + j)
+  unfolding linesFrom
+  lines-at i zero j h = absurd (omega arith)
+  lines-at i (suc count) zero h =
+      let e : i ≡ i + 0 = omega arith in
+      ap (lineAt k ps xs) e
+  lines-at i (suc count) (suc j) h =
+      let e : suc i + j ≡ i + suc j = omega arith in
+      lines-at (suc i) count j (omega arith) ∙ ap (lineAt k ps xs) e
 
-  -- as the code joins them
-  pub place-code : (p counts none-used kept : Bool) → counts ≡ sound → none-used ≡ zeros → kept ≡ slots (v .made - v .acked)
-      → p ≡ cond (ltb i n) counts none-used → (p && kept) ≡ soundPlace n sum i v
-  place-code p counts none-used kept a b d e =
-      ap (λ (x : Bool). x && kept) e ∙ ap (λ (x : Bool). cond (ltb i n) x none-used && kept) a
-      ∙ ap (λ (x : Bool). cond (ltb i n) sound x && kept) b
-      ∙ ap (λ (x : Bool). cond (ltb i n) sound zeros && x) d
-      ∙ place-sound
+  pub line-used : (count j : ℕ) → j < count → getD (linesFrom k ps xs 0 count) j model.noLine ≡ lineAt k ps xs j
+  line-used count j h =
+      let e : 0 + j ≡ j = omega arith in
+      lines-at 0 count j h ∙ ap (lineAt k ps xs) e
 
--- the same, by what is asked: the first k places are in use
-abbrev parts : ℕ → ℕ → ℕ → ℕ → List Line → Bool
-parts n sum l k vs =
-    model.soundLines n sum l (map viewLine (take k vs)) && (every (map tidyLine (take k vs)) && every (map zeroLine (drop k vs)))
+  pub line-unused : (count j : ℕ) → count ≤ j → getD (linesFrom k ps xs 0 count) j model.noLine ≡ model.noLine
+  line-unused count j h = List·getD-eq-default (linesFrom k ps xs 0 count) model.noLine (omega (arith, lines-length 0 count))
 
-regroup : (a t l u z : Bool) → ((a && t) && (l && (u && z))) ≡ ((a && l) && ((t && u) && z))
-regroup true true l u z = refl
-regroup true false true u z = refl
-regroup true false false u z = refl
-regroup false t l u z = refl
+  -- a count of each line, added up
+  pub total-is : (f : model.Line → ℕ) (ws : List ℕ) → ((j : ℕ) → f (lineAt k ps xs j) ≡ getD ws j 0) → (i count : ℕ) → model.total f (linesFrom k ps xs i count) ≡ sumFrom ws i count
+  unfolding linesFrom sumFrom
+  total-is f ws e i zero = refl
+  total-is f ws e i (suc count) = omega (arith, e i, total-is f ws e (suc i) count)
 
-from-place : (n sum i : ℕ) (vs : List Line) → soundPlaces n sum i vs ≡ parts n sum (suc i) (n - i) vs
-unfolding soundPlaces model.soundLines
-from-place n sum i [] = rw (take-nil {A = Line} (n - i), drop-nil {A = Line} (n - i))
-from-place n sum i (v ∷ vs) = go (ltb i n) refl (from-place n sum (suc i) vs)
-  where
-    go : (b : Bool) → ltb i n ≡ b → soundPlaces n sum (suc i) vs ≡ parts n sum (suc (suc i)) (n - suc i) vs
-        → (cond b (model.soundLine n sum (suc i) (viewLine v) && tidyLine v) (zeroLine v) && soundPlaces n sum (suc i) vs)
-        ≡ parts n sum (suc i) (n - i) (v ∷ vs)
-    go true t e =
-        let h : i < n = ltb-true i n t in
-        let k : suc (n - suc i) ≡ n - i = omega arith in
-        ap (λ (b : Bool). (model.soundLine n sum (suc i) (viewLine v) && tidyLine v) && b) e
-        ∙ regroup (model.soundLine n sum (suc i) (viewLine v)) (tidyLine v)
-        (model.soundLines n sum (suc (suc i)) (map viewLine (take (n - suc i) vs)))
-        (every (map tidyLine (take (n - suc i) vs)))
-        (every (map zeroLine (drop (n - suc i) vs)))
-        ∙ ap (λ (j : ℕ). parts n sum (suc i) j (v ∷ vs)) k
-    go false t e =
-        let h : n ≤ i = ltb-false i n t in
-        let k : n - suc i ≡ 0 = omega arith in
-        let m : 0 ≡ n - i = omega arith in
-        ap (λ (b : Bool). zeroLine v && b) (e ∙ ap (λ (j : ℕ). parts n sum (suc (suc i)) j vs) k)
-        ∙ ap (λ (j : ℕ). parts n sum (suc i) j (v ∷ vs)) m
+  -- ---- one place
 
-pub all-places : (n sum : ℕ) (vs : List Line) → soundPlaces n sum 0 vs ≡ parts n sum 1 n vs
-all-places n sum vs =
-    let e : n - 0 ≡ n = omega arith in
-    from-place n sum 0 vs ∙ ap (λ (k : ℕ). parts n sum 1 k vs) e
+  module _ (sum i : ℕ) where
+    abbrev v : model.Line
+    v = lineAt k ps xs i
 
--- one turn of the loop over the places
-pub places-turn : (n sum i : ℕ) (lines : List Line) (well : Bool) (d : Line) → i < length lines
-    → ((well && soundPlace n sum i (getD lines i d)) && soundPlaces n sum (i + 1) (drop (i + 1) lines)) ≡ (well && soundPlaces n sum i (drop i lines))
-unfolding soundPlaces
-places-turn n sum i lines well d h =
-    and-assoc well (soundPlace n sum i (getD lines i d)) (soundPlaces n sum (i + 1) (drop (i + 1) lines))
-    ∙ ap (λ (k : ℕ). well && (soundPlace n sum i (getD lines i d) && soundPlaces n sum k (drop k lines))) (add-one i)
-    ∙ ap (λ (l : List Line). well && soundPlaces n sum i l) (sym (drop-cons lines i d h))
+    abbrev countTests : List Bool
+    countTests =
+        leb (v .taken) maxEdits
+        ∷ eqb (v .made) (sum - v .taken)
+        ∷ leb (v .acked) (v .made)
+        ∷ leb (v .inserts) maxInserts
+        ∷ leb (v .inserts) (v .taken)
+        ∷ []
 
--- the loop is done
-pub places-end : (n sum i : ℕ) (lines : List Line) (well all : Bool) → length lines ≤ i → (well && soundPlaces n sum i (drop i lines)) ≡ all → well ≡ all
-unfolding soundPlaces
-places-end n sum i lines well all h e =
-    sym (and-true well) ∙ ap (λ (l : List Line). well && soundPlaces n sum i l) (sym (drop-of-length-le lines {i = i} h)) ∙ e
+    abbrev slotTests : List Bool
+    slotTests = soundTests (other (k .n) (i + 1)) (maxPending * i) (pendingCount k i) ps xs
 
-kept-snoc : (l : List Line) (v : Line) → KeptLines l → KeptLine v → KeptLines (l ++ (v ∷ []))
-kept-snoc [] v a b = (b, tt)
-kept-snoc (u ∷ l) v a b = (a .0, kept-snoc l v (a .1) b)
+    abbrev zeros : List Bool
+    zeros = eqb (v .made) 0 ∷ eqb (v .taken) 0 ∷ eqb (v .acked) 0 ∷ eqb (v .inserts) 0 ∷ []
 
-pub kept-turn : (i : ℕ) (lines : List Line) (d : Line) → i < length lines → KeptLines (take i lines) → KeptLine (getD lines i d)
-    → KeptLines (take (i + 1) lines)
-kept-turn i lines d h a b =
-    subst (λ (l : List Line). KeptLines l) (sym (ap (λ (k : ℕ). take k lines) (add-one i) ∙ take-suc lines i d h)) (kept-snoc (take i lines) (getD lines i d) a b)
+    abbrev tidySlots : Bool
+    tidySlots = allFrom (tidyAt ps xs) (maxPending * i) (pendingCount k i)
 
-pub kept-end : (i : ℕ) (lines : List Line) → length lines ≤ i → KeptLines (take i lines) → KeptLines lines
-kept-end i lines h k = subst (λ (l : List Line). KeptLines l) (take-all i lines h) k
+    abbrev emptySlots : Bool
+    emptySlots = allFrom (emptyAt ps xs) (maxPending * i + pendingCount k i) (maxPending - pendingCount k i)
 
--- a number of each line, added up
-total-snoc : (f : model.Line → ℕ) (l : List model.Line) (v : model.Line) → model.total f (l ++ (v ∷ [])) ≡ model.total f l + f v
-total-snoc f [] v = omega arith
-total-snoc f (u ∷ l) v = omega (arith, total-snoc f l v)
+    pub used-yes : every countTests ≡ true → slotsAt k ps xs i ≡ true → (model.soundLine (k .n) sum (i + 1) v ≡ true) × (tidyLine k ps xs i ≡ true)
+    unfolding model.soundLine soundSlots
+    used-yes c t =
+        let a = hold countTests c in
+        let b = hold slotTests t in (
+          held (model.lineTests (k .n) sum (i + 1) v)
+              (a .0, (a .1 .0, (a .1 .1 .0, (b .0, (eq-eqb (length (v .pending)) (pendingCount k i) (edits-length ps xs (maxPending * i) (pendingCount k i)), (b .1 .0, (b .1 .1 .0, (a .1 .1 .1 .0, (a .1 .1 .1 .1 .0, tt))))))))),
+          both tidySlots emptySlots (b .1 .1 .1 .0) (b .1 .1 .1 .1 .0),
+        )
 
-pub total-turn : (f : model.Line → ℕ) (i : ℕ) (lines : List Line) (d : Line) → i < length lines
-    → model.total f (map viewLine (take (i + 1) lines)) ≡ model.total f (map viewLine (take i lines)) + f (viewLine (getD lines i d))
-total-turn f i lines d h =
-    ap (λ (l : List Line). model.total f (map viewLine l)) (ap (λ (k : ℕ). take k lines) (add-one i) ∙ take-suc lines i d h)
-    ∙ ap (model.total f) (map-append viewLine (take i lines) (getD lines i d ∷ []))
-    ∙ total-snoc f (map viewLine (take i lines)) (viewLine (getD lines i d))
+    pub yes-used : model.soundLine (k .n) sum (i + 1) v ≡ true → tidyLine k ps xs i ≡ true → (every countTests ≡ true) × (slotsAt k ps xs i ≡ true)
+    unfolding model.soundLine soundSlots
+    yes-used l t =
+        let c = hold (model.lineTests (k .n) sum (i + 1) v) l in (
+          held countTests (c .0, (c .1 .0, (c .1 .1 .0, (c .1 .1 .1 .1 .1 .1 .1 .0, (c .1 .1 .1 .1 .1 .1 .1 .1 .0, tt))))),
+          held slotTests (c .1 .1 .1 .0, (c .1 .1 .1 .1 .1 .0, (c .1 .1 .1 .1 .1 .1 .0, (and-left tidySlots emptySlots t, (and-right tidySlots emptySlots t, tt))))),
+        )
 
--- the length of an array of structs, as the array's type tells it
-pub length-mapped : (B : Type 0) (f : Line → B) (l : List Line) (n : ℕ) → length (map f l) ≡ n → length l ≡ n
-length-mapped B f l n e = sym (length-map l f) ∙ e
+    -- where made is 0, no slot is in use
+    none-used : every zeros ≡ true → pendingCount k i ≡ 0
+    none-used z = let h = hold zeros z in omega (arith, eqb-true (v .made) 0 (h .0))
 
--- a list of m elements has no more than m first ones
-pub take-min : {A : Type 0} (n m : ℕ) (l : List A) → length l ≡ m → take (min n m) l ≡ take n l
-take-min n m l e = go (leb n m) refl
-  where
-    go : (b : Bool) → leb n m ≡ b → take (min n m) l ≡ take n l
-    go true t =
-        let h : n ≤ m = leb-true n m t in
-        let k : min n m ≡ n = omega arith in
-        ap (λ (j : ℕ). take j l) k
-    go false t =
-        let h : m < n = leb-false n m t in
-        let k : min n m ≡ m = omega arith in
-        ap (λ (j : ℕ). take j l) k ∙ take-all m l (omega arith) ∙ sym (take-all n l (omega arith))
+    pub unused-yes : every zeros ≡ true → slotsAt k ps xs i ≡ true → zeroLine k ps xs i ≡ true
+    unfolding soundSlots
+    unused-yes z t =
+        let b = hold slotTests t in
+        let n = none-used z in
+        let from : maxPending * i + pendingCount k i ≡ maxPending * i = omega arith in
+        let count : maxPending - pendingCount k i ≡ maxPending = omega arith in
+        both (every zeros) (allFrom (emptyAt ps xs) (maxPending * i) maxPending) z
+        (sym (ap (λ (j : ℕ). allFrom (emptyAt ps xs) j (maxPending - pendingCount k i)) from ∙ ap (allFrom (emptyAt ps xs) (maxPending * i)) count) ∙ b .1 .1 .1 .1 .0)
+
+    pub yes-unused : zeroLine k ps xs i ≡ true → (every zeros ≡ true) × (slotsAt k ps xs i ≡ true)
+    unfolding soundSlots allFrom editsFrom allPlaced priorities
+    yes-unused t =
+        let z = and-left (every zeros) (allFrom (emptyAt ps xs) (maxPending * i) maxPending) t in
+        let e = and-right (every zeros) (allFrom (emptyAt ps xs) (maxPending * i) maxPending) t in
+        let from : maxPending * i + 0 ≡ maxPending * i = omega arith in (
+          z,
+          subst (λ (c : ℕ). soundSlots (other (k .n) (i + 1)) (maxPending * i) c ps xs ≡ true) (sym (none-used z))
+              (held (soundTests (other (k .n) (i + 1)) (maxPending * i) 0 ps xs)
+              (refl, (refl, (refl, (refl, (ap (λ (j : ℕ). allFrom (emptyAt ps xs) j maxPending) from ∙ e, tt)))))),
+        )
+
+  -- ---- all places
+
+  abbrev soundAt : ℕ → ℕ → Bool
+  soundAt sum i = model.soundLine (k .n) sum (i + 1) (lineAt k ps xs i)
+
+  pub sound-lines : (sum i count : ℕ) → model.soundLines (k .n) sum (suc i) (linesFrom k ps xs i count) ≡ allFrom (soundAt sum) i count
+  unfolding model.soundLines linesFrom allFrom
+  sound-lines sum i zero = refl
+  sound-lines sum i (suc count) =
+      ap (λ (l : ℕ). model.soundLine (k .n) sum l (lineAt k ps xs i) && model.soundLines (k .n) sum (suc (suc i)) (linesFrom k ps xs (suc i) count)) (sym (add-one i))
+      ∙ ap (λ (b : Bool). soundAt sum i && b) (sound-lines sum (suc i) count)
+
+  module _ (sum : ℕ) (few : k .n ≤ maxLines) where
+    abbrev counts : Bool
+    counts = allFrom (countsAt k sum) 0 8
+
+    abbrev slots : Bool
+    slots = allFrom (slotsAt k ps xs) 0 8
+
+    used-counts : (i : ℕ) → i < k .n → countsAt k sum i ≡ true → every (countTests sum i) ≡ true
+    used-counts i h c = sym (ap (λ (b : Bool). cond b (every (countTests sum i)) (every (zeros sum i))) (lt-ltb i (k .n) h)) ∙ c
+
+    unused-counts : (i : ℕ) → k .n ≤ i → countsAt k sum i ≡ true → every (zeros sum i) ≡ true
+    unused-counts i h c = sym (ap (λ (b : Bool). cond b (every (countTests sum i)) (every (zeros sum i))) (le-ltb i (k .n) h)) ∙ c
+
+    pub places-yes : counts ≡ true → slots ≡ true
+        → (model.soundLines (k .n) sum 1 (linesFrom k ps xs 0 (k .n)) ≡ true) × ((allFrom (tidyLine k ps xs) 0 (k .n) ≡ true) × (allFrom (zeroLine k ps xs) (k .n) (maxLines - k .n) ≡ true))
+    places-yes c t = (
+      sound-lines sum 0 (k .n) ∙ first-each (soundAt sum) (k .n)
+          (λ i h. used-yes sum i (used-counts i h (each-first (countsAt k sum) 8 c i (omega arith))) (each-first (slotsAt k ps xs) 8 t i (omega arith)) .0),
+      (
+        first-each (tidyLine k ps xs) (k .n)
+            (λ i h. used-yes sum i (used-counts i h (each-first (countsAt k sum) 8 c i (omega arith))) (each-first (slotsAt k ps xs) 8 t i (omega arith)) .1),
+        last-each (zeroLine k ps xs) (k .n) maxLines
+            (λ i h l. unused-yes sum i (unused-counts i h (each-first (countsAt k sum) 8 c i l)) (each-first (slotsAt k ps xs) 8 t i l)),
+      ),
+    )
+
+    pub yes-places : model.soundLines (k .n) sum 1 (linesFrom k ps xs 0 (k .n)) ≡ true → allFrom (tidyLine k ps xs) 0 (k .n) ≡ true
+        → allFrom (zeroLine k ps xs) (k .n) (maxLines - k .n) ≡ true → (counts ≡ true) × (slots ≡ true)
+    yes-places l t z = (first-each (countsAt k sum) 8 (λ i h. at i h (ltb i (k .n)) refl .0), first-each (slotsAt k ps xs) 8 (λ i h. at i h (ltb i (k .n)) refl .1))
+      where
+        lines : allFrom (soundAt sum) 0 (k .n) ≡ true
+        lines = sym (sound-lines sum 0 (k .n)) ∙ l
+
+        at : (i : ℕ) → i < 8 → (b : Bool) → ltb i (k .n) ≡ b → (cond b (every (countTests sum i)) (every (zeros sum i)) ≡ true) × (slotsAt k ps xs i ≡ true)
+        at i h true e =
+            let lt : i < k .n = ltb-true i (k .n) e in
+            yes-used sum i (each-first (soundAt sum) (k .n) lines i lt) (each-first (tidyLine k ps xs) (k .n) t i lt)
+        at i h false e =
+            let ge : k .n ≤ i = ltb-false i (k .n) e in
+            yes-unused sum i (each-last (zeroLine k ps xs) (k .n) maxLines z i ge h)

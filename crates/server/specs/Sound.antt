@@ -1,23 +1,19 @@
 -- Question 2 about the server's struct: its meaning is sound, and the places that are not in use are zero.
 use mathlib.Core.Path.{_≡_}
 use mathlib.Core.Bool.{Bool, true, _&&_, cond}
-use mathlib.Core.List.{List, [], _∷_, map}
-use Prim.Native.Nat.{ℕ, suc, _-_, _≤_}
+use mathlib.Core.List.{List, [], _∷_}
+use Prim.Native.Nat.{ℕ, suc, _+_, _-_, _*_, _≤_, _<_}
 use lib.Dec.{leb, ltb, eqb}
-use lib.ListN.{take, drop}
-use Rattle.model.specs.Limits.{maxInserts, maxEdits, maxItems}
+use lib.ListN.{length, getD, drop}
+use Rattle.model.specs.Limits.{maxLines, maxInserts, maxEdits, maxItems, maxPending}
 use Rattle.model.specs.Questions.{every}
-use Rattle.model.specs.Server.{soundLine, soundServer, total}
-use Rattle.pending.specs.Slots.{edits, allNothing, Kept}
+use Rattle.model.specs.Client.{other}
+use Rattle.model.specs.Server.{soundServer}
+use Rattle.pending.specs.Slots.{allFrom, tidyAt, emptyAt, soundSlots, Kept}
 use Rattle.endpoint.specs.Items.{allZero}
-use Rattle.server.specs.declared.Line.{Line}
+use Rattle.server.specs.declared.Counts.{Counts}
 use Rattle.server.specs.declared.Server.{Server}
-use Rattle.server.specs.declared.Sums.{Sums}
-use Rattle.server.specs.View.{viewLine, view, store}
-
--- the slots of a line that are not in use hold nothing
-abbrev pub tidyLine : Line → Bool
-tidyLine v = allNothing (drop (v .made - v .acked) (edits (v .pending)))
+use Rattle.server.specs.View.{countsOf, serverOf, pendingCount, view, store}
 
 -- question 2 about the counts of a line, in use and not in use
 abbrev pub countsSound : ℕ → ℕ → ℕ → ℕ → ℕ → Bool
@@ -27,18 +23,28 @@ countsSound sum made taken acked inserts =
 abbrev pub countsZero : ℕ → ℕ → ℕ → ℕ → Bool
 countsZero made taken acked inserts = every (eqb made 0 ∷ eqb taken 0 ∷ eqb acked 0 ∷ eqb inserts 0 ∷ [])
 
--- a line that is not in use
-abbrev pub zeroLine : Line → Bool
-zeroLine v = countsZero (v .made) (v .taken) (v .acked) (v .inserts) && allNothing (edits (v .pending))
+-- the counts at place i, counted from 0: one of the first n holds a line in use
+abbrev pub countsAt : Counts → ℕ → ℕ → Bool
+countsAt k sum i =
+    cond (ltb i (k .n))
+    (countsSound sum (getD (k .made) i 0) (getD (k .taken) i 0) (getD (k .acked) i 0) (getD (k .inserts) i 0))
+    (countsZero (getD (k .made) i 0) (getD (k .taken) i 0) (getD (k .acked) i 0) (getD (k .inserts) i 0))
 
--- the place of a line, counted from 0: one of the first n holds a line in use
-abbrev pub soundPlace : ℕ → ℕ → ℕ → Line → Bool
-soundPlace n sum i v = cond (ltb i n) (soundLine n sum (suc i) (viewLine v) && tidyLine v) (zeroLine v)
+-- the slots at place i
+abbrev pub slotsAt : Counts → List ℕ → List ℕ → ℕ → Bool
+slotsAt k ps xs i = soundSlots (other (k .n) (i + 1)) (maxPending * i) (pendingCount k i) ps xs
 
--- the places from i on
-unfoldable pub soundPlaces : ℕ → ℕ → ℕ → List Line → Bool
-soundPlaces n sum i [] = true
-soundPlaces n sum i (v ∷ vs) = soundPlace n sum i v && soundPlaces n sum (suc i) vs
+-- the line at place i is in use: its slots have no bits that mean nothing
+abbrev pub tidyLine : Counts → List ℕ → List ℕ → ℕ → Bool
+tidyLine k ps xs i =
+    allFrom (tidyAt ps xs) (maxPending * i) (pendingCount k i)
+    && allFrom (emptyAt ps xs) (maxPending * i + pendingCount k i) (maxPending - pendingCount k i)
+
+-- the line at place i is not in use
+abbrev pub zeroLine : Counts → List ℕ → List ℕ → ℕ → Bool
+zeroLine k ps xs i =
+    countsZero (getD (k .made) i 0) (getD (k .taken) i 0) (getD (k .acked) i 0) (getD (k .inserts) i 0)
+    && allFrom (emptyAt ps xs) (maxPending * i) maxPending
 
 -- question 2, test by test
 abbrev pub structTests : Server → List Bool
@@ -46,28 +52,34 @@ structTests s =
     soundServer (view s)
     ∷ leb (s .len) maxItems
     ∷ allZero (drop (s .len) (s .items))
-    ∷ every (map tidyLine (take (s .n) (s .lines)))
-    ∷ every (map zeroLine (drop (s .n) (s .lines)))
+    ∷ allFrom (tidyLine (countsOf s) (s .«pending_places») (s .«pending_items»)) 0 (s .n)
+    ∷ allFrom (zeroLine (countsOf s) (s .«pending_places») (s .«pending_items»)) (s .n) (maxLines - s .n)
     ∷ []
 
 unfoldable pub soundStruct : Server → Bool
 soundStruct s = every (structTests s)
 
+-- every line's slots are those of its pending edits
+abbrev pub AllKept : Counts → List ℕ → List ℕ → Type 0
+AllKept k ps xs = (i : ℕ) → i < maxLines → Kept (maxPending * i) (pendingCount k i) ps xs
+
+-- its arrays have their lengths
+pub record Sized (s : Server) : Type 0 where
+  pub made : length (s .made) ≡ 8
+  pub taken : length (s .taken) ≡ 8
+  pub acked : length (s .acked) ≡ 8
+  pub inserts : length (s .inserts) ≡ 8
+  pub places : length (s .«pending_places») ≡ 512
+  pub items : length (s .«pending_items») ≡ 512
+
 -- What the calls may assume once question 2 has been answered yes: such a struct is the one for its meaning.
 pub record Sound (s : Server) : Type 0 where
   pub well : soundStruct s ≡ true
   pub whole : s ≡ store (view s)
+  pub kept : AllKept (countsOf s) (s .«pending_places») (s .«pending_items»)
+  pub sized : Sized s
 
--- the edits taken, and the inserts among them, of the first n lines
-pub record Added (n : ℕ) (lines : List Line) (r : Sums) : Type 0 where
-  pub taken : r .taken ≡ total (λ v. v .taken) (map viewLine (take n lines))
-  pub inserts : r .inserts ≡ total (λ v. v .inserts) (map viewLine (take n lines))
-  pub few : r .inserts ≤ 524280
-
--- what the test of a place has shown of its slots
-abbrev pub KeptLine : Line → Type 0
-KeptLine v = Kept (v .made - v .acked) (v .pending)
-
-abbrev pub KeptLines : List Line → Type 0
-KeptLines [] = Unit {0}
-KeptLines (v ∷ vs) = KeptLine v × KeptLines vs
+-- the sizes of all arrays
+pub record Sizes (k : Counts) (items ps xs : List ℕ) : Type 0 where
+  pub list : length items ≡ 512
+  pub sized : Sized (serverOf k items ps xs)

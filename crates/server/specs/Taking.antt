@@ -1,44 +1,159 @@
--- What the parts of taking an edit may assume, and what they give.
+-- Taking a message: what it makes of the end, by the end's counts and slots, and what is written.
 use mathlib.Core.Path.{_≡_}
-use mathlib.Core.Bool.{true, _&&_}
-use Prim.Native.Nat.{ℕ, _+_, _-_, _≤_}
-use lib.Dec.{eqb}
+use mathlib.Core.Bool.{Bool, true, false, _&&_, _||_, not, cond}
+use mathlib.Core.List.{List, [], _∷_}
+use Prim.Native.Nat.{ℕ, _+_, _-_, _*_, _≤_, _<_}
+use lib.Dec.{leb, ltb, eqb}
+use lib.ListN.{length, getD, set, replicate}
 use Rattle.ot.specs.declared.Edit.{Edit}
+use Rattle.ot.specs.declared.Edit.the-variants.{Nothing, Delete, Insert}
 use Rattle.wire.specs.declared.Header.{Header}
-use Rattle.model.specs.Limits.{maxInserts}
-use Rattle.model.specs.Questions.{asks, between}
-use Rattle.model.specs.Cross.{placed, priority, insertsOf}
-use Rattle.model.specs.Server as model
-use Rattle.pending.specs.declared.Crossed.{Crossed}
-use Rattle.pending.specs.Slots.{crossed}
+use Rattle.wire.specs.declared.Message.{Message}
+use Rattle.wire.specs.declared.Message.the-variants as message
+use Rattle.model.specs.Limits.{maxLines, maxInserts, maxEdits, maxPending}
+use Rattle.model.specs.Questions.{Question, ask, asks, between}
+use Rattle.model.specs.Cross.{past, over, allPlaced, priority, insertsOf}
+use Rattle.pending.specs.Slots.{placeOf, itemOf, editsFrom, stretch, filled, allFrom, steps}
 use Rattle.endpoint.specs.Items.{roomy}
-use Rattle.endpoint.specs.Line.{editQuestions}
-use Rattle.server.specs.declared.Server.{Server}
-use Rattle.server.specs.View.{view}
-use Rattle.server.specs.Sound.{Sound}
+use Rattle.endpoint.specs.Line.{seenQuestions, editQuestions}
+use Rattle.server.specs.declared.Counts.{Counts}
+use Rattle.server.specs.declared.taking.Decision.{Decision}
+use Rattle.server.specs.View.{pendingCount}
+use Rattle.server.specs.Sound.{AllKept}
 
--- every line but the one at place at, counted from 0, keeps the edit
-abbrev pub keptBy : model.Server → ℕ → Edit → model.Server
-keptBy m at e =
-    record { n = m .n; initial = m .initial; items = m .items; lines = model.atPlace at (λ v. v) (model.lineKeeps e) (m .lines) }
+-- ---- the questions
 
--- the other lines have room for one more
-pub record Keeps (s : Server) (at : ℕ) : Type 0 where
-  pub sound : Sound s
-  pub others : model.othersRoomy at (view s .lines) ≡ true
+-- questions 4 to 8 of an edit; of an acknowledgement 4, 7 and 8
+abbrev pub editAsked : Counts → Header → Edit → List Question
+editAsked k h e =
+    ask 4 (eqb (h .direction) 0 && between 1 (k .n) (h .line) && priority (eqb (h .line)) e)
+    ∷ editQuestions (h .number) (h .seen) (getD (k .taken) (h .line - 1) 0) (getD (k .acked) (h .line - 1) 0) (getD (k .made) (h .line - 1) 0)
 
--- an edit message of which questions 2 to 8 said yes
-pub record Next (s : Server) (h : Header) (e : Edit) : Type 0 where
-  pub sound : Sound s
-  pub placed : placed e ≡ true
-  pub up : (eqb (h .direction) 0 && between 1 (s .n) (h .line) && priority (eqb (h .line)) e) ≡ true
-  pub asked : asks (editQuestions (h .number) (h .seen) (model.lineOf (view s) (h .line) .taken) (model.lineOf (view s) (h .line) .acked) (model.lineOf (view s) (h .line) .made)) ≡ 0
+abbrev pub ackAsked : Counts → ℕ → ℕ → ℕ → List Question
+ackAsked k line direction seen =
+    ask 4 (eqb direction 0 && between 1 (k .n) line)
+    ∷ seenQuestions seen (getD (k .acked) (line - 1) 0) (getD (k .made) (line - 1) 0)
 
--- an edit on a line of which every question said yes, transformed past what is pending there
-pub record Accepted (s : Server) (line seen : ℕ) (e : Edit) (c : Crossed) : Type 0 where
-  pub sound : Sound s
-  pub here : between 1 (s .n) line ≡ true
-  pub met : c ≡ crossed e (model.unackedOf (model.lineOf (view s) line) seen)
-  pub room : roomy (c .edit) (s .len) ≡ true
-  pub few : model.lineOf (view s) line .inserts + insertsOf e ≤ maxInserts
-  pub others : model.othersRoomy (line - 1) (view s .lines) ≡ true
+-- the place i has room for one more pending edit, or is the one that needs none
+abbrev pub roomyAt : Counts → ℕ → ℕ → Bool
+roomyAt k at i = eqb i at || ltb (pendingCount k i) maxPending
+
+-- questions 9, 10 and 12 of an edit e at a place, which stands as form after the pending ones
+abbrev pub lastAsked : Counts → ℕ → Edit → Edit → Bool → List Question
+lastAsked k at e form placed =
+    ask 9 (roomy form (k .len) && placed)
+    ∷ ask 10 (leb (getD (k .inserts) at 0 + insertsOf e) maxInserts)
+    ∷ ask 12 (allFrom (roomyAt k at) 0 (k .n))
+    ∷ []
+
+-- ---- the decision
+
+unfoldable pub refusing : ℕ → Decision
+refusing r =
+    record {
+      refusal = r;
+      passed = 0;
+      at = 0;
+      taken = 0;
+      acked = 0;
+      inserts = 0;
+      places = replicate 64 0;
+      items = replicate 64 0;
+      edit = Nothing;
+      others = 0;
+    }
+
+-- the pending edits of a place that are left once those up to seen are dropped
+abbrev pub leftAt : Counts → List ℕ → List ℕ → ℕ → ℕ → List Edit
+leftAt k ps xs i seen = editsFrom ps xs (maxPending * i + (seen - getD (k .acked) i 0)) (getD (k .made) i 0 - seen)
+
+unfoldable pub ackAccepted : Counts → List Edit → ℕ → ℕ → Decision
+ackAccepted k left i seen =
+    record {
+      refusal = 0;
+      passed = 0;
+      at = i;
+      taken = getD (k .taken) i 0;
+      acked = seen;
+      inserts = getD (k .inserts) i 0;
+      places = filled placeOf left;
+      items = filled itemOf left;
+      edit = Nothing;
+      others = 0;
+    }
+
+unfoldable pub ackDecided : Counts → List ℕ → List ℕ → ℕ → ℕ → ℕ → Decision
+ackDecided k ps xs line direction seen =
+    cond (eqb (asks (ackAsked k line direction seen)) 0)
+    (ackAccepted k (leftAt k ps xs (line - 1) seen) (line - 1) seen)
+    (refusing (asks (ackAsked k line direction seen)))
+
+unfoldable pub editAccepted : Counts → List Edit → ℕ → ℕ → Edit → Decision
+editAccepted k left i seen e =
+    record {
+      refusal = 0;
+      passed = steps e left;
+      at = i;
+      taken = getD (k .taken) i 0 + 1;
+      acked = seen;
+      inserts = getD (k .inserts) i 0 + insertsOf e;
+      places = filled placeOf (over e left);
+      items = filled itemOf (over e left);
+      edit = past e left;
+      others = k .n;
+    }
+
+-- the last questions, with the pending edits that are left
+abbrev pub leftAsked : Counts → List Edit → ℕ → Edit → List Question
+leftAsked k left i e = lastAsked k i e (past e left) (allPlaced (over e left))
+
+unfoldable pub editDecided : Counts → List ℕ → List ℕ → Header → Edit → Decision
+editDecided k ps xs h e =
+    cond (eqb (asks (editAsked k h e)) 0)
+    (cond (eqb (asks (leftAsked k (leftAt k ps xs (h .line - 1) (h .seen)) (h .line - 1) e)) 0)
+    (editAccepted k (leftAt k ps xs (h .line - 1) (h .seen)) (h .line - 1) (h .seen) e)
+    (refusing (asks (leftAsked k (leftAt k ps xs (h .line - 1) (h .seen)) (h .line - 1) e))))
+    (refusing (asks (editAsked k h e)))
+
+abbrev pub decided : Counts → List ℕ → List ℕ → Message → Decision
+decided k ps xs (message.Insert h p x r) = editDecided k ps xs h (Insert p x r)
+decided k ps xs (message.Delete h p) = editDecided k ps xs h (Delete p)
+decided k ps xs (message.Nothing h) = editDecided k ps xs h Nothing
+decided k ps xs (message.Ack l d seen) = ackDecided k ps xs l d seen
+
+-- what deciding asks of an end; question 2 gives it
+pub record Ready (k : Counts) (ps xs : List ℕ) : Type 0 where
+  pub few : k .n ≤ maxLines
+  pub places : length ps ≡ 512
+  pub items : length xs ≡ 512
+  pub kept : AllKept k ps xs
+  pub taken : (i : ℕ) → i < k .n → getD (k .taken) i 0 ≤ maxEdits
+  pub inserts : (i : ℕ) → i < k .n → getD (k .inserts) i 0 ≤ maxInserts
+
+-- ---- what is written, line by line
+
+-- the numbers of the line at one place are others now
+pub record Replaced (at : ℕ) (part before after : List ℕ) : Type 0 where
+  pub size : length after ≡ length before
+  pub lines : (j : ℕ) → j < maxLines → stretch (maxPending * j) after ≡ cond (eqb j at) part (stretch (maxPending * j) before)
+
+-- the place j is one of the first n, and not the one left out
+abbrev pub keeps : ℕ → ℕ → ℕ → Bool
+keeps n at j = ltb j n && not (eqb j at)
+
+-- one more number in the first unused slot of each such line
+pub record Kept (n at : ℕ) (made acked : List ℕ) (word : ℕ) (before after : List ℕ) : Type 0 where
+  pub size : length after ≡ length before
+  pub lines : (j : ℕ) → j < maxLines → stretch (maxPending * j) after
+      ≡ cond (keeps n at j) (set (stretch (maxPending * j) before) (getD made j 0 - getD acked j 0) word) (stretch (maxPending * j) before)
+
+abbrev pub Roomy : ℕ → ℕ → List ℕ → List ℕ → Type 0
+Roomy n at made acked = (j : ℕ) → j < n → (j ≡ at → ⊥) → getD made j 0 - getD acked j 0 < maxPending
+
+-- one more for each such line
+pub record Raised (n at : ℕ) (before after : List ℕ) : Type 0 where
+  pub size : length after ≡ length before
+  pub counts : (j : ℕ) → j < maxLines → getD after j 0 ≡ cond (keeps n at j) (getD before j 0 + 1) (getD before j 0)
+
+abbrev pub Few : ℕ → List ℕ → Type 0
+Few n made = (j : ℕ) → j < n → getD made j 0 ≤ 3200

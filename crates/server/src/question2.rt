@@ -1,64 +1,52 @@
 // Question 2: is the end sound? Every test is made whatever the others find, so that no loop has a branch.
 ghost use mathlib.Core.Path.{_≡_};
 ghost use mathlib.Core.Bool.{true, cond};
-ghost use Prim.Native.Nat.{_+_, _-_, _≤_, _<_, min};
-ghost use Rattle.server.specs.Sound.{Added, countsSound, countsZero, soundPlace, soundPlaces, KeptLine, KeptLines, soundStruct, Sound};
-use crate::Line;
+ghost use Prim.Native.Nat.{_+_, _-_, _≤_, _<_};
+ghost use lib.ListN.{length};
+ghost use Rattle.pending.specs.Slots.{allFrom};
+ghost use Rattle.server.specs.View.{sumFrom, serverOf};
+ghost use Rattle.server.specs.Sound.{countsSound, countsZero, countsAt, slotsAt, soundStruct, Sound, Sizes};
+use crate::Counts;
 use crate::Server;
-use crate::Sums;
 
 // A count, in a type that the sum of eight fits.
-fn wide(x: u16) -> u32
+pub fn wide(x: u16) -> u32
     ensures { λ r. ⌜ (r ≡ x) × (r ≤ 65535) ⌝ }
 {
     x as u32
 }
 
-// 0 where b is the larger.
-fn less(a: u32, b: u32) -> u32
-    ensures { λ r. ⌜ r ≡ a - b ⌝ }
-{
-    if a <= b {
-        return 0;
-    }
-    a - b
-}
-
-// How many edits of a line are pending.
-pub fn pending_count(made: u16, acked: u16) -> usize
+// How many edits of a line are pending: 0 where acked is the larger.
+pub fn less(made: u16, acked: u16) -> u16
     ensures { λ r. ⌜ r ≡ made - acked ⌝ }
 {
-    if made <= acked {
-        return 0;
-    }
-    (made - acked) as usize
+    if acked < made { made - acked } else { 0 }
 }
 
-// The one or the other, without a branch where it is called.
-fn pick(first: bool, a: bool, b: bool) -> bool
-    ensures { λ r. ⌜ r ≡ cond first a b ⌝ }
+// 0 where b is the larger.
+fn minus(a: u32, b: u32) -> u32
+    ensures { λ r. ⌜ r ≡ a - b ⌝ }
 {
-    if first {
-        return a;
-    }
-    b
+    if b < a { a - b } else { 0 }
 }
 
-// How many of the eight places are in use.
-pub fn used(n: u8) -> usize
-    ensures { λ r. ⌜ r ≡ min n 8 ⌝ }
+// The first n of eight counts together.
+fn sum(n: usize, xs: [u16; 8]) -> u32
+    requires { ⌜ n ≤ 8 ⌝ }
+    ensures { λ r. ⌜ (r ≡ sumFrom xs 0 n) × (r ≤ 524280) ⌝ }
 {
-    if n <= 8 {
-        return n as usize;
+    let mut s: u32 = 0;
+    for i in 0..n {
+        s += wide(xs[i]);
     }
-    8
+    s
 }
 
-// The counts of a line in use, where all lines together took sum edits.
-fn counts_sound(made: u16, taken: u16, acked: u16, inserts: u16, sum: u32) -> bool
-    ensures { λ r. ⌜ r ≡ countsSound sum made taken acked inserts ⌝ }
+// The counts of a line in use, where all lines together took total edits.
+fn counts_sound(total: u32, made: u16, taken: u16, acked: u16, inserts: u16) -> bool
+    ensures { λ r. ⌜ r ≡ countsSound total made taken acked inserts ⌝ }
 {
-    let others = less(sum, taken as u32);
+    let others = minus(total, taken as u32);
     (taken <= Server::EDITS)
         & (made as u32 == others)
         & (acked <= made)
@@ -73,62 +61,61 @@ fn counts_zero(made: u16, taken: u16, acked: u16, inserts: u16) -> bool
     (made == 0) & (taken == 0) & (acked == 0) & (inserts == 0)
 }
 
-// Of a line that is not in use the counts are 0, so that its pending edits are tested as none.
-fn sound_place(v: Line, i: usize, n: u8, sum: u32) -> bool
-    requires { ⌜ i < 8 ⌝ }
-    ensures answer { λ r. ⌜ r ≡ soundPlace n sum i v ⌝ }
-    ensures kept { λ r. ⌜ (r ≡ true → KeptLine v) ⌝ }
+// The one or the other, without a branch where it is called.
+fn pick(first: bool, a: bool, b: bool) -> bool
+    ensures { λ r. ⌜ r ≡ cond first a b ⌝ }
 {
-    let p = v.pending;
-    let count = pending_count(v.made, v.acked);
-    let line = i as u8 + 1;
-    let slots = pending::sound(p, count, n, line, false);
-    let sound = counts_sound(v.made, v.taken, v.acked, v.inserts, sum);
-    let zero = counts_zero(v.made, v.taken, v.acked, v.inserts);
-    pick(i < n as usize, sound, zero) & slots
+    if first { a } else { b }
 }
 
-impl Server {
-    fn add_up(self) -> Sums
-        ensures { λ r. ⌜ Added (self .n) (self .lines) r ⌝ }
-    {
-        let mut taken: u32 = 0;
-        let mut inserts: u32 = 0;
-        let m = used(self.n);
-        for i in 0..m {
-            let v = self.lines[i];
-            taken += wide(v.taken);
-            inserts += wide(v.inserts);
-        }
-        Sums { taken, inserts }
-    }
+// The counts of a place, used or not.
+fn place_sound(used: bool, total: u32, made: u16, taken: u16, acked: u16, inserts: u16) -> bool
+    ensures { λ r. ⌜ r ≡ cond used (countsSound total made taken acked inserts) (countsZero made taken acked inserts) ⌝ }
+{
+    pick(used, counts_sound(total, made, taken, acked, inserts), counts_zero(made, taken, acked, inserts))
+}
 
-    fn sound_lines(self, sum: u32) -> bool
-        ensures answer { λ r. ⌜ r ≡ soundPlaces (self .n) sum 0 (self .lines) ⌝ }
-        ensures kept { λ r. ⌜ (r ≡ true → KeptLines (self .lines)) ⌝ }
-    {
-        let mut well = true;
-        for i in 0..8 {
-            let v = self.lines[i];
-            well = well & sound_place(v, i, self.n, sum);
-        }
-        well
+// The counts of all places: one of the first n holds a line in use.
+fn places_sound(k: Counts, total: u32) -> bool
+    ensures { λ r. ⌜ r ≡ allFrom (countsAt k total) 0 8 ⌝ }
+{
+    let mut well = true;
+    for i in 0..8 {
+        let used = i < k.n as usize;
+        well = well & place_sound(used, total, k.made[i], k.taken[i], k.acked[i], k.inserts[i]);
     }
+    well
+}
 
-    pub fn sound(self) -> bool
-        ensures answer { λ r. ⌜ r ≡ soundStruct self ⌝ }
-        ensures whole { λ r. ⌜ (r ≡ true → Sound self) ⌝ }
-    {
-        let sums = self.add_up();
-        let lines = self.sound_lines(sums.taken);
-        let most = self.initial as u32 + sums.inserts;
-        let zero = endpoint::zero_from(&self.items, self.len as usize);
-        (1 <= self.n)
-            & (self.n as usize <= Server::LINES)
-            & (self.initial as usize <= Server::INITIAL)
-            & (self.len as usize <= Server::ITEMS)
-            & (self.len as u32 <= most)
-            & zero
-            & lines
+// The slots of all places. Of a line that is not in use the counts are 0, so that its pending edits are tested as none.
+fn slots_sound<'a>(k: Counts, places: &'a [u32], items: &'a [u32]) -> bool
+    requires { ⌜ (512 ≤ length (now places)) × (512 ≤ length (now items)) ⌝ }
+    ensures { λ r. ⌜ r ≡ allFrom (slotsAt k (now (places .entry)) (now (items .entry))) 0 8 ⌝ }
+{
+    let mut well = true;
+    for i in 0..8 {
+        let count = less(k.made[i], k.acked[i]) as usize;
+        let line = i as u8 + 1;
+        well = well & pending::sound(places, items, 64 * i, count, k.n, line, false);
     }
+    well
+}
+
+pub fn is_sound<'a>(k: Counts, items: &'a [u32], places: &'a [u32], slots: &'a [u32]) -> bool
+    requires { ⌜ Sizes k (now items) (now places) (now slots) ⌝ }
+    ensures answer { λ r. ⌜ r ≡ soundStruct (serverOf k (now (items .entry)) (now (places .entry)) (now (slots .entry))) ⌝ }
+    ensures whole { λ r. ⌜ (r ≡ true → Sound (serverOf k (now (items .entry)) (now (places .entry)) (now (slots .entry)))) ⌝ }
+{
+    let lines = (1 <= k.n) & (k.n as usize <= Server::LINES);
+    if lines & (k.initial as usize <= Server::INITIAL) & (k.len as usize <= Server::ITEMS) {
+        let m = k.n as usize;
+        let taken = k.taken;
+        let inserts = k.inserts;
+        let most = k.initial as u32 + sum(m, inserts);
+        return (k.len as u32 <= most)
+            & endpoint::zero_from(items, k.len as usize)
+            & places_sound(k, sum(m, taken))
+            & slots_sound(k, places, slots);
+    }
+    false
 }

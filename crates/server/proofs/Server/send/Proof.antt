@@ -1,23 +1,44 @@
-use mathlib.Core.Path.{_∙_, sym}
 use borrow.Author.Needs.{needs}
-use Rattle.server.proofs.Answers.{sends-yes, sends-no}
+use mathlib.Core.Path.{sym, _∙_}
+use native.Mathlib.Omega.{arith}
+use Rattle.server.proofs.Whole.{lines-few}
+use Rattle.server.proofs.Answers.{sends-no, send-refused, send-done}
 use Rattle.server.proofs.Server.send.Statement.{statement}
 use Rattle.server.proofs.Server.send.Tie as tie
 
-sound-requires : tie.Need-sound-requires
-sound-requires c κs = search needs
+is-sound-requires : tie.Need-is-sound-requires
+is-sound-requires c κs = record { list = search needs; sized = record { made = search needs; taken = search needs; acked = search needs; inserts = search needs; places = search needs; items = search needs } }
 
-send-sound-requires : tie.Need-send-sound-requires
-send-sound-requires c κs = c .before .before .sound .ensures .1 (c .before .if1 .taken)
+ask-send-requires : tie.Need-ask-send-requires
+ask-send-requires c κs = lines-few (c .before .before .before .before .before .before .before .before .before .before .before .before .before .before .args .t1) (c .before .is-sound .ensures .1 (c .if1 .taken))
+
+message-requires : tie.Need-message-requires
+message-requires c κs = (lines-few (c .before .before .before .before .before .before .before .before .before .before .before .before .before .before .before .before .before .before .before .before .before .args .t1) (c .before .before .before .before .before .before .before .before .is-sound .ensures .1 (c .before .before .before .before .before .before .before .if1 .taken)), sym (c .before .before .before .before .before .before .ask-send .ensures) ∙ c .before .before .before .before .before .if2 .taken)
+
+finish-requires : tie.Need-finish-requires
+finish-requires c κs = search needs
 
 same-length : tie.Need-same-length
 same-length c = search needs
 
 returns : tie.Need-returns
-returns c = c .before .before .send-sound .ensures ∙ sends-yes (c .before .before .before .before .before .before .before .args .self) (c .before .before .before .before .before .before .before .args .line) (c .before .before .before .before .before .before .before .args .k) (c .before .before .before .before .before .before .before .args .out .now) (sym (c .before .before .before .before .before .sound .ensures .0) ∙ c .before .before .before .before .if1 .taken)
+returns c = c .before .before .finish .ensures ∙ send-done (c .before .before .before .before .before .before .before .before .before .before .before .before .before .before .before .before .before .before .before .before .before .before .before .before .before .before .args .t1) (c .before .before .before .before .before .before .before .before .before .before .before .before .before .before .before .before .before .before .before .before .before .before .before .before .before .before .args .line) (c .before .before .before .before .before .before .before .before .before .before .before .before .before .before .before .before .before .before .before .before .before .before .before .before .before .before .args .k) (c .before .before .before .before .before .before .before .before .before .before .before .before .before .before .before .before .before .before .before .before .before .before .before .before .before .before .args .out .now) (c .before .before .before .before .before .before .before .before .before .before .before .before .before .is-sound .ensures .1 (c .before .before .before .before .before .before .before .before .before .before .before .before .if1 .taken)) (c .before .before .before .before .message .result) (sym (c .before .before .before .before .before .before .before .before .before .before .before .ask-send .ensures) ∙ c .before .before .before .before .before .before .before .before .before .before .if2 .taken) (c .before .before .before .before .message .ensures)
 
 returns-2 : tie.Need-returns-2
-returns-2 c = sends-no (c .before .before .before .args .self) (c .before .before .before .args .line) (c .before .before .before .args .k) (c .before .before .before .args .out .now) (sym (c .before .sound .ensures .0) ∙ c .if1 .left)
+returns-2 c = send-refused (c .before .before .before .before .before .before .before .before .before .before .before .before .before .before .before .before .args .t1) (c .before .before .before .before .before .before .before .before .before .before .before .before .before .before .before .before .args .line) (c .before .before .before .before .before .before .before .before .before .before .before .before .before .before .before .before .args .k) (c .before .before .before .before .before .before .before .before .before .before .before .before .before .before .before .before .args .out .now) (c .before .before .before .is-sound .ensures .1 (c .before .before .if1 .taken)) (c .before .ask-send .result) (c .before .ask-send .ensures) (c .if2 .left)
+
+returns-3 : tie.Need-returns-3
+returns-3 c = sends-no (c .before .before .before .before .before .before .before .before .before .before .before .before .before .before .args .t1) (c .before .before .before .before .before .before .before .before .before .before .before .before .before .before .args .line) (c .before .before .before .before .before .before .before .before .before .before .before .before .before .before .args .k) (c .before .before .before .before .before .before .before .before .before .before .before .before .before .before .args .out .now) (sym (c .before .is-sound .ensures .0) ∙ c .if1 .left)
 
 pub send-spec : {M : Type 1} → statement M
-send-spec = tie.close (tie.spec sound-requires send-sound-requires same-length returns returns-2)
+send-spec =
+    tie.close
+    (tie.spec
+    is-sound-requires
+    ask-send-requires
+    message-requires
+    finish-requires
+    same-length
+    returns
+    returns-2
+    returns-3)

@@ -1,23 +1,52 @@
-use mathlib.Core.Path.{_∙_, sym}
 use borrow.Author.Needs.{needs}
-use Rattle.server.proofs.Answers.{tells-yes, tells-no}
+use mathlib.Core.Path.{sym, _∙_}
+use native.Mathlib.Omega.{arith}
+use Rattle.server.proofs.Whole.{lines-few, line-low, place-used}
+use Rattle.server.proofs.Answers.{tells-no, tell-elsewhere, tell-done}
 use Rattle.server.proofs.Server.tell.Statement.{statement}
 use Rattle.server.proofs.Server.tell.Tie as tie
 
-sound-requires : tie.Need-sound-requires
-sound-requires c κs = search needs
+is-sound-requires : tie.Need-is-sound-requires
+is-sound-requires c κs = record { list = search needs; sized = record { made = search needs; taken = search needs; acked = search needs; inserts = search needs; places = search needs; items = search needs } }
 
-tell-sound-requires : tie.Need-tell-sound-requires
-tell-sound-requires c κs = c .before .before .sound .ensures .1 (c .before .if1 .taken)
+sub-i : tie.Need-sub-i
+sub-i c = line-low (c .before .before .before .before .before .before .before .before .before .before .before .before .before .before .before .args .t1) (c .before .before .is-sound .ensures .1 (c .before .if1 .taken)) (c .before .before .before .before .before .before .before .before .before .before .before .before .before .before .before .args .line) (c .if2 .taken)
+
+cast-i : tie.Need-cast-i
+cast-i c = search needs
+
+mul-t27 : tie.Need-mul-t27
+mul-t27 c = omega (arith, lines-few (c .before .before .before .before .before .before .before .before .before .before .before .before .before .before .before .args .t1) (c .before .before .is-sound .ensures .1 (c .before .if1 .taken)), place-used (c .before .before .before .before .before .before .before .before .before .before .before .before .before .before .before .args .t1) (c .before .before .is-sound .ensures .1 (c .before .if1 .taken)) (c .before .before .before .before .before .before .before .before .before .before .before .before .before .before .before .args .line) (c .if2 .taken))
+
+element-copy-out-t30 : tie.Need-element-copy-out-t30
+element-copy-out-t30 c = omega (arith, lines-few (c .before .before .before .before .before .before .before .before .before .before .before .before .before .before .before .args .t1) (c .before .before .is-sound .ensures .1 (c .before .if1 .taken)), place-used (c .before .before .before .before .before .before .before .before .before .before .before .before .before .before .before .args .t1) (c .before .before .is-sound .ensures .1 (c .before .if1 .taken)) (c .before .before .before .before .before .before .before .before .before .before .before .before .before .before .before .args .line) (c .if2 .taken))
+
+finish-requires : tie.Need-finish-requires
+finish-requires c κs = search needs
 
 same-length : tie.Need-same-length
 same-length c = search needs
 
 returns : tie.Need-returns
-returns c = c .before .before .tell-sound .ensures ∙ tells-yes (c .before .before .before .before .before .before .before .args .self) (c .before .before .before .before .before .before .before .args .line) (c .before .before .before .before .before .before .before .args .out .now) (sym (c .before .before .before .before .before .sound .ensures .0) ∙ c .before .before .before .before .if1 .taken)
+returns c = c .before .before .finish .ensures ∙ tell-done (c .before .before .before .before .before .before .before .before .before .before .before .before .before .before .before .before .before .before .before .before .args .t1) (c .before .before .before .before .before .before .before .before .before .before .before .before .before .before .before .before .before .before .before .before .args .line) (c .before .before .before .before .before .before .before .before .before .before .before .before .before .before .before .before .before .before .before .before .args .out .now) (c .before .before .before .before .before .before .before .is-sound .ensures .1 (c .before .before .before .before .before .before .if1 .taken)) (c .before .before .before .before .before .if2 .taken)
 
 returns-2 : tie.Need-returns-2
-returns-2 c = tells-no (c .before .before .before .args .self) (c .before .before .before .args .line) (c .before .before .before .args .out .now) (sym (c .before .sound .ensures .0) ∙ c .if1 .left)
+returns-2 c = tell-elsewhere (c .before .before .before .before .before .before .before .before .before .before .before .before .before .before .before .args .t1) (c .before .before .before .before .before .before .before .before .before .before .before .before .before .before .before .args .line) (c .before .before .before .before .before .before .before .before .before .before .before .before .before .before .before .args .out .now) (c .before .before .is-sound .ensures .1 (c .before .if1 .taken)) (c .if2 .left)
+
+returns-3 : tie.Need-returns-3
+returns-3 c = tells-no (c .before .before .before .before .before .before .before .before .before .before .before .before .before .before .args .t1) (c .before .before .before .before .before .before .before .before .before .before .before .before .before .before .args .line) (c .before .before .before .before .before .before .before .before .before .before .before .before .before .before .args .out .now) (sym (c .before .is-sound .ensures .0) ∙ c .if1 .left)
 
 pub tell-spec : {M : Type 1} → statement M
-tell-spec = tie.close (tie.spec sound-requires tell-sound-requires same-length returns returns-2)
+tell-spec =
+    tie.close
+    (tie.spec
+    is-sound-requires
+    sub-i
+    cast-i
+    mul-t27
+    element-copy-out-t30
+    finish-requires
+    same-length
+    returns
+    returns-2
+    returns-3)

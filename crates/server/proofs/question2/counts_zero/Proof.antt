@@ -1,4 +1,5 @@
-use Rattle.server.proofs.Bools.{and-assoc, and-true}
+use borrow.Author.Needs.{needs}
+use mathlib.Core.Bool.{and-assoc, and-true}
 use Rattle.server.proofs.question2.counts_zero.Statement.{statement}
 use Rattle.server.proofs.question2.counts_zero.Tie as tie
 

@@ -1,0 +1,104 @@
+-- The decision that the code makes is the one of its definition.
+use mathlib.Core.Path.{_≡_, refl, ap, sym, _∙_}
+use mathlib.Core.Bool.{Bool, true, false, cond}
+use mathlib.Core.List.{List}
+use Prim.Native.Nat.{ℕ, _+_, _-_, _≤_}
+use lib.Dec.{leb, eqb}
+use lib.ListN.{getD}
+use borrow.Author.Tests.{ne-eqb, eq-eqb, eqb-false, leb-true}
+use Rattle.ot.specs.declared.Edit.{Edit}
+use Rattle.ot.specs.declared.Edit.the-variants.{Nothing}
+use Rattle.wire.specs.declared.Header.{Header}
+use Rattle.model.specs.Limits.{maxInserts}
+use Rattle.model.specs.Questions.{asks}
+use Rattle.model.specs.Cross.{past, over, allPlaced, insertsOf}
+use Rattle.model.proofs.Tests.{yes-all}
+use Rattle.pending.specs.declared.Crossed.{Crossed}
+use Rattle.pending.specs.Slots.{placeOf, itemOf, filled, crossed}
+use Rattle.server.specs.declared.Counts.{Counts}
+use Rattle.server.specs.declared.taking.Decision.{Decision}
+use Rattle.server.specs.Taking.{editAsked, ackAsked, lastAsked, leftAsked, leftAt, refusing, ackAccepted, ackDecided, editAccepted, editDecided}
+
+pub last-few : (k : Counts) (at : ℕ) (e form : Edit) (placed : Bool) → asks (lastAsked k at e form placed) ≡ 0 → getD (k .inserts) at 0 + insertsOf e ≤ maxInserts
+last-few k at e form placed z =
+    leb-true (getD (k .inserts) at 0 + insertsOf e) maxInserts
+    (yes-all (lastAsked k at e form placed) (eqb-false 9 0 refl, (eqb-false 10 0 refl, (eqb-false 12 0 refl, tt))) z .1 .0)
+
+module _ (k : Counts) (ps xs : List ℕ) where
+  module _ (line direction seen : ℕ) where
+    pub ack-no : (q : ℕ) → q ≡ asks (ackAsked k line direction seen) → (q ≡ 0 → ⊥) → refusing q ≡ ackDecided k ps xs line direction seen
+    unfolding ackDecided
+    ack-no q e n =
+        ap refusing e
+        ∙ sym (ap (λ (b : Bool). cond b (ackAccepted k (leftAt k ps xs (line - 1) seen) (line - 1) seen) (refusing (asks (ackAsked k line direction seen))))
+        (ne-eqb (asks (ackAsked k line direction seen)) 0 (λ z. n (e ∙ z))))
+
+    pub ack-yes : asks (ackAsked k line direction seen) ≡ 0 → ackDecided k ps xs line direction seen ≡ ackAccepted k (leftAt k ps xs (line - 1) seen) (line - 1) seen
+    unfolding ackDecided
+    ack-yes z =
+        ap (λ (b : Bool). cond b (ackAccepted k (leftAt k ps xs (line - 1) seen) (line - 1) seen) (refusing (asks (ackAsked k line direction seen))))
+        (eq-eqb (asks (ackAsked k line direction seen)) 0 z)
+
+    pub ack-made : (a b : List ℕ) → asks (ackAsked k line direction seen) ≡ 0 → a ≡ filled placeOf (leftAt k ps xs (line - 1) seen) → b ≡ filled itemOf (leftAt k ps xs (line - 1) seen)
+        → record { refusal = 0; passed = 0; at = line - 1; taken = getD (k .taken) (line - 1) 0; acked = seen; inserts = getD (k .inserts) (line - 1) 0; places = a; items = b; edit = Nothing; others = 0 }
+        ≡ ackDecided k ps xs line direction seen
+    unfolding ackAccepted
+    ack-made a b z e f =
+        (λ j. record { refusal = 0; passed = 0; at = line - 1; taken = getD (k .taken) (line - 1) 0; acked = seen; inserts = getD (k .inserts) (line - 1) 0; places = e j; items = f j; edit = Nothing; others = 0 })
+        ∙ sym (ack-yes z)
+
+  module _ (h : Header) (e : Edit) where
+    abbrev at : ℕ
+    at = h .line - 1
+
+    abbrev left : List Edit
+    left = leftAt k ps xs at (h .seen)
+
+    abbrev later : Decision
+    later =
+        cond (eqb (asks (leftAsked k left at e)) 0) (editAccepted k left at (h .seen) e) (refusing (asks (leftAsked k left at e)))
+
+    pub edit-no : (q : ℕ) → q ≡ asks (editAsked k h e) → (q ≡ 0 → ⊥) → refusing q ≡ editDecided k ps xs h e
+    unfolding editDecided
+    edit-no q f n =
+        ap refusing f
+        ∙ sym (ap (λ (b : Bool). cond b later (refusing (asks (editAsked k h e)))) (ne-eqb (asks (editAsked k h e)) 0 (λ z. n (f ∙ z))))
+
+    module _ (z : asks (editAsked k h e) ≡ 0) where
+      after : editDecided k ps xs h e ≡ later
+      unfolding editDecided
+      after = ap (λ (b : Bool). cond b later (refusing (asks (editAsked k h e)))) (eq-eqb (asks (editAsked k h e)) 0 z)
+
+      pub edit-late : (q : ℕ) → q ≡ asks (leftAsked k left at e) → (q ≡ 0 → ⊥) → refusing q ≡ editDecided k ps xs h e
+      edit-late q f n =
+          ap refusing f
+          ∙ sym (ap (λ (b : Bool). cond b (editAccepted k left at (h .seen) e) (refusing (asks (leftAsked k left at e)))) (ne-eqb (asks (leftAsked k left at e)) 0 (λ y. n (f ∙ y))))
+          ∙ sym after
+
+      pub edit-yes : asks (leftAsked k left at e) ≡ 0 → editDecided k ps xs h e ≡ editAccepted k left at (h .seen) e
+      edit-yes y =
+          after ∙ ap (λ (b : Bool). cond b (editAccepted k left at (h .seen) e) (refusing (asks (leftAsked k left at e)))) (eq-eqb (asks (leftAsked k left at e)) 0 y)
+
+    -- with what crossing gave
+    module _ (x : Crossed) (m : x ≡ crossed e left) where
+      pub late-asked : asks (lastAsked k at e (x .edit) (x .placed)) ≡ asks (leftAsked k left at e)
+      late-asked = ap (λ (c : Crossed). asks (lastAsked k at e (c .edit) (c .placed))) m
+
+      pub edit-made : (i : ℕ) → asks (editAsked k h e) ≡ 0 → asks (lastAsked k at e (x .edit) (x .placed)) ≡ 0 → i ≡ insertsOf e
+          → record { refusal = 0; passed = x .passed; at = at; taken = getD (k .taken) at 0 + 1; acked = h .seen; inserts = getD (k .inserts) at 0 + i; places = x .places; items = x .items; edit = x .edit; others = k .n }
+          ≡ editDecided k ps xs h e
+      unfolding editAccepted
+      edit-made i z y f =
+          (λ j. record {
+            refusal = 0;
+            passed = m j .passed;
+            at = at;
+            taken = getD (k .taken) at 0 + 1;
+            acked = h .seen;
+            inserts = getD (k .inserts) at 0 + f j;
+            places = m j .places;
+            items = m j .items;
+            edit = m j .edit;
+            others = k .n;
+          })
+          ∙ sym (edit-yes z (sym late-asked ∙ y))

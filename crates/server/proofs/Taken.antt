@@ -1,0 +1,245 @@
+-- What is written where a message is accepted is the one struct for the new end; and the answers of taking.
+use mathlib.Core.Path.{_≡_, refl, ap, sym, _∙_, subst}
+use mathlib.Core.Bool.{Bool, true, false, _&&_, not, cond}
+use mathlib.Core.List.{List, [], _∷_, _++_}
+use Prim.Native.Nat.{ℕ, _+_, _-_, _*_, _≤_, _<_}
+use native.Mathlib.Omega.{arith}
+use lib.Dec.{ltb, eqb}
+use lib.ListN.{length, getD, set, length-set}
+use lib.Seq.{getD-set-same, getD-set-other}
+use borrow.Author.Tests.{eqb-true, eqb-false, eq-eqb, ne-eqb, ltb-true}
+use Rattle.ot.specs.declared.Edit.{Edit}
+use Rattle.ot.specs.declared.Edit.the-variants.{Nothing}
+use Rattle.ot.specs.Edit.{applied}
+use Rattle.ot.specs.Items.{Room, Edited, padded}
+use Rattle.wire.specs.declared.Message.{Message}
+use Rattle.wire.specs.declared.Read.{Read}
+use Rattle.wire.specs.declared.Read.the-variants as read
+use Rattle.wire.specs.Message.{inRange}
+use Rattle.wire.specs.Bytes.{parsed}
+use Rattle.wire.proofs.Codec.{codec}
+use Rattle.model.specs.Limits.{maxLines, maxItems, maxPending}
+use Rattle.model.specs.Questions.{ask, asks, answer}
+use Rattle.model.specs.Server as model
+use Rattle.pending.specs.Slots.{placeOf, itemOf, stretch, filled}
+use Rattle.pending.proofs.Slots.{edits-length, filled-push}
+use Rattle.endpoint.specs.Items.{stored}
+use Rattle.endpoint.proofs.Room.{room-stored, room-length}
+use Rattle.server.specs.declared.Server.{Server}
+use Rattle.server.specs.declared.Answer.{Answer}
+use Rattle.server.specs.declared.taking.Decision.{Decision}
+use Rattle.server.specs.View.{countsOf, pendingCount, view, store}
+use Rattle.server.specs.Sound.{soundStruct, Sized, Sound}
+use Rattle.server.specs.Calls.{refused, answered, takes}
+use Rattle.server.specs.Taking.{keeps, decided, Replaced, Kept, Raised, Few}
+use Rattle.server.proofs.Rows.{Row, store-is}
+use Rattle.server.proofs.Whole.{line, means, lines-few, items-are, len-view, at-view, made-few, lines-row}
+use Rattle.server.proofs.Writing.{keeps-own}
+use Rattle.server.proofs.Asked.{asks-yes, asks-no}
+use Rattle.server.proofs.Deciding.{Decides, Right, message-right}
+
+-- ---- what is written
+
+keeps-other : (n at i : ℕ) (b : Bool) → ltb i n ≡ b → (i ≡ at → ⊥) → keeps n at i ≡ b
+keeps-other n at i b t ne = ap (λ (x : Bool). ltb i n && not x) (ne-eqb i at ne) ∙ go (ltb i n) ∙ t
+  where
+    go : (x : Bool) → (x && true) ≡ x
+    go true = refl
+    go false = refl
+
+module _ (s : Server) (h : Sound s) (d : Decision) (m : model.Server) (dec : Decides s d m) where
+  pub written-at : d .at < 8
+  written-at = omega (arith, dec .at, lines-few s h)
+
+  pub written-few : d .others ≤ 8
+  written-few = omega (arith, dec .few, lines-few s h)
+
+  pub written-made : Few (d .others) (s .made)
+  written-made j lt = made-few s h j (omega (arith, dec .few))
+
+  -- the slots of a line that keeps the edit
+  module _ (word : Edit → ℕ) (part before put now′ : List ℕ) (r : Replaced (d .at) part before put) (k : Kept (d .others) (d .at) (s .made) (s .acked) (word (d .edit)) put now′) where
+    own-slots : part ≡ filled word (getD (m .lines) (d .at) model.noLine .pending) → stretch (maxPending * d .at) now′ ≡ filled word (getD (m .lines) (d .at) model.noLine .pending)
+    own-slots e =
+        k .lines (d .at) written-at
+        ∙ ap (λ (b : Bool). cond b (set (stretch (maxPending * d .at) put) (getD (s .made) (d .at) 0 - getD (s .acked) (d .at) 0) (word (d .edit))) (stretch (maxPending * d .at) put)) (keeps-own (d .others) (d .at))
+        ∙ r .lines (d .at) written-at
+        ∙ ap (λ (b : Bool). cond b part (stretch (maxPending * d .at) before)) (eq-eqb (d .at) (d .at) refl)
+        ∙ e
+
+    module _ (i : ℕ) (lt : i < maxLines) (n : i ≡ d .at → ⊥) (v : model.Line) (old : stretch (maxPending * i) before ≡ filled word (v .pending)) where
+      was : stretch (maxPending * i) put ≡ filled word (v .pending)
+      was = r .lines i lt ∙ ap (λ (b : Bool). cond b part (stretch (maxPending * i) before)) (ne-eqb i (d .at) n) ∙ old
+
+      kept-slots : ltb i (d .others) ≡ true → length (v .pending) ≡ getD (s .made) i 0 - getD (s .acked) i 0 → length (v .pending) < maxPending
+          → stretch (maxPending * i) now′ ≡ filled word (v .pending ++ (d .edit ∷ []))
+      kept-slots t c few =
+          k .lines i lt
+          ∙ ap (λ (b : Bool). cond b (set (stretch (maxPending * i) put) (getD (s .made) i 0 - getD (s .acked) i 0) (word (d .edit))) (stretch (maxPending * i) put)) (keeps-other (d .others) (d .at) i true t n)
+          ∙ ap (λ (l : List ℕ). set l (getD (s .made) i 0 - getD (s .acked) i 0) (word (d .edit))) was
+          ∙ ap (λ (j : ℕ). set (filled word (v .pending)) j (word (d .edit))) (sym c)
+          ∙ filled-push word (v .pending) (d .edit) few
+
+      same-slots : ltb i (d .others) ≡ false → stretch (maxPending * i) now′ ≡ filled word (v .pending)
+      same-slots f =
+          k .lines i lt
+          ∙ ap (λ (b : Bool). cond b (set (stretch (maxPending * i) put) (getD (s .made) i 0 - getD (s .acked) i 0) (word (d .edit))) (stretch (maxPending * i) put)) (keeps-other (d .others) (d .at) i false f n)
+          ∙ was
+
+  module _ (size : ℕ) (items made ps₁ ps₂ xs₁ xs₂ : List ℕ)
+      (a : Edited (d .edit) (s .len) (s .items) items size)
+      (p₁ : Replaced (d .at) (d .places) (s .«pending_places») ps₁)
+      (x₁ : Replaced (d .at) (d .items) (s .«pending_items») xs₁)
+      (p₂ : Kept (d .others) (d .at) (s .made) (s .acked) (placeOf (d .edit)) ps₁ ps₂)
+      (x₂ : Kept (d .others) (d .at) (s .made) (s .acked) (itemOf (d .edit)) xs₁ xs₂)
+      (r : Raised (d .others) (d .at) (s .made) made) where
+    abbrev next : Server
+    next =
+        record {
+          n = s .n;
+          initial = s .initial;
+          len = size;
+          items = items;
+          made = made;
+          taken = set (s .taken) (d .at) (d .taken);
+          acked = set (s .acked) (d .at) (d .acked);
+          inserts = set (s .inserts) (d .at) (d .inserts);
+          «pending_places» = ps₂;
+          «pending_items» = xs₂;
+        }
+
+    sized : Sized next
+    sized =
+        record {
+          made = r .size ∙ h .sized .made;
+          taken = length-set (s .taken) (d .at) (d .taken) ∙ h .sized .taken;
+          acked = length-set (s .acked) (d .at) (d .acked) ∙ h .sized .acked;
+          inserts = length-set (s .inserts) (d .at) (d .inserts) ∙ h .sized .inserts;
+          places = p₂ .size ∙ p₁ .size ∙ h .sized .places;
+          items = x₂ .size ∙ x₁ .size ∙ h .sized .items;
+        }
+
+    own-row : Row next (d .at) (getD (m .lines) (d .at) model.noLine)
+    own-row =
+        record {
+          made =
+              r .counts (d .at) written-at
+              ∙ ap (λ (b : Bool). cond b (getD (s .made) (d .at) 0 + 1) (getD (s .made) (d .at) 0)) (keeps-own (d .others) (d .at))
+              ∙ sym (dec .own-made);
+          taken = getD-set-same (s .taken) (d .at) (d .taken) 0 (omega (arith, written-at, h .sized .taken)) ∙ sym (dec .own-taken);
+          acked = getD-set-same (s .acked) (d .at) (d .acked) 0 (omega (arith, written-at, h .sized .acked)) ∙ sym (dec .own-acked);
+          inserts = getD-set-same (s .inserts) (d .at) (d .inserts) 0 (omega (arith, written-at, h .sized .inserts)) ∙ sym (dec .own-inserts);
+          places = own-slots placeOf (d .places) (s .«pending_places») ps₁ ps₂ p₁ p₂ (dec .own-places);
+          items = own-slots itemOf (d .items) (s .«pending_items») xs₁ xs₂ x₁ x₂ (dec .own-items);
+        }
+
+    module _ (i : ℕ) (lt : i < maxLines) (n : i ≡ d .at → ⊥) where
+      abbrev v : model.Line
+      v = getD (view s .lines) i model.noLine
+
+      old : Row s i (getD (view s .lines) i model.noLine)
+      old = lines-row s h i lt
+
+      other-row : (b : Bool) → ltb i (d .others) ≡ b → Row next i (cond b (model.lineKeeps (d .edit) v) v)
+      other-row true t =
+          let used : i < s .n = omega (arith, ltb-true i (d .others) t, dec .few) in
+          let count : length (v .pending) ≡ getD (s .made) i 0 - getD (s .acked) i 0 =
+          ap (λ (u : model.Line). length (u .pending)) (at-view s h i used)
+          ∙ edits-length (s .«pending_places») (s .«pending_items») (maxPending * i) (pendingCount (countsOf s) i) in
+          let few : length (v .pending) < maxPending = omega (arith, count, dec .roomy i (ltb-true i (d .others) t) n) in
+          record {
+            made =
+                r .counts i lt
+                ∙ ap (λ (b : Bool). cond b (getD (s .made) i 0 + 1) (getD (s .made) i 0)) (keeps-other (d .others) (d .at) i true t n)
+                ∙ ap (λ (j : ℕ). j + 1) (old .made);
+            taken = getD-set-other (s .taken) (d .at) i (d .taken) 0 n ∙ old .taken;
+            acked = getD-set-other (s .acked) (d .at) i (d .acked) 0 n ∙ old .acked;
+            inserts = getD-set-other (s .inserts) (d .at) i (d .inserts) 0 n ∙ old .inserts;
+            places = kept-slots placeOf (d .places) (s .«pending_places») ps₁ ps₂ p₁ p₂ i lt n v (old .places) t count few;
+            items = kept-slots itemOf (d .items) (s .«pending_items») xs₁ xs₂ x₁ x₂ i lt n v (old .items) t count few;
+          }
+      other-row false t =
+          record {
+            made =
+                r .counts i lt
+                ∙ ap (λ (b : Bool). cond b (getD (s .made) i 0 + 1) (getD (s .made) i 0)) (keeps-other (d .others) (d .at) i false t n)
+                ∙ old .made;
+            taken = getD-set-other (s .taken) (d .at) i (d .taken) 0 n ∙ old .taken;
+            acked = getD-set-other (s .acked) (d .at) i (d .acked) 0 n ∙ old .acked;
+            inserts = getD-set-other (s .inserts) (d .at) i (d .inserts) 0 n ∙ old .inserts;
+            places = same-slots placeOf (d .places) (s .«pending_places») ps₁ ps₂ p₁ p₂ i lt n v (old .places) t;
+            items = same-slots itemOf (d .items) (s .«pending_items») xs₁ xs₂ x₁ x₂ i lt n v (old .items) t;
+          }
+
+    row : (i : ℕ) → i < maxLines → Row next i (getD (m .lines) i model.noLine)
+    row i lt = go (eqb i (d .at)) refl
+      where
+        go : (b : Bool) → eqb i (d .at) ≡ b → Row next i (getD (m .lines) i model.noLine)
+        go true t = subst (λ (j : ℕ). Row next j (getD (m .lines) j model.noLine)) (sym (eqb-true i (d .at) t)) own-row
+        go false f =
+            let n = eqb-false i (d .at) f in
+            subst (λ (u : model.Line). Row next i u) (sym (dec .others i n)) (other-row i lt n (ltb i (d .others)) refl)
+
+    items-view : s .items ≡ stored (view s .items)
+    unfolding view
+    items-view = items-are s h
+
+    pub written : next ≡ store m
+    written =
+        store-is m (omega (arith, dec .count, lines-few s h)) next sized (dec .n) (dec .initial)
+        (a .length ∙ room-length (d .edit) (s .len) (view s .items) (sym (len-view s h)) (dec .room) ∙ ap length (sym (dec .items)))
+        (a .items ∙ room-stored (d .edit) (s .len) (s .items) (view s .items) items-view (sym (len-view s h)) (dec .room) ∙ ap (padded 0 maxItems) (sym (dec .items)))
+        row
+
+-- ---- the answers
+
+module _ (s : Server) (bytes : List ℕ) where
+  pub take-unsound : soundStruct s ≡ false → refused s 2 ≡ takes s bytes
+  unfolding takes
+  take-unsound t = sym (ap (λ (b : Bool). cond b (answered s (model.takeServer (view s) bytes)) (refused s 2)) t)
+
+  module _ (h : Sound s) where
+    take-sound : answered s (model.takeServer (view s) bytes) ≡ takes s bytes
+    unfolding takes
+    take-sound = sym (ap (λ (b : Bool). cond b (answered s (model.takeServer (view s) bytes)) (refused s 2)) (h .well))
+
+    pub take-unread : (r : Read) → r ≡ parsed bytes → r ≡ read.Refused → refused s 3 ≡ takes s bytes
+    unfolding model.takeServer answered answer
+    take-unread r f z =
+        let q : asks (ask 2 (model.soundServer (view s)) ∷ ask 3 false ∷ []) ≡ 3 =
+        asks-yes 2 (model.soundServer (view s)) (ask 3 false ∷ []) (means s h) ∙ asks-no 3 false [] refl in
+        sym (ap (λ (k : ℕ). answered s (answer k (view s) (view s) 0)) q)
+        ∙ ap (λ (x : Read). answered s (model.serverReads (view s) x)) (sym z ∙ f)
+        ∙ take-sound
+
+    module _ (r : Read) (m : Message) (f : r ≡ parsed bytes) (z : r ≡ read.Message m) where
+      pub take-ranged : inRange m ≡ true
+      take-ranged = codec .read-in-range bytes m (sym f ∙ z)
+
+      take-read : answered s (model.serverTakes (view s) m) ≡ takes s bytes
+      unfolding model.takeServer
+      take-read = ap (λ (x : Read). answered s (model.serverReads (view s) x)) (sym z ∙ f) ∙ take-sound
+
+      module _ (d : Decision) (g : d ≡ decided (countsOf s) (s .«pending_places») (s .«pending_items») m) where
+        right : Right s d (model.serverTakes (view s) m)
+        right = subst (λ (x : Decision). Right s x (model.serverTakes (view s) m)) (sym g) (message-right s h m)
+
+        pub take-refused : (d .refusal ≡ 0 → ⊥) → refused s (d .refusal) ≡ takes s bytes
+        unfolding answered
+        take-refused n =
+            let a = model.serverTakes (view s) m in
+            (λ j. record { refusal = right .refusal j; passed = sym (right .none-passed n) j; server = s })
+            ∙ sym (ap (λ (b : Bool). record { refusal = a .refusal; passed = a .passed; server = cond b (store (a .end)) s }) (ne-eqb (a .refusal) 0 (λ y. n (right .refusal ∙ y))))
+            ∙ take-read
+
+        pub take-decides : d .refusal ≡ 0 → Decides s d (model.serverTakes (view s) m .end)
+        take-decides y = right .becomes y
+
+        pub take-done : (t : Server) → d .refusal ≡ 0 → t ≡ store (model.serverTakes (view s) m .end) → record { refusal = 0; passed = d .passed; server = t } ≡ takes s bytes
+        unfolding answered
+        take-done t y e =
+            let a = model.serverTakes (view s) m in
+            let zero′ : 0 ≡ a .refusal = sym y ∙ right .refusal in
+            (λ j. record { refusal = zero′ j; passed = right .passed y j; server = e j })
+            ∙ sym (ap (λ (b : Bool). record { refusal = a .refusal; passed = a .passed; server = cond b (store (a .end)) s }) (eq-eqb (a .refusal) 0 (sym zero′)))
+            ∙ take-read

@@ -1,0 +1,57 @@
+use borrow.Author.Needs.{needs}
+use mathlib.Core.Path.{_≡_}
+use native.Mathlib.Omega.{arith}
+use Prim.Native.Nat.{_+_, _-_, _*_, _≤_}
+use Rattle.server.specs.View.{sumFrom}
+use Rattle.server.proofs.Writing.{sum-start, sum-turn, sum-end}
+use Rattle.server.proofs.question2.sum.Statement.{statement}
+use Rattle.server.proofs.question2.sum.Tie as tie
+
+abbrev Inv-loop : tie.InvT-loop
+Inv-loop n xs s₀ i₀ s i = (i ≤ n) × ((s + sumFrom xs i (n - i) ≡ sumFrom xs 0 n) × (s ≤ 65535 * i))
+
+abbrev μ-loop : tie.MeasureT-loop
+μ-loop n xs s₀ i₀ s i = n - i
+
+loop-holds : tie.Need-loop-holds Inv-loop μ-loop
+loop-holds c = (omega arith, (sum-start (c .args .t2) (c .args .n), omega arith))
+
+mul-wide : tie.Need-mul-wide Inv-loop μ-loop
+mul-wide c = omega (arith, c .before .before .pre)
+
+array-read-wide : tie.Need-array-read-wide Inv-loop μ-loop
+array-read-wide c = omega (arith, c .before .before .pre)
+
+wide-requires : tie.Need-wide-requires Inv-loop μ-loop
+wide-requires c κs = search needs
+
+add-s : tie.Need-add-s Inv-loop μ-loop
+add-s c = omega (arith, c .before .before .before .pre)
+
+add-i : tie.Need-add-i Inv-loop μ-loop
+add-i c = omega arith
+
+loop-less : tie.Need-loop-less Inv-loop μ-loop
+loop-less c = omega arith
+
+loop-again : tie.Need-loop-again Inv-loop μ-loop
+loop-again c = (omega arith, (omega (arith, c .wide .ensures .0, sum-turn (c .before .before .before .args .t2) (c .before .before .loop .i) (c .before .before .before .args .n) (omega arith)), omega arith))
+
+returns : tie.Need-returns Inv-loop μ-loop
+returns c = (omega (arith, sum-end (c .before .before .args .t2) (c .before .loop .i) (c .before .before .args .n) (omega arith)), omega (arith, c .before .before .pre))
+
+pub sum-spec : {M : Type 1} → statement M
+sum-spec =
+    tie.close
+    (tie.spec
+    Inv-loop
+    μ-loop
+    loop-holds
+    mul-wide
+    array-read-wide
+    wide-requires
+    add-s
+    add-i
+    loop-less
+    loop-again
+    returns)

@@ -1,0 +1,64 @@
+use borrow.Author.Needs.{needs}
+use mathlib.Core.Path.{_≡_, ap, sym, _∙_, subst}
+use mathlib.Core.Bool.{true}
+use native.Mathlib.Omega.{arith}
+use denote.Ref.{now}
+use Rattle.wire.specs.declared.Message.{Message}
+use Rattle.wire.specs.Message.{inRange}
+use Rattle.wire.proofs.Ranges.{insert-bounds, delete-bounds}
+use Rattle.server.specs.Taking.{decided}
+use Rattle.server.proofs.taking.decide.Statement.{statement}
+use Rattle.server.proofs.taking.decide.Tie as tie
+
+enum-known-m : tie.Need-enum-known-m
+enum-known-m c = search needs
+
+decide-edit-requires : tie.Need-decide-edit-requires
+decide-edit-requires c κs = (insert-bounds (c .before .m .given .0 .0) (c .before .m .given .0 .1 .0) (c .before .m .given .0 .1 .1 .0) (c .before .m .given .0 .1 .1 .1 .0) (subst (λ (x : Message). inRange x ≡ true) (c .before .m .given .1) (c .before .before .before .before .before .pre .0)) .position-high, c .before .before .before .before .before .pre .1)
+
+enum-known-m-2 : tie.Need-enum-known-m-2
+enum-known-m-2 c = search needs
+
+decide-edit-requires-2 : tie.Need-decide-edit-requires-2
+decide-edit-requires-2 c κs = (delete-bounds (c .before .m2 .given .0 .0) (c .before .m2 .given .0 .1 .0) (subst (λ (x : Message). inRange x ≡ true) (c .before .m2 .given .1) (c .before .before .before .before .before .pre .0)) .position-high, c .before .before .before .before .before .pre .1)
+
+enum-known-m-3 : tie.Need-enum-known-m-3
+enum-known-m-3 c = search needs
+
+decide-edit-requires-3 : tie.Need-decide-edit-requires-3
+decide-edit-requires-3 c κs = (omega arith, c .before .before .before .before .before .pre .1)
+
+enum-known-m-4 : tie.Need-enum-known-m-4
+enum-known-m-4 c = search needs
+
+decide-ack-requires : tie.Need-decide-ack-requires
+decide-ack-requires c κs = c .before .before .before .before .before .pre .1
+
+returns : tie.Need-returns
+returns c = c .decide-edit .ensures ∙ ap (decided (c .before .before .before .before .before .before .args .k) (now (c .before .before .before .before .before .before .args .places)) (now (c .before .before .before .before .before .before .args .items))) (sym (c .before .before .m .given .1))
+
+returns-2 : tie.Need-returns-2
+returns-2 c = c .decide-edit2 .ensures ∙ ap (decided (c .before .before .before .before .before .before .args .k) (now (c .before .before .before .before .before .before .args .places)) (now (c .before .before .before .before .before .before .args .items))) (sym (c .before .before .m2 .given .1))
+
+returns-3 : tie.Need-returns-3
+returns-3 c = c .decide-edit3 .ensures ∙ ap (decided (c .before .before .before .before .before .before .args .k) (now (c .before .before .before .before .before .before .args .places)) (now (c .before .before .before .before .before .before .args .items))) (sym (c .before .before .m3 .given .1))
+
+returns-4 : tie.Need-returns-4
+returns-4 c = c .decide-ack .ensures ∙ ap (decided (c .before .before .before .before .before .before .args .k) (now (c .before .before .before .before .before .before .args .places)) (now (c .before .before .before .before .before .before .args .items))) (sym (c .before .before .m4 .given .1))
+
+pub decide-spec : {M : Type 1} → statement M
+decide-spec =
+    tie.close
+    (tie.spec
+    enum-known-m
+    decide-edit-requires
+    enum-known-m-2
+    decide-edit-requires-2
+    enum-known-m-3
+    decide-edit-requires-3
+    enum-known-m-4
+    decide-ack-requires
+    returns
+    returns-2
+    returns-3
+    returns-4)

@@ -1,0 +1,12 @@
+use borrow.Author.Needs.{needs}
+use mathlib.Core.Path.{refl}
+use Rattle.server.specs.Taking.{refusing}
+use Rattle.server.proofs.taking.refusing.Statement.{statement}
+use Rattle.server.proofs.taking.refusing.Tie as tie
+
+returns : tie.Need-returns
+unfolding refusing
+returns c = refl
+
+pub refusing-spec : {M : Type 1} → statement M
+refusing-spec = tie.close (tie.spec returns)

@@ -1,0 +1,287 @@
+// Taking: a message of a client, an edit or an acknowledgement.
+ghost use mathlib.Core.Path.{_≡_};
+ghost use mathlib.Core.Bool.{true};
+ghost use Prim.Native.Nat.{_≤_, _<_, _-_};
+ghost use lib.Dec.{eqb};
+ghost use lib.ListN.{length};
+ghost use Rattle.ot.specs.Edit.{positionOf};
+ghost use Rattle.wire.specs.Message.{inRange};
+ghost use Rattle.model.specs.Limits.{maxItems, maxPending};
+ghost use Rattle.model.specs.Cross.{priority};
+ghost use Rattle.model.specs.Questions.{asks};
+ghost use Rattle.pending.specs.Slots.{allFrom};
+ghost use Rattle.server.specs.Calls.{takes};
+ghost use Rattle.server.specs.Taking.{roomyAt, editAsked, lastAsked, ackAsked, refusing, editDecided, ackDecided, decided, Ready, Replaced, Kept, Roomy, Few, Raised};
+use crate::Answer;
+use crate::Counts;
+use crate::Server;
+use crate::question2::is_sound;
+use crate::question2::less;
+use crate::question2::wide;
+use ot::Edit;
+use wire::Header;
+use wire::Message;
+use wire::Read;
+
+// What a message makes of an end: 0 or the number of the question that says no, how many pending edits the edit was transformed past;
+// the place of the line that it came on, counted from 0, with the counts and pending edits of that line; the edit to apply, and how
+// many of the lines it is kept for (that line left out): all of them, or none for an acknowledgement.
+struct Decision {
+    refusal: u8,
+    passed: u16,
+    at: usize,
+    taken: u16,
+    acked: u16,
+    inserts: u16,
+    places: [u32; 64],
+    items: [u32; 64],
+    edit: Edit,
+    others: usize,
+}
+
+// ---- the questions
+
+// An insert that comes up a line has the line's priority.
+fn is_own(line: u8, e: Edit) -> bool
+    ensures { λ r. ⌜ r ≡ priority (eqb line) e ⌝ }
+{
+    match e {
+        Edit::Nothing => true,
+        Edit::Delete(_) => true,
+        Edit::Insert(_, _, p) => line == p,
+    }
+}
+
+// Questions 4 to 8 of an edit.
+fn ask_edit(k: Counts, h: Header, e: Edit) -> u8
+    requires { ⌜ k .n ≤ 8 ⌝ }
+    ensures { λ r. ⌜ r ≡ asks (editAsked k h e) ⌝ }
+{
+    let own = is_own(h.line, e);
+    if (h.direction == 0) & ((1 <= h.line) & (h.line <= k.n)) & own {
+        let i = (h.line - 1) as usize;
+        return endpoint::ask_edit(h.number, h.seen, k.taken[i], k.acked[i], k.made[i]);
+    }
+    4
+}
+
+// Questions 4, 7 and 8 of an acknowledgement.
+fn ask_ack(k: Counts, line: u8, direction: u8, seen: u16) -> u8
+    requires { ⌜ k .n ≤ 8 ⌝ }
+    ensures { λ r. ⌜ r ≡ asks (ackAsked k line direction seen) ⌝ }
+{
+    if (direction == 0) & ((1 <= line) & (line <= k.n)) {
+        let i = (line - 1) as usize;
+        return endpoint::ask_seen(seen, k.acked[i], k.made[i]);
+    }
+    4
+}
+
+// Has every line in use but the one at a place, counted from 0, room for one more pending edit?
+fn others_roomy(k: Counts, at: usize) -> bool
+    requires { ⌜ k .n ≤ 8 ⌝ }
+    ensures { λ r. ⌜ r ≡ allFrom (roomyAt k at) 0 (k .n) ⌝ }
+{
+    let mut roomy = true;
+    let n = k.n as usize;
+    for i in 0..n {
+        let count = less(k.made[i], k.acked[i]);
+        roomy = roomy & ((i == at) | (count < Server::PENDING));
+    }
+    roomy
+}
+
+// Questions 9, 10 and 12 of an edit that stands as form after the pending ones.
+fn ask_last(k: Counts, at: usize, e: Edit, form: Edit, placed: bool) -> u8
+    requires { ⌜ (k .n ≤ 8) × (at < 8) ⌝ }
+    ensures { λ r. ⌜ r ≡ asks (lastAsked k at e form placed) ⌝ }
+{
+    if endpoint::has_room(form, k.len) & placed {
+        let inserts = wide(k.inserts[at]) + wide(endpoint::inserts_of(e));
+        if inserts <= Server::INSERTS as u32 {
+            if others_roomy(k, at) {
+                return 0;
+            }
+            return 12;
+        }
+        return 10;
+    }
+    9
+}
+
+// ---- the decision
+
+fn refusing(refusal: u8) -> Decision
+    ensures { λ r. ⌜ r ≡ refusing refusal ⌝ }
+{
+    Decision {
+        refusal,
+        passed: 0,
+        at: 0,
+        taken: 0,
+        acked: 0,
+        inserts: 0,
+        places: [0; 64],
+        items: [0; 64],
+        edit: Edit::Nothing,
+        others: 0,
+    }
+}
+
+// An acknowledgement only drops pending edits.
+fn decide_ack<'a>(k: Counts, places: &'a [u32], items: &'a [u32], line: u8, direction: u8, seen: u16) -> Decision
+    requires { ⌜ Ready k (now places) (now items) ⌝ }
+    ensures { λ r. ⌜ r ≡ ackDecided k (now (places .entry)) (now (items .entry)) line direction seen ⌝ }
+{
+    let refusal = ask_ack(k, line, direction, seen);
+    if refusal == 0 {
+        let i = (line - 1) as usize;
+        let from = 64 * i + (seen - k.acked[i]) as usize;
+        let count = (k.made[i] - seen) as usize;
+        return Decision {
+            refusal: 0,
+            passed: 0,
+            at: i,
+            taken: k.taken[i],
+            acked: seen,
+            inserts: k.inserts[i],
+            places: pending::acked(places, from, count),
+            items: pending::acked(items, from, count),
+            edit: Edit::Nothing,
+            others: 0,
+        };
+    }
+    refusing(refusal)
+}
+
+// An edit drops the pending edits up to seen, is transformed past the others, and these past it.
+fn decide_edit<'a>(k: Counts, places: &'a [u32], items: &'a [u32], h: Header, e: Edit) -> Decision
+    requires { ⌜ (positionOf e ≤ maxItems) × Ready k (now places) (now items) ⌝ }
+    ensures { λ r. ⌜ r ≡ editDecided k (now (places .entry)) (now (items .entry)) h e ⌝ }
+{
+    let refusal = ask_edit(k, h, e);
+    if refusal == 0 {
+        let i = (h.line - 1) as usize;
+        let from = 64 * i + (h.seen - k.acked[i]) as usize;
+        let x = pending::cross(places, items, from, (k.made[i] - h.seen) as usize, e);
+        let form = x.edit;
+        let late = ask_last(k, i, e, form, x.placed);
+        if late == 0 {
+            let later_places = x.places;
+            let later_items = x.items;
+            return Decision {
+                refusal: 0,
+                passed: x.passed,
+                at: i,
+                taken: k.taken[i] + 1,
+                acked: h.seen,
+                inserts: k.inserts[i] + endpoint::inserts_of(e),
+                places: later_places,
+                items: later_items,
+                edit: form,
+                others: k.n as usize,
+            };
+        }
+        return refusing(late);
+    }
+    refusing(refusal)
+}
+
+fn decide<'a>(k: Counts, places: &'a [u32], items: &'a [u32], m: Message) -> Decision
+    requires { ⌜ (inRange m ≡ true) × Ready k (now places) (now items) ⌝ }
+    ensures { λ r. ⌜ r ≡ decided k (now (places .entry)) (now (items .entry)) m ⌝ }
+{
+    match m {
+        Message::Insert(h, p, x, r) => decide_edit(k, places, items, h, Edit::Insert(p, x, r)),
+        Message::Delete(h, p) => decide_edit(k, places, items, h, Edit::Delete(p)),
+        Message::Nothing(h) => decide_edit(k, places, items, h, Edit::Nothing),
+        Message::Ack(l, d, s) => decide_ack(k, places, items, l, d, s),
+    }
+}
+
+// ---- what is written
+
+// Puts the numbers of one line into their places.
+fn put(words: &mut [u32; 512], at: usize, part: &[u32])
+    requires { ⌜ (at < 8) × ((length (now part) ≡ maxPending) × (512 ≤ length (now words))) ⌝ }
+    ensures { λ r. ⌜ Replaced at (now (part .entry)) (now (words .entry)) (now (words .exit)) ⌝ }
+{
+    let from = 64 * at;
+    for i in 0..64 {
+        let j = from + i;
+        words[j] = part[i];
+    }
+}
+
+// The first n lines but the one at a place keep one more edit, of which this is the place or the item.
+fn keep(words: &mut [u32; 512], n: usize, at: usize, made: [u16; 8], acked: [u16; 8], word: u32)
+    requires { ⌜ (n ≤ 8) × Roomy n at made acked ⌝ }
+    ensures { λ r. ⌜ Kept n at made acked word (now (words .entry)) (now (words .exit)) ⌝ }
+{
+    for i in 0..n {
+        if i == at {
+            continue;
+        }
+        let j = 64 * i + less(made[i], acked[i]) as usize;
+        words[j] = word;
+    }
+}
+
+// The counts of what was made for each line, with one more for those lines.
+fn raised(n: usize, at: usize, made: [u16; 8]) -> [u16; 8]
+    requires { ⌜ (n ≤ 8) × Few n made ⌝ }
+    ensures { λ r. ⌜ Raised n at made r ⌝ }
+{
+    let mut more = made;
+    for i in 0..n {
+        if i == at {
+            continue;
+        }
+        more[i] = made[i] + 1;
+    }
+    more
+}
+
+impl Server {
+    // Bytes that a client sent: exactly one message.
+    pub fn take(mut self, bytes: &[u8]) -> Answer
+        ensures { λ r. ⌜ r ≡ takes self (now (bytes .entry)) ⌝ }
+    {
+        let k = Counts {
+            n: self.n,
+            initial: self.initial,
+            len: self.len,
+            made: self.made,
+            taken: self.taken,
+            acked: self.acked,
+            inserts: self.inserts,
+        };
+        if is_sound(k, &self.items, &self.pending_places, &self.pending_items) {
+            let Read::Message(m) = wire::parse(bytes) else {
+                return Answer { refusal: 3, passed: 0, server: self };
+            };
+            let d = decide(k, &self.pending_places, &self.pending_items, m);
+            if d.refusal == 0 {
+                let i = d.at;
+                let e = d.edit;
+                let places = d.places;
+                let items = d.items;
+                let made = k.made;
+                let acked = k.acked;
+                self.len = ot::apply(&mut self.items, k.len, e);
+                put(&mut self.pending_places, i, &places);
+                put(&mut self.pending_items, i, &items);
+                keep(&mut self.pending_places, d.others, i, made, acked, pending::place_of(e));
+                keep(&mut self.pending_items, d.others, i, made, acked, pending::item_of(e));
+                let more = raised(d.others, i, made);
+                self.made = more;
+                self.taken[i] = d.taken;
+                self.acked[i] = d.acked;
+                self.inserts[i] = d.inserts;
+                return Answer { refusal: 0, passed: d.passed, server: self };
+            }
+            return Answer { refusal: d.refusal, passed: 0, server: self };
+        }
+        Answer { refusal: 2, passed: 0, server: self }
+    }
+}
