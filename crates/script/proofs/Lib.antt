@@ -1,3 +1,4 @@
+pub mod Lists
 pub mod Sinks
 pub mod Texts
 pub mod Numbers

@@ -30,7 +30,7 @@ use Rattle.server.specs.declared.Answer as serverAnswer
 use Rattle.server.specs.View as server
 use Rattle.server.specs.Calls.{answered, refused, sends, tells, takes}
 use Rattle.server.specs.Sound.{soundStruct}
-use Rattle.server.proofs.Lines.{getD-default, pad-set, set-map}
+use Rattle.script.proofs.Lists.{getD-default, pad-set, set-map}
 use Rattle.server.proofs.Stored.{view-store, store-sound}
 use Rattle.client.proofs.Stored.{client-view, client-stored}
 use Rattle.script.specs.declared.ends.Ends.{Ends}

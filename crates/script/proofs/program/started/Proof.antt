@@ -22,10 +22,10 @@ reply-requires : tie.Need-reply-requires
 reply-requires c κs = search needs
 
 array-share-prefix-list-2 : tie.Need-array-share-prefix-list-2
-array-share-prefix-list-2 c = let l : length (c .before .before .before .before .before .before .before .before .before .before .before .before .before .args .f .list) ≡ 129 = search needs in omega (arith, c .before .before .before .before .before .before .before .before .before .before .before .before .before .pre)
+array-share-prefix-list-2 c = array-share-prefix-list (c .before .before .before .before .before .before .before .before .before)
 
 slice-aggregate-open-clients : tie.Need-slice-aggregate-open-clients
-slice-aggregate-open-clients c = let l : length (c .before .before .before .before .before .before .before .before .before .before .before .before .before .before .args .f .list) ≡ 129 = search needs in sym (length-take-le (c .before .before .before .before .before .before .before .before .before .before .before .before .before .before .args .f .count) (c .before .before .before .before .before .before .before .before .before .before .before .before .before .before .args .f .list) (omega (arith, c .before .before .before .before .before .before .before .before .before .before .before .before .before .before .pre)))
+slice-aggregate-open-clients c = slice-aggregate-open (c .before .before .before .before .before .before .before .before .before)
 
 open-clients-requires : tie.Need-open-clients-requires
 open-clients-requires c κs = search needs
