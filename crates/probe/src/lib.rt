@@ -1,0 +1,5 @@
+// The boundary between the proved ends and a harness in another language (harness/PROTOCOL.md).
+mod call;
+mod dump;
+mod set;
+mod turn;
