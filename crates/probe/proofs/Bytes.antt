@@ -3,7 +3,7 @@ use Prim.Native.Nat.{ℕ, suc, _+_, _*_, _≤_, _<_}
 use native.Mathlib.Nat.{add-zero, add-suc, suc-add, mul-zero, mul-suc}
 use native.Mathlib.Numerals.{add-one}
 use native.Mathlib.Omega.{arith}
-use mathlib.Core.Path.{_≡_, refl, ap, _∙_, sym}
+use mathlib.Core.Path.{_≡_, refl, ap, _∙_, sym, subst}
 use mathlib.Core.List.{List, [], _∷_, _++_, append-nil, append-assoc}
 use lib.ListN.{length, getD, take, set, length-append, length-set}
 use lib.Seq.{sets, length-sets, take-suc, take-all}
@@ -58,3 +58,21 @@ module _ {A : Type 0} (f : A → List ℕ) where
     each-end i n {at} {out} {out₁} e h p =
         let t : take i l ≡ l = take-all i l (omega arith) in
         record { size = ap (λ (r : List A). length (each f r)) (sym t) ∙ p .size ∙ ap (λ (k : ℕ). w * k) h; wrote = p .wrote ∙ ap (λ (r : List A). sets out at (each f r)) t }
+
+-- ---- bytes one by one
+
+pub put-byte : (at x : ℕ) (l : List ℕ) → Put at 1 (x ∷ []) l (set l at x)
+put-byte at x l = record { size = refl; wrote = refl }
+
+pub bytes-none : {at : ℕ} {l : List ℕ} (s : List ℕ) → Put at 0 (take 0 s) l l
+bytes-none s = record { size = refl; wrote = refl }
+
+pub bytes-turn : (s : List ℕ) (i : ℕ) {at : ℕ} {l l₁ : List ℕ} → i < length s → Put at i (take i s) l l₁
+    → Put at (i + 1) (take (i + 1) s) l (set l₁ (at + i) (getD s i 0))
+bytes-turn s i {at} {l} {l₁} h p =
+    subst (λ (b : List ℕ). Put at (i + 1) b l (set l₁ (at + i) (getD s i 0))) (sym (ap (λ (k : ℕ). take k s) (add-one i) ∙ take-suc s i 0 h))
+    (put-more p (put-byte (at + i) (getD s i 0) l₁))
+
+pub bytes-end : (s : List ℕ) (i n : ℕ) {at : ℕ} {l l₁ : List ℕ} → length s ≡ n → i ≡ n → Put at i (take i s) l l₁ → Put at n s l l₁
+bytes-end s i n {at} {l} {l₁} e h p =
+    subst (λ (b : List ℕ). Put at n b l l₁) (take-all n s (omega arith)) (subst (λ (k : ℕ). Put at k (take k s) l l₁) h p)

@@ -28,7 +28,7 @@ set-pending-requires c κs = search needs
 
 -- src/set.rt:70:1
 returns : tie.Need-returns
-returns c = ?
+returns c = rw (c .before .before .before .before .set-count .ensures, c .before .before .before .set-count2 .ensures, c .before .before .set-count3 .ensures, c .before .set-count4 .ensures, c .set-pending .ensures)
 
 pub set-line-spec : {M : Type 1} → statement M
 set-line-spec =

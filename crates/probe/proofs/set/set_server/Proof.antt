@@ -1,3 +1,4 @@
+use Rattle.probe.specs.Set.{serverSet}
 use borrow.Author.Needs.{needs}
 use Rattle.probe.proofs.set.set_server.Statement.{statement}
 use Rattle.probe.proofs.set.set_server.Tie as tie
@@ -30,7 +31,8 @@ set-lines-requires c κs = search needs
 
 -- src/set.rt:115:1
 returns : tie.Need-returns
-returns c = ?
+unfolding serverSet
+returns c = rw (c .before .before .before .before .set-byte .ensures, c .before .before .before .set-count .ensures, c .before .before .set-count2 .ensures, c .before .set-items .ensures, c .set-lines .ensures)
 
 pub set-server-spec : {M : Type 1} → statement M
 set-server-spec =

@@ -1,3 +1,4 @@
+use borrow.Author.Tests.{ne-eqb}
 use borrow.Author.Needs.{needs}
 use Rattle.probe.proofs.turn.change_client.Statement.{statement}
 use Rattle.probe.proofs.turn.change_client.Tie as tie
@@ -40,27 +41,28 @@ kept-client-requires-2 c κs = search needs
 
 -- src/turn.rt:68:1
 returns : tie.Need-returns
-returns c = ?
+returns c = simp (c .before .match .keys1, c .«open» .ensures)
 
 -- src/turn.rt:68:1
 returns-2 : tie.Need-returns-2
-returns-2 c = ?
+returns-2 c = simp (c .before .match .keys2, c .insert .ensures)
 
 -- src/turn.rt:68:1
 returns-3 : tie.Need-returns-3
-returns-3 c = ?
+returns-3 c = simp (c .before .match .keys3, c .delete .ensures)
 
 -- src/turn.rt:68:1
 returns-4 : tie.Need-returns-4
-returns-4 c = ?
+returns-4 c = simp (c .before .match .keys4, c .take .ensures)
 
 -- src/turn.rt:68:1
 returns-5 : tie.Need-returns-5
-returns-5 c = ?
+returns-5 c = simp (c .before .before .match .keys5, c .kept-client .ensures, c .before .set-client .ensures)
 
 -- src/turn.rt:68:1
 returns-6 : tie.Need-returns-6
-returns-6 c = ?
+returns-6 c = let r = c .before .match .rest in
+    simp (ne-eqb _ _ (r .0 .0 .0 .0 .1), ne-eqb _ _ (r .0 .0 .0 .1), ne-eqb _ _ (r .0 .0 .1), ne-eqb _ _ (r .0 .1), ne-eqb _ _ (r .1), c .kept-client2 .ensures)
 
 pub change-client-spec : {M : Type 1} → statement M
 change-client-spec =

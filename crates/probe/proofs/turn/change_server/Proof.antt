@@ -1,3 +1,4 @@
+use borrow.Author.Tests.{ne-eqb}
 use borrow.Author.Needs.{needs}
 use Rattle.probe.proofs.turn.change_server.Statement.{statement}
 use Rattle.probe.proofs.turn.change_server.Tie as tie
@@ -30,19 +31,20 @@ kept-server-requires-2 c κs = search needs
 
 -- src/turn.rt:134:1
 returns : tie.Need-returns
-returns c = ?
+returns c = simp (c .before .match .keys1, c .«open» .ensures)
 
 -- src/turn.rt:134:1
 returns-2 : tie.Need-returns-2
-returns-2 c = ?
+returns-2 c = simp (c .before .match .keys2, c .take .ensures)
 
 -- src/turn.rt:134:1
 returns-3 : tie.Need-returns-3
-returns-3 c = ?
+returns-3 c = simp (c .before .before .match .keys3, c .kept-server .ensures, c .before .set-server .ensures)
 
 -- src/turn.rt:134:1
 returns-4 : tie.Need-returns-4
-returns-4 c = ?
+returns-4 c = let r = c .before .match .rest in
+    simp (ne-eqb _ _ (r .0 .0 .1), ne-eqb _ _ (r .0 .1), ne-eqb _ _ (r .1), c .kept-server2 .ensures)
 
 pub change-server-spec : {M : Type 1} → statement M
 change-server-spec =

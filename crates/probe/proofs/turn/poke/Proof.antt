@@ -1,3 +1,5 @@
+use mathlib.Core.Path.{sym}
+use lib.Seq.{set-out}
 use borrow.Author.Needs.{needs}
 use Rattle.probe.proofs.turn.poke.Statement.{statement}
 use Rattle.probe.proofs.turn.poke.Tie as tie
@@ -18,7 +20,7 @@ returns c = search needs
 
 -- src/turn.rt:179:1
 returns-2 : tie.Need-returns-2
-returns-2 c = ?
+returns-2 c = sym (set-out _ _ _ (c .if1 .left))
 
 pub poke-spec : {M : Type 1} → statement M
 poke-spec = tie.close (tie.spec slice-write-slot same-length returns returns-2)

@@ -1,3 +1,4 @@
+use borrow.Author.Tests.{eq-eqb, ne-eqb}
 use borrow.Author.Needs.{needs}
 use Rattle.probe.proofs.turn.send_server.Statement.{statement}
 use Rattle.probe.proofs.turn.send_server.Tie as tie
@@ -16,7 +17,7 @@ same-length c = search needs
 
 -- src/turn.rt:119:9
 returns : tie.Need-returns
-returns c = ?
+returns c = simp (eq-eqb _ _ (c .before .before .before .before .if1 .taken)) (c .before .before .send .ensures)
 
 -- src/turn.rt:121:5
 tell-requires : tie.Need-tell-requires
@@ -28,7 +29,7 @@ same-length-2 c = search needs
 
 -- src/turn.rt:115:1
 returns-2 : tie.Need-returns-2
-returns-2 c = ?
+returns-2 c = simp (ne-eqb _ _ (c .before .before .before .before .if1 .left)) (c .before .before .tell .ensures)
 
 pub send-server-spec : {M : Type 1} → statement M
 send-server-spec =

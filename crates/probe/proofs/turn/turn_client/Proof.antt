@@ -1,3 +1,9 @@
+use native.Mathlib.Omega.{arith}
+use mathlib.Core.Path.{sym, _∙_}
+use borrow.Author.Tests.{eq-eqb, ne-eqb}
+use Rattle.probe.proofs.Bytes.{put-length}
+use lib.Dec.{eqb}
+use Rattle.probe.proofs.Turns.{room, full, front-length, client-sent, client-changed, client-dumped}
 use borrow.Author.Needs.{needs}
 use Rattle.probe.proofs.turn.turn_client.Statement.{statement}
 use Rattle.probe.proofs.turn.turn_client.Tie as tie
@@ -29,7 +35,7 @@ slice-relend-prefix-send-client c = search needs
 
 -- src/turn.rt:89:35
 slice-aggregate-send-client : tie.Need-slice-aggregate-send-client
-slice-aggregate-send-client c = ?
+slice-aggregate-send-client c = front-length (c .before .before .before .before .before .before .before .before .args .slot .now) (c .before .before .before .before .before .before .before .before .args .k .size) (c .before .least .ensures)
 
 -- src/turn.rt:89:13
 send-client-requires : tie.Need-send-client-requires
@@ -41,7 +47,7 @@ cast-put-answer c = search needs
 
 -- src/turn.rt:90:9
 put-answer-requires : tie.Need-put-answer-requires
-put-answer-requires c κs = ?
+put-answer-requires c κs = room (eqb (c .before .before .before .before .before .before .before .before .before .before .before .before .before .args .k .op) 8) 2572 _ _ (c .before .before .before .before .before .before .before .before .before .before .before .before .before .pre)
 
 -- src/turn.rt:92:21
 length-after-requires : tie.Need-length-after-requires
@@ -57,7 +63,7 @@ same-length-2 c = search needs
 
 -- src/turn.rt:91:9
 returns : tie.Need-returns
-returns c = ?
+returns c = client-sent (c .before .before .before .before .before .before .before .before .before .before .before .before .before .before .before .before .before .args .k) (c .before .before .before .before .before .before .before .before .before .before .before .before .before .before .before .before .before .args .initial .now) (c .before .before .before .before .before .before .before .before .before .before .before .before .before .before .before .before .before .args .len) (c .before .before .before .before .before .before .before .before .before .before .before .before .before .before .before .before .before .args .slot .now) (c .before .before .before .before .before .before .before .before .before .before .before .before .before .before .before .before .before .args .c) (c .before .before .before .before .before .before .before .before .send-client .result) _ (sym (c .before .before .before .before .before .before .before .before .before .before .before .before .before .sends .ensures) ∙ c .before .before .before .before .before .before .before .before .before .before .before .before .if1 .taken) (c .before .before .before .before .before .before .before .before .before .before .least .ensures) (c .before .before .before .before .before .before .before .before .send-client .ensures) (c .length-after .ensures) (c .before .before .before .put-answer .ensures)
 
 -- src/turn.rt:96:9
 least-requires-2 : tie.Need-least-requires-2
@@ -69,7 +75,7 @@ slice-reshare-prefix-change-client c = search needs
 
 -- src/turn.rt:97:42
 slice-aggregate-change-client : tie.Need-slice-aggregate-change-client
-slice-aggregate-change-client c = ?
+slice-aggregate-change-client c = front-length (c .before .before .before .before .before .before .before .args .slot .now) (c .before .before .before .before .before .before .before .args .len) (c .before .least2 .ensures)
 
 -- src/turn.rt:97:9
 change-client-requires : tie.Need-change-client-requires
@@ -77,15 +83,15 @@ change-client-requires c κs = search needs
 
 -- src/turn.rt:98:5
 put-answer-requires-2 : tie.Need-put-answer-requires-2
-put-answer-requires-2 c κs = ?
+put-answer-requires-2 c κs = room (eqb (c .before .before .before .before .before .before .before .before .before .args .k .op) 8) 2572 _ _ (c .before .before .before .before .before .before .before .before .before .pre)
 
 -- src/turn.rt:101:31
 add-put-client : tie.Need-add-put-client
-add-put-client c = ?
+add-put-client c = let f = c .before .before .before .before .before .before .before .before .before .before .before .before .before .before .before .before .fits in let g = c .before .before .before .before .before .before .before .before .before .before .before .before .before .before .before .before .good in let r = room (eqb (c .before .before .before .before .before .before .before .before .before .before .before .before .before .before .before .before .args .k .op) 8) 2572 _ _ (c .before .before .before .before .before .before .before .before .before .before .before .before .before .before .before .before .pre) in omega arith
 
 -- src/turn.rt:101:9
 put-client-requires : tie.Need-put-client-requires
-put-client-requires c κs = ?
+put-client-requires c κs = rw (put-length (c .before .before .before .before .before .before .put-answer2 .ensures)) (full (eqb (c .before .before .before .before .before .before .before .before .before .before .before .before .before .before .before .before .args .k .op) 8) 2572 _ _ (eq-eqb _ _ (c .before .if2 .taken)) (c .before .before .before .before .before .before .before .before .before .before .before .before .before .before .before .before .pre))
 
 -- src/turn.rt:102:9
 same-length-3 : tie.Need-same-length-3
@@ -97,7 +103,7 @@ same-length-4 c = search needs
 
 -- src/turn.rt:102:9
 returns-2 : tie.Need-returns-2
-returns-2 c = ?
+returns-2 c = client-dumped (c .before .before .before .before .before .before .before .before .before .before .before .before .before .before .before .before .before .before .before .args .k) (c .before .before .before .before .before .before .before .before .before .before .before .before .before .before .before .before .before .before .before .args .initial .now) (c .before .before .before .before .before .before .before .before .before .before .before .before .before .before .before .before .before .before .before .args .len) (c .before .before .before .before .before .before .before .before .before .before .before .before .before .before .before .before .before .before .before .args .slot .now) (c .before .before .before .before .before .before .before .before .before .before .before .before .before .before .before .before .before .before .before .args .c) (c .before .before .before .before .before .before .before .before .before .before .before .change-client .result) (sym (c .before .before .before .before .before .before .before .before .before .before .before .before .before .before .before .sends .ensures) ∙ c .before .before .before .before .before .before .before .before .before .before .before .before .before .before .if1 .left) (c .before .before .before .before .before .before .before .before .before .before .before .before .before .least2 .ensures) (c .before .before .before .before .before .before .before .before .before .before .before .change-client .ensures) (eq-eqb _ _ (c .before .before .before .before .if2 .taken)) (c .before .before .before .before .before .before .before .before .before .put-answer2 .ensures) (c .before .before .put-client .ensures)
 
 -- src/turn.rt:82:1
 same-length-5 : tie.Need-same-length-5
@@ -109,7 +115,7 @@ same-length-6 c = search needs
 
 -- src/turn.rt:82:1
 returns-3 : tie.Need-returns-3
-returns-3 c = ?
+returns-3 c = client-changed (c .before .before .before .before .before .before .before .before .before .before .before .before .before .before .before .args .k) (c .before .before .before .before .before .before .before .before .before .before .before .before .before .before .before .args .initial .now) (c .before .before .before .before .before .before .before .before .before .before .before .before .before .before .before .args .len) (c .before .before .before .before .before .before .before .before .before .before .before .before .before .before .before .args .slot .now) (c .before .before .before .before .before .before .before .before .before .before .before .before .before .before .before .args .c) (c .before .before .before .before .before .before .before .change-client .result) (sym (c .before .before .before .before .before .before .before .before .before .before .before .sends .ensures) ∙ c .before .before .before .before .before .before .before .before .before .before .if1 .left) (c .before .before .before .before .before .before .before .before .before .least2 .ensures) (c .before .before .before .before .before .before .before .change-client .ensures) (ne-eqb _ _ (c .if2 .left)) (c .before .before .before .before .before .put-answer2 .ensures)
 
 pub turn-client-spec : {M : Type 1} → statement M
 turn-client-spec =
