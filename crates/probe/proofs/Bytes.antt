@@ -9,7 +9,7 @@ use lib.ListN.{length, getD, take, set, length-append, length-set}
 use lib.Seq.{sets, length-sets, take-suc, take-all}
 use Rattle.probe.specs.Dump.{Put, each}
 
-sets-append : (a b l : List ℕ) (i : ℕ) → sets (sets l i a) (i + length a) b ≡ sets l i (a ++ b)
+pub sets-append : (a b l : List ℕ) (i : ℕ) → sets (sets l i a) (i + length a) b ≡ sets l i (a ++ b)
 sets-append [] b l i = ap (λ (k : ℕ). sets l k b) (add-zero i)
 sets-append (x ∷ a) b l i =
     ap (λ (k : ℕ). sets (sets (set l i x) (suc i) a) k b) (add-suc i (length a) ∙ sym (suc-add i (length a)))

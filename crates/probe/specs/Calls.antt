@@ -68,8 +68,8 @@ placeOf c = cond (isCall c) (cond (atEnd (c .op)) (c .end) 9) 10
 -- how many bytes the call writes: 4, and a dump of the server or a client, or a slot
 abbrev pub sizeOf : Call → ℕ → ℕ
 sizeOf c place =
-    cond (eqb (c .op) 8) (cond (eqb place 0) 6218 (cond (leb place 8) 2576 4))
-    (cond (eqb (c .op) 9) (cond (eqb place 9) 25 4) 4)
+    cond (eqb place 0) (cond (eqb (c .op) 8) 6218 4)
+    (cond (leb place 8) (cond (eqb (c .op) 8) 2576 4) (cond (eqb place 9) (cond (eqb (c .op) 9) 25 4) 4))
 
 abbrev pub sends : Call → Bool
 sends c = eqb (c .op) 3 || eqb (c .op) 4

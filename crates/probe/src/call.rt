@@ -139,17 +139,20 @@ pub fn place_of(c: Call) -> usize
 pub fn size_of(c: Call, place: usize) -> usize
     ensures { λ r. ⌜ r ≡ sizeOf c place ⌝ }
 {
-    if c.op == 8 {
-        if place == 0 {
+    if place == 0 {
+        if c.op == 8 {
             return 6218;
         }
-        if place <= 8 {
+        return 4;
+    }
+    if place <= 8 {
+        if c.op == 8 {
             return 2576;
         }
         return 4;
     }
-    if c.op == 9 {
-        if place == 9 {
+    if place == 9 {
+        if c.op == 9 {
             return 25;
         }
         return 4;

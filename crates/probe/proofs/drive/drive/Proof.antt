@@ -1,0 +1,288 @@
+use Prim.Native.Nat.{_-_, _≤_}
+use native.Mathlib.Omega.{arith}
+use mathlib.Core.Path.{_≡_, refl, _∙_, sym}
+use borrow.Author.Needs.{needs}
+use Rattle.probe.proofs.Driving.{Going}
+use Rattle.probe.proofs.drive.drive.Statement.{statement}
+use Rattle.probe.proofs.drive.drive.Tie as tie
+use Rattle.probe.proofs.drive.drive.Reads as reads
+use Rattle.probe.proofs.drive.drive.Lts as lts
+use Rattle.probe.proofs.call.place_of.Reads as place-of-reads
+use Rattle.probe.proofs.call.read.Reads as read-reads
+use Rattle.probe.proofs.call.size_of.Reads as size-of-reads
+use Rattle.probe.proofs.drive.further.Reads as further-reads
+use Rattle.probe.proofs.drive.leave.Reads as leave-reads
+use Rattle.probe.proofs.turn.least.Reads as least-reads
+use Rattle.probe.proofs.turn.turn_client.Reads as turn-client-reads
+use Rattle.probe.proofs.turn.turn_server.Reads as turn-server-reads
+use Rattle.probe.proofs.turn.turn_slot.Reads as turn-slot-reads
+
+abbrev Inv-loop : tie.InvT-loop
+Inv-loop calls count initial quiet out₀ server₀ clients₀ slots₀ lengths₀ at₀ i₀ out server clients slots lengths at i =
+    Going quiet initial (record { server = server₀; clients = clients₀; slots = slots₀; lengths = lengths₀ }) calls count out₀ i at (record { server = server; clients = clients; slots = slots; lengths = lengths }) out
+
+abbrev μ-loop : tie.MeasureT-loop
+μ-loop calls count initial quiet out₀ server₀ clients₀ slots₀ lengths₀ at₀ i₀ out server clients slots lengths at i =
+    count - i
+
+-- src/drive.rt:80:5
+loop-holds : tie.Need-loop-holds Inv-loop μ-loop
+loop-holds c = ?
+
+-- src/drive.rt:81:20
+mul-from : tie.Need-mul-from Inv-loop μ-loop
+mul-from c = omega arith
+
+-- src/drive.rt:82:28
+sub-read : tie.Need-sub-read Inv-loop μ-loop
+sub-read c = omega arith
+
+-- src/drive.rt:82:28
+part-read-start : tie.Need-part-read-start Inv-loop μ-loop
+part-read-start c = omega arith
+
+-- src/drive.rt:82:28
+part-read-end : tie.Need-part-read-end Inv-loop μ-loop
+part-read-end c = omega arith
+
+-- src/drive.rt:82:13
+read-requires : tie.Need-read-requires Inv-loop μ-loop
+read-requires c κs = search needs
+
+-- src/drive.rt:83:13
+place-of-requires : tie.Need-place-of-requires Inv-loop μ-loop
+place-of-requires c κs = search needs
+
+-- src/drive.rt:84:13
+size-of-requires : tie.Need-size-of-requires Inv-loop μ-loop
+size-of-requires c κs = search needs
+
+-- src/drive.rt:85:12
+sub-if1 : tie.Need-sub-if1 Inv-loop μ-loop
+sub-if1 c = omega arith
+
+-- src/drive.rt:88:33
+cast-least : tie.Need-cast-least Inv-loop μ-loop
+cast-least c = search needs
+
+-- src/drive.rt:88:13
+least-requires : tie.Need-least-requires Inv-loop μ-loop
+least-requires c κs = search needs
+
+-- src/drive.rt:89:17
+cast-j : tie.Need-cast-j Inv-loop μ-loop
+cast-j c = search needs
+
+-- src/drive.rt:90:21
+mul-first : tie.Need-mul-first Inv-loop μ-loop
+mul-first c = omega arith
+
+-- src/drive.rt:91:20
+add-last : tie.Need-add-last Inv-loop μ-loop
+add-last c = omega arith
+
+-- src/drive.rt:92:19
+array-read-len : tie.Need-array-read-len Inv-loop μ-loop
+array-read-len c = omega arith
+
+-- src/drive.rt:93:9
+add-i : tie.Need-add-i Inv-loop μ-loop
+add-i c = omega arith
+
+-- src/drive.rt:95:50
+slice-aggregate-turn-server : tie.Need-slice-aggregate-turn-server Inv-loop μ-loop
+slice-aggregate-turn-server c = ?
+
+-- src/drive.rt:95:74
+sub-turn-server : tie.Need-sub-turn-server Inv-loop μ-loop
+sub-turn-server c = omega arith
+
+-- src/drive.rt:95:74
+part-slots-start : tie.Need-part-slots-start Inv-loop μ-loop
+part-slots-start c = omega arith
+
+-- src/drive.rt:95:74
+part-slots-end : tie.Need-part-slots-end Inv-loop μ-loop
+part-slots-end c = search needs
+
+-- src/drive.rt:95:17
+turn-server-requires : tie.Need-turn-server-requires Inv-loop μ-loop
+turn-server-requires c κs = ?
+
+-- src/drive.rt:97:13
+array-write-lengths : tie.Need-array-write-lengths Inv-loop μ-loop
+array-write-lengths c = omega arith
+
+-- src/drive.rt:98:13
+further-requires : tie.Need-further-requires Inv-loop μ-loop
+further-requires c κs = ?
+
+-- src/drive.rt:80:5
+loop-less : tie.Need-loop-less Inv-loop μ-loop
+loop-less c = omega arith
+
+-- src/drive.rt:80:5
+loop-again : tie.Need-loop-again Inv-loop μ-loop
+loop-again c = ?
+
+-- src/drive.rt:102:29
+sub-c : tie.Need-sub-c Inv-loop μ-loop
+sub-c c = search needs
+
+-- src/drive.rt:102:21
+mul-c : tie.Need-mul-c Inv-loop μ-loop
+mul-c c = search needs
+
+-- src/drive.rt:102:21
+array-copy-out-c : tie.Need-array-copy-out-c Inv-loop μ-loop
+array-copy-out-c c = omega arith
+
+-- src/drive.rt:103:45
+slice-aggregate-turn-client : tie.Need-slice-aggregate-turn-client Inv-loop μ-loop
+slice-aggregate-turn-client c = ?
+
+-- src/drive.rt:103:69
+sub-turn-client : tie.Need-sub-turn-client Inv-loop μ-loop
+sub-turn-client c = omega arith
+
+-- src/drive.rt:103:69
+part-slots-start-2 : tie.Need-part-slots-start-2 Inv-loop μ-loop
+part-slots-start-2 c = omega arith
+
+-- src/drive.rt:103:69
+part-slots-end-2 : tie.Need-part-slots-end-2 Inv-loop μ-loop
+part-slots-end-2 c = search needs
+
+-- src/drive.rt:103:17
+turn-client-requires : tie.Need-turn-client-requires Inv-loop μ-loop
+turn-client-requires c κs = ?
+
+-- src/drive.rt:105:21
+sub-clients : tie.Need-sub-clients Inv-loop μ-loop
+sub-clients c = omega arith
+
+-- src/drive.rt:105:13
+mul-clients : tie.Need-mul-clients Inv-loop μ-loop
+mul-clients c = search needs
+
+-- src/drive.rt:105:13
+array-set-from-clients : tie.Need-array-set-from-clients Inv-loop μ-loop
+array-set-from-clients c = omega arith
+
+-- src/drive.rt:106:13
+array-write-lengths-2 : tie.Need-array-write-lengths-2 Inv-loop μ-loop
+array-write-lengths-2 c = omega arith
+
+-- src/drive.rt:107:13
+further-requires-2 : tie.Need-further-requires-2 Inv-loop μ-loop
+further-requires-2 c κs = ?
+
+-- src/drive.rt:80:5
+loop-less-2 : tie.Need-loop-less-2 Inv-loop μ-loop
+loop-less-2 c = omega arith
+
+-- src/drive.rt:80:5
+loop-again-2 : tie.Need-loop-again-2 Inv-loop μ-loop
+loop-again-2 c = ?
+
+-- src/drive.rt:110:53
+sub-turn-slot : tie.Need-sub-turn-slot Inv-loop μ-loop
+sub-turn-slot c = omega arith
+
+-- src/drive.rt:110:53
+part-slots-start-3 : tie.Need-part-slots-start-3 Inv-loop μ-loop
+part-slots-start-3 c = omega arith
+
+-- src/drive.rt:110:53
+part-slots-end-3 : tie.Need-part-slots-end-3 Inv-loop μ-loop
+part-slots-end-3 c = search needs
+
+-- src/drive.rt:110:22
+turn-slot-requires : tie.Need-turn-slot-requires Inv-loop μ-loop
+turn-slot-requires c κs = ?
+
+-- src/drive.rt:110:9
+array-write-lengths-3 : tie.Need-array-write-lengths-3 Inv-loop μ-loop
+array-write-lengths-3 c = omega arith
+
+-- src/drive.rt:111:9
+further-requires-3 : tie.Need-further-requires-3 Inv-loop μ-loop
+further-requires-3 c κs = ?
+
+-- src/drive.rt:80:5
+loop-less-3 : tie.Need-loop-less-3 Inv-loop μ-loop
+loop-less-3 c = omega arith
+
+-- src/drive.rt:80:5
+loop-again-3 : tie.Need-loop-again-3 Inv-loop μ-loop
+loop-again-3 c = ?
+
+-- src/drive.rt:113:5
+leave-requires : tie.Need-leave-requires Inv-loop μ-loop
+leave-requires c κs = ?
+
+-- src/drive.rt:70:1
+same-length : tie.Need-same-length Inv-loop μ-loop
+same-length c = ?
+
+-- src/drive.rt:70:1
+returns : tie.Need-returns Inv-loop μ-loop
+returns c = ?
+
+pub drive-spec : {M : Type 1} → statement M
+drive-spec =
+    tie.close
+    (tie.spec
+    Inv-loop
+    μ-loop
+    loop-holds
+    mul-from
+    sub-read
+    part-read-start
+    part-read-end
+    read-requires
+    place-of-requires
+    size-of-requires
+    sub-if1
+    cast-least
+    least-requires
+    cast-j
+    mul-first
+    add-last
+    array-read-len
+    add-i
+    slice-aggregate-turn-server
+    sub-turn-server
+    part-slots-start
+    part-slots-end
+    turn-server-requires
+    array-write-lengths
+    further-requires
+    loop-less
+    loop-again
+    sub-c
+    mul-c
+    array-copy-out-c
+    slice-aggregate-turn-client
+    sub-turn-client
+    part-slots-start-2
+    part-slots-end-2
+    turn-client-requires
+    sub-clients
+    mul-clients
+    array-set-from-clients
+    array-write-lengths-2
+    further-requires-2
+    loop-less-2
+    loop-again-2
+    sub-turn-slot
+    part-slots-start-3
+    part-slots-end-3
+    turn-slot-requires
+    array-write-lengths-3
+    further-requires-3
+    loop-less-3
+    loop-again-3
+    leave-requires
+    same-length
+    returns)
