@@ -6,18 +6,22 @@ use mathlib.Core.Path.{_≡_, refl, ap, _∙_, sym, subst}
 use mathlib.Core.Bool.{Bool, true, false, cond}
 use mathlib.Core.List.{List, [], _∷_, _++_, append-assoc, append-nil}
 use lib.Dec.{leb, eqb}
-use lib.ListN.{length, getD, take, drop, set, length-append, length-take, length-drop, length-set}
+use lib.ListN.{length, getD, take, drop, set, replicate, length-append, length-take, length-drop, length-set}
 use lib.Seq.{sets, length-sets, drop-drop, take-all}
 use borrow.Author.Tests.{eq-eqb, ne-eqb, le-leb, lt-leb}
 use Rattle.client.specs.declared.Client.{Client}
+use Rattle.client.specs.declared.Answer as clientAnswer
+use Rattle.client.specs.Answers as client
 use Rattle.server.specs.declared.Server.{Server}
+use Rattle.server.specs.declared.Answer as serverAnswer
+use Rattle.server.specs.Calls as server
 use Rattle.probe.specs.declared.call.Call.{Call}
 use Rattle.probe.specs.declared.drive.World.{World}
 use Rattle.probe.specs.declared.drive.Driven.{Driven}
 use Rattle.probe.specs.Calls.{callOf, placeOf, sizeOf}
 use Rattle.probe.specs.Dump.{Put}
 use Rattle.probe.specs.Turn.{Turn, Turned, clientSize, clientAfter, clientTurn, serverSize, serverAfter, serverTurn, slotSize, slotTurn}
-use Rattle.probe.specs.Drive.{noClient, slotOf, slotPut, turnAt, stepAt, turnOf, after, Run, kept, left, more, run, callsOf, Drove}
+use Rattle.probe.specs.Drive.{start, noClient, slotOf, slotPut, turnAt, stepAt, turnOf, after, Run, kept, left, more, run, callsOf, Drove}
 use Rattle.probe.proofs.Bytes.{put-length, sets-append}
 
 never : {A : Type 0} → false ≡ true → A
@@ -46,6 +50,13 @@ world-is : {s s₁ : Server} {cs cs₁ : List Client} {b b₁ l l₁ : List ℕ}
     → _≡_ {A = World} (record { server = s₁; clients = cs₁; slots = b₁; lengths = l₁ }) (record { server = s; clients = cs; slots = b; lengths = l })
 world-is p q r t = cc
 
+-- a slot's bytes as the code puts them back
+abbrev putBack : ℕ → ℕ → List ℕ → List ℕ → List ℕ
+putBack width j slots bytes = take (20 * j) slots ++ (bytes ++ drop width (drop (20 * j) slots))
+
+put-is : (width j : ℕ) (slots : List ℕ) {b b₁ : List ℕ} → width ≡ 20 → b₁ ≡ b → putBack width j slots b₁ ≡ slotPut j slots b
+put-is width j slots {b} {b₁} e f = ap (putBack width j slots) f ∙ ap (λ (n : ℕ). putBack n j slots b) e
+
 module _ (initial : List ℕ) (k : Call) (w : World) {at : ℕ} {out out₁ : List ℕ} where
   -- place, items and width as the code has them
   stepped : (place items width : ℕ) {w₁ : World} → place ≡ placeOf k → items ≡ min (k .number) (length initial) → width ≡ 20
@@ -71,11 +82,11 @@ module _ (initial : List ℕ) (k : Call) (w : World) {at : ℕ} {out out₁ : Li
       → s ≡ serverAfter k (take items initial) (getD (w .lengths) (slotOf k) 0) (take width (drop (20 * slotOf k) (w .slots))) (w .server)
       → Turned (serverTurn k (take items initial) (getD (w .lengths) (slotOf k) 0) (take width (drop (20 * slotOf k) (w .slots))) (w .server)) at (serverSize k) out out₁ slot len
       → Stepped initial k w at out out₁
-        (record { server = s; clients = w .clients; slots = slotPut (slotOf k) (w .slots) slot; lengths = set (w .lengths) (slotOf k) len })
+        (record { server = s; clients = w .clients; slots = putBack width (slotOf k) (w .slots) slot; lengths = set (w .lengths) (slotOf k) len })
   step-server place items width {slot} {len} {s} e z f g h t =
       stepped place items width e f g
       (simp (eq-eqb place 0 z) (t .answer))
-      (simp (eq-eqb place 0 z) (world-is h refl (ap (slotPut (slotOf k) (w .slots)) (t .slot-bytes)) (ap (set (w .lengths) (slotOf k)) (t .slot-length))))
+      (simp (eq-eqb place 0 z) (world-is h refl (put-is width (slotOf k) (w .slots) g (t .slot-bytes)) (ap (set (w .lengths) (slotOf k)) (t .slot-length))))
 
   -- at a client
   pub step-client : (place items width : ℕ) {slot : List ℕ} {len : ℕ} {c : Client} → place ≡ placeOf k → (place ≡ 0 → ⊥) → place ≤ 8
@@ -83,21 +94,21 @@ module _ (initial : List ℕ) (k : Call) (w : World) {at : ℕ} {out out₁ : Li
       → c ≡ clientAfter k (take items initial) (getD (w .lengths) (slotOf k) 0) (take width (drop (20 * slotOf k) (w .slots))) (getD (w .clients) (place - 1) noClient)
       → Turned (clientTurn k (take items initial) (getD (w .lengths) (slotOf k) 0) (take width (drop (20 * slotOf k) (w .slots))) (getD (w .clients) (place - 1) noClient)) at (clientSize k) out out₁ slot len
       → Stepped initial k w at out out₁
-        (record { server = w .server; clients = set (w .clients) (place - 1) c; slots = slotPut (slotOf k) (w .slots) slot; lengths = set (w .lengths) (slotOf k) len })
+        (record { server = w .server; clients = set (w .clients) (place - 1) c; slots = putBack width (slotOf k) (w .slots) slot; lengths = set (w .lengths) (slotOf k) len })
   step-client place items width {slot} {len} {c} e z y f g h t =
       stepped place items width e f g
       (simp (ne-eqb place 0 z, le-leb place 8 y) (t .answer))
-      (simp (ne-eqb place 0 z, le-leb place 8 y) (world-is refl (ap (set (w .clients) (place - 1)) h) (ap (slotPut (slotOf k) (w .slots)) (t .slot-bytes)) (ap (set (w .lengths) (slotOf k)) (t .slot-length))))
+      (simp (ne-eqb place 0 z, le-leb place 8 y) (world-is refl (ap (set (w .clients) (place - 1)) h) (put-is width (slotOf k) (w .slots) g (t .slot-bytes)) (ap (set (w .lengths) (slotOf k)) (t .slot-length))))
 
   -- at the slots alone, or nowhere
   pub step-slot : (place width : ℕ) {slot : List ℕ} {len : ℕ} → place ≡ placeOf k → (place ≡ 0 → ⊥) → 8 < place → width ≡ 20
       → Turned (slotTurn k place (getD (w .lengths) (slotOf k) 0) (take width (drop (20 * slotOf k) (w .slots)))) at (slotSize k place) out out₁ slot len
       → Stepped initial k w at out out₁
-        (record { server = w .server; clients = w .clients; slots = slotPut (slotOf k) (w .slots) slot; lengths = set (w .lengths) (slotOf k) len })
+        (record { server = w .server; clients = w .clients; slots = putBack width (slotOf k) (w .slots) slot; lengths = set (w .lengths) (slotOf k) len })
   step-slot place width {slot} {len} e z y g t =
       stepped place (min (k .number) (length initial)) width e refl g
       (simp (ne-eqb place 0 z, lt-leb place 8 y) (t .answer))
-      (simp (ne-eqb place 0 z, lt-leb place 8 y) (world-is refl refl (ap (slotPut (slotOf k) (w .slots)) (t .slot-bytes)) (ap (set (w .lengths) (slotOf k)) (t .slot-length))))
+      (simp (ne-eqb place 0 z, lt-leb place 8 y) (world-is refl refl (put-is width (slotOf k) (w .slots) g (t .slot-bytes)) (ap (set (w .lengths) (slotOf k)) (t .slot-length))))
 
 -- ---- the loop
 
@@ -225,3 +236,34 @@ module _ (initial : List ℕ) (w₀ : World) (calls : List ℕ) (count : ℕ) (b
       (rest-is quiet k g h e
       ∙ ap (more (g .done)) (run-stop quiet initial (length before - at) w k (callsOf (count - (i + 1)) (drop (16 * (i + 1)) calls)) (omega (arith, g .same))))
       d f
+
+-- ---- what the code has in another form
+
+pub whole-drop : (s : List ℕ) (n : ℕ) → take (length s - n) (drop n s) ≡ drop n s
+whole-drop s n = take-all (length s - n) (drop n s) (simp length-drop (omega arith))
+
+pub slots-length : (j width : ℕ) (slots slot : List ℕ) → length slots ≡ 1280 → j < 64 → width ≡ 20 → length slot ≡ length (take width (drop (20 * j) slots))
+    → length (putBack width j slots slot) ≡ 1280
+slots-length j width slots slot h l e f =
+    simp (length-append, length-take, length-drop) (omega (arith, simp (length-take, length-drop) at f))
+
+module _ (k : Call) (place at m : ℕ) where
+  pub fits-server : place ≡ 0 → at ≤ m → sizeOf k place ≤ m - at → at + serverSize k ≤ m
+  fits-server z h r = let q : serverSize k ≤ m - at = subst (λ (n : ℕ). n ≤ m - at) (size-server k place z) r in omega arith
+
+  pub fits-client : (place ≡ 0 → ⊥) → place ≤ 8 → at ≤ m → sizeOf k place ≤ m - at → at + clientSize k ≤ m
+  fits-client z y h r = let q : clientSize k ≤ m - at = subst (λ (n : ℕ). n ≤ m - at) (size-client k place z y) r in omega arith
+
+  pub fits-slot : (place ≡ 0 → ⊥) → 8 < place → at ≤ m → sizeOf k place ≤ m - at → at + slotSize k place ≤ m
+  fits-slot z y h r = let q : slotSize k place ≤ m - at = subst (λ (n : ℕ). n ≤ m - at) (size-slot k place z y) r in omega arith
+
+pub part-length : (j width : ℕ) (slots : List ℕ) → length slots ≡ 1280 → j < 64 → width ≡ 20 → length (take width (drop (20 * j) slots)) ≡ 20
+part-length j width slots h l e = simp (length-take, length-drop) (omega arith)
+
+pub start-is : (s : serverAnswer.Answer) (c : clientAnswer.Answer) (none : List ℕ) → none ≡ [] → s ≡ server.opened 0 none → c ≡ client.opened 0 0 none
+    → _≡_ {A = World} (record { server = s .server; clients = replicate 8 (c .client); slots = replicate 1280 170; lengths = replicate 64 0 }) start
+unfolding start
+start-is s c none e p q =
+    world-is (ap (λ (a : serverAnswer.Answer). a .server) (p ∙ ap (server.opened 0) e))
+    (ap (λ (a : clientAnswer.Answer). replicate 8 (a .client)) (q ∙ ap (client.opened 0 0) e))
+    refl refl

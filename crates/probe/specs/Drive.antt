@@ -39,7 +39,7 @@ abbrev pub slotAt : ℕ → List ℕ → List ℕ
 slotAt j slots = take 20 (drop (20 * j) slots)
 
 abbrev pub slotPut : ℕ → List ℕ → List ℕ → List ℕ
-slotPut j slots bytes = take (20 * j) slots ++ bytes ++ drop (20 * j + 20) slots
+slotPut j slots bytes = take (20 * j) slots ++ (bytes ++ drop 20 (drop (20 * j) slots))
 
 -- ---- one call
 

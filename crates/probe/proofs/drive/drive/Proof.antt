@@ -1,8 +1,12 @@
-use Prim.Native.Nat.{_-_, _≤_}
+use Prim.Native.Nat.{_+_, _-_, _*_, _%_, _≤_}
 use native.Mathlib.Omega.{arith}
-use mathlib.Core.Path.{_≡_, refl, _∙_, sym}
+use mathlib.Core.Path.{_≡_, refl, ap, _∙_, sym}
+use mathlib.Core.Logic.{⊎-elim}
+use lib.ListN.{length}
 use borrow.Author.Needs.{needs}
-use Rattle.probe.proofs.Driving.{Going}
+use Rattle.probe.specs.Calls.{callOf, sizeOf}
+use Rattle.probe.proofs.Turns.{front-length}
+use Rattle.probe.proofs.Driving.{Going, going-start, going-turn, going-end, going-stop, step-server, step-client, step-slot, whole-drop, slots-length, part-length, fits-server, fits-client, fits-slot}
 use Rattle.probe.proofs.drive.drive.Statement.{statement}
 use Rattle.probe.proofs.drive.drive.Tie as tie
 use Rattle.probe.proofs.drive.drive.Reads as reads
@@ -27,7 +31,7 @@ abbrev μ-loop : tie.MeasureT-loop
 
 -- src/drive.rt:80:5
 loop-holds : tie.Need-loop-holds Inv-loop μ-loop
-loop-holds c = ?
+loop-holds c = going-start (c .before .before .before .before .before .before .before .args .quiet) (c .before .before .before .before .before .before .before .args .initial .now) (c .before .before .before .before .before .before .before .args .w) (c .before .before .before .before .before .before .before .args .calls .now) (c .before .before .before .before .before .before .before .args .count) (c .before .before .before .before .before .before .before .args .out .now) (search needs)
 
 -- src/drive.rt:81:20
 mul-from : tie.Need-mul-from Inv-loop μ-loop
@@ -87,11 +91,11 @@ array-read-len c = omega arith
 
 -- src/drive.rt:93:9
 add-i : tie.Need-add-i Inv-loop μ-loop
-add-i c = omega arith
+add-i c = omega (arith, c .before .before .before .before .before .before .before .before .loop-test .taken, c .before .before .before .before .before .before .before .before .before .before .before .before .before .before .before .before .before .fits .count)
 
 -- src/drive.rt:95:50
 slice-aggregate-turn-server : tie.Need-slice-aggregate-turn-server Inv-loop μ-loop
-slice-aggregate-turn-server c = ?
+slice-aggregate-turn-server c = front-length (c .before .before .before .before .before .before .before .before .before .before .before .before .before .before .before .before .before .before .before .args .initial .now) (c .before .before .before .before .before .before .before .before .read .result .number) (c .before .before .before .least .ensures)
 
 -- src/drive.rt:95:74
 sub-turn-server : tie.Need-sub-turn-server Inv-loop μ-loop
@@ -107,7 +111,7 @@ part-slots-end c = search needs
 
 -- src/drive.rt:95:17
 turn-server-requires : tie.Need-turn-server-requires Inv-loop μ-loop
-turn-server-requires c κs = ?
+turn-server-requires c κs = fits-server (c .before .before .before .before .before .before .before .before .before .before .read .result) (c .before .before .before .before .before .before .before .before .before .place-of .result) (c .before .before .before .before .before .before .before .before .before .before .before .before .before .loop .at) (length (c .before .before .before .before .before .before .before .before .before .before .before .before .before .loop .out)) (c .before .before .before .if2 .taken) (omega (arith, c .before .before .before .before .before .before .before .before .before .before .before .before .before .loop .inv .within, c .before .before .before .before .before .before .before .before .before .before .before .before .before .loop .inv .same)) (omega (arith, c .before .before .before .before .before .before .before .if1 .left, c .before .before .before .before .before .before .before .before .size-of .ensures))
 
 -- src/drive.rt:97:13
 array-write-lengths : tie.Need-array-write-lengths Inv-loop μ-loop
@@ -115,15 +119,15 @@ array-write-lengths c = omega arith
 
 -- src/drive.rt:98:13
 further-requires : tie.Need-further-requires Inv-loop μ-loop
-further-requires c κs = ?
+further-requires c κs = let g = c .before .before .before .before .before .before .before .before .before .before .before .before .before .before .before .before .before .before .before .before .before .before .before .before .before .before .good in omega (arith, c .before .before .before .before .before .before .before .before .before .before .before .before .if1 .left, c .before .before .before .before .before .before .before .before .before .before .before .before .before .before .before .before .before .before .loop .inv .within, c .before .before .before .before .before .before .before .before .before .before .before .before .before .before .before .before .before .before .loop .inv .same)
 
 -- src/drive.rt:80:5
 loop-less : tie.Need-loop-less Inv-loop μ-loop
-loop-less c = omega arith
+loop-less c = omega (arith, c .before .before .before .before .before .before .before .before .before .before .before .before .before .before .before .before .before .before .loop-test .taken)
 
 -- src/drive.rt:80:5
 loop-again : tie.Need-loop-again Inv-loop μ-loop
-loop-again c = ?
+loop-again c = going-turn (c .before .before .before .before .before .before .before .before .before .before .before .before .before .before .before .before .before .before .before .before .before .before .before .before .before .before .before .args .initial .now) (record { server = c .before .before .before .before .before .before .before .before .before .before .before .before .before .before .before .before .before .before .before .before .before .before .before .before .before .before .before .args .w .server; clients = c .before .before .before .before .before .before .before .before .before .before .before .before .before .before .before .before .before .before .before .before .before .before .before .before .before .before .before .args .w .clients; slots = c .before .before .before .before .before .before .before .before .before .before .before .before .before .before .before .before .before .before .before .before .before .before .before .before .before .before .before .args .w .slots; lengths = c .before .before .before .before .before .before .before .before .before .before .before .before .before .before .before .before .before .before .before .before .before .before .before .before .before .before .before .args .w .lengths }) (c .before .before .before .before .before .before .before .before .before .before .before .before .before .before .before .before .before .before .before .before .before .before .before .before .before .before .before .args .calls .now) (c .before .before .before .before .before .before .before .before .before .before .before .before .before .before .before .before .before .before .before .before .before .before .before .before .before .before .before .args .count) (c .before .before .before .before .before .before .before .before .before .before .before .before .before .before .before .before .before .before .before .before .before .before .before .before .before .before .before .args .out .now) (c .before .before .before .before .before .before .before .before .before .before .before .before .before .before .before .before .before .before .before .loop .i) (c .before .before .before .before .before .before .before .before .before .before .before .before .before .before .before .before .before .before .before .loop .at) (record { server = c .before .before .before .before .before .before .before .before .before .before .before .before .before .before .before .before .before .before .before .loop .server; clients = c .before .before .before .before .before .before .before .before .before .before .before .before .before .before .before .before .before .before .before .loop .clients; slots = c .before .before .before .before .before .before .before .before .before .before .before .before .before .before .before .before .before .before .before .loop .slots; lengths = c .before .before .before .before .before .before .before .before .before .before .before .before .before .before .before .before .before .before .before .loop .lengths }) (c .before .before .before .before .before .before .before .before .before .before .before .before .before .before .before .before .before .before .before .loop .out) (c .before .before .before .before .before .before .before .before .before .before .before .before .before .before .before .before .read .result) (c .before .before .before .before .before .before .before .before .before .before .before .before .before .before .size-of .result) (c .before .before .before .before .before .before .before .before .before .before .before .before .before .before .before .before .before .before .before .before .before .before .before .before .before .before .before .args .quiet) (c .before .before .before .before .before .before .before .before .before .before .before .before .before .before .before .before .before .before .before .loop .inv) (c .before .before .before .before .before .before .before .before .before .before .before .before .before .before .before .before .before .before .loop-test .taken) (c .before .before .before .before .before .before .before .before .before .before .before .before .before .before .before .before .read .ensures ∙ ap callOf (whole-drop (c .before .before .before .before .before .before .before .before .before .before .before .before .before .before .before .before .before .before .before .before .before .before .before .before .before .before .before .args .calls .now) (16 * c .before .before .before .before .before .before .before .before .before .before .before .before .before .before .before .before .before .before .before .loop .i))) (c .before .before .before .before .before .before .before .before .before .before .before .before .before .before .size-of .ensures ∙ ap (sizeOf (c .before .before .before .before .before .before .before .before .before .before .before .before .before .before .before .before .read .result)) (c .before .before .before .before .before .before .before .before .before .before .before .before .before .before .before .place-of .ensures)) (c .before .before .before .before .before .before .before .before .before .before .before .before .before .if1 .left) (step-server (c .before .before .before .before .before .before .before .before .before .before .before .before .before .before .before .before .before .before .before .before .before .before .before .before .before .before .before .args .initial .now) (c .before .before .before .before .before .before .before .before .before .before .before .before .before .before .before .before .read .result) (record { server = c .before .before .before .before .before .before .before .before .before .before .before .before .before .before .before .before .before .before .before .loop .server; clients = c .before .before .before .before .before .before .before .before .before .before .before .before .before .before .before .before .before .before .before .loop .clients; slots = c .before .before .before .before .before .before .before .before .before .before .before .before .before .before .before .before .before .before .before .loop .slots; lengths = c .before .before .before .before .before .before .before .before .before .before .before .before .before .before .before .before .before .before .before .loop .lengths }) (c .before .before .before .before .before .before .before .before .before .before .before .before .before .before .before .place-of .result) (c .before .before .before .before .before .before .before .before .before .before .before .least .result) (20 * (c .before .before .before .before .before .before .before .before .before .before .before .before .before .before .before .before .read .result .slot % 64) + 20 - 20 * (c .before .before .before .before .before .before .before .before .before .before .before .before .before .before .before .before .read .result .slot % 64)) (c .before .before .before .before .before .before .before .before .before .before .before .before .before .before .before .place-of .ensures) (c .before .before .before .before .before .before .before .before .before .if2 .taken) (c .before .before .before .before .before .before .before .before .before .before .before .least .ensures) (omega arith) (c .before .before .before .before .before .turn-server .ensures .0) (c .before .before .before .before .before .turn-server .ensures .1)) (slots-length (c .before .before .before .before .before .before .before .before .before .before .before .before .before .before .before .before .read .result .slot % 64) (20 * (c .before .before .before .before .before .before .before .before .before .before .before .before .before .before .before .before .read .result .slot % 64) + 20 - 20 * (c .before .before .before .before .before .before .before .before .before .before .before .before .before .before .before .before .read .result .slot % 64)) (c .before .before .before .before .before .before .before .before .before .before .before .before .before .before .before .before .before .before .before .loop .slots) (c .before .before .before .before .before .turn-server .last .1 .1 .1 .1 .0) (c .before .before .before .before .before .before .before .before .before .before .before .before .before .before .before .before .before .before .before .loop .inv .slots) (omega arith) (omega arith) (c .before .before .before .before .slots3 .given)) (c .further .ensures)
 
 -- src/drive.rt:102:29
 sub-c : tie.Need-sub-c Inv-loop μ-loop
@@ -139,7 +143,7 @@ array-copy-out-c c = omega arith
 
 -- src/drive.rt:103:45
 slice-aggregate-turn-client : tie.Need-slice-aggregate-turn-client Inv-loop μ-loop
-slice-aggregate-turn-client c = ?
+slice-aggregate-turn-client c = front-length (c .before .before .before .before .before .before .before .before .before .before .before .before .before .before .before .before .before .before .before .before .before .args .initial .now) (c .before .before .before .before .before .before .before .before .before .before .read .result .number) (c .before .before .before .before .before .least .ensures)
 
 -- src/drive.rt:103:69
 sub-turn-client : tie.Need-sub-turn-client Inv-loop μ-loop
@@ -155,7 +159,7 @@ part-slots-end-2 c = search needs
 
 -- src/drive.rt:103:17
 turn-client-requires : tie.Need-turn-client-requires Inv-loop μ-loop
-turn-client-requires c κs = ?
+turn-client-requires c κs = fits-client (c .before .before .before .before .before .before .before .before .before .before .before .before .read .result) (c .before .before .before .before .before .before .before .before .before .before .before .place-of .result) (c .before .before .before .before .before .before .before .before .before .before .before .before .before .before .before .loop .at) (length (c .before .before .before .before .before .before .before .before .before .before .before .before .before .before .before .loop .out)) (c .before .before .before .before .before .if2 .left) (c .before .before .before .before .if3 .taken) (omega (arith, c .before .before .before .before .before .before .before .before .before .before .before .before .before .before .before .loop .inv .within, c .before .before .before .before .before .before .before .before .before .before .before .before .before .before .before .loop .inv .same)) (omega (arith, c .before .before .before .before .before .before .before .before .before .if1 .left, c .before .before .before .before .before .before .before .before .before .before .size-of .ensures))
 
 -- src/drive.rt:105:21
 sub-clients : tie.Need-sub-clients Inv-loop μ-loop
@@ -175,15 +179,15 @@ array-write-lengths-2 c = omega arith
 
 -- src/drive.rt:107:13
 further-requires-2 : tie.Need-further-requires-2 Inv-loop μ-loop
-further-requires-2 c κs = ?
+further-requires-2 c κs = let g = c .before .before .before .before .before .before .before .before .before .before .before .before .before .before .before .before .before .before .before .before .before .before .before .before .before .before .before .before .good in omega (arith, c .before .before .before .before .before .before .before .before .before .before .before .before .before .before .if1 .left, c .before .before .before .before .before .before .before .before .before .before .before .before .before .before .before .before .before .before .before .before .loop .inv .within, c .before .before .before .before .before .before .before .before .before .before .before .before .before .before .before .before .before .before .before .before .loop .inv .same)
 
 -- src/drive.rt:80:5
 loop-less-2 : tie.Need-loop-less-2 Inv-loop μ-loop
-loop-less-2 c = omega arith
+loop-less-2 c = omega (arith, c .before .before .before .before .before .before .before .before .before .before .before .before .before .before .before .before .before .before .before .before .loop-test .taken)
 
 -- src/drive.rt:80:5
 loop-again-2 : tie.Need-loop-again-2 Inv-loop μ-loop
-loop-again-2 c = ?
+loop-again-2 c = going-turn (c .before .before .before .before .before .before .before .before .before .before .before .before .before .before .before .before .before .before .before .before .before .before .before .before .before .before .before .before .before .args .initial .now) (record { server = c .before .before .before .before .before .before .before .before .before .before .before .before .before .before .before .before .before .before .before .before .before .before .before .before .before .before .before .before .before .args .w .server; clients = c .before .before .before .before .before .before .before .before .before .before .before .before .before .before .before .before .before .before .before .before .before .before .before .before .before .before .before .before .before .args .w .clients; slots = c .before .before .before .before .before .before .before .before .before .before .before .before .before .before .before .before .before .before .before .before .before .before .before .before .before .before .before .before .before .args .w .slots; lengths = c .before .before .before .before .before .before .before .before .before .before .before .before .before .before .before .before .before .before .before .before .before .before .before .before .before .before .before .before .before .args .w .lengths }) (c .before .before .before .before .before .before .before .before .before .before .before .before .before .before .before .before .before .before .before .before .before .before .before .before .before .before .before .before .before .args .calls .now) (c .before .before .before .before .before .before .before .before .before .before .before .before .before .before .before .before .before .before .before .before .before .before .before .before .before .before .before .before .before .args .count) (c .before .before .before .before .before .before .before .before .before .before .before .before .before .before .before .before .before .before .before .before .before .before .before .before .before .before .before .before .before .args .out .now) (c .before .before .before .before .before .before .before .before .before .before .before .before .before .before .before .before .before .before .before .before .before .loop .i) (c .before .before .before .before .before .before .before .before .before .before .before .before .before .before .before .before .before .before .before .before .before .loop .at) (record { server = c .before .before .before .before .before .before .before .before .before .before .before .before .before .before .before .before .before .before .before .before .before .loop .server; clients = c .before .before .before .before .before .before .before .before .before .before .before .before .before .before .before .before .before .before .before .before .before .loop .clients; slots = c .before .before .before .before .before .before .before .before .before .before .before .before .before .before .before .before .before .before .before .before .before .loop .slots; lengths = c .before .before .before .before .before .before .before .before .before .before .before .before .before .before .before .before .before .before .before .before .before .loop .lengths }) (c .before .before .before .before .before .before .before .before .before .before .before .before .before .before .before .before .before .before .before .before .before .loop .out) (c .before .before .before .before .before .before .before .before .before .before .before .before .before .before .before .before .before .before .read .result) (c .before .before .before .before .before .before .before .before .before .before .before .before .before .before .before .before .size-of .result) (c .before .before .before .before .before .before .before .before .before .before .before .before .before .before .before .before .before .before .before .before .before .before .before .before .before .before .before .before .before .args .quiet) (c .before .before .before .before .before .before .before .before .before .before .before .before .before .before .before .before .before .before .before .before .before .loop .inv) (c .before .before .before .before .before .before .before .before .before .before .before .before .before .before .before .before .before .before .before .before .loop-test .taken) (c .before .before .before .before .before .before .before .before .before .before .before .before .before .before .before .before .before .before .read .ensures ∙ ap callOf (whole-drop (c .before .before .before .before .before .before .before .before .before .before .before .before .before .before .before .before .before .before .before .before .before .before .before .before .before .before .before .before .before .args .calls .now) (16 * c .before .before .before .before .before .before .before .before .before .before .before .before .before .before .before .before .before .before .before .before .before .loop .i))) (c .before .before .before .before .before .before .before .before .before .before .before .before .before .before .before .before .size-of .ensures ∙ ap (sizeOf (c .before .before .before .before .before .before .before .before .before .before .before .before .before .before .before .before .before .before .read .result)) (c .before .before .before .before .before .before .before .before .before .before .before .before .before .before .before .before .before .place-of .ensures)) (c .before .before .before .before .before .before .before .before .before .before .before .before .before .before .before .if1 .left) (step-client (c .before .before .before .before .before .before .before .before .before .before .before .before .before .before .before .before .before .before .before .before .before .before .before .before .before .before .before .before .before .args .initial .now) (c .before .before .before .before .before .before .before .before .before .before .before .before .before .before .before .before .before .before .read .result) (record { server = c .before .before .before .before .before .before .before .before .before .before .before .before .before .before .before .before .before .before .before .before .before .loop .server; clients = c .before .before .before .before .before .before .before .before .before .before .before .before .before .before .before .before .before .before .before .before .before .loop .clients; slots = c .before .before .before .before .before .before .before .before .before .before .before .before .before .before .before .before .before .before .before .before .before .loop .slots; lengths = c .before .before .before .before .before .before .before .before .before .before .before .before .before .before .before .before .before .before .before .before .before .loop .lengths }) (c .before .before .before .before .before .before .before .before .before .before .before .before .before .before .before .before .before .place-of .result) (c .before .before .before .before .before .before .before .before .before .before .before .before .before .least .result) (20 * (c .before .before .before .before .before .before .before .before .before .before .before .before .before .before .before .before .before .before .read .result .slot % 64) + 20 - 20 * (c .before .before .before .before .before .before .before .before .before .before .before .before .before .before .before .before .before .before .read .result .slot % 64)) (c .before .before .before .before .before .before .before .before .before .before .before .before .before .before .before .before .before .place-of .ensures) (c .before .before .before .before .before .before .before .before .before .before .before .if2 .left) (c .before .before .before .before .before .before .before .before .before .before .if3 .taken) (c .before .before .before .before .before .before .before .before .before .before .before .before .before .least .ensures) (omega arith) (c .before .before .before .before .before .turn-client .ensures .0) (c .before .before .before .before .before .turn-client .ensures .1)) (slots-length (c .before .before .before .before .before .before .before .before .before .before .before .before .before .before .before .before .before .before .read .result .slot % 64) (20 * (c .before .before .before .before .before .before .before .before .before .before .before .before .before .before .before .before .before .before .read .result .slot % 64) + 20 - 20 * (c .before .before .before .before .before .before .before .before .before .before .before .before .before .before .before .before .before .before .read .result .slot % 64)) (c .before .before .before .before .before .before .before .before .before .before .before .before .before .before .before .before .before .before .before .before .before .loop .slots) (c .before .before .before .before .before .turn-client .last .1 .1 .1 .1 .0) (c .before .before .before .before .before .before .before .before .before .before .before .before .before .before .before .before .before .before .before .before .before .loop .inv .slots) (omega arith) (omega arith) (c .before .before .before .before .slots5 .given)) (c .further2 .ensures)
 
 -- src/drive.rt:110:53
 sub-turn-slot : tie.Need-sub-turn-slot Inv-loop μ-loop
@@ -199,7 +203,7 @@ part-slots-end-3 c = search needs
 
 -- src/drive.rt:110:22
 turn-slot-requires : tie.Need-turn-slot-requires Inv-loop μ-loop
-turn-slot-requires c κs = ?
+turn-slot-requires c κs = (part-length (c .before .before .before .before .before .before .before .before .before .before .read .result .slot % 64) (20 * (c .before .before .before .before .before .before .before .before .before .before .read .result .slot % 64) + 20 - 20 * (c .before .before .before .before .before .before .before .before .before .before .read .result .slot % 64)) (c .before .before .before .before .before .before .before .before .before .before .before .before .before .loop .slots) (c .before .before .before .before .before .before .before .before .before .before .before .before .before .loop .inv .slots) (omega arith) (omega arith), fits-slot (c .before .before .before .before .before .before .before .before .before .before .read .result) (c .before .before .before .before .before .before .before .before .before .place-of .result) (c .before .before .before .before .before .before .before .before .before .before .before .before .before .loop .at) (length (c .before .before .before .before .before .before .before .before .before .before .before .before .before .loop .out)) (c .before .before .before .if2 .left) (c .before .before .if3 .left) (omega (arith, c .before .before .before .before .before .before .before .before .before .before .before .before .before .loop .inv .within, c .before .before .before .before .before .before .before .before .before .before .before .before .before .loop .inv .same)) (omega (arith, c .before .before .before .before .before .before .before .if1 .left, c .before .before .before .before .before .before .before .before .size-of .ensures)))
 
 -- src/drive.rt:110:9
 array-write-lengths-3 : tie.Need-array-write-lengths-3 Inv-loop μ-loop
@@ -207,27 +211,27 @@ array-write-lengths-3 c = omega arith
 
 -- src/drive.rt:111:9
 further-requires-3 : tie.Need-further-requires-3 Inv-loop μ-loop
-further-requires-3 c κs = ?
+further-requires-3 c κs = let g = c .before .before .before .before .before .before .before .before .before .before .before .before .before .before .before .before .before .before .before .before .before .before .before .before .before .good in omega (arith, c .before .before .before .before .before .before .before .before .before .before .before .if1 .left, c .before .before .before .before .before .before .before .before .before .before .before .before .before .before .before .before .before .loop .inv .within, c .before .before .before .before .before .before .before .before .before .before .before .before .before .before .before .before .before .loop .inv .same)
 
 -- src/drive.rt:80:5
 loop-less-3 : tie.Need-loop-less-3 Inv-loop μ-loop
-loop-less-3 c = omega arith
+loop-less-3 c = omega (arith, c .before .before .before .before .before .before .before .before .before .before .before .before .before .before .before .before .before .loop-test .taken)
 
 -- src/drive.rt:80:5
 loop-again-3 : tie.Need-loop-again-3 Inv-loop μ-loop
-loop-again-3 c = ?
+loop-again-3 c = going-turn (c .before .before .before .before .before .before .before .before .before .before .before .before .before .before .before .before .before .before .before .before .before .before .before .before .before .before .args .initial .now) (record { server = c .before .before .before .before .before .before .before .before .before .before .before .before .before .before .before .before .before .before .before .before .before .before .before .before .before .before .args .w .server; clients = c .before .before .before .before .before .before .before .before .before .before .before .before .before .before .before .before .before .before .before .before .before .before .before .before .before .before .args .w .clients; slots = c .before .before .before .before .before .before .before .before .before .before .before .before .before .before .before .before .before .before .before .before .before .before .before .before .before .before .args .w .slots; lengths = c .before .before .before .before .before .before .before .before .before .before .before .before .before .before .before .before .before .before .before .before .before .before .before .before .before .before .args .w .lengths }) (c .before .before .before .before .before .before .before .before .before .before .before .before .before .before .before .before .before .before .before .before .before .before .before .before .before .before .args .calls .now) (c .before .before .before .before .before .before .before .before .before .before .before .before .before .before .before .before .before .before .before .before .before .before .before .before .before .before .args .count) (c .before .before .before .before .before .before .before .before .before .before .before .before .before .before .before .before .before .before .before .before .before .before .before .before .before .before .args .out .now) (c .before .before .before .before .before .before .before .before .before .before .before .before .before .before .before .before .before .before .loop .i) (c .before .before .before .before .before .before .before .before .before .before .before .before .before .before .before .before .before .before .loop .at) (record { server = c .before .before .before .before .before .before .before .before .before .before .before .before .before .before .before .before .before .before .loop .server; clients = c .before .before .before .before .before .before .before .before .before .before .before .before .before .before .before .before .before .before .loop .clients; slots = c .before .before .before .before .before .before .before .before .before .before .before .before .before .before .before .before .before .before .loop .slots; lengths = c .before .before .before .before .before .before .before .before .before .before .before .before .before .before .before .before .before .before .loop .lengths }) (c .before .before .before .before .before .before .before .before .before .before .before .before .before .before .before .before .before .before .loop .out) (c .before .before .before .before .before .before .before .before .before .before .before .before .before .before .before .read .result) (c .before .before .before .before .before .before .before .before .before .before .before .before .before .size-of .result) (c .before .before .before .before .before .before .before .before .before .before .before .before .before .before .before .before .before .before .before .before .before .before .before .before .before .before .args .quiet) (c .before .before .before .before .before .before .before .before .before .before .before .before .before .before .before .before .before .before .loop .inv) (c .before .before .before .before .before .before .before .before .before .before .before .before .before .before .before .before .before .loop-test .taken) (c .before .before .before .before .before .before .before .before .before .before .before .before .before .before .before .read .ensures ∙ ap callOf (whole-drop (c .before .before .before .before .before .before .before .before .before .before .before .before .before .before .before .before .before .before .before .before .before .before .before .before .before .before .args .calls .now) (16 * c .before .before .before .before .before .before .before .before .before .before .before .before .before .before .before .before .before .before .loop .i))) (c .before .before .before .before .before .before .before .before .before .before .before .before .before .size-of .ensures ∙ ap (sizeOf (c .before .before .before .before .before .before .before .before .before .before .before .before .before .before .before .read .result)) (c .before .before .before .before .before .before .before .before .before .before .before .before .before .before .place-of .ensures)) (c .before .before .before .before .before .before .before .before .before .before .before .before .if1 .left) (step-slot (c .before .before .before .before .before .before .before .before .before .before .before .before .before .before .before .before .before .before .before .before .before .before .before .before .before .before .args .initial .now) (c .before .before .before .before .before .before .before .before .before .before .before .before .before .before .before .read .result) (record { server = c .before .before .before .before .before .before .before .before .before .before .before .before .before .before .before .before .before .before .loop .server; clients = c .before .before .before .before .before .before .before .before .before .before .before .before .before .before .before .before .before .before .loop .clients; slots = c .before .before .before .before .before .before .before .before .before .before .before .before .before .before .before .before .before .before .loop .slots; lengths = c .before .before .before .before .before .before .before .before .before .before .before .before .before .before .before .before .before .before .loop .lengths }) (c .before .before .before .before .before .before .before .before .before .before .before .before .before .before .place-of .result) (20 * (c .before .before .before .before .before .before .before .before .before .before .before .before .before .before .before .read .result .slot % 64) + 20 - 20 * (c .before .before .before .before .before .before .before .before .before .before .before .before .before .before .before .read .result .slot % 64)) (c .before .before .before .before .before .before .before .before .before .before .before .before .before .before .place-of .ensures) (c .before .before .before .before .before .before .before .before .if2 .left) (c .before .before .before .before .before .before .before .if3 .left) (omega arith) (c .before .before .before .before .turn-slot .ensures)) (slots-length (c .before .before .before .before .before .before .before .before .before .before .before .before .before .before .before .read .result .slot % 64) (20 * (c .before .before .before .before .before .before .before .before .before .before .before .before .before .before .before .read .result .slot % 64) + 20 - 20 * (c .before .before .before .before .before .before .before .before .before .before .before .before .before .before .before .read .result .slot % 64)) (c .before .before .before .before .before .before .before .before .before .before .before .before .before .before .before .before .before .before .loop .slots) (c .before .before .before .before .turn-slot .last .1 .1 .1 .0) (c .before .before .before .before .before .before .before .before .before .before .before .before .before .before .before .before .before .before .loop .inv .slots) (omega arith) (omega arith) (c .before .before .before .slots7 .given)) (c .further3 .ensures)
 
 -- src/drive.rt:113:5
 leave-requires : tie.Need-leave-requires Inv-loop μ-loop
-leave-requires c κs = ?
+leave-requires c κs = search needs
 
 -- src/drive.rt:70:1
 same-length : tie.Need-same-length Inv-loop μ-loop
-same-length c = ?
+same-length c = c .before .before .loop .inv .same
 
 -- src/drive.rt:70:1
 returns : tie.Need-returns Inv-loop μ-loop
-returns c = ?
+returns c = ⊎-elim (λ x. going-end (c .before .before .before .before .before .before .before .before .before .before .args .initial .now) (c .before .before .before .before .before .before .before .before .before .before .args .w) (c .before .before .before .before .before .before .before .before .before .before .args .calls .now) (c .before .before .before .before .before .before .before .before .before .before .args .count) (c .before .before .before .before .before .before .before .before .before .before .args .out .now) (c .before .before .loop .i) (c .before .before .loop .at) (record { server = c .before .before .loop .server; clients = c .before .before .loop .clients; slots = c .before .before .loop .slots; lengths = c .before .before .loop .lengths }) (c .before .before .loop .out) (c .before .before .before .before .before .before .before .before .before .before .args .quiet) (c .before .before .loop .inv) (x .left) (c .leave .result) (c .leave .ensures)) (λ x. going-stop (c .before .before .before .before .before .before .before .before .before .before .args .initial .now) (c .before .before .before .before .before .before .before .before .before .before .args .w) (c .before .before .before .before .before .before .before .before .before .before .args .calls .now) (c .before .before .before .before .before .before .before .before .before .before .args .count) (c .before .before .before .before .before .before .before .before .before .before .args .out .now) (c .before .before .loop .i) (c .before .before .loop .at) (record { server = c .before .before .loop .server; clients = c .before .before .loop .clients; slots = c .before .before .loop .slots; lengths = c .before .before .loop .lengths }) (c .before .before .loop .out) (c .before .before .before .before .before .before .before .before .before .before .args .quiet) (x .2 .result) (x .4 .result) (c .before .before .loop .inv) (x .0 .taken) (x .2 .ensures ∙ ap callOf (whole-drop (c .before .before .before .before .before .before .before .before .before .before .args .calls .now) (16 * c .before .before .loop .i))) (x .4 .ensures ∙ ap (sizeOf (x .2 .result)) (x .3 .ensures)) (x .5 .taken) (c .leave .result) (c .leave .ensures)) (c .before .loop-test .came)
 
 pub drive-spec : {M : Type 1} → statement M
 drive-spec =

@@ -1,3 +1,4 @@
+use Rattle.probe.proofs.Driving.{start-is}
 use borrow.Author.Needs.{needs}
 use Rattle.probe.proofs.drive.start.Statement.{statement}
 use Rattle.probe.proofs.drive.start.Tie as tie
@@ -16,7 +17,7 @@ open-requires-2 c κs = search needs
 
 -- src/drive.rt:36:1
 returns : tie.Need-returns
-returns c = ?
+returns c = start-is (c .before .before .before .«open» .result) (c .before .open2 .result) (c .before .before .before .before .before .args .none .now) (c .before .before .before .before .before .pre) (c .before .before .before .«open» .ensures) (c .before .open2 .ensures)
 
 pub start-spec : {M : Type 1} → statement M
 start-spec = tie.close (tie.spec open-requires open-requires-2 returns)
