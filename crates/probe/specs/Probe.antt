@@ -4,11 +4,13 @@ use mathlib.Core.Path.{_≡_}
 use mathlib.Core.Bool.{Bool, false, _&&_, cond}
 use mathlib.Core.List.{List, [], _∷_}
 use lib.Dec.{leb}
-use lib.ListN.{length, drop}
+use lib.ListN.{length, take, drop}
 use lib.Seq.{sets}
 use Rattle.wire.specs.Bytes.{twoAt, fourAt}
 use Rattle.probe.specs.declared.call.Call.{Call}
-use Rattle.probe.specs.Drive.{start, run, callsOf}
+use Rattle.probe.specs.declared.drive.World.{World}
+use Rattle.probe.specs.Calls.{callOf, repeats}
+use Rattle.probe.specs.Drive.{start, turnOf, after, run, callsOf}
 
 -- ---- the input: a count of items, the items, and calls of 16 bytes
 
@@ -35,6 +37,28 @@ countIn s = (length s - bodyAt s) / 16
 unfoldable pub answers : List ℕ → ℕ → List ℕ
 answers s room =
     cond (headed (twoAt s 0) (length s)) (run false (itemsIn s) room start (callsOf (countIn s) (drop (bodyAt s) s)) .bytes) []
+
+-- the state after all calls of a list
+unfoldable pub afterAll : List ℕ → World → List Call → World
+afterAll initial w [] = w
+afterAll initial w (k ∷ ks) = afterAll initial (after initial k w) ks
+
+abbrev pub lastCall : List ℕ → Call
+lastCall s = callOf (drop (bodyAt s + 16 * (countIn s - 1)) s)
+
+abbrev pub beforeLast : List ℕ → World
+beforeLast s = afterAll (itemsIn s) start (callsOf (countIn s - 1) (drop (bodyAt s) s))
+
+-- an insert, a delete, a send, a tell or a take, and room for its answer
+abbrev pub canRepeat : Call → ℕ → Bool
+canRepeat k room = repeats k && leb 4 room
+
+-- The answer of the last call, on what the calls before it leave: it does not hang on how often the call is done.
+unfoldable pub repeated : List ℕ → ℕ → List ℕ
+repeated s room =
+    cond (headed (twoAt s 0) (length s) && leb 1 (countIn s) && canRepeat (lastCall s) room)
+    (take 4 (turnOf (itemsIn s) (lastCall s) (beforeLast s) .bytes))
+    []
 
 -- The bytes stand at the front of the output, whose other bytes stay, and their count is returned.
 pub record Wrote (bytes before after : List ℕ) (count : ℕ) : Type 0 where

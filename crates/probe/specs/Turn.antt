@@ -6,6 +6,7 @@ use mathlib.Core.List.{List, [], _∷_, _++_}
 use lib.Dec.{eqb}
 use lib.ListN.{length, take, drop, set}
 use Rattle.model.specs.Questions as model
+use Rattle.endpoint.specs.declared.Sent.{Sent}
 use Rattle.client.specs.declared.Client.{Client}
 use Rattle.client.specs.declared.Answer as clientAnswer
 use Rattle.client.specs.Answers as client
@@ -126,3 +127,8 @@ pub record Turned (t : Turn) (at size : ℕ) (before after slot : List ℕ) (len
   pub slot-length : length ≡ t .length
   pub slot-bytes : slot ≡ t .slot
   pub answer : Put at size (t .bytes) before after
+
+-- the same answer of a sending, whatever the buffer
+pub record Same (s : Sent) (m : model.Sent) : Type 0 where
+  pub refusal : s .refusal ≡ m .refusal
+  pub written : s .written ≡ m .written

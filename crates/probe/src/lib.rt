@@ -6,6 +6,7 @@ mod call;
 mod drive;
 mod dump;
 mod header;
+mod repeat;
 mod set;
 mod turn;
 
