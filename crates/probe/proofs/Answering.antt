@@ -1,20 +1,27 @@
 -- From the driver's loop to what the exported functions answer.
-use Prim.Native.Nat.{ℕ, _+_, _-_, _*_, _/_, _≤_}
+use Prim.Native.Nat.{ℕ, _+_, _-_, _*_, _/_, _≤_, _<_}
 use native.Mathlib.Omega.{arith}
 use mathlib.Core.Path.{_≡_, refl, ap, _∙_, sym, subst}
-use mathlib.Core.Bool.{Bool, true, false, cond}
-use mathlib.Core.List.{List, []}
-use lib.Dec.{leb}
+use mathlib.Core.Bool.{Bool, true, false, _&&_, cond}
+use mathlib.Core.List.{List, [], _∷_}
+use lib.Dec.{leb, eqb}
 use lib.ListN.{length, take, drop}
 use lib.Seq.{sets}
-use borrow.Author.Tests.{leb-true}
-use Rattle.model.proofs.Tests.{and-left, and-right}
+use borrow.Author.Tests.{leb-true, le-leb, lt-leb}
+use Rattle.model.proofs.Tests.{both, and-left, and-right}
 use Rattle.wire.specs.Bytes.{twoAt}
 use Rattle.probe.specs.declared.drive.World.{World}
 use Rattle.probe.specs.declared.drive.Driven.{Driven}
-use Rattle.probe.specs.Drive.{start, Run, run, callsOf, Drove}
-use Rattle.probe.specs.Probe.{headed, itemsFrom, itemsIn, bodyAt, countIn, answers, Wrote}
+use Rattle.probe.specs.declared.call.Call.{Call}
+use Rattle.probe.specs.Calls.{callOf, isCall, placeOf, sizeOf, canRepeat}
+use Rattle.probe.specs.Dump.{Put}
+use Rattle.probe.specs.Drive.{start, turnOf, after, Run, run, callsOf, Drove}
+use Rattle.probe.specs.Probe.{headed, itemsFrom, itemsIn, bodyAt, countIn, answers, afterAll, lastCall, beforeLast, repeated, Wrote}
 use Rattle.probe.proofs.Driving.{whole-drop}
+
+and-false : (b : Bool) → b && false ≡ false
+and-false true = refl
+and-false false = refl
 
 pub headed-items : (c n : ℕ) → headed c n ≡ true → c ≤ 160
 headed-items c n h = leb-true c 160 (and-left (leb c 160) (leb (2 + 4 * c) n) h)
@@ -57,3 +64,97 @@ no-answers s c before e h =
         ap (λ (t : Bool). cond t (run false (itemsIn s) (length before) start (callsOf (countIn s) (drop (bodyAt s) s)) .bytes) [])
         (sym (ap (λ (k : ℕ). headed k (length s)) e) ∙ h) in
     record { length = ap length (sym q); output = ap (sets before 0) (sym q) }
+
+-- ---- repeating
+
+small : (k : Call) (place : ℕ) → sizeOf k place ≤ 6218
+small k place = go (eqb place 0) (leb place 8) (eqb place 9) (eqb (k .op) 8) (eqb (k .op) 9)
+  where
+    go : (a b n d e : Bool) → cond a (cond d 6218 4) (cond b (cond d 2576 4) (cond n (cond e 25 4) 4)) ≤ 6218
+    go true b n true e = omega arith
+    go true b n false e = omega arith
+    go false true n true e = omega arith
+    go false true n false e = omega arith
+    go false false true d true = omega arith
+    go false false true d false = omega arith
+    go false false false d e = omega arith
+
+-- where there is room for every answer, no quiet run ends early
+quiet-run : (initial : List ℕ) (room : ℕ) (w : World) (ks : List Call) → 6218 ≤ room → run true initial room w ks .world ≡ afterAll initial w ks
+unfolding run afterAll
+quiet-run initial room w [] h = refl
+quiet-run initial room w (k ∷ ks) h =
+    let s : sizeOf k (placeOf k) ≤ room = omega (arith, small k (placeOf k)) in
+    rw (le-leb (sizeOf k (placeOf k)) room s) (quiet-run initial room (after initial k w) ks h)
+
+pub last-is : (s : List ℕ) (c : ℕ) (k : Call) → c ≡ twoAt s 0
+    → k ≡ callOf (take (length s - (2 + 4 * c + 16 * ((length s - (2 + 4 * c)) / 16 - 1))) (drop (2 + 4 * c + 16 * ((length s - (2 + 4 * c)) / 16 - 1)) s))
+    → k ≡ lastCall s
+last-is s c k e h =
+    h ∙ ap callOf (whole-drop s (2 + 4 * c + 16 * ((length s - (2 + 4 * c)) / 16 - 1)))
+    ∙ ap (λ (n : ℕ). callOf (drop (2 + 4 * n + 16 * ((length s - (2 + 4 * n)) / 16 - 1)) s)) e
+
+module _ (s : List ℕ) (c : ℕ) (items : List ℕ) (w : World) (e : c ≡ twoAt s 0) (i : take c items ≡ itemsFrom c 2 s) (b : w ≡ start) where
+  world-before : (unread unread₁ : List ℕ) (d : Driven) → 6218 ≤ length unread
+      → Drove true (run true (take c items) (length unread) w
+        (callsOf ((length s - (2 + 4 * c)) / 16 - 1) (take (length s - (2 + 4 * c)) (drop (2 + 4 * c) s)))) unread unread₁ d
+      → d .world ≡ beforeLast s
+  world-before unread unread₁ d l r =
+      r .world
+      ∙ ap (λ (x : Run). x .world)
+        (run-is s c items w e i b true (length unread) (countIn s - 1) ((length s - (2 + 4 * c)) / 16 - 1)
+        (ap (λ (k : ℕ). (length s - (2 + 4 * k)) / 16 - 1) e))
+      ∙ quiet-run (itemsIn s) (length unread) start (callsOf (countIn s - 1) (drop (bodyAt s) s)) l
+
+  pub wrote-repeated : (k : Call) (before after unread unread₁ : List ℕ) (d : Driven) {bytes : List ℕ} → headed c (length s) ≡ true
+      → 1 ≤ (length s - (2 + 4 * c)) / 16
+      → k ≡ callOf (take (length s - (2 + 4 * c + 16 * ((length s - (2 + 4 * c)) / 16 - 1))) (drop (2 + 4 * c + 16 * ((length s - (2 + 4 * c)) / 16 - 1)) s))
+      → canRepeat k (length before) ≡ true → 6218 ≤ length unread
+      → Drove true (run true (take c items) (length unread) w
+        (callsOf ((length s - (2 + 4 * c)) / 16 - 1) (take (length s - (2 + 4 * c)) (drop (2 + 4 * c) s)))) unread unread₁ d
+      → bytes ≡ take 4 (turnOf (take c items) k (d .world) .bytes) → Put 0 4 bytes before after → Wrote (repeated s (length before)) before after 4
+  unfolding repeated
+  wrote-repeated k before after unread unread₁ d {bytes} h n q can l r a p =
+      let last : k ≡ lastCall s = last-is s c k e q in
+      let test : (headed (twoAt s 0) (length s) && leb 1 (countIn s)) && canRepeat (lastCall s) (length before) ≡ true =
+          both (headed (twoAt s 0) (length s) && leb 1 (countIn s)) (canRepeat (lastCall s) (length before))
+          (both (headed (twoAt s 0) (length s)) (leb 1 (countIn s))
+          (sym (ap (λ (k : ℕ). headed k (length s)) e) ∙ h)
+          (sym (ap (leb 1) (count-is s c items w e i b)) ∙ le-leb 1 ((length s - (2 + 4 * c)) / 16) n))
+          (sym (ap (λ (x : Call). canRepeat x (length before)) last) ∙ can) in
+      let is : bytes ≡ repeated s (length before) =
+          a
+          ∙ ap (λ (l : List ℕ). take 4 (turnOf l k (d .world) .bytes)) (i ∙ ap (λ (n : ℕ). itemsFrom n 2 s) e)
+          ∙ ap (λ (x : Call). take 4 (turnOf (itemsIn s) x (d .world) .bytes)) last
+          ∙ ap (λ (u : World). take 4 (turnOf (itemsIn s) (lastCall s) u .bytes)) (world-before unread unread₁ d l r)
+          ∙ sym (ap (λ (t : Bool). cond t (take 4 (turnOf (itemsIn s) (lastCall s) (beforeLast s) .bytes)) []) test) in
+      record { length = sym (p .size) ∙ ap length is; output = p .wrote ∙ ap (sets before 0) is }
+
+-- one of the three tests fails
+module _ (s : List ℕ) (before : List ℕ) where
+  nothing : (headed (twoAt s 0) (length s) && leb 1 (countIn s)) && canRepeat (lastCall s) (length before) ≡ false
+      → Wrote (repeated s (length before)) before before 0
+  unfolding repeated
+  nothing test =
+      let is : [] ≡ repeated s (length before) =
+          sym (ap (λ (t : Bool). cond t (take 4 (turnOf (itemsIn s) (lastCall s) (beforeLast s) .bytes)) []) test) in
+      record { length = ap length is; output = ap (sets before 0) is }
+
+  pub not-headed : (c : ℕ) → c ≡ twoAt s 0 → headed c (length s) ≡ false → Wrote (repeated s (length before)) before before 0
+  not-headed c e h =
+      nothing (ap (λ (t : Bool). (t && leb 1 (countIn s)) && canRepeat (lastCall s) (length before)) (sym (ap (λ (k : ℕ). headed k (length s)) e) ∙ h))
+
+  pub no-call : (c : ℕ) → c ≡ twoAt s 0 → (length s - (2 + 4 * c)) / 16 < 1 → Wrote (repeated s (length before)) before before 0
+  no-call c e h =
+      nothing (ap (λ (t : Bool). (headed (twoAt s 0) (length s) && t) && canRepeat (lastCall s) (length before))
+        (sym (ap (λ (k : ℕ). leb 1 ((length s - (2 + 4 * k)) / 16)) e) ∙ lt-leb 1 ((length s - (2 + 4 * c)) / 16) h)
+      ∙ ap (λ (t : Bool). t && canRepeat (lastCall s) (length before)) (and-false (headed (twoAt s 0) (length s))))
+
+  pub not-repeated : (k : Call) → k ≡ lastCall s → canRepeat k (length before) ≡ false → Wrote (repeated s (length before)) before before 0
+  not-repeated k e h =
+      nothing (ap (λ (x : Call). (headed (twoAt s 0) (length s) && leb 1 (countIn s)) && canRepeat x (length before)) (sym e)
+      ∙ ap (λ (t : Bool). (headed (twoAt s 0) (length s) && leb 1 (countIn s)) && t) h
+      ∙ and-false (headed (twoAt s 0) (length s) && leb 1 (countIn s)))
+
+pub repeat-room : (k : Call) (n : ℕ) → canRepeat k n ≡ true → 4 ≤ n
+repeat-room k n h = leb-true 4 n (and-right (isCall k && (leb 1 (k .op) && leb (k .op) 5)) (leb 4 n) h)

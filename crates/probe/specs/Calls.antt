@@ -74,5 +74,6 @@ sizeOf c place =
 abbrev pub sends : Call → Bool
 sends c = eqb (c .op) 3 || eqb (c .op) 4
 
-abbrev pub repeats : Call → Bool
-repeats c = isCall c && (leb 1 (c .op) && leb (c .op) 5)
+-- insert, delete, send, tell and take, where there is room for the answer
+abbrev pub canRepeat : Call → ℕ → Bool
+canRepeat c room = (isCall c && (leb 1 (c .op) && leb (c .op) 5)) && leb 4 room

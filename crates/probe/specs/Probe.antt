@@ -9,7 +9,7 @@ use lib.Seq.{sets}
 use Rattle.wire.specs.Bytes.{twoAt, fourAt}
 use Rattle.probe.specs.declared.call.Call.{Call}
 use Rattle.probe.specs.declared.drive.World.{World}
-use Rattle.probe.specs.Calls.{callOf, repeats}
+use Rattle.probe.specs.Calls.{callOf, canRepeat}
 use Rattle.probe.specs.Drive.{start, turnOf, after, run, callsOf}
 
 -- ---- the input: a count of items, the items, and calls of 16 bytes
@@ -49,14 +49,10 @@ lastCall s = callOf (drop (bodyAt s + 16 * (countIn s - 1)) s)
 abbrev pub beforeLast : List ℕ → World
 beforeLast s = afterAll (itemsIn s) start (callsOf (countIn s - 1) (drop (bodyAt s) s))
 
--- an insert, a delete, a send, a tell or a take, and room for its answer
-abbrev pub canRepeat : Call → ℕ → Bool
-canRepeat k room = repeats k && leb 4 room
-
 -- The answer of the last call, on what the calls before it leave: it does not hang on how often the call is done.
 unfoldable pub repeated : List ℕ → ℕ → List ℕ
 repeated s room =
-    cond (headed (twoAt s 0) (length s) && leb 1 (countIn s) && canRepeat (lastCall s) room)
+    cond ((headed (twoAt s 0) (length s) && leb 1 (countIn s)) && canRepeat (lastCall s) room)
     (take 4 (turnOf (itemsIn s) (lastCall s) (beforeLast s) .bytes))
     []
 

@@ -3,7 +3,7 @@ ghost use mathlib.Core.Path.{_≡_};
 ghost use Prim.Native.Nat.{_<_};
 ghost use lib.ListN.{getD};
 ghost use Rattle.wire.specs.Bytes.{twoAt, fourAt};
-ghost use Rattle.probe.specs.Calls.{callOf, atEnd, needsSlot, lendsSlot, smallEnough, hasField, canSet, isCall, placeOf, sizeOf, sends, repeats};
+ghost use Rattle.probe.specs.Calls.{callOf, atEnd, needsSlot, lendsSlot, smallEnough, hasField, canSet, isCall, placeOf, sizeOf, sends, canRepeat};
 
 pub struct Call {
     pub op: u8,
@@ -167,9 +167,9 @@ pub fn sends(c: Call) -> bool
     (c.op == 3) | (c.op == 4)
 }
 
-// An insert, a delete, a send, a tell or a take, and not one that is no call.
-pub fn repeats(c: Call) -> bool
-    ensures { λ r. ⌜ r ≡ repeats c ⌝ }
+// An insert, a delete, a send, a tell or a take, and not one that is no call; and room for its answer.
+pub fn can_repeat(c: Call, room: usize) -> bool
+    ensures { λ r. ⌜ r ≡ canRepeat c room ⌝ }
 {
-    is_call(c) & ((1 <= c.op) & (c.op <= 5))
+    is_call(c) & ((1 <= c.op) & (c.op <= 5)) & (4 <= room)
 }

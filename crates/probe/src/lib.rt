@@ -1,6 +1,6 @@
 // The boundary between the proved ends and a harness in another language (harness/PROTOCOL.md).
 ghost use lib.ListN.{length};
-ghost use Rattle.probe.specs.Probe.{answers, Wrote};
+ghost use Rattle.probe.specs.Probe.{answers, repeated, Wrote};
 
 mod call;
 mod drive;
@@ -23,6 +23,35 @@ pub extern "C" fn probe_run(calls: &[u8], out: &mut [u8]) -> usize
         let w = drive::start(&items[..0]);
         let d = drive::drive(w, &calls[from..], count, &items[..c], false, out);
         return d.written;
+    }
+    0
+}
+
+// Runs all calls but the last, does the last one `times` times on what they leave, and writes its answer.
+#[no_mangle]
+pub extern "C" fn probe_repeat(calls: &[u8], times: u32, out: &mut [u8]) -> usize
+    ensures { λ r. ⌜ Wrote (repeated (now (calls .entry)) (length (now (out .entry)))) (now (out .entry)) (now (out .exit)) r ⌝ }
+{
+    let c = call::two_at(calls, 0) as usize;
+    if !header::is_headed(c, calls.len()) {
+        return 0;
+    }
+    let from = 2 + 4 * c;
+    let count = (calls.len() - from) / 16;
+    if count < 1 {
+        return 0;
+    }
+    let last = from + 16 * (count - 1);
+    let k = call::read(&calls[last..]);
+    if call::can_repeat(k, out.len()) {
+        let items = header::items_in(calls, c);
+        let mut unread = [0u8; 6218];
+        let w = drive::start(&items[..0]);
+        let d = drive::drive(w, &calls[from..], count - 1, &items[..c], true, &mut unread);
+        let w = d.world;
+        let a = repeat::repeat(w, k, &items[..c], times);
+        dump::put_answer(out, 0, a.refusal, a.written, a.passed);
+        return 4;
     }
     0
 }
