@@ -5,6 +5,8 @@ ghost use Prim.Native.Nat.{_+_, _*_, _≤_};
 ghost use mathlib.Core.Bool.{cond};
 ghost use lib.Dec.{eqb};
 ghost use lib.ListN.{length, take, drop};
+ghost use Rattle.client.specs.Answers as client;
+ghost use Rattle.server.specs.Calls as server;
 ghost use Rattle.probe.specs.Dump.{answerBytes};
 ghost use Rattle.probe.specs.Turn.{clientSent, clientChanged, clientTurn, serverSent, serverChanged, serverTurn, Same};
 ghost use Rattle.probe.specs.Drive.{turnOf};
@@ -52,16 +54,53 @@ fn send_client(c: Client, k: Call, slot: [u8; 20], size: usize, times: u32) -> S
     s
 }
 
-fn change_client(c: Client, k: Call, initial: &[u32], bytes: &[u8], times: u32) -> client::Answer
-    ensures { λ r. ⌜ r ≡ clientChanged k (now (initial .entry)) (now (bytes .entry)) c ⌝ }
+fn insert_client(c: Client, position: u16, value: u32, times: u32) -> client::Answer
+    ensures { λ r. ⌜ r ≡ client.inserted c position value ⌝ }
 {
-    let mut a = turn::change_client(c, k, initial, bytes);
+    let mut a = c.insert(position, value);
     let mut i = 1;
     while i < times {
-        a = turn::change_client(c, k, initial, bytes);
+        a = c.insert(position, value);
         i += 1;
     }
     a
+}
+
+fn delete_client(c: Client, position: u16, times: u32) -> client::Answer
+    ensures { λ r. ⌜ r ≡ client.deleted c position ⌝ }
+{
+    let mut a = c.delete(position);
+    let mut i = 1;
+    while i < times {
+        a = c.delete(position);
+        i += 1;
+    }
+    a
+}
+
+fn take_client(c: Client, bytes: &[u8], times: u32) -> client::Answer
+    ensures { λ r. ⌜ r ≡ client.taken c (now (bytes .entry)) ⌝ }
+{
+    let mut a = c.take(bytes);
+    let mut i = 1;
+    while i < times {
+        a = c.take(bytes);
+        i += 1;
+    }
+    a
+}
+
+// A call that is not for timing is done once.
+fn change_client(c: Client, k: Call, initial: &[u32], bytes: &[u8], times: u32) -> client::Answer
+    ensures { λ r. ⌜ r ≡ clientChanged k (now (initial .entry)) (now (bytes .entry)) c ⌝ }
+{
+    let op = k.op;
+    match op {
+        1 => insert_client(c, k.position, k.value, times),
+        2 => delete_client(c, k.position, times),
+        5 => take_client(c, bytes, times),
+        _ => turn::change_client(c, k, initial, bytes),
+    }
 }
 
 fn repeat_client(c: Client, k: Call, initial: &[u32], len: u8, slot: [u8; 20], times: u32) -> Reply
@@ -102,16 +141,26 @@ fn send_server(s: Server, k: Call, slot: [u8; 20], size: usize, times: u32) -> S
     a
 }
 
-fn change_server(s: Server, k: Call, initial: &[u32], bytes: &[u8], times: u32) -> server::Answer
-    ensures { λ r. ⌜ r ≡ serverChanged k (now (initial .entry)) (now (bytes .entry)) s ⌝ }
+fn take_server(s: Server, bytes: &[u8], times: u32) -> server::Answer
+    ensures { λ r. ⌜ r ≡ server.takes s (now (bytes .entry)) ⌝ }
 {
-    let mut a = turn::change_server(s, k, initial, bytes);
+    let mut a = s.take(bytes);
     let mut i = 1;
     while i < times {
-        a = turn::change_server(s, k, initial, bytes);
+        a = s.take(bytes);
         i += 1;
     }
     a
+}
+
+fn change_server(s: Server, k: Call, initial: &[u32], bytes: &[u8], times: u32) -> server::Answer
+    ensures { λ r. ⌜ r ≡ serverChanged k (now (initial .entry)) (now (bytes .entry)) s ⌝ }
+{
+    let op = k.op;
+    match op {
+        5 => take_server(s, bytes, times),
+        _ => turn::change_server(s, k, initial, bytes),
+    }
 }
 
 fn repeat_server(s: Server, k: Call, initial: &[u32], len: u8, slot: [u8; 20], times: u32) -> Reply

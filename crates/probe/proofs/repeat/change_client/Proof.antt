@@ -1,58 +1,54 @@
-use Prim.Native.Nat.{_-_, _≤_}
-use native.Mathlib.Omega.{arith}
-use mathlib.Core.Path.{_≡_, refl}
 use borrow.Author.Needs.{needs}
-use Rattle.probe.specs.Turn.{clientChanged}
 use Rattle.probe.proofs.repeat.change_client.Statement.{statement}
 use Rattle.probe.proofs.repeat.change_client.Tie as tie
 use Rattle.probe.proofs.repeat.change_client.Reads as reads
 use Rattle.probe.proofs.repeat.change_client.Lts as lts
+use Rattle.probe.proofs.repeat.delete_client.Reads as delete-client-reads
+use Rattle.probe.proofs.repeat.insert_client.Reads as insert-client-reads
+use Rattle.probe.proofs.repeat.take_client.Reads as take-client-reads
 use Rattle.probe.proofs.turn.change_client.Reads as change-client-reads
 
-abbrev Inv-loop : tie.InvT-loop
-Inv-loop c k initial bytes times a₀ i₀ a i = (1 ≤ i) × (a ≡ clientChanged k initial bytes c)
+-- src/repeat.rt:99:14
+insert-client-requires : tie.Need-insert-client-requires
+insert-client-requires c κs = search needs
 
-abbrev μ-loop : tie.MeasureT-loop
-μ-loop c k initial bytes times a₀ i₀ a i = times - i
+-- src/repeat.rt:100:14
+delete-client-requires : tie.Need-delete-client-requires
+delete-client-requires c κs = search needs
 
--- src/repeat.rt:58:9
-change-client-requires : tie.Need-change-client-requires Inv-loop μ-loop
+-- src/repeat.rt:101:14
+take-client-requires : tie.Need-take-client-requires
+take-client-requires c κs = search needs
+
+-- src/repeat.rt:102:14
+change-client-requires : tie.Need-change-client-requires
 change-client-requires c κs = search needs
 
--- src/repeat.rt:60:5
-loop-holds : tie.Need-loop-holds Inv-loop μ-loop
-loop-holds c = (omega arith, c .change-client .ensures)
+-- src/repeat.rt:94:1
+returns : tie.Need-returns
+returns c = simp (c .before .match .keys1, c .insert-client .ensures)
 
--- src/repeat.rt:61:9
-change-client-requires-2 : tie.Need-change-client-requires-2 Inv-loop μ-loop
-change-client-requires-2 c κs = search needs
+-- src/repeat.rt:94:1
+returns-2 : tie.Need-returns-2
+returns-2 c = simp (c .before .match .keys2, c .delete-client .ensures)
 
--- src/repeat.rt:62:9
-add-i : tie.Need-add-i Inv-loop μ-loop
-add-i c = omega arith
+-- src/repeat.rt:94:1
+returns-3 : tie.Need-returns-3
+returns-3 c = simp (c .before .match .keys3, c .take-client .ensures)
 
--- src/repeat.rt:60:5
-loop-less : tie.Need-loop-less Inv-loop μ-loop
-loop-less c = omega arith
-
--- src/repeat.rt:60:5
-loop-again : tie.Need-loop-again Inv-loop μ-loop
-loop-again c = (omega arith, c .change-client2 .ensures)
-
--- src/repeat.rt:55:1
-returns : tie.Need-returns Inv-loop μ-loop
-returns c = c .before .loop .inv .1
+-- src/repeat.rt:94:1
+returns-4 : tie.Need-returns-4
+returns-4 c = search needs
 
 pub change-client-spec : {M : Type 1} → statement M
 change-client-spec =
     tie.close
     (tie.spec
-    Inv-loop
-    μ-loop
+    insert-client-requires
+    delete-client-requires
+    take-client-requires
     change-client-requires
-    loop-holds
-    change-client-requires-2
-    add-i
-    loop-less
-    loop-again
-    returns)
+    returns
+    returns-2
+    returns-3
+    returns-4)
