@@ -17,7 +17,7 @@ use Rattle.probe.specs.Calls.{callOf, isCall, placeOf, sizeOf, canRepeat
 use Rattle.probe.specs.Dump.{Put}
 use Rattle.probe.specs.Drive.{start, turnOf, after, Run, run, callsOf, Drove}
 use Rattle.probe.specs.Probe.{headed, itemsFrom, itemsIn, bodyAt, countIn, answers, afterAll, lastCall, beforeLast, repeated, Wrote}
-use Rattle.probe.proofs.Driving.{whole-drop}
+use Rattle.probe.proofs.Bytes.{whole-drop}
 
 and-false : (b : Bool) → b && false ≡ false
 and-false true = refl
@@ -46,23 +46,23 @@ module _ (s : List ℕ) (c : ℕ) (items : List ℕ) (w : World) (e : c ≡ twoA
 
   pub wrote-answers : (before after : List ℕ) (d : Driven) → headed c (length s) ≡ true
       → Drove false (run false (take c items) (length before) w
-        (callsOf ((length s - (2 + 4 * c)) / 16) (take (length s - (2 + 4 * c)) (drop (2 + 4 * c) s)))) before after d
+      (callsOf ((length s - (2 + 4 * c)) / 16) (take (length s - (2 + 4 * c)) (drop (2 + 4 * c) s)))) before after d
       → Wrote (answers s (length before)) before after (d .written)
   unfolding answers
   wrote-answers before after d h r =
       let q : answers s (length before) ≡ run false (take c items) (length before) w
-          (callsOf ((length s - (2 + 4 * c)) / 16) (take (length s - (2 + 4 * c)) (drop (2 + 4 * c) s))) .bytes =
-          ap (λ (t : Bool). cond t (run false (itemsIn s) (length before) start (callsOf (countIn s) (drop (bodyAt s) s)) .bytes) [])
-          (sym (ap (λ (k : ℕ). headed k (length s)) e) ∙ h)
-          ∙ sym (ap (λ (x : Run). x .bytes) (run-is false (length before) (countIn s) ((length s - (2 + 4 * c)) / 16) count-is)) in
+      (callsOf ((length s - (2 + 4 * c)) / 16) (take (length s - (2 + 4 * c)) (drop (2 + 4 * c) s))) .bytes =
+      ap (λ (t : Bool). cond t (run false (itemsIn s) (length before) start (callsOf (countIn s) (drop (bodyAt s) s)) .bytes) [])
+      (sym (ap (λ (k : ℕ). headed k (length s)) e) ∙ h)
+      ∙ sym (ap (λ (x : Run). x .bytes) (run-is false (length before) (countIn s) ((length s - (2 + 4 * c)) / 16) count-is)) in
       record { length = r .count ∙ ap length (sym q); output = r .wrote refl ∙ ap (sets before 0) (sym q) }
 
 pub no-answers : (s : List ℕ) (c : ℕ) (before : List ℕ) → c ≡ twoAt s 0 → headed c (length s) ≡ false → Wrote (answers s (length before)) before before 0
 unfolding answers
 no-answers s c before e h =
     let q : answers s (length before) ≡ [] =
-        ap (λ (t : Bool). cond t (run false (itemsIn s) (length before) start (callsOf (countIn s) (drop (bodyAt s) s)) .bytes) [])
-        (sym (ap (λ (k : ℕ). headed k (length s)) e) ∙ h) in
+    ap (λ (t : Bool). cond t (run false (itemsIn s) (length before) start (callsOf (countIn s) (drop (bodyAt s) s)) .bytes) [])
+    (sym (ap (λ (k : ℕ). headed k (length s)) e) ∙ h) in
     record { length = ap length (sym q); output = ap (sets before 0) (sym q) }
 
 -- ---- repeating
@@ -88,46 +88,45 @@ quiet-run initial room w (k ∷ ks) h =
     rw (le-leb (sizeOf k (placeOf k)) room s) (quiet-run initial room (after initial k w) ks h)
 
 pub last-is : (s : List ℕ) (c : ℕ) (k : Call) → c ≡ twoAt s 0
-    → k ≡ callOf (take (length s - (2 + 4 * c + 16 * ((length s - (2 + 4 * c)) / 16 - 1))) (drop (2 + 4 * c + 16 * ((length s - (2 + 4 * c)) / 16 - 1)) s))
+    → k ≡ callOf (drop (2 + 4 * c + 16 * ((length s - (2 + 4 * c)) / 16 - 1)) s)
     → k ≡ lastCall s
 last-is s c k e h =
-    h ∙ ap callOf (whole-drop s (2 + 4 * c + 16 * ((length s - (2 + 4 * c)) / 16 - 1)))
-    ∙ ap (λ (n : ℕ). callOf (drop (2 + 4 * n + 16 * ((length s - (2 + 4 * n)) / 16 - 1)) s)) e
+    h ∙ ap (λ (n : ℕ). callOf (drop (2 + 4 * n + 16 * ((length s - (2 + 4 * n)) / 16 - 1)) s)) e
 
 module _ (s : List ℕ) (c : ℕ) (items : List ℕ) (w : World) (e : c ≡ twoAt s 0) (i : take c items ≡ itemsFrom c 2 s) (b : w ≡ start) where
   world-before : (unread unread₁ : List ℕ) (d : Driven) → 6218 ≤ length unread
       → Drove true (run true (take c items) (length unread) w
-        (callsOf ((length s - (2 + 4 * c)) / 16 - 1) (take (length s - (2 + 4 * c)) (drop (2 + 4 * c) s)))) unread unread₁ d
+      (callsOf ((length s - (2 + 4 * c)) / 16 - 1) (take (length s - (2 + 4 * c)) (drop (2 + 4 * c) s)))) unread unread₁ d
       → d .world ≡ beforeLast s
   world-before unread unread₁ d l r =
       r .world
       ∙ ap (λ (x : Run). x .world)
-        (run-is s c items w e i b true (length unread) (countIn s - 1) ((length s - (2 + 4 * c)) / 16 - 1)
-        (ap (λ (k : ℕ). (length s - (2 + 4 * k)) / 16 - 1) e))
+      (run-is s c items w e i b true (length unread) (countIn s - 1) ((length s - (2 + 4 * c)) / 16 - 1)
+      (ap (λ (k : ℕ). (length s - (2 + 4 * k)) / 16 - 1) e))
       ∙ quiet-run (itemsIn s) (length unread) start (callsOf (countIn s - 1) (drop (bodyAt s) s)) l
 
   pub wrote-repeated : (k : Call) (before after unread unread₁ : List ℕ) (d : Driven) {bytes : List ℕ} → headed c (length s) ≡ true
       → 1 ≤ (length s - (2 + 4 * c)) / 16
-      → k ≡ callOf (take (length s - (2 + 4 * c + 16 * ((length s - (2 + 4 * c)) / 16 - 1))) (drop (2 + 4 * c + 16 * ((length s - (2 + 4 * c)) / 16 - 1)) s))
+      → k ≡ callOf (drop (2 + 4 * c + 16 * ((length s - (2 + 4 * c)) / 16 - 1)) s)
       → canRepeat k (length before) ≡ true → 6218 ≤ length unread
       → Drove true (run true (take c items) (length unread) w
-        (callsOf ((length s - (2 + 4 * c)) / 16 - 1) (take (length s - (2 + 4 * c)) (drop (2 + 4 * c) s)))) unread unread₁ d
+      (callsOf ((length s - (2 + 4 * c)) / 16 - 1) (take (length s - (2 + 4 * c)) (drop (2 + 4 * c) s)))) unread unread₁ d
       → bytes ≡ take 4 (turnOf (take c items) k (d .world) .bytes) → Put 0 4 bytes before after → Wrote (repeated s (length before)) before after 4
   unfolding repeated
   wrote-repeated k before after unread unread₁ d {bytes} h n q can l r a p =
       let last : k ≡ lastCall s = last-is s c k e q in
       let test : (headed (twoAt s 0) (length s) && leb 1 (countIn s)) && canRepeat (lastCall s) (length before) ≡ true =
-          both (headed (twoAt s 0) (length s) && leb 1 (countIn s)) (canRepeat (lastCall s) (length before))
-          (both (headed (twoAt s 0) (length s)) (leb 1 (countIn s))
-          (sym (ap (λ (k : ℕ). headed k (length s)) e) ∙ h)
-          (sym (ap (leb 1) (count-is s c items w e i b)) ∙ le-leb 1 ((length s - (2 + 4 * c)) / 16) n))
-          (sym (ap (λ (x : Call). canRepeat x (length before)) last) ∙ can) in
+      both (headed (twoAt s 0) (length s) && leb 1 (countIn s)) (canRepeat (lastCall s) (length before))
+      (both (headed (twoAt s 0) (length s)) (leb 1 (countIn s))
+      (sym (ap (λ (k : ℕ). headed k (length s)) e) ∙ h)
+      (sym (ap (leb 1) (count-is s c items w e i b)) ∙ le-leb 1 ((length s - (2 + 4 * c)) / 16) n))
+      (sym (ap (λ (x : Call). canRepeat x (length before)) last) ∙ can) in
       let is : bytes ≡ repeated s (length before) =
-          a
-          ∙ ap (λ (l : List ℕ). take 4 (turnOf l k (d .world) .bytes)) (i ∙ ap (λ (n : ℕ). itemsFrom n 2 s) e)
-          ∙ ap (λ (x : Call). take 4 (turnOf (itemsIn s) x (d .world) .bytes)) last
-          ∙ ap (λ (u : World). take 4 (turnOf (itemsIn s) (lastCall s) u .bytes)) (world-before unread unread₁ d l r)
-          ∙ sym (ap (λ (t : Bool). cond t (take 4 (turnOf (itemsIn s) (lastCall s) (beforeLast s) .bytes)) []) test) in
+      a
+      ∙ ap (λ (l : List ℕ). take 4 (turnOf l k (d .world) .bytes)) (i ∙ ap (λ (n : ℕ). itemsFrom n 2 s) e)
+      ∙ ap (λ (x : Call). take 4 (turnOf (itemsIn s) x (d .world) .bytes)) last
+      ∙ ap (λ (u : World). take 4 (turnOf (itemsIn s) (lastCall s) u .bytes)) (world-before unread unread₁ d l r)
+      ∙ sym (ap (λ (t : Bool). cond t (take 4 (turnOf (itemsIn s) (lastCall s) (beforeLast s) .bytes)) []) test) in
       record { length = sym (p .size) ∙ ap length is; output = p .wrote ∙ ap (sets before 0) is }
 
 -- one of the three tests fails
@@ -137,7 +136,7 @@ module _ (s : List ℕ) (before : List ℕ) where
   unfolding repeated
   nothing test =
       let is : [] ≡ repeated s (length before) =
-          sym (ap (λ (t : Bool). cond t (take 4 (turnOf (itemsIn s) (lastCall s) (beforeLast s) .bytes)) []) test) in
+      sym (ap (λ (t : Bool). cond t (take 4 (turnOf (itemsIn s) (lastCall s) (beforeLast s) .bytes)) []) test) in
       record { length = ap length is; output = ap (sets before 0) is }
 
   pub not-headed : (c : ℕ) → c ≡ twoAt s 0 → headed c (length s) ≡ false → Wrote (repeated s (length before)) before before 0
@@ -147,7 +146,7 @@ module _ (s : List ℕ) (before : List ℕ) where
   pub no-call : (c : ℕ) → c ≡ twoAt s 0 → (length s - (2 + 4 * c)) / 16 < 1 → Wrote (repeated s (length before)) before before 0
   no-call c e h =
       nothing (ap (λ (t : Bool). (headed (twoAt s 0) (length s) && t) && canRepeat (lastCall s) (length before))
-        (sym (ap (λ (k : ℕ). leb 1 ((length s - (2 + 4 * k)) / 16)) e) ∙ lt-leb 1 ((length s - (2 + 4 * c)) / 16) h)
+      (sym (ap (λ (k : ℕ). leb 1 ((length s - (2 + 4 * k)) / 16)) e) ∙ lt-leb 1 ((length s - (2 + 4 * c)) / 16) h)
       ∙ ap (λ (t : Bool). t && canRepeat (lastCall s) (length before)) (and-false (headed (twoAt s 0) (length s))))
 
   pub not-repeated : (k : Call) → k ≡ lastCall s → canRepeat k (length before) ≡ false → Wrote (repeated s (length before)) before before 0

@@ -1,11 +1,11 @@
 -- Laws of bytes that are written one run after another.
-use Prim.Native.Nat.{ℕ, suc, _+_, _*_, _≤_, _<_}
+use Prim.Native.Nat.{ℕ, suc, _+_, _-_, _*_, _≤_, _<_}
 use native.Mathlib.Nat.{add-zero, add-suc, suc-add, mul-zero, mul-suc}
 use native.Mathlib.Numerals.{add-one}
 use native.Mathlib.Omega.{arith}
 use mathlib.Core.Path.{_≡_, refl, ap, _∙_, sym, subst}
 use mathlib.Core.List.{List, [], _∷_, _++_, append-nil, append-assoc}
-use lib.ListN.{length, getD, take, set, length-append, length-set}
+use lib.ListN.{length, getD, take, drop, set, length-append, length-set, length-drop}
 use lib.Seq.{sets, length-sets, take-suc, take-all}
 use Rattle.probe.specs.Dump.{Put, each}
 
@@ -23,8 +23,8 @@ put-more {at} {n} {m} {a} {b} {l} {l₁} {l₂} p q =
     record {
       size = length-append a b ∙ ap (λ (k : ℕ). k + length b) (p .size) ∙ ap (λ (k : ℕ). n + k) (q .size);
       wrote =
-        q .wrote ∙ ap (λ (k : ℕ). sets l₁ (at + k) b) (sym (p .size)) ∙ ap (λ (r : List ℕ). sets r (at + length a) b) (p .wrote)
-        ∙ sets-append a b l at;
+          q .wrote ∙ ap (λ (k : ℕ). sets l₁ (at + k) b) (sym (p .size)) ∙ ap (λ (r : List ℕ). sets r (at + length a) b) (p .wrote)
+          ∙ sets-append a b l at;
     }
 
 pub put-pair : (at x y : ℕ) (l : List ℕ) → Put at 2 (x ∷ y ∷ []) l (set (set l at x) (at + 1) y)
@@ -47,7 +47,7 @@ module _ {A : Type 0} (f : A → List ℕ) where
         → Put at (w * i) (each f (take i l)) out out₁ → Put (at + w * i) w (f x) out₁ out₂ → Put at (w * (i + 1)) (each f (take (i + 1) l)) out out₂
     each-turn d i {at} {x} {out} {out₁} {out₂} h y p q =
         let e : each f (take (i + 1) l) ≡ each f (take i l) ++ f x =
-            ap (λ (k : ℕ). each f (take k l)) (add-one i) ∙ ap (each f) (take-suc l i d h) ∙ ap (λ (z : A). each f (take i l ++ (z ∷ []))) (sym y) ∙ each-more (take i l) x in
+        ap (λ (k : ℕ). each f (take k l)) (add-one i) ∙ ap (each f) (take-suc l i d h) ∙ ap (λ (z : A). each f (take i l ++ (z ∷ []))) (sym y) ∙ each-more (take i l) x in
         let r = put-more p q in
         record { size = ap length e ∙ r .size ∙ more; wrote = r .wrote ∙ ap (λ (b : List ℕ). sets out at b) (sym e) }
       where
@@ -76,3 +76,8 @@ bytes-turn s i {at} {l} {l₁} h p =
 pub bytes-end : (s : List ℕ) (i n : ℕ) {at : ℕ} {l l₁ : List ℕ} → length s ≡ n → i ≡ n → Put at i (take i s) l l₁ → Put at n s l l₁
 bytes-end s i n {at} {l} {l₁} e h p =
     subst (λ (b : List ℕ). Put at n b l l₁) (take-all n s (omega arith)) (subst (λ (k : ℕ). Put at k (take k s) l l₁) h p)
+
+-- ---- the rest of a list
+
+pub whole-drop : (s : List ℕ) (n : ℕ) → take (length s - n) (drop n s) ≡ drop n s
+whole-drop s n = take-all (length s - n) (drop n s) (simp length-drop (omega arith))

@@ -61,7 +61,7 @@ module _ (initial : List ℕ) (k : Call) (w : World) {at : ℕ} {out out₁ : Li
   -- place, items and width as the code has them
   stepped : (place items width : ℕ) {w₁ : World} → place ≡ placeOf k → items ≡ min (k .number) (length initial) → width ≡ 20
       → Put at (sizeOf k place)
-        (turnAt place (take items initial) k (getD (w .lengths) (slotOf k) 0) (take width (drop (20 * slotOf k) (w .slots))) w .bytes) out out₁
+      (turnAt place (take items initial) k (getD (w .lengths) (slotOf k) 0) (take width (drop (20 * slotOf k) (w .slots))) w .bytes) out out₁
       → w₁ ≡ stepAt place (take items initial) k (getD (w .lengths) (slotOf k) 0) (take width (drop (20 * slotOf k) (w .slots))) w
       → Stepped initial k w at out out₁ w₁
   unfolding turnOf after
@@ -82,7 +82,7 @@ module _ (initial : List ℕ) (k : Call) (w : World) {at : ℕ} {out out₁ : Li
       → s ≡ serverAfter k (take items initial) (getD (w .lengths) (slotOf k) 0) (take width (drop (20 * slotOf k) (w .slots))) (w .server)
       → Turned (serverTurn k (take items initial) (getD (w .lengths) (slotOf k) 0) (take width (drop (20 * slotOf k) (w .slots))) (w .server)) at (serverSize k) out out₁ slot len
       → Stepped initial k w at out out₁
-        (record { server = s; clients = w .clients; slots = putBack width (slotOf k) (w .slots) slot; lengths = set (w .lengths) (slotOf k) len })
+      (record { server = s; clients = w .clients; slots = putBack width (slotOf k) (w .slots) slot; lengths = set (w .lengths) (slotOf k) len })
   step-server place items width {slot} {len} {s} e z f g h t =
       stepped place items width e f g
       (simp (eq-eqb place 0 z) (t .answer))
@@ -94,7 +94,7 @@ module _ (initial : List ℕ) (k : Call) (w : World) {at : ℕ} {out out₁ : Li
       → c ≡ clientAfter k (take items initial) (getD (w .lengths) (slotOf k) 0) (take width (drop (20 * slotOf k) (w .slots))) (getD (w .clients) (place - 1) noClient)
       → Turned (clientTurn k (take items initial) (getD (w .lengths) (slotOf k) 0) (take width (drop (20 * slotOf k) (w .slots))) (getD (w .clients) (place - 1) noClient)) at (clientSize k) out out₁ slot len
       → Stepped initial k w at out out₁
-        (record { server = w .server; clients = set (w .clients) (place - 1) c; slots = putBack width (slotOf k) (w .slots) slot; lengths = set (w .lengths) (slotOf k) len })
+      (record { server = w .server; clients = set (w .clients) (place - 1) c; slots = putBack width (slotOf k) (w .slots) slot; lengths = set (w .lengths) (slotOf k) len })
   step-client place items width {slot} {len} {c} e z y f g h t =
       stepped place items width e f g
       (simp (ne-eqb place 0 z, le-leb place 8 y) (t .answer))
@@ -104,7 +104,7 @@ module _ (initial : List ℕ) (k : Call) (w : World) {at : ℕ} {out out₁ : Li
   pub step-slot : (place width : ℕ) {slot : List ℕ} {len : ℕ} → place ≡ placeOf k → (place ≡ 0 → ⊥) → 8 < place → width ≡ 20
       → Turned (slotTurn k place (getD (w .lengths) (slotOf k) 0) (take width (drop (20 * slotOf k) (w .slots)))) at (slotSize k place) out out₁ slot len
       → Stepped initial k w at out out₁
-        (record { server = w .server; clients = w .clients; slots = putBack width (slotOf k) (w .slots) slot; lengths = set (w .lengths) (slotOf k) len })
+      (record { server = w .server; clients = w .clients; slots = putBack width (slotOf k) (w .slots) slot; lengths = set (w .lengths) (slotOf k) len })
   step-slot place width {slot} {len} e z y g t =
       stepped place (min (k .number) (length initial)) width e refl g
       (simp (ne-eqb place 0 z, lt-leb place 8 y) (t .answer))
@@ -167,7 +167,7 @@ module _ (initial : List ℕ) (w₀ : World) (calls : List ℕ) (count : ℕ) (b
   rest-is quiet k g h e =
       g .rest
       ∙ ap (λ (ks : List Call). more (g .done) (run quiet initial (length before - at) w ks))
-        (calls-turn calls count i h ∙ ap (λ (c : Call). c ∷ callsOf (count - (i + 1)) (drop (16 * (i + 1)) calls)) (sym e))
+      (calls-turn calls count i h ∙ ap (λ (c : Call). c ∷ callsOf (count - (i + 1)) (drop (16 * (i + 1)) calls)) (sym e))
 
   module _ (k : Call) (size : ℕ) {at₁ : ℕ} {w₁ : World} {out₁ : List ℕ} where
     pub going-turn : (quiet : Bool) → Going quiet initial w₀ calls count before i at w out → i < count → k ≡ callOf (drop (16 * i) calls)
@@ -205,7 +205,7 @@ module _ (initial : List ℕ) (w₀ : World) (calls : List ℕ) (count : ℕ) (b
               ∙ ap (λ (u : World). more (g .done) (more b (run false initial (length before - at - sizeOf k (placeOf k)) u (callsOf (count - (i + 1)) (drop (16 * (i + 1)) calls))))) (sym (s .next))
               ∙ ap (λ (n : ℕ). more (g .done) (more b (run false initial n w₁ (callsOf (count - (i + 1)) (drop (16 * (i + 1)) calls))))) (omega arith)
               ∙ ap (λ (l : List ℕ). record { world = run false initial (length before - at₁) w₁ (callsOf (count - (i + 1)) (drop (16 * (i + 1)) calls)) .world; bytes = l })
-                (sym (append-assoc (g .done) b (run false initial (length before - at₁) w₁ (callsOf (count - (i + 1)) (drop (16 * (i + 1)) calls)) .bytes)));
+              (sym (append-assoc (g .done) b (run false initial (length before - at₁) w₁ (callsOf (count - (i + 1)) (drop (16 * (i + 1)) calls)) .bytes)));
         }
 
   -- the loop ends where no call is left, and where the next finds no room
@@ -238,9 +238,6 @@ module _ (initial : List ℕ) (w₀ : World) (calls : List ℕ) (count : ℕ) (b
       d f
 
 -- ---- what the code has in another form
-
-pub whole-drop : (s : List ℕ) (n : ℕ) → take (length s - n) (drop n s) ≡ drop n s
-whole-drop s n = take-all (length s - n) (drop n s) (simp length-drop (omega arith))
 
 pub slots-length : (j width : ℕ) (slots slot : List ℕ) → length slots ≡ 1280 → j < 64 → width ≡ 20 → length slot ≡ length (take width (drop (20 * j) slots))
     → length (putBack width j slots slot) ≡ 1280

@@ -111,7 +111,7 @@ module _ (k : Call) (initial : List ℕ) (w : World) (place items : ℕ) (slot :
       → b ≡ take 4 (turnOf initial k w .bytes)
   at-server z h =
       let p : turnAt place (take items initial) k (getD (w .lengths) (slotOf k) 0) slot w
-          ≡ serverTurn k (take items initial) (getD (w .lengths) (slotOf k) 0) slot (w .server) = simp (eq-eqb place 0 z) in
+      ≡ serverTurn k (take items initial) (getD (w .lengths) (slotOf k) 0) slot (w .server) = simp (eq-eqb place 0 z) in
       h ∙ ap (λ (t : Turn). take 4 (t .bytes)) (sym p ∙ turn-is)
 
   pub at-client : {b : List ℕ} → (place ≡ 0 → ⊥) → place ≤ 8
@@ -119,12 +119,12 @@ module _ (k : Call) (initial : List ℕ) (w : World) (place items : ℕ) (slot :
       → b ≡ take 4 (turnOf initial k w .bytes)
   at-client z y h =
       let p : turnAt place (take items initial) k (getD (w .lengths) (slotOf k) 0) slot w
-          ≡ clientTurn k (take items initial) (getD (w .lengths) (slotOf k) 0) slot (getD (w .clients) (place - 1) noClient) =
-          simp (ne-eqb place 0 z, le-leb place 8 y) in
+      ≡ clientTurn k (take items initial) (getD (w .lengths) (slotOf k) 0) slot (getD (w .clients) (place - 1) noClient) =
+      simp (ne-eqb place 0 z, le-leb place 8 y) in
       h ∙ ap (λ (t : Turn). take 4 (t .bytes)) (sym p ∙ turn-is)
 
   pub at-slot : {b : List ℕ} → (place ≡ 0 → ⊥) → 8 < place → b ≡ answerBytes (cond (eqb place 9) 0 255) 0 0 → b ≡ take 4 (turnOf initial k w .bytes)
   at-slot z y h =
       let p : turnAt place (take items initial) k (getD (w .lengths) (slotOf k) 0) slot w
-          ≡ slotTurn k place (getD (w .lengths) (slotOf k) 0) slot = simp (ne-eqb place 0 z, lt-leb place 8 y) in
+      ≡ slotTurn k place (getD (w .lengths) (slotOf k) 0) slot = simp (ne-eqb place 0 z, lt-leb place 8 y) in
       h ∙ slot-front k place (getD (w .lengths) (slotOf k) 0) slot ∙ ap (λ (t : Turn). take 4 (t .bytes)) (sym p ∙ turn-is)

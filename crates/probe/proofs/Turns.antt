@@ -72,10 +72,11 @@ module _ (k : Call) (initial : List ℕ) (len : ℕ) (slot : List ℕ) (c : Clie
       → answered s lent ≡ clientSent k c (take n slot) → l ≡ lengthAfter (s .refusal) (s .written) len
       → Put at 4 (answerBytes (s .refusal) (s .written % 256) 0) out out₁ → ClientDone k initial len slot c at out out₁ (lent ++ drop n slot) l c
   unfolding clientTurn
-  client-sent s lent {l} {n} on e m h p =
-      (simp on,
-      simp (on, sends-no-dump (k .op) on, e)
-      (sent-turned len s lent (behind (k .size) slot) (m ∙ ap (λ (i : ℕ). clientSent k c (take i slot)) e) h p))
+  client-sent s lent {l} {n} on e m h p = (
+    simp on,
+    simp (on, sends-no-dump (k .op) on, e)
+        (sent-turned len s lent (behind (k .size) slot) (m ∙ ap (λ (i : ℕ). clientSent k c (take i slot)) e) h p),
+  )
 
   pub client-changed : (a : clientAnswer.Answer) {n : ℕ} → sends k ≡ false → n ≡ min len (length slot)
       → a ≡ clientChanged k initial (take n slot) c → eqb (k .op) 8 ≡ false
@@ -105,10 +106,11 @@ module _ (k : Call) (initial : List ℕ) (len : ℕ) (slot : List ℕ) (v : Serv
       → answered s lent ≡ serverSent k v (take n slot) → l ≡ lengthAfter (s .refusal) (s .written) len
       → Put at 4 (answerBytes (s .refusal) (s .written % 256) 0) out out₁ → ServerDone k initial len slot v at out out₁ (lent ++ drop n slot) l v
   unfolding serverTurn
-  server-sent s lent {l} {n} on e m h p =
-      (simp on,
-      simp (on, sends-no-dump (k .op) on, e)
-      (sent-turned len s lent (behind (k .size) slot) (m ∙ ap (λ (i : ℕ). serverSent k v (take i slot)) e) h p))
+  server-sent s lent {l} {n} on e m h p = (
+    simp on,
+    simp (on, sends-no-dump (k .op) on, e)
+        (sent-turned len s lent (behind (k .size) slot) (m ∙ ap (λ (i : ℕ). serverSent k v (take i slot)) e) h p),
+  )
 
   pub server-changed : (a : serverAnswer.Answer) {n : ℕ} → sends k ≡ false → n ≡ min len (length slot)
       → a ≡ serverChanged k initial (take n slot) v → eqb (k .op) 8 ≡ false

@@ -1,7 +1,7 @@
 // A call of the harness: 16 bytes, high byte first (harness/PROTOCOL.md).
 ghost use mathlib.Core.Path.{_≡_};
-ghost use Prim.Native.Nat.{_<_};
-ghost use lib.ListN.{getD};
+ghost use Prim.Native.Nat.{_<_, _≤_};
+ghost use lib.ListN.{getD, length, drop};
 ghost use Rattle.wire.specs.Bytes.{twoAt, fourAt};
 ghost use Rattle.probe.specs.Calls.{callOf, atEnd, needsSlot, lendsSlot, smallEnough, hasField, canSet, isCall, placeOf, sizeOf, sends, canRepeat};
 
@@ -42,7 +42,7 @@ pub fn four_at(s: &[u8], i: usize) -> u32
 }
 
 // The call at the front of the bytes.
-pub fn read(s: &[u8]) -> Call
+fn read(s: &[u8]) -> Call
     ensures { λ r. ⌜ r ≡ callOf (now (s .entry)) ⌝ }
 {
     Call {
@@ -57,6 +57,14 @@ pub fn read(s: &[u8]) -> Call
         field: byte_at(s, 13),
         priority: byte_at(s, 14),
     }
+}
+
+// The call at a place.
+pub fn read_at(s: &[u8], at: usize) -> Call
+    requires { ⌜ at ≤ length (now s) ⌝ }
+    ensures { λ r. ⌜ r ≡ callOf (drop at (now (s .entry))) ⌝ }
+{
+    read(&s[at..])
 }
 
 // ---- which calls are calls

@@ -5,9 +5,9 @@ ghost use Prim.Native.Nat.{_+_, _*_, _≤_};
 ghost use mathlib.Core.List.{[]};
 ghost use lib.ListN.{length};
 ghost use Rattle.probe.specs.Drive.{start, run, callsOf, Drove};
-use client::Client;
 use crate::call;
 use crate::turn;
+use client::Client;
 use server::Server;
 
 // Every end, the bytes of all slots, and the slots' lengths.
@@ -52,7 +52,13 @@ pub fn start(none: &[u32]) -> World
     }
 }
 
-fn leave(written: usize, server: Server, clients: [Client; 8], slots: [u8; 1280], lengths: [u8; 64]) -> Driven
+fn leave(
+    written: usize,
+    server: Server,
+    clients: [Client; 8],
+    slots: [u8; 1280],
+    lengths: [u8; 64],
+) -> Driven
     ensures { λ r. ⌜ r ≡ record { written = written; world = record { server = server; clients = clients; slots = slots; lengths = lengths } } ⌝ }
 {
     Driven {
@@ -67,7 +73,14 @@ fn leave(written: usize, server: Server, clients: [Client; 8], slots: [u8; 1280]
 }
 
 // One call after another, `count` of them. What a call takes place at goes into its turn and comes back; the rest stays.
-pub fn drive(w: World, calls: &[u8], count: usize, initial: &[u32], quiet: bool, out: &mut [u8]) -> Driven
+pub fn drive(
+    w: World,
+    calls: &[u8],
+    count: usize,
+    initial: &[u32],
+    quiet: bool,
+    out: &mut [u8],
+) -> Driven
     requires { ⌜ 16 * count ≤ length (now calls) ⌝ }
     ensures { λ r. ⌜ Drove quiet (run quiet (now (initial .entry)) (length (now (out .entry))) w (callsOf count (now (calls .entry)))) (now (out .entry)) (now (out .exit)) r ⌝ }
 {
@@ -78,21 +91,20 @@ pub fn drive(w: World, calls: &[u8], count: usize, initial: &[u32], quiet: bool,
     let mut at = 0;
     let mut i = 0;
     while i < count {
-        let from = 16 * i;
-        let k = call::read(&calls[from..]);
+        let k = call::read_at(calls, 16 * i);
         let place = call::place_of(k);
         let size = call::size_of(k, place);
         if out.len() - at < size {
             break;
         }
-        let items = turn::least(k.number as usize, initial.len());
+        let n = turn::least(k.number as usize, initial.len());
         let j = (k.slot % 64) as usize;
-        let first = 20 * j;
-        let last = first + 20;
+        let lo = 20 * j;
+        let hi = lo + 20;
         let len = lengths[j];
         i += 1;
         if place == 0 {
-            let t = turn::turn_server(server, k, &initial[..items], len, &mut slots[first..last], out, at);
+            let t = turn::turn_server(server, k, &initial[..n], len, &mut slots[lo..hi], out, at);
             server = t.server;
             lengths[j] = t.length;
             at = further(quiet, at, size);
@@ -100,14 +112,14 @@ pub fn drive(w: World, calls: &[u8], count: usize, initial: &[u32], quiet: bool,
         }
         if place <= 8 {
             let c = clients[place - 1];
-            let t = turn::turn_client(c, k, &initial[..items], len, &mut slots[first..last], out, at);
+            let t = turn::turn_client(c, k, &initial[..n], len, &mut slots[lo..hi], out, at);
             let c = t.client;
             clients[place - 1] = c;
             lengths[j] = t.length;
             at = further(quiet, at, size);
             continue;
         }
-        lengths[j] = turn::turn_slot(k, place, len, &mut slots[first..last], out, at);
+        lengths[j] = turn::turn_slot(k, place, len, &mut slots[lo..hi], out, at);
         at = further(quiet, at, size);
     }
     leave(at, server, clients, slots, lengths)

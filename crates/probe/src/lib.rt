@@ -42,7 +42,7 @@ pub extern "C" fn probe_repeat(calls: &[u8], times: u32, out: &mut [u8]) -> usiz
         return 0;
     }
     let last = from + 16 * (count - 1);
-    let k = call::read(&calls[last..]);
+    let k = call::read_at(calls, last);
     if call::can_repeat(k, out.len()) {
         let items = header::items_in(calls, c);
         let mut unread = [0u8; 6218];

@@ -10,11 +10,11 @@ ghost use Rattle.server.specs.Calls as server;
 ghost use Rattle.probe.specs.Dump.{answerBytes};
 ghost use Rattle.probe.specs.Turn.{clientSent, clientChanged, clientTurn, serverSent, serverChanged, serverTurn, Same};
 ghost use Rattle.probe.specs.Drive.{turnOf};
-use client::Client;
 use crate::call;
 use crate::call::Call;
 use crate::drive::World;
 use crate::turn;
+use client::Client;
 use endpoint::Sent;
 use server::Server;
 

@@ -8,11 +8,11 @@ ghost use Rattle.model.specs.Questions as model;
 ghost use Rattle.endpoint.specs.Sending.{answered};
 ghost use Rattle.probe.specs.Dump.{Put, slotBytes};
 ghost use Rattle.probe.specs.Turn.{clientSent, clientChanged, clientAfter, clientTurn, clientSize, serverSent, serverChanged, serverAfter, serverTurn, serverSize, slotTurn, slotSize, lengthAfter, Turned};
-use client::Client;
 use crate::call;
 use crate::call::Call;
 use crate::dump;
 use crate::set;
+use client::Client;
 use endpoint::Sent;
 use server::Server;
 
@@ -79,7 +79,15 @@ pub fn change_client(c: Client, k: Call, initial: &[u32], bytes: &[u8]) -> clien
     }
 }
 
-pub fn turn_client(c: Client, k: Call, initial: &[u32], len: u8, slot: &mut [u8], out: &mut [u8], at: usize) -> ClientTurn
+pub fn turn_client(
+    c: Client,
+    k: Call,
+    initial: &[u32],
+    len: u8,
+    slot: &mut [u8],
+    out: &mut [u8],
+    at: usize,
+) -> ClientTurn
     requires { ⌜ at + clientSize k ≤ length (now out) ⌝ }
     ensures end { λ r. ⌜ r .client ≡ clientAfter k (now (initial .entry)) len (now (slot .entry)) c ⌝ }
     ensures turn { λ r. ⌜ Turned (clientTurn k (now (initial .entry)) len (now (slot .entry)) c) at (clientSize k) (now (out .entry)) (now (out .exit)) (now (slot .exit)) (r .length) ⌝ }
@@ -143,7 +151,15 @@ pub fn change_server(s: Server, k: Call, initial: &[u32], bytes: &[u8]) -> serve
     }
 }
 
-pub fn turn_server(s: Server, k: Call, initial: &[u32], len: u8, slot: &mut [u8], out: &mut [u8], at: usize) -> ServerTurn
+pub fn turn_server(
+    s: Server,
+    k: Call,
+    initial: &[u32],
+    len: u8,
+    slot: &mut [u8],
+    out: &mut [u8],
+    at: usize,
+) -> ServerTurn
     requires { ⌜ at + serverSize k ≤ length (now out) ⌝ }
     ensures end { λ r. ⌜ r .server ≡ serverAfter k (now (initial .entry)) len (now (slot .entry)) s ⌝ }
     ensures turn { λ r. ⌜ Turned (serverTurn k (now (initial .entry)) len (now (slot .entry)) s) at (serverSize k) (now (out .entry)) (now (out .exit)) (now (slot .exit)) (r .length) ⌝ }
