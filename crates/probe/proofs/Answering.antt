@@ -15,8 +15,8 @@ use Rattle.probe.specs.declared.drive.Driven.{Driven}
 use Rattle.probe.specs.declared.call.Call.{Call}
 use Rattle.probe.specs.Calls.{callOf, isCall, placeOf, sizeOf, canRepeat}
 use Rattle.probe.specs.Dump.{Put}
-use Rattle.probe.specs.Drive.{start, turnOf, after, Run, run, callsOf, Drove}
-use Rattle.probe.specs.Probe.{headed, itemsFrom, itemsIn, bodyAt, countIn, answers, afterAll, lastCall, beforeLast, repeated, Wrote}
+use Rattle.probe.specs.Drive.{start, turnOf, after, Run, run, afterAll, callsOf, Drove}
+use Rattle.probe.specs.Probe.{headed, itemsFrom, itemsIn, bodyAt, countIn, answers, lastCall, beforeLast, repeated, Wrote}
 use Rattle.probe.proofs.Bytes.{whole-drop}
 
 and-false : (b : Bool) → b && false ≡ false
@@ -93,39 +93,40 @@ pub last-is : (s : List ℕ) (c : ℕ) (k : Call) → c ≡ twoAt s 0
 last-is s c k e h =
     h ∙ ap (λ (n : ℕ). callOf (drop (2 + 4 * n + 16 * ((length s - (2 + 4 * n)) / 16 - 1)) s)) e
 
-module _ (s : List ℕ) (c : ℕ) (items : List ℕ) (w : World) (e : c ≡ twoAt s 0) (i : take c items ≡ itemsFrom c 2 s) (b : w ≡ start) where
-  world-before : (unread unread₁ : List ℕ) (d : Driven) → 6218 ≤ length unread
-      → Drove true (run true (take c items) (length unread) w
-      (callsOf ((length s - (2 + 4 * c)) / 16 - 1) (take (length s - (2 + 4 * c)) (drop (2 + 4 * c) s)))) unread unread₁ d
-      → d .world ≡ beforeLast s
-  world-before unread unread₁ d l r =
-      r .world
-      ∙ ap (λ (x : Run). x .world)
-      (run-is s c items w e i b true (length unread) (countIn s - 1) ((length s - (2 + 4 * c)) / 16 - 1)
-      (ap (λ (k : ℕ). (length s - (2 + 4 * k)) / 16 - 1) e))
-      ∙ quiet-run (itemsIn s) (length unread) start (callsOf (countIn s - 1) (drop (bodyAt s) s)) l
+pub quiet-world : (initial : List ℕ) (ks : List Call) (w : World) (unread unread₁ : List ℕ) (d : Driven) → w ≡ start → 6218 ≤ length unread
+    → Drove true (run true initial (length unread) w ks) unread unread₁ d → d .world ≡ afterAll initial start ks
+quiet-world initial ks w unread unread₁ d b l r =
+    r .world ∙ ap (λ (u : World). run true initial (length unread) u ks .world) b ∙ quiet-run initial (length unread) start ks l
 
-  pub wrote-repeated : (k : Call) (before after unread unread₁ : List ℕ) (d : Driven) {bytes : List ℕ} → headed c (length s) ≡ true
+module _ (s : List ℕ) (c : ℕ) (items : List ℕ) (e : c ≡ twoAt s 0) (i : take c items ≡ itemsFrom c 2 s) where
+  world-is : (w : World) → w ≡ afterAll (take c items) start (callsOf ((length s - (2 + 4 * c)) / 16 - 1) (take (length s - (2 + 4 * c)) (drop (2 + 4 * c) s)))
+      → w ≡ beforeLast s
+  world-is w h =
+      h
+      ∙ ap (λ (l : List ℕ). afterAll l start (callsOf ((length s - (2 + 4 * c)) / 16 - 1) (take (length s - (2 + 4 * c)) (drop (2 + 4 * c) s)))) i
+      ∙ ap (λ (l : List ℕ). afterAll (itemsFrom c 2 s) start (callsOf ((length s - (2 + 4 * c)) / 16 - 1) l)) (whole-drop s (2 + 4 * c))
+      ∙ ap (λ (k : ℕ). afterAll (itemsFrom k 2 s) start (callsOf ((length s - (2 + 4 * k)) / 16 - 1) (drop (2 + 4 * k) s))) e
+
+  pub wrote-repeated : (k : Call) (before after : List ℕ) (w : World) {bytes : List ℕ} → headed c (length s) ≡ true
       → 1 ≤ (length s - (2 + 4 * c)) / 16
       → k ≡ callOf (drop (2 + 4 * c + 16 * ((length s - (2 + 4 * c)) / 16 - 1)) s)
-      → canRepeat k (length before) ≡ true → 6218 ≤ length unread
-      → Drove true (run true (take c items) (length unread) w
-      (callsOf ((length s - (2 + 4 * c)) / 16 - 1) (take (length s - (2 + 4 * c)) (drop (2 + 4 * c) s)))) unread unread₁ d
-      → bytes ≡ take 4 (turnOf (take c items) k (d .world) .bytes) → Put 0 4 bytes before after → Wrote (repeated s (length before)) before after 4
+      → canRepeat k (length before) ≡ true
+      → w ≡ afterAll (take c items) start (callsOf ((length s - (2 + 4 * c)) / 16 - 1) (take (length s - (2 + 4 * c)) (drop (2 + 4 * c) s)))
+      → bytes ≡ take 4 (turnOf (take c items) k w .bytes) → Put 0 4 bytes before after → Wrote (repeated s (length before)) before after 4
   unfolding repeated
-  wrote-repeated k before after unread unread₁ d {bytes} h n q can l r a p =
+  wrote-repeated k before after w {bytes} h n q can r a p =
       let last : k ≡ lastCall s = last-is s c k e q in
       let test : (headed (twoAt s 0) (length s) && leb 1 (countIn s)) && canRepeat (lastCall s) (length before) ≡ true =
       both (headed (twoAt s 0) (length s) && leb 1 (countIn s)) (canRepeat (lastCall s) (length before))
       (both (headed (twoAt s 0) (length s)) (leb 1 (countIn s))
       (sym (ap (λ (k : ℕ). headed k (length s)) e) ∙ h)
-      (sym (ap (leb 1) (count-is s c items w e i b)) ∙ le-leb 1 ((length s - (2 + 4 * c)) / 16) n))
+      (sym (ap (leb 1) (ap (λ (k : ℕ). (length s - (2 + 4 * k)) / 16) e)) ∙ le-leb 1 ((length s - (2 + 4 * c)) / 16) n))
       (sym (ap (λ (x : Call). canRepeat x (length before)) last) ∙ can) in
       let is : bytes ≡ repeated s (length before) =
       a
-      ∙ ap (λ (l : List ℕ). take 4 (turnOf l k (d .world) .bytes)) (i ∙ ap (λ (n : ℕ). itemsFrom n 2 s) e)
-      ∙ ap (λ (x : Call). take 4 (turnOf (itemsIn s) x (d .world) .bytes)) last
-      ∙ ap (λ (u : World). take 4 (turnOf (itemsIn s) (lastCall s) u .bytes)) (world-before unread unread₁ d l r)
+      ∙ ap (λ (l : List ℕ). take 4 (turnOf l k w .bytes)) (i ∙ ap (λ (n : ℕ). itemsFrom n 2 s) e)
+      ∙ ap (λ (x : Call). take 4 (turnOf (itemsIn s) x w .bytes)) last
+      ∙ ap (λ (u : World). take 4 (turnOf (itemsIn s) (lastCall s) u .bytes)) (world-is w r)
       ∙ sym (ap (λ (t : Bool). cond t (take 4 (turnOf (itemsIn s) (lastCall s) (beforeLast s) .bytes)) []) test) in
       record { length = sym (p .size) ∙ ap length is; output = p .wrote ∙ ap (sets before 0) is }
 

@@ -103,6 +103,11 @@ run quiet initial room w (k ∷ ks) =
     (run quiet initial (left quiet room (sizeOf k (placeOf k))) (after initial k w) ks))
     (record { world = w; bytes = [] })
 
+-- the state after all calls of a list
+unfoldable pub afterAll : List ℕ → World → List Call → World
+afterAll initial w [] = w
+afterAll initial w (k ∷ ks) = afterAll initial (after initial k w) ks
+
 -- n calls of 16 bytes each
 unfoldable pub callsOf : ℕ → List ℕ → List Call
 callsOf zero s = []

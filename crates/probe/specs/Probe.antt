@@ -10,7 +10,7 @@ use Rattle.wire.specs.Bytes.{twoAt, fourAt}
 use Rattle.probe.specs.declared.call.Call.{Call}
 use Rattle.probe.specs.declared.drive.World.{World}
 use Rattle.probe.specs.Calls.{callOf, canRepeat}
-use Rattle.probe.specs.Drive.{start, turnOf, after, run, callsOf}
+use Rattle.probe.specs.Drive.{start, turnOf, run, afterAll, callsOf}
 
 -- ---- the input: a count of items, the items, and calls of 16 bytes
 
@@ -37,11 +37,6 @@ countIn s = (length s - bodyAt s) / 16
 unfoldable pub answers : List ℕ → ℕ → List ℕ
 answers s room =
     cond (headed (twoAt s 0) (length s)) (run false (itemsIn s) room start (callsOf (countIn s) (drop (bodyAt s) s)) .bytes) []
-
--- the state after all calls of a list
-unfoldable pub afterAll : List ℕ → World → List Call → World
-afterAll initial w [] = w
-afterAll initial w (k ∷ ks) = afterAll initial (after initial k w) ks
 
 abbrev pub lastCall : List ℕ → Call
 lastCall s = callOf (drop (bodyAt s + 16 * (countIn s - 1)) s)

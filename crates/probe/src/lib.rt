@@ -45,10 +45,7 @@ pub extern "C" fn probe_repeat(calls: &[u8], times: u32, out: &mut [u8]) -> usiz
     let k = call::read_at(calls, last);
     if call::can_repeat(k, out.len()) {
         let items = header::items_in(calls, c);
-        let mut unread = [0u8; 6218];
-        let w = drive::start(&items[..0]);
-        let d = drive::drive(w, &calls[from..], count - 1, &items[..c], true, &mut unread);
-        let w = d.world;
+        let w = drive::drive_quietly(&calls[from..], count - 1, &items[..c]);
         let a = repeat::repeat(w, k, &items[..c], times);
         dump::put_answer(out, 0, a.refusal, a.written, a.passed);
         return 4;
