@@ -72,7 +72,11 @@ fn pick(first: bool, a: bool, b: bool) -> bool
 fn place_sound(used: bool, total: u32, made: u16, taken: u16, acked: u16, inserts: u16) -> bool
     ensures { λ r. ⌜ r ≡ cond used (countsSound total made taken acked inserts) (countsZero made taken acked inserts) ⌝ }
 {
-    pick(used, counts_sound(total, made, taken, acked, inserts), counts_zero(made, taken, acked, inserts))
+    pick(
+        used,
+        counts_sound(total, made, taken, acked, inserts),
+        counts_zero(made, taken, acked, inserts),
+    )
 }
 
 // The counts of all places: one of the first n holds a line in use.
