@@ -15,9 +15,9 @@ ghost use Rattle.server.specs.Taking.{roomyAt, editAsked, lastAsked, ack
 use crate::Answer;
 use crate::Counts;
 use crate::Server;
-use crate::question2::is_sound;
-use crate::question2::less;
-use crate::question2::wide;
+use crate::is_sound;
+use crate::less;
+use crate::wide;
 use ot::Edit;
 use wire::Header;
 use wire::Message;
