@@ -179,28 +179,32 @@ pub fn ends(seed: u64) -> Vec<List> {
 fn pending_sets(end: u8, line: u8) -> Vec<Vec<Call>> {
     let mut all = Vec::new();
     for index in [0, 1, 2, 3, 62, 63] {
-        for (kind, position, priority, item) in [
+        for (top, position, priority, item) in [
             (0, 0, 0, 0),
+            (0, 0, 0, 5),
+            (0, 0, 1, 0),
+            (0, 0, 1, 5),
+            (0, 1, 0, 0),
+            (0, 1, 0, 5),
+            (0, 512, 0, 0),
+            (0, 513, 0, 0),
+            (0, 65_535, 0, 0),
             (1, 0, 0, 0),
             (1, 1, 0, 0),
-            (1, 512, 0, 0),
-            (1, 513, 0, 0),
-            (1, 65_535, 0, 0),
-            (2, 1, 0, 5),
-            (2, 1, 1, 0),
-            (2, 0, 1, 5),
-            (2, 512, 1, 5),
-            (2, 512, 2, 5),
-            (2, 513, 2, 5),
             (2, 1, 2, 5),
-            (2, 1, 3, 5),
-            (2, 1, 4, 5),
-            (2, 1, 8, 5),
-            (2, 1, 9, 5),
-            (2, 1, 17, 5),
-            (2, 1, 255, 5),
+            (0, 1, 1, 0),
+            (0, 512, 1, 5),
+            (0, 512, 2, 5),
+            (0, 513, 2, 5),
+            (0, 1, 2, 5),
+            (0, 1, 3, 5),
+            (0, 1, 4, 5),
+            (0, 1, 8, 5),
+            (0, 1, 9, 5),
+            (0, 1, 17, 5),
+            (0, 1, 255, 5),
         ] {
-            all.push(vec![Call { position, size: kind, priority, ..Call::set(end, line, field::PENDING, index, item) }]);
+            all.push(vec![Call { position, size: top, priority, ..Call::set(end, line, field::PENDING, index, item) }]);
         }
     }
     all
@@ -209,16 +213,15 @@ fn pending_sets(end: u8, line: u8) -> Vec<Vec<Call>> {
 /// Several fields at once, so that one conjunct alone is false or a limit is reached with all others kept.
 fn together(end: u8) -> Vec<Vec<Call>> {
     let set = |line: u8, choice: u8, value: u32| Call::set(end, line, choice, 0, value);
-    let edit = |line: u8, index: u16, kind: u8, position: u16, priority: u8| Call {
+    let edit = |line: u8, index: u16, position: u16, priority: u8| Call {
         position,
-        size: kind,
         priority,
-        ..Call::set(end, line, field::PENDING, index, if kind == 2 { 9 } else { 0 })
+        ..Call::set(end, line, field::PENDING, index, if priority == 0 { 0 } else { 9 })
     };
     if end != 0 {
         let all_pending = |made: u32, acked: u32| {
             let mut sets = vec![set(1, field::MADE, made), set(1, field::ACKED, acked)];
-            sets.extend((0..PENDING as u16).map(|index| edit(1, index, 1, 1, 0)));
+            sets.extend((0..PENDING as u16).map(|index| edit(1, index, 1, 0)));
             sets
         };
         let with = |mut sets: Vec<Call>, more: &[Call]| {
@@ -240,10 +243,10 @@ fn together(end: u8) -> Vec<Vec<Call>> {
             vec![set(1, field::N, 9), set(1, field::LINE, 9)],
             vec![set(1, field::N, 0), set(1, field::LINE, 0)],
             vec![set(1, field::LENGTH, 512)],
-            with(all_pending(64, 0), &(0..64).map(|i| edit(1, i, 2, 512, 1)).collect::<Vec<_>>()),
-            with(all_pending(10, 0), &(0..10).map(|i| edit(1, i, 2, 512, 1)).collect::<Vec<_>>())
+            with(all_pending(64, 0), &(0..64).map(|i| edit(1, i, 512, 1)).collect::<Vec<_>>()),
+            with(all_pending(10, 0), &(0..10).map(|i| edit(1, i, 512, 1)).collect::<Vec<_>>())
                 .into_iter()
-                .chain((10..64).map(|i| edit(1, i, 0, 0, 0)))
+                .chain((10..64).map(|i| edit(1, i, 0, 0)))
                 .collect(),
         ];
     }
@@ -252,7 +255,7 @@ fn together(end: u8) -> Vec<Vec<Call>> {
         let mut sets = Vec::new();
         for (line, taken, made) in [(1, a, b + c), (2, b, a + c), (3, c, a + b)] {
             sets.extend([set(line, field::TAKEN, taken), set(line, field::MADE, made), set(line, field::ACKED, made)]);
-            sets.extend((0..4).map(|index| edit(line, index, 0, 0, 0)));
+            sets.extend((0..4).map(|index| edit(line, index, 0, 0)));
         }
         sets
     };
@@ -316,7 +319,6 @@ fn pending_edits(end: u8, line: u8, kept: u16, length: u16, priority: u8) -> Vec
     let spread = length.max(1);
     let edit = |index: u16| Call {
         position: 1 + (index * 7) % spread,
-        size: 1 + (index % 2) as u8,
         priority: if index % 2 == 1 { priority } else { 0 },
         ..Call::set(end, line, field::PENDING, index, if index % 2 == 1 { 9 } else { 0 })
     };

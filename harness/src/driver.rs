@@ -237,13 +237,11 @@ fn set_line(line: &mut Line, call: &Call) -> Option<()> {
         field::ACKED => line.acked = small,
         field::INSERTS => line.inserts = small,
         field::PENDING => {
-            let edit = match call.size {
-                0 => Edit::NOTHING,
-                1 => Edit::delete(call.position),
-                2 => Edit::insert(call.position, call.value, call.priority),
-                _ => return None,
-            };
-            *line.pending.get_mut(call.number as usize)? = edit;
+            if call.size > 2 {
+                return None;
+            }
+            let place = (call.size as u32) << 24 | (call.position as u32) << 8 | call.priority as u32;
+            *line.pending.get_mut(call.number as usize)? = Edit::of_slot(place, call.value);
         }
         _ => return None,
     }
@@ -256,39 +254,43 @@ fn put<'a>(out: &'a mut [u8], bytes: &[u8]) -> &'a mut [u8] {
     rest
 }
 
-fn dump_line<'a>(line: &Line, mut out: &'a mut [u8]) -> &'a mut [u8] {
-    for count in [line.made, line.taken, line.acked, line.inserts] {
-        out = put(out, &count.to_be_bytes());
+/// Each number of some, high byte first.
+fn put_twos(mut out: &mut [u8], numbers: impl Iterator<Item = u16>) -> &mut [u8] {
+    for number in numbers {
+        out = put(out, &number.to_be_bytes());
     }
-    let (now, rest) = out.split_at_mut(8 * PENDING);
-    for (eight, edit) in now.chunks_exact_mut(8).zip(&line.pending) {
-        eight[0] = edit.kind();
-        eight[1] = edit.priority();
-        eight[2..4].copy_from_slice(&edit.position().to_be_bytes());
-        eight[4..].copy_from_slice(&edit.item().to_be_bytes());
-    }
-    rest
+    out
 }
 
-fn dump_items(items: &[u32; ITEMS], out: &mut [u8]) {
-    for (four, item) in out.chunks_exact_mut(4).zip(items) {
-        four.copy_from_slice(&item.to_be_bytes());
+fn put_fours(mut out: &mut [u8], numbers: impl Iterator<Item = u32>) -> &mut [u8] {
+    for number in numbers {
+        out = put(out, &number.to_be_bytes());
     }
+    out
+}
+
+/// The slots of some lines, their places and then their items; and the items of the list.
+fn dump_lists(out: &mut [u8], lines: &[Line], items: &[u32; ITEMS]) {
+    let slots = || lines.iter().flat_map(|line| &line.pending);
+    let out = put_fours(out, slots().map(|edit| edit.place()));
+    let out = put_fours(out, slots().map(|edit| edit.item()));
+    put_fours(out, items.iter().copied());
 }
 
 pub fn dump_client(client: &Client, out: &mut [u8]) {
+    let own = &client.own;
     let out = put(out, &[client.n, client.line]);
-    let out = put(out, &client.length.to_be_bytes());
-    let out = dump_line(&client.own, out);
-    dump_items(&client.items, out);
+    let out = put_twos(out, [client.length, own.made, own.taken, own.acked, own.inserts].into_iter());
+    dump_lists(out, std::slice::from_ref(own), &client.items);
 }
 
 pub fn dump_server(server: &Server, out: &mut [u8]) {
+    let lines = &server.lines;
     let out = put(out, &[server.n, 0]);
-    let out = put(out, &server.length.to_be_bytes());
-    let mut out = put(out, &server.initial.to_be_bytes());
-    for line in &server.lines {
-        out = dump_line(line, out);
-    }
-    dump_items(&server.items, out);
+    let out = put_twos(out, [server.length, server.initial].into_iter());
+    let out = put_twos(out, lines.iter().map(|line| line.made));
+    let out = put_twos(out, lines.iter().map(|line| line.taken));
+    let out = put_twos(out, lines.iter().map(|line| line.acked));
+    let out = put_twos(out, lines.iter().map(|line| line.inserts));
+    dump_lists(out, lines, &server.items);
 }

@@ -282,8 +282,8 @@ impl Run {
         };
         let index = if self.rng.once_in(2) { self.rng.below(520) } else { self.rng.below(65) };
         let position = self.rng.pick(&[0, 1, 2, 511, 512, 513, 65_535]);
-        let (kind, priority) = (self.rng.below(4) as u8, self.rng.below(10) as u8);
-        let call = Call { position, size: kind, priority, ..Call::set(end, line, choice, index as u16, value as u32) };
+        let (top, priority) = (self.rng.pick(&[0, 0, 0, 0, 1, 2, 3]), self.rng.below(10) as u8);
+        let call = Call { position, size: top, priority, ..Call::set(end, line, choice, index as u16, value as u32) };
         self.call(call);
         self.call(Call::dump(end));
     }

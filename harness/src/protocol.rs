@@ -155,7 +155,7 @@ impl Call {
             TAKE => format!("{who} takes slot {}", self.slot),
             POKE => format!("slot {} byte {} becomes {}, length {}", self.slot, self.number, self.value & 255, self.size),
             SET => format!(
-                "{who} line {} field {} index {} becomes {} (kind {}, position {}, priority {})",
+                "{who} line {} field {} index {} becomes {} (top {}, position {}, priority {})",
                 self.line, self.field, self.number, self.value, self.size, self.position, self.priority
             ),
             DUMP => format!("{who} is dumped"),
@@ -174,21 +174,22 @@ pub fn place(call: &Call, byte: usize) -> String {
     if call.op == SHOW {
         return if at == 0 { "the slot's length".to_string() } else { format!("the slot's byte {}", at - 1) };
     }
-    const WIDE: usize = 8 + PENDING * 8;
     let (head, lines) = if call.end == 0 { (6, LINES) } else { (4, 1) };
-    let line = |at: usize| match at {
-        0..=7 => ["made", "taken", "acked", "inserts"][at / 2].to_string(),
-        _ => format!("pending[{}] {}", (at - 8) / 8, ["kind", "priority", "position", "position", "item", "item", "item", "item"][at % 8]),
-    };
+    let (slots, list) = (head + 8 * lines, head + 8 * lines + 8 * lines * PENDING);
+    let slot = |index: usize| format!("slot {} of line {}", index % PENDING, index / PENDING + 1);
     if at < head {
         let names =
             if call.end == 0 { ["n", "zero", "length", "length", "initial", "initial"] } else { ["n", "line", "length", "length", "", ""] };
         names[at].to_string()
-    } else if at < head + lines * WIDE {
-        let which = if call.end == 0 { format!("line {} ", (at - head) / WIDE + 1) } else { String::new() };
-        which + &line((at - head) % WIDE)
+    } else if at < slots {
+        let index = (at - head) / 2;
+        format!("{} of line {}", ["made", "taken", "acked", "inserts"][index / lines], index % lines + 1)
+    } else if at < list {
+        let index = (at - slots) / 4;
+        let which = if index < lines * PENDING { "place" } else { "item" };
+        format!("{which} of {}", slot(index % (lines * PENDING)))
     } else {
-        format!("items[{}]", (at - head - lines * WIDE) / 4)
+        format!("items[{}]", (at - list) / 4)
     }
 }
 

@@ -11,7 +11,7 @@ struct Line {
     taken: u64,
     acked: u64,
     inserts: u64,
-    /// kind, priority, position, item
+    /// the place's top byte, position, priority; item
     pending: Vec<(u64, u64, u64, u64)>,
 }
 
@@ -24,14 +24,30 @@ impl Reader<'_> {
         now.iter().fold(0, |all, &byte| all << 8 | byte as u64)
     }
 
-    fn line(&mut self) -> Line {
-        let [made, taken, acked, inserts] = [(); 4].map(|_| self.number(2));
-        let pending = (0..PENDING).map(|_| (self.number(1), self.number(1), self.number(2), self.number(4))).collect();
-        Line { made, taken, acked, inserts, pending }
+    fn numbers(&mut self, width: usize, count: usize) -> Vec<u64> {
+        (0..count).map(|_| self.number(width)).collect()
+    }
+
+    /// The lines, whose counts and slots stand side by side.
+    fn lines(&mut self, count: usize) -> Vec<Line> {
+        let [made, taken, acked, inserts] = [(); 4].map(|_| self.numbers(2, count));
+        let places = self.numbers(4, count * PENDING);
+        let items = self.numbers(4, count * PENDING);
+        let slots: Vec<(u64, u64, u64, u64)> =
+            places.iter().zip(items).map(|(&place, item)| (place >> 24, place >> 8 & 65_535, place & 255, item)).collect();
+        (0..count)
+            .map(|line| Line {
+                made: made[line],
+                taken: taken[line],
+                acked: acked[line],
+                inserts: inserts[line],
+                pending: slots[line * PENDING..][..PENDING].to_vec(),
+            })
+            .collect()
     }
 
     fn items(&mut self) -> Vec<u64> {
-        (0..ITEMS).map(|_| self.number(4)).collect()
+        self.numbers(4, ITEMS)
     }
 }
 
@@ -45,17 +61,17 @@ fn sound_pending(line: &Line, priority_allowed: impl Fn(u64) -> bool) -> bool {
         return false;
     }
     let (used, unused) = line.pending.split_at((line.made - line.acked) as usize);
-    used.iter().all(|&(kind, priority, position, _)| {
-        let position = kind == 0 || (1..=512).contains(&position);
-        let priority = kind != 2 || priority_allowed(priority);
-        position && priority
+    used.iter().all(|&(top, position, priority, item)| {
+        let delete = priority == 0 && item == 0;
+        let insert = priority != 0 && priority_allowed(priority);
+        (top, position, priority, item) == (0, 0, 0, 0) || top == 0 && (1..=512).contains(&position) && (delete || insert)
     }) && unused.iter().all(|&edit| edit == (0, 0, 0, 0))
 }
 
 fn sound_client(dump: &[u8]) -> bool {
     let mut reader = Reader(dump);
     let (n, line, length) = (reader.number(1), reader.number(1), reader.number(2));
-    let own = reader.line();
+    let own = reader.lines(1).remove(0);
     let items = reader.items();
     (1..=8).contains(&n)
         && (1..=n).contains(&line)
@@ -71,7 +87,7 @@ fn sound_client(dump: &[u8]) -> bool {
 fn sound_server(dump: &[u8]) -> bool {
     let mut reader = Reader(dump);
     let (n, _, length, initial) = (reader.number(1), reader.number(1), reader.number(2), reader.number(2));
-    let lines: Vec<Line> = (0..LINES).map(|_| reader.line()).collect();
+    let lines = reader.lines(LINES);
     let items = reader.items();
     if !(1..=8).contains(&n) || initial > 128 || length > 512 {
         return false;

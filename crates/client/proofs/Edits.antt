@@ -1,11 +1,11 @@
 -- Editing: the code's questions are the model's, and what it makes of a sound end is the store of what the model makes.
-use Prim.Native.Nat.{ℕ, _+_, _-_, _≤_, _<_}
+use Prim.Native.Nat.{ℕ, _+_, _≤_, _<_}
 use native.Mathlib.Omega.{arith}
 use mathlib.Core.Path.{_≡_, refl, ap, _∙_, sym}
 use mathlib.Core.Bool.{Bool, _&&_}
 use mathlib.Core.List.{List, [], _∷_, _++_}
 use lib.Dec.{leb, ltb}
-use lib.ListN.{length}
+use lib.ListN.{length, set}
 use borrow.Author.Tests.{eqb-false, ltb-true, leb-true}
 use Rattle.ot.specs.declared.Edit.{Edit}
 use Rattle.ot.specs.declared.Edit.the-variants.{Nothing, Delete, Insert}
@@ -18,18 +18,18 @@ use Rattle.model.specs.Client.{soundClient, editClient}
 use Rattle.model.specs.Client as client
 use Rattle.model.proofs.Tests.{Yes, yes-all}
 use Rattle.model.proofs.SoundClient.{ClientFacts, client-facts}
-use Rattle.pending.specs.declared.Slot.{Slot}
-use Rattle.pending.specs.Slots.{usedEdits, filled}
+use Rattle.pending.specs.Slots.{placeOf, itemOf, filled}
+use Rattle.pending.proofs.Slots.{edits-length, filled-push}
 use Rattle.endpoint.specs.Items.{stored, roomy}
 use Rattle.endpoint.proofs.Room.{roomy-model, roomy-room, room-stored, room-length}
 use Rattle.client.specs.declared.Client.{Client}
-use Rattle.client.specs.Store.{pendingCount, view, store, sound, Sound}
+use Rattle.client.specs.Store.{counts, pendingCount, view, store, sound, Sound}
 use Rattle.client.specs.Answers.{refusedWith, doneWith, guarded, editAsked, edited}
 use Rattle.client.proofs.Answers.{refused, done}
 
 -- the counts with other values
-abbrev pub counted : Client → ℕ → ℕ → ℕ → List ℕ → List Slot → Client
-counted c made inserts len items pending =
+abbrev pub counted : Client → ℕ → ℕ → ℕ → List ℕ → List ℕ → List ℕ → Client
+counted c made inserts len items places pending =
     record {
       n = c .n;
       line = c .line;
@@ -39,7 +39,8 @@ counted c made inserts len items pending =
       inserts = inserts;
       len = len;
       items = items;
-      pending = pending;
+      «pending_places» = places;
+      «pending_items» = pending;
     }
 
 module _ (c : Client) (s : Sound c) where
@@ -61,26 +62,26 @@ module _ (c : Client) (s : Sound c) (e : Edit) where
   abbrev nine : Bool
   nine = fits e (length (view c .items)) && leb (length (applied e (view c .items))) maxItems
 
-  same-questions : asks (ask 2 (soundClient (view c)) ∷ ask 9 nine ∷ later) ≡ asks (editAsked c e)
+  same-questions : asks (ask 2 (soundClient (view c)) ∷ ask 9 nine ∷ later) ≡ asks (editAsked (counts c) e)
   same-questions =
       ap (λ (b : Bool). asks (ask 2 b ∷ ask 9 nine ∷ later)) (s .model)
       ∙ ap (λ (b : Bool). asks (ask 9 b ∷ later))
       (sym (roomy-model e (view c .items) (facts c s .items)) ∙ ap (roomy e) (s .size))
 
-  pub edit-refused : (r : ℕ) → r ≡ asks (editAsked c e) → (r ≡ 0 → ⊥) → refusedWith r c ≡ edited c e
+  pub edit-refused : (r : ℕ) → r ≡ asks (editAsked (counts c) e) → (r ≡ 0 → ⊥) → refusedWith r c ≡ edited c e
   unfolding editClient
   edit-refused r er n =
       refused c r 0 (client.edited (view c) e) (s .yes) n
       ∙ ap (λ (k : ℕ). guarded c (answer k (view c) (client.edited (view c) e) 0)) (er ∙ sym same-questions)
 
-  pub edit-done : asks (editAsked c e) ≡ 0 → doneWith 0 (client.edited (view c) e) ≡ edited c e
+  pub edit-done : asks (editAsked (counts c) e) ≡ 0 → doneWith 0 (client.edited (view c) e) ≡ edited c e
   unfolding editClient
   edit-done z = done c (asks (ask 2 (soundClient (view c)) ∷ ask 9 nine ∷ later)) 0 (client.edited (view c) e) (s .yes) (same-questions ∙ z)
 
-  module _ (z : asks (editAsked c e) ≡ 0) where
-    answered-yes : Yes (editAsked c e)
+  module _ (z : asks (editAsked (counts c) e) ≡ 0) where
+    answered-yes : Yes (editAsked (counts c) e)
     answered-yes =
-        yes-all (editAsked c e)
+        yes-all (editAsked (counts c) e)
         (eqb-false 9 0 refl, (eqb-false 10 0 refl, (eqb-false 11 0 refl, (eqb-false 12 0 refl, tt)))) z
 
     pub edit-room : Room e (c .len) maxItems
@@ -95,19 +96,42 @@ module _ (c : Client) (s : Sound c) (e : Edit) where
     pub edit-pending : pendingCount c < maxPending
     edit-pending = ltb-true (pendingCount c) maxPending (answered-yes .1 .1 .1 .0)
 
-    pub edited-is : (k len : ℕ) (after : List ℕ) (slots : List Slot) → k ≡ insertsOf e → Edited e (c .len) (c .items) after len
-        → slots ≡ filled (usedEdits (pendingCount c) (c .pending) ++ (e ∷ []))
-        → record { refusal = 0; passed = 0; client = counted c (c .made + 1) (c .inserts + k) len after slots } ≡ doneWith 0 (client.edited (view c) e)
-    edited-is k len after slots ek ed es =
+    -- one more slot is in use
+    pushed : (word : Edit → ℕ) (ws : List ℕ) (v : ℕ) → ws ≡ filled word (view c .pending) → v ≡ word e
+        → set ws (pendingCount c) v ≡ filled word (view c .pending ++ (e ∷ []))
+    pushed word ws v ew ev =
+        let n : pendingCount c ≡ length (view c .pending) = sym (edits-length (c .«pending_places») (c .«pending_items») 0 (pendingCount c)) in
+        ap (λ (l : List ℕ). set l (pendingCount c) v) ew ∙ ap (set (filled word (view c .pending)) (pendingCount c)) ev
+        ∙ ap (λ (k : ℕ). set (filled word (view c .pending)) k (word e)) n
+        ∙ filled-push word (view c .pending) e (omega (arith, edit-pending, n))
+
+    pub edited-is : (r k len place item : ℕ) (after : List ℕ) → r ≡ asks (editAsked (counts c) e) → k ≡ insertsOf e → place ≡ placeOf e → item ≡ itemOf e
+        → Edited e (c .len) (c .items) after len
+        → record {
+          refusal = r;
+          passed = 0;
+          client =
+              counted c (c .made + 1) (c .inserts + k) len after (set (c .«pending_places») (pendingCount c) place)
+              (set (c .«pending_items») (pendingCount c) item);
+        } ≡ edited c e
+    edited-is r k len place item after er ek ep ei ed =
         let room : Room e (c .len) maxItems = edit-room in
         let items : after ≡ stored (applied e (view c .items)) =
         ed .items ∙ room-stored e (c .len) (c .items) (view c .items) (items-stored c s) (s .size) room in
         let size : len ≡ length (applied e (view c .items)) = ed .length ∙ room-length e (c .len) (view c .items) (s .size) room in
-        ap (λ (d : Client). record { refusal = 0; passed = 0; client = d })
-        (ap (λ (j : ℕ). counted c (c .made + 1) (c .inserts + j) len after slots) ek
-        ∙ ap (λ (j : ℕ). counted c (c .made + 1) (c .inserts + insertsOf e) j after slots) size
-        ∙ ap (λ (a : List ℕ). counted c (c .made + 1) (c .inserts + insertsOf e) (length (applied e (view c .items))) a slots) items
-        ∙ ap (counted c (c .made + 1) (c .inserts + insertsOf e) (length (applied e (view c .items))) (stored (applied e (view c .items)))) es)
+        let ps : List ℕ = set (c .«pending_places») (pendingCount c) place in
+        let xs : List ℕ = set (c .«pending_items») (pendingCount c) item in
+        let es : List Edit = view c .pending ++ (e ∷ []) in
+        let ps′ : ps ≡ filled placeOf es = pushed placeOf (c .«pending_places») place (ap (λ (d : Client). d .«pending_places») (s .whole)) ep in
+        let xs′ : xs ≡ filled itemOf es = pushed itemOf (c .«pending_items») item (ap (λ (d : Client). d .«pending_items») (s .whole)) ei in
+        ap (λ (q : ℕ). record { refusal = q; passed = 0; client = counted c (c .made + 1) (c .inserts + k) len after ps xs }) (er ∙ z)
+        ∙ ap (λ (d : Client). record { refusal = 0; passed = 0; client = d })
+        (ap (λ (j : ℕ). counted c (c .made + 1) (c .inserts + j) len after ps xs) ek
+        ∙ ap (λ (j : ℕ). counted c (c .made + 1) (c .inserts + insertsOf e) j after ps xs) size
+        ∙ ap (λ (a : List ℕ). counted c (c .made + 1) (c .inserts + insertsOf e) (length (applied e (view c .items))) a ps xs) items
+        ∙ ap (λ (a : List ℕ). counted c (c .made + 1) (c .inserts + insertsOf e) (length (applied e (view c .items))) (stored (applied e (view c .items))) a xs) ps′
+        ∙ ap (counted c (c .made + 1) (c .inserts + insertsOf e) (length (applied e (view c .items))) (stored (applied e (view c .items))) (filled placeOf es)) xs′)
+        ∙ edit-done z
 
 pub inserts-few : (e : Edit) → insertsOf e ≤ 1
 inserts-few Nothing = omega arith

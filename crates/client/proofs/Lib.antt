@@ -3,3 +3,4 @@ pub mod Answers
 pub mod Messages
 pub mod Edits
 pub mod Takes
+pub mod Stored

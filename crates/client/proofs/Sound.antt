@@ -1,28 +1,29 @@
 -- The struct's question 2: what the code tests is the definition, and what a sound struct is.
-use Prim.Native.Nat.{ℕ, _-_, _≤_}
+use Prim.Native.Nat.{ℕ, _≤_}
 use native.Mathlib.Omega.{arith}
-use mathlib.Core.Path.{_≡_, ap, _∙_, sym, subst}
+use mathlib.Core.Path.{_≡_, ap, _∙_, sym}
 use mathlib.Core.Bool.{Bool, true, _&&_}
 use mathlib.Core.List.{List}
 use lib.Dec.{eqb}
 use lib.ListN.{length, take, drop, length-take}
-use borrow.Author.Tests.{leb-true, le-leb}
+use borrow.Author.Tests.{leb-true, le-leb, eq-eqb}
 use Rattle.model.specs.Limits.{maxItems}
 use Rattle.model.specs.Questions.{every}
 use Rattle.model.specs.Client.{clientTests, soundClient}
 use Rattle.model.proofs.Tests.{both, and-left, and-right, hold, held}
-use Rattle.pending.specs.Slots.{usedEdits, filled, Kept, soundSlots}
+use Rattle.pending.specs.Slots.{placeOf, itemOf, filled, soundSlots, Kept, Whole}
 use Rattle.pending.specs.Slots as slots
-use Rattle.pending.specs.declared.Slot.{Slot}
+use Rattle.pending.proofs.Slots.{edits-length, stretch-all}
+use Rattle.pending.proofs.Tests.{sound-kept}
 use Rattle.endpoint.specs.Items.{stored, allZero}
 use Rattle.endpoint.proofs.Bools.{bool-ext}
 use Rattle.endpoint.proofs.Items.{stored-of}
 use Rattle.client.specs.declared.Client.{Client}
-use Rattle.client.specs.Store.{pendingCount, view, store, soundTests, countTests, sound, Sound}
+use Rattle.client.specs.Store.{counts, pendingCount, view, store, soundTests, countTests, sound, Sound, Sizes}
 
--- the struct with other items and other slots
-abbrev pub holding : Client → ℕ → List ℕ → List Slot → Client
-holding c len items pending =
+-- the struct with other lists
+abbrev pub holding : Client → ℕ → List ℕ → List ℕ → List ℕ → Client
+holding c len items places pending =
     record {
       n = c .n;
       line = c .line;
@@ -32,26 +33,31 @@ holding c len items pending =
       inserts = c .inserts;
       len = len;
       items = items;
-      pending = pending;
+      «pending_places» = places;
+      «pending_items» = pending;
     }
+
+abbrev slotsSound : Client → Bool
+slotsSound c = soundSlots (eqb (c .line)) 0 (pendingCount c) (c .«pending_places») (c .«pending_items»)
 
 -- what the code tests
 abbrev pub tested : Client → Bool
-tested c = (every (countTests c) && allZero (drop (c .len) (c .items))) && soundSlots (eqb (c .line)) (pendingCount c) (c .pending)
+tested c = (every (countTests (counts c)) && allZero (drop (c .len) (c .items))) && slotsSound c
 
-module _ (c : Client) (full : length (c .items) ≡ maxItems) where
+module _ (c : Client) (sizes : Sizes (c .items) (c .«pending_places») (c .«pending_items»)) where
   view-size : c .len ≤ maxItems → length (take (c .len) (c .items)) ≡ c .len
-  view-size h = simp length-take (omega (arith, full))
+  view-size h = simp length-take (omega (arith, sizes .items-size))
 
-  pub tested-sound : tested c ≡ true → sound c ≡ true
+  tested-sound : tested c ≡ true → sound c ≡ true
   unfolding sound soundClient soundSlots
   tested-sound h =
-      let left = and-left (every (countTests c) && allZero (drop (c .len) (c .items))) (soundSlots (eqb (c .line)) (pendingCount c) (c .pending)) h in
-      let k = hold (countTests c) (and-left (every (countTests c)) (allZero (drop (c .len) (c .items))) left) in
-      let z = and-right (every (countTests c)) (allZero (drop (c .len) (c .items))) left in
-      let s = hold (slots.soundTests (eqb (c .line)) (pendingCount c) (c .pending))
-      (and-right (every (countTests c) && allZero (drop (c .len) (c .items))) (soundSlots (eqb (c .line)) (pendingCount c) (c .pending)) h) in
+      let left = and-left (every (countTests (counts c)) && allZero (drop (c .len) (c .items))) (slotsSound c) h in
+      let right = and-right (every (countTests (counts c)) && allZero (drop (c .len) (c .items))) (slotsSound c) h in
+      let k = hold (countTests (counts c)) (and-left (every (countTests (counts c))) (allZero (drop (c .len) (c .items))) left) in
+      let z = and-right (every (countTests (counts c))) (allZero (drop (c .len) (c .items))) left in
+      let s = hold (slots.soundTests (eqb (c .line)) 0 (pendingCount c) (c .«pending_places») (c .«pending_items»)) right in
       let len : c .len ≤ maxItems = leb-true (c .len) maxItems (k .1 .1 .1 .1 .1 .1 .1 .0) in
+      let count = eq-eqb (length (view c .pending)) (pendingCount c) (edits-length (c .«pending_places») (c .«pending_items») 0 (pendingCount c)) in
       let m : every (clientTests (view c)) ≡ true =
       held (clientTests (view c)) (
         k .0,
@@ -68,11 +74,11 @@ module _ (c : Client) (full : length (c .items) ≡ maxItems) where
                   (
                     s .0,
                     (
-                      s .1 .0,
+                      count,
                       (
-                        s .1 .1 .0,
+                        s .1 .0,
                         (
-                          s .1 .1 .1 .0,
+                          s .1 .1 .0,
                           (k .1 .1 .1 .1 .1 .0, (k .1 .1 .1 .1 .1 .1 .0, tt)),
                         ),
                       ),
@@ -84,16 +90,16 @@ module _ (c : Client) (full : length (c .items) ≡ maxItems) where
           ),
         ),
       ) in
-      held (soundTests c) (m, (k .1 .1 .1 .1 .1 .1 .1 .0, (z, (s .1 .1 .1 .1 .0, tt))))
+      held (soundTests c) (m, (k .1 .1 .1 .1 .1 .1 .1 .0, (z, (right, tt))))
 
   sound-tested : sound c ≡ true → tested c ≡ true
-  unfolding sound soundClient soundSlots
+  unfolding sound soundClient
   sound-tested h =
       let f = hold (soundTests c) h in
       let m = hold (clientTests (view c)) (f .0) in
-      both (every (countTests c) && allZero (drop (c .len) (c .items))) (soundSlots (eqb (c .line)) (pendingCount c) (c .pending))
-      (both (every (countTests c)) (allZero (drop (c .len) (c .items)))
-      (held (countTests c) (
+      both (every (countTests (counts c)) && allZero (drop (c .len) (c .items))) (slotsSound c)
+      (both (every (countTests (counts c))) (allZero (drop (c .len) (c .items)))
+      (held (countTests (counts c)) (
         m .0,
         (
           m .1 .0,
@@ -113,33 +119,41 @@ module _ (c : Client) (full : length (c .items) ≡ maxItems) where
         ),
       ))
       (f .1 .1 .0))
-      (held (slots.soundTests (eqb (c .line)) (pendingCount c) (c .pending))
-      (m .1 .1 .1 .1 .1 .1 .0, (m .1 .1 .1 .1 .1 .1 .1 .0, (m .1 .1 .1 .1 .1 .1 .1 .1 .0, (m .1 .1 .1 .1 .1 .1 .1 .1 .1 .0, (f .1 .1 .1 .0, tt))))))
+      (f .1 .1 .1 .0)
 
-  pub tested-is : tested c ≡ sound c
+  tested-is : tested c ≡ sound c
   tested-is = bool-ext (tested c) (sound c) tested-sound sound-tested
 
-  pub sound-facts : sound c ≡ true → Kept (pendingCount c) (c .pending) → Sound c
+  sound-facts : sound c ≡ true → Sound c
   unfolding sound
-  sound-facts h k =
+  sound-facts h =
       let f = hold (soundTests c) h in
       let len : c .len ≤ maxItems = leb-true (c .len) maxItems (f .1 .0) in
       let size : length (take (c .len) (c .items)) ≡ c .len = view-size len in
-      let items : c .items ≡ stored (take (c .len) (c .items)) = stored-of (c .items) (c .len) full len (f .1 .1 .0) in
-      let pending : c .pending ≡ filled (usedEdits (pendingCount c) (c .pending)) = k .whole in
+      let items : c .items ≡ stored (take (c .len) (c .items)) = stored-of (c .items) (c .len) (sizes .items-size) len (f .1 .1 .0) in
+      let room : Whole 0 (c .«pending_places») (c .«pending_items») =
+      record { places = omega (arith, sizes .places-size); items = omega (arith, sizes .pending-size) } in
+      let kept : Kept 0 (pendingCount c) (c .«pending_places») (c .«pending_items») =
+      sound-kept (eqb (c .line)) (c .«pending_places») (c .«pending_items») 0 (pendingCount c) room (f .1 .1 .1 .0) in
+      let places : c .«pending_places» ≡ filled placeOf (view c .pending) =
+      sym (stretch-all (c .«pending_places») (sizes .places-size)) ∙ kept .places in
+      let pending : c .«pending_items» ≡ filled itemOf (view c .pending) =
+      sym (stretch-all (c .«pending_items») (sizes .pending-size)) ∙ kept .items in
       let whole : c ≡ store (view c) =
-      ap (λ (a : List ℕ). holding c (c .len) a (c .pending)) items
-      ∙ ap (holding c (c .len) (stored (take (c .len) (c .items)))) pending
-      ∙ ap (λ (n : ℕ). holding c n (stored (take (c .len) (c .items))) (filled (usedEdits (pendingCount c) (c .pending)))) (sym size) in
-      record { yes = h; model = f .0; whole = whole; size = size; kept = k }
+      ap (λ (a : List ℕ). holding c (c .len) a (c .«pending_places») (c .«pending_items»)) items
+      ∙ ap (λ (a : List ℕ). holding c (c .len) (stored (view c .items)) a (c .«pending_items»)) places
+      ∙ ap (holding c (c .len) (stored (view c .items)) (filled placeOf (view c .pending))) pending
+      ∙ ap (λ (n : ℕ). holding c n (stored (view c .items)) (filled placeOf (view c .pending)) (filled itemOf (view c .pending))) (sym size) in
+      record { yes = h; model = f .0; whole = whole; size = size; kept = kept; room = room }
 
   -- the test as the code makes it
-  pub answers : (count : ℕ) (a z s : Bool) → count ≡ pendingCount c → a ≡ every (countTests c) → z ≡ allZero (drop (c .len) (c .items))
-      → s ≡ soundSlots (eqb (c .line)) count (c .pending) → (s ≡ true → Kept count (c .pending))
+  pub answers : (count : ℕ) (a z s : Bool) → count ≡ pendingCount c → a ≡ every (countTests (counts c)) → z ≡ allZero (drop (c .len) (c .items))
+      → s ≡ soundSlots (eqb (c .line)) 0 count (c .«pending_places») (c .«pending_items»)
       → (((a && z) && s) ≡ sound c) × (((a && z) && s) ≡ true → Sound c)
-  answers count a z s k ea ez es kept =
+  answers count a z s k ea ez es =
       let is : ((a && z) && s) ≡ sound c =
-      ap (λ (b : Bool). (b && z) && s) ea ∙ ap (λ (b : Bool). (every (countTests c) && b) && s) ez
-      ∙ ap (λ (b : Bool). (every (countTests c) && allZero (drop (c .len) (c .items))) && b) (es ∙ ap (λ (n : ℕ). soundSlots (eqb (c .line)) n (c .pending)) k)
+      ap (λ (b : Bool). (b && z) && s) ea ∙ ap (λ (b : Bool). (every (countTests (counts c)) && b) && s) ez
+      ∙ ap (λ (b : Bool). (every (countTests (counts c)) && allZero (drop (c .len) (c .items))) && b)
+      (es ∙ ap (λ (n : ℕ). soundSlots (eqb (c .line)) 0 n (c .«pending_places») (c .«pending_items»)) k)
       ∙ tested-is in
-      (is, λ y. sound-facts (sym is ∙ y) (subst (λ (n : ℕ). Kept n (c .pending)) k (kept (and-right (a && z) s y))))
+      (is, λ y. sound-facts (sym is ∙ y))

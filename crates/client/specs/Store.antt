@@ -3,14 +3,34 @@ use Prim.Native.Nat.{ℕ, _-_}
 use mathlib.Core.Path.{_≡_}
 use mathlib.Core.Bool.{Bool, true}
 use mathlib.Core.List.{List, [], _∷_}
-use lib.Dec.{leb}
+use lib.Dec.{leb, eqb}
 use lib.ListN.{length, take, drop}
-use Rattle.model.specs.Limits.{maxLines, maxInserts, maxEdits, maxOthers, maxItems}
+use Rattle.model.specs.Limits.{maxLines, maxInserts, maxEdits, maxOthers, maxPending, maxItems}
 use Rattle.model.specs.Questions.{every, between}
 use Rattle.model.specs.Client as model
-use Rattle.pending.specs.Slots.{edits, usedEdits, filled, allNothing, Kept}
+use Rattle.pending.specs.Slots.{placeOf, itemOf, editsFrom, filled, soundSlots, Kept, Whole}
 use Rattle.endpoint.specs.Items.{stored, allZero}
 use Rattle.client.specs.declared.Client.{Client}
+use Rattle.client.specs.declared.Counts.{Counts}
+
+-- the numbers of a client, and a client of its parts
+abbrev pub counts : Client → Counts
+counts c = record { n = c .n; line = c .line; made = c .made; taken = c .taken; acked = c .acked; inserts = c .inserts; len = c .len }
+
+abbrev pub clientOf : Counts → List ℕ → List ℕ → List ℕ → Client
+clientOf k items places pending =
+    record {
+      n = k .n;
+      line = k .line;
+      made = k .made;
+      taken = k .taken;
+      acked = k .acked;
+      inserts = k .inserts;
+      len = k .len;
+      items = items;
+      «pending_places» = places;
+      «pending_items» = pending;
+    }
 
 -- how many edits are pending, by the counts
 abbrev pub pendingCount : Client → ℕ
@@ -27,7 +47,7 @@ view c =
       acked = c .acked;
       inserts = c .inserts;
       items = take (c .len) (c .items);
-      pending = usedEdits (pendingCount c) (c .pending);
+      pending = editsFrom (c .«pending_places») (c .«pending_items») 0 (pendingCount c);
     }
 
 -- the one struct for a client: unused places are zero
@@ -42,7 +62,8 @@ store m =
       inserts = m .inserts;
       len = length (m .items);
       items = stored (m .items);
-      pending = filled (m .pending);
+      «pending_places» = filled placeOf (m .pending);
+      «pending_items» = filled itemOf (m .pending);
     }
 
 -- a client that has made and taken nothing
@@ -57,7 +78,8 @@ fresh n line len items =
       inserts = 0;
       len = len;
       items = items;
-      pending = filled [];
+      «pending_places» = filled placeOf [];
+      «pending_items» = filled itemOf [];
     }
 
 -- Question 2: the model's, with what only a struct can break.
@@ -66,20 +88,20 @@ soundTests c =
     model.soundClient (view c)
     ∷ leb (c .len) maxItems
     ∷ allZero (drop (c .len) (c .items))
-    ∷ allNothing (drop (pendingCount c) (edits (c .pending)))
+    ∷ soundSlots (eqb (c .line)) 0 (pendingCount c) (c .«pending_places») (c .«pending_items»)
     ∷ []
 
 -- the part of it that the counts alone decide
-abbrev pub countTests : Client → List Bool
-countTests c =
-    between 1 maxLines (c .n)
-    ∷ between 1 (c .n) (c .line)
-    ∷ leb (c .made) maxEdits
-    ∷ leb (c .taken) maxOthers
-    ∷ leb (c .acked) (c .made)
-    ∷ leb (c .inserts) maxInserts
-    ∷ leb (c .inserts) (c .made)
-    ∷ leb (c .len) maxItems
+abbrev pub countTests : Counts → List Bool
+countTests k =
+    between 1 maxLines (k .n)
+    ∷ between 1 (k .n) (k .line)
+    ∷ leb (k .made) maxEdits
+    ∷ leb (k .taken) maxOthers
+    ∷ leb (k .acked) (k .made)
+    ∷ leb (k .inserts) maxInserts
+    ∷ leb (k .inserts) (k .made)
+    ∷ leb (k .len) maxItems
     ∷ []
 
 unfoldable pub sound : Client → Bool
@@ -91,4 +113,11 @@ pub record Sound (c : Client) : Type 0 where
   pub model : model.soundClient (view c) ≡ true
   pub whole : c ≡ store (view c)
   pub size : length (view c .items) ≡ c .len
-  pub kept : Kept (pendingCount c) (c .pending)
+  pub kept : Kept 0 (pendingCount c) (c .«pending_places») (c .«pending_items»)
+  pub room : Whole 0 (c .«pending_places») (c .«pending_items»)
+
+-- the lengths of a client's arrays
+pub record Sizes (items places pending : List ℕ) : Type 0 where
+  pub items-size : length items ≡ maxItems
+  pub places-size : length places ≡ maxPending
+  pub pending-size : length pending ≡ maxPending

@@ -1,65 +1,69 @@
 // Editing: an insert or a delete made here is applied, counted and kept. Nothing is sent.
 ghost use mathlib.Core.Path.{_≡_};
+ghost use Prim.Native.Nat.{_≤_};
+ghost use Rattle.model.specs.Limits.{maxInserts};
 ghost use Rattle.model.specs.Questions.{asks};
-ghost use Rattle.model.specs.Client as client;
-ghost use Rattle.client.specs.Store.{Sound, view};
-ghost use Rattle.client.specs.Answers.{doneWith, editAsked, edited, inserted, deleted};
+ghost use Rattle.client.specs.Answers.{editAsked, edited, inserted, deleted};
 use crate::Answer;
 use crate::Client;
+use crate::Counts;
 use ot::Edit;
 
-impl Client {
-    // Questions 9 to 12.
-    fn ask_editing(self, e: Edit) -> u8
-        requires { ⌜ Sound self ⌝ }
-        ensures { λ r. ⌜ r ≡ asks (editAsked self e) ⌝ }
-    {
-        if endpoint::has_room(e, self.len) {
-            if Client::INSERTS < self.inserts + endpoint::inserts_of(e) {
-                return 10;
-            }
-            if Client::EDITS <= self.made {
-                return 11;
-            }
-            if Client::PENDING <= (self.made - self.acked) as usize {
-                return 12;
-            }
-            return 0;
+// Questions 9 to 12.
+fn ask_editing(k: Counts, e: Edit) -> u8
+    requires { ⌜ (k .inserts ≤ maxInserts) × (k .acked ≤ k .made) ⌝ }
+    ensures { λ r. ⌜ r ≡ asks (editAsked k e) ⌝ }
+{
+    if endpoint::has_room(e, k.len) {
+        if Client::INSERTS < k.inserts + endpoint::inserts_of(e) {
+            return 10;
         }
-        9
+        if Client::EDITS <= k.made {
+            return 11;
+        }
+        if Client::PENDING <= (k.made - k.acked) as usize {
+            return 12;
+        }
+        return 0;
     }
+    9
+}
 
+impl Client {
     // The edit is applied, counted and kept.
-    fn edited(mut self, e: Edit) -> Answer
-        requires { ⌜ Sound self ⌝ }
-        requires { ⌜ asks (editAsked self e) ≡ 0 ⌝ }
-        ensures { λ r. ⌜ r ≡ doneWith 0 (client.edited (view self) e) ⌝ }
+    fn edit(mut self, e: Edit) -> Answer
+        ensures { λ r. ⌜ r ≡ edited self e ⌝ }
     {
-        let count = (self.made - self.acked) as usize;
-        let slots = pending::push(self.pending, count, e);
-        self.pending = slots;
-        let len = self.len;
-        self.len = ot::apply(&mut self.items, len, e);
-        self.made = self.made + 1;
-        self.inserts = self.inserts + endpoint::inserts_of(e);
+        let k = Counts {
+            n: self.n,
+            line: self.line,
+            made: self.made,
+            taken: self.taken,
+            acked: self.acked,
+            inserts: self.inserts,
+            len: self.len,
+        };
+        if crate::is_sound(k, &self.items, &self.pending_places, &self.pending_items) {
+            let refusal = ask_editing(k, e);
+            if refusal == 0 {
+                let count = (k.made - k.acked) as usize;
+                self.pending_places[count] = pending::place_of(e);
+                self.pending_items[count] = pending::item_of(e);
+                self.len = ot::apply(&mut self.items, k.len, e);
+                self.made = k.made + 1;
+                self.inserts = k.inserts + endpoint::inserts_of(e);
+            }
+            return Answer {
+                refusal,
+                passed: 0,
+                client: self,
+            };
+        }
         Answer {
-            refusal: 0,
+            refusal: 2,
             passed: 0,
             client: self,
         }
-    }
-
-    fn edit(self, e: Edit) -> Answer
-        ensures { λ r. ⌜ r ≡ edited self e ⌝ }
-    {
-        if self.is_sound() {
-            let refusal = self.ask_editing(e);
-            if refusal == 0 {
-                return self.edited(e);
-            }
-            return self.refused(refusal);
-        }
-        self.refused(2)
     }
 
     // Inserts x before the item at position p. Its priority is the line.

@@ -2,16 +2,13 @@
 ghost use mathlib.Core.Path.{_≡_};
 ghost use mathlib.Core.Bool.{true};
 ghost use Prim.Native.Nat.{_-_};
-ghost use Rattle.client.specs.Store.{fresh, countTests, sound, Sound};
-ghost use Rattle.client.specs.Answers.{opened, refusedWith};
+ghost use Rattle.client.specs.Store.{fresh, countTests, clientOf, sound, Sound, Sizes};
+ghost use Rattle.client.specs.Answers.{opened};
 ghost use Rattle.model.specs.Questions.{every};
 
 mod editing;
 mod sending;
 mod taking;
-
-use ot::Edit;
-use pending::Slot;
 
 // All state of a client. Unused places are zero.
 pub struct Client {
@@ -27,8 +24,20 @@ pub struct Client {
     // how many items the list has, and the items
     pub len: u16,
     pub items: [u32; Client::ITEMS],
-    // edits acked + 1 to made, in their present form
-    pub pending: [Slot; Client::PENDING],
+    // edits acked + 1 to made, in their present form: where each stands, position * 256 + priority, and its item
+    pub pending_places: [u32; Client::PENDING],
+    pub pending_items: [u32; Client::PENDING],
+}
+
+// The numbers of a client. Functions that only ask get these and lent arrays, since a client by value is copied at each call.
+struct Counts {
+    n: u8,
+    line: u8,
+    made: u16,
+    taken: u16,
+    acked: u16,
+    inserts: u16,
+    len: u16,
 }
 
 // What a call answers: 0 or the number of the question that said no, how many pending edits the edit was transformed past, and
@@ -46,6 +55,29 @@ fn less(a: u16, b: u16) -> u16
     if b < a { a - b } else { 0 }
 }
 
+// Question 2, what the counts say of it.
+fn counts_sound(k: Counts) -> bool
+    ensures { λ r. ⌜ r ≡ every (countTests k) ⌝ }
+{
+    let lines = (1 <= k.n) & (k.n <= Client::LINES);
+    let line = (1 <= k.line) & (k.line <= k.n);
+    let counts = (k.made <= Client::EDITS) & (k.taken <= Client::OTHERS) & (k.acked <= k.made);
+    let inserts = (k.inserts <= Client::INSERTS) & (k.inserts <= k.made);
+    lines & line & counts & inserts & (k.len as usize <= Client::ITEMS)
+}
+
+// Question 2. Every test is made whatever the others find.
+fn is_sound<'a>(k: Counts, items: &'a [u32], places: &'a [u32], pending: &'a [u32]) -> bool
+    requires { ⌜ Sizes (now items) (now places) (now pending) ⌝ }
+    ensures answer { λ r. ⌜ r ≡ sound (clientOf k (now (items .entry)) (now (places .entry)) (now (pending .entry))) ⌝ }
+    ensures facts { λ r. ⌜ (r ≡ true → Sound (clientOf k (now (items .entry)) (now (places .entry)) (now (pending .entry)))) ⌝ }
+{
+    let count = less(k.made, k.acked) as usize;
+    counts_sound(k)
+        & endpoint::zero_from(items, k.len as usize)
+        & pending::sound(places, pending, 0, count, k.n, k.line, true)
+}
+
 impl Client {
     pub const LINES: u8 = 8;
 
@@ -61,48 +93,10 @@ impl Client {
 
     pub const INITIAL: usize = 128;
 
-    // Question 2, what the counts say of it.
-    fn counts_sound(self) -> bool
-        ensures { λ r. ⌜ r ≡ every (countTests self) ⌝ }
-    {
-        let lines = (1 <= self.n) & (self.n <= Client::LINES);
-        let line = (1 <= self.line) & (self.line <= self.n);
-        let counts = (self.made <= Client::EDITS)
-            & (self.taken <= Client::OTHERS)
-            & (self.acked <= self.made);
-        let inserts = (self.inserts <= Client::INSERTS) & (self.inserts <= self.made);
-        lines & line & counts & inserts & (self.len as usize <= Client::ITEMS)
-    }
-
-    // Question 2. Every test is made whatever the others find.
-    fn is_sound(self) -> bool
-        ensures answer { λ r. ⌜ r ≡ sound self ⌝ }
-        ensures facts { λ r. ⌜ (r ≡ true → Sound self) ⌝ }
-    {
-        let count = less(self.made, self.acked) as usize;
-        let slots = self.pending;
-        let zeros = endpoint::zero_from(&self.items, self.len as usize);
-        self.counts_sound() & zeros & pending::sound(slots, count, self.n, self.line, true)
-    }
-
-    // The end as it came, with the number of the question that said no.
-    fn refused(self, refusal: u8) -> Answer
-        ensures { λ r. ⌜ r ≡ refusedWith refusal self ⌝ }
-    {
-        Answer {
-            refusal,
-            passed: 0,
-            client: self,
-        }
-    }
-
     // A client that has made and taken nothing.
     fn fresh(n: u8, line: u8, len: u16, items: [u32; 512]) -> Client
         ensures { λ r. ⌜ r ≡ fresh n line len items ⌝ }
     {
-        let pending = [Slot {
-            edit: Edit::Nothing,
-        }; 64];
         Client {
             n,
             line,
@@ -112,7 +106,8 @@ impl Client {
             inserts: 0,
             len,
             items,
-            pending,
+            pending_places: [0; 64],
+            pending_items: [0; 64],
         }
     }
 

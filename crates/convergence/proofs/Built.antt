@@ -33,7 +33,7 @@ use Rattle.server.specs.Calls as server
 use Rattle.convergence.specs.Built.{End, ofClient, ofServer, clientAnswer, serverAnswer, built, Claimed}
 use Rattle.convergence.proofs.Carry.{Alike, Follows, carries}
 use Rattle.server.proofs.Stored.{view-store, store-sound}
-use Rattle.convergence.proofs.Stored.{client-view, client-stored}
+use Rattle.client.proofs.Stored.{client-view, client-stored}
 
 -- the struct is the one for a sound end of the model
 abbrev Stands : End → ours.End → Type 0

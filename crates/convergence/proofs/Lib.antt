@@ -1,3 +1,2 @@
 pub mod Carry
-pub mod Stored
 pub mod Built

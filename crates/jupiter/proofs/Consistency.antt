@@ -25,7 +25,7 @@ use Rattle.jupiter.proofs.World.{named, Inv, taken}
 use Rattle.jupiter.proofs.Step.{Later}
 use Rattle.jupiter.proofs.Meeting.{untaken-is}
 use Rattle.jupiter.proofs.Replay.{is-false, in-itself}
-use Rattle.jupiter.proofs.Runs.{Reached, Onward, run-ok, starts}
+use Rattle.jupiter.proofs.Runs.{wholeEnds, Reached, Onward, run-ok, starts}
 
 select-none : {A : Type 0} (p : A → Bool) (xs : List A) → All (λ x. p x ≡ false) xs → select p xs ≡ []
 unfolding select
@@ -55,10 +55,10 @@ module _ {𝓐 : Algebra} (d : 𝓐 .Doc) where
   shows s r (client l) =
       let line = r .inv .lines l .line in
       line .c-doc
-      ∙ ap (listAt d) (sym (set-is d l (order (s .history) l) (s .history .served) (s .history .applied l) (s .ends .clients l) (s .ends .lines l) (s .ends .docs l) line))
+      ∙ ap (listAt d) (sym (set-is d l (order (s .history) l) (s .history .served) (s .history .applied l) (wholeEnds s .clients l) (wholeEnds s .lines l) (s .ends .docs l) line))
 
   -- at any later moment, too
-  pub shows-later : (s s′ : State 𝓐) → Reached d s → Later (s .ends) (s .history) (s′ .ends) (s′ .history) → (x : Who)
+  pub shows-later : (s s′ : State 𝓐) → Reached d s → Later (wholeEnds s) (s .history) (wholeEnds s′) (s′ .history) → (x : Who)
       → docOf x s ≡ listAt d (inOrder (orderOf x (s′ .history)) (appliedBy x (s .history)))
   shows-later s s′ r f server = shows s r server ∙ ap (listAt d) (sym (f .served-same))
   shows-later s s′ r f (client l) = shows s r (client l) ∙ ap (listAt d) (sym (f .set-same l))
@@ -103,13 +103,13 @@ module _ {𝓐 : Algebra} (d : 𝓐 .Doc) where
         left : (x : Who) → (x ≡ y → ⊥) → inOrder (orderOf x h′) (appliedBy y h′) ≡ inOrder (h′ .served) (appliedBy y h′)
         left server ne = refl
         left (client l) ne =
-            served-only (s′ .ends) h′ (on .reached .inv) l (appliedBy y h′) (applied-served (s′ .ends) h′ (on .reached .inv) l y (λ q. ne (sym q)))
+            served-only (wholeEnds s′) h′ (on .reached .inv) l (appliedBy y h′) (applied-served (wholeEnds s′) h′ (on .reached .inv) l y (λ q. ne (sym q)))
 
         right : (y : Who) → (x ≡ y → ⊥) → SameSet (appliedBy x h) (appliedBy y h′) → inOrder (orderOf y h′) (appliedBy y h′) ≡ inOrder (h′ .served) (appliedBy y h′)
         right server ne same-set = refl
         right (client k) ne same-set =
-            served-only (s′ .ends) h′ (on .reached .inv) k (h′ .applied k)
-            (λ n t. le-trans (applied-served (s .ends) h (r .inv) k x ne n (same-set (named k n) ∙ t)) (on .later .v-later k))
+            served-only (wholeEnds s′) h′ (on .reached .inv) k (h′ .applied k)
+            (λ n t. le-trans (applied-served (wholeEnds s) h (r .inv) k x ne n (same-set (named k n) ∙ t)) (on .later .v-later k))
 
     decide : (x y : Who) → Dec (x ≡ y)
     decide server server = yes refl

@@ -9,6 +9,9 @@ pub mod Closure
 pub mod World
 pub mod Step
 pub mod Meeting
+pub mod Join
+pub mod Start
+pub mod Opening
 pub mod Size
 pub mod Runs
 pub mod Theorem

@@ -60,6 +60,16 @@ module _ {A : Type 0} (p : A → Bool) (d : A) where
   reject-all [] h = refl
   reject-all (x ∷ xs) h = rw (h .0) (reject-all xs (h .1))
 
+  pub select-reject-length : (xs : List A) → length (select p xs) + length (reject p xs) ≡ length xs
+  unfolding select reject
+  select-reject-length [] = refl
+  select-reject-length (x ∷ xs) = go (p x) (select-reject-length xs)
+    where
+      go : (b : Bool) → length (select p xs) + length (reject p xs) ≡ length xs
+          → length (cond b (x ∷ select p xs) (select p xs)) + length (cond b (reject p xs) (x ∷ reject p xs)) ≡ suc (length xs)
+      go true ih = omega arith
+      go false ih = omega arith
+
   -- what is selected passes, what is rejected does not
   pub select-passes : (xs : List A) (i : ℕ) → i < length (select p xs) → p (getD (select p xs) i d) ≡ true
   unfolding select

@@ -193,7 +193,7 @@ module _ {𝓐 : Algebra} (d : 𝓐 .Doc) (E : Ends 𝓐) (h : History 𝓐) (in
   line = inv .lines l .line
 
   -- what the server has taken, by the line's numbers
-  served-oth : (k : ℕ) → k < length (others l w) → holds (names (h .served)) (oth l w k .name) ≡ true
+  pub served-oth : (k : ℕ) → k < length (others l w) → holds (names (h .served)) (oth l w k .name) ≡ true
   served-oth k lt =
       let e = others-served l (h .served) (h .untaken l) (inv .lines l .untaken-own) in
       holds-reject (isBy l) (h .served) (oth l w k .name)

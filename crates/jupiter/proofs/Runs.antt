@@ -1,20 +1,22 @@
 -- Lists of calls: each call is a step, so that what holds between calls holds at the end of every run.
-use Prim.Native.Nat.{ℕ, zero, suc, _≤_, _<_}
+use Prim.Native.Nat.{ℕ, zero, suc, _≤_}
 use native.Mathlib.Nat.{le-refl, le-trans}
-use mathlib.Core.Path.{_≡_, refl, subst}
-use mathlib.Core.Bool.{Bool, true, false, cond, _&&_}
+use mathlib.Core.Path.{_≡_, refl, sym, subst}
+use mathlib.Core.Bool.{Bool, true, false, not, cond, _&&_, false≢true}
 use mathlib.Core.Option.{Option, none, some, Option·none-ne-some, Option·some-injective}
-use mathlib.Core.List.{List, [], _∷_, _++_}
-use lib.Dec.{T, ltb, leb, eqb, leb→le, le→leb}
-use lib.ListN.{getElem?}
+use mathlib.Core.List.{List, [], _∷_}
+use lib.Dec.{ltb, leb, eqb, leb→le, le→leb}
+use lib.ListN.{length, getElem?}
 use Rattle.jupiter.specs.Algebra.{Algebra, Laws}
-use Rattle.jupiter.specs.History.{History, afterEdit, afterUp, afterDown}
-use Rattle.jupiter.specs.Ends.{Message, Ends, canSend, message, current, canTake, editing, takingUp, takingDown, ackingUp, ackingDown}
-use Rattle.jupiter.specs.Run.{Letter, up, down, upAck, downAck, Call, edit, sendUp, sendDown, tellUp, tellDown, deliver, State, initial, writes, goes, receive, step, run}
+use Rattle.jupiter.specs.History.{at, History, order, madeBy, afterEdit, afterUp, afterDown, afterJoin}
+use Rattle.jupiter.specs.Ends.{Ends, canSend, message, current, canTake, editing, takingUp, takingDown, ackingUp, ackingDown}
+use Rattle.jupiter.specs.Run.{Letter, up, down, upAck, downAck, Call, edit, sendUp, sendDown, tellUp, tellDown, deliver, join, State, initial, writes, goes, lineOf, silent, unused, joins, receive, step, run}
 use Rattle.jupiter.proofs.Lists.{All, all-append, all-map}
 use Rattle.jupiter.proofs.Grid.{is-true, to-T, eqb-eq, ltb-lt}
 use Rattle.jupiter.proofs.World.{Inv}
-use Rattle.jupiter.proofs.Step.{Later, later-refl, later-trans, Step, opens, step-edit, step-up, step-down, step-ack-up, step-ack-down, UpMessage, DownMessage, up-message, down-message, up-later, down-later}
+use Rattle.jupiter.proofs.Step.{Later, later-refl, later-trans, Step, opens, UpMessage, DownMessage, up-later, down-later}
+use Rattle.jupiter.proofs.Start.{whole, wholeLetter, letter-same, from-opening, step-edit, step-up, step-down, step-ack-up, step-ack-down, step-join, up-message, down-message}
+use Rattle.jupiter.proofs.Opening.{Longer, longer-refl, longer-edit, longer-up, longer-down, Opening, opening-first, opening-join, opening-later}
 use Rattle.jupiter.proofs.Replay.{and-left, and-right}
 
 pub leb-true : (m n : ℕ) → m ≤ n → leb m n ≡ true
@@ -22,6 +24,11 @@ leb-true m n h = is-true (leb m n) (le→leb m n h)
 
 pub leb-le : (m n : ℕ) → leb m n ≡ true → m ≤ n
 leb-le m n e = leb→le m n (to-T _ e)
+
+module _ {𝓐 : Algebra} where
+  -- the ends of a state, with all counts from the first opening list
+  abbrev pub wholeEnds : State 𝓐 → Ends 𝓐
+  wholeEnds s = whole (s .start) (s .ends)
 
 module _ {𝓐 : Algebra} (d : 𝓐 .Doc) where
   -- a letter may be taken at any time
@@ -37,36 +44,82 @@ module _ {𝓐 : Algebra} (d : 𝓐 .Doc) where
   fine-later E h E′ h′ inv f (upAck l s) ok = le-trans ok (f .c-later l)
   fine-later E h E′ h′ inv f (downAck l s) ok = le-trans ok (f .v-later l)
 
+  abbrev FineIn : State 𝓐 → Letter 𝓐 → Type 0
+  FineIn s x = Fine (wholeEnds s) (s .history) (wholeLetter (s .start) x)
+
   pub record Reached (s : State 𝓐) : Type 0 where
-    pub inv : Inv d (s .ends) (s .history)
-    pub fine : All (Fine (s .ends) (s .history)) (s .letters)
+    pub inv : Inv d (wholeEnds s) (s .history)
+    pub fine : All (λ x. Fine (wholeEnds s) (s .history) (wholeLetter (s .start) x)) (s .letters)
+    pub openings : (l : ℕ) → Opening d (order (s .history) l) (s .history .served) (s .history .applied l) (s .start l)
 
   pub record Onward (s s′ : State 𝓐) : Type 0 where
     pub reached : Reached s′
-    pub later : Later (s .ends) (s .history) (s′ .ends) (s′ .history)
+    pub later : Later (wholeEnds s) (s .history) (wholeEnds s′) (s′ .history)
 
   stays : (s : State 𝓐) → Reached s → Onward s s
-  stays s r = record { reached = r; later = later-refl (s .ends) (s .history) }
+  stays s r = record { reached = r; later = later-refl (wholeEnds s) (s .history) }
 
   -- a step of the ends
-  moves : (s : State 𝓐) → Reached s → (f : Ends 𝓐 → Ends 𝓐) (g : History 𝓐 → History 𝓐) → Step d (s .ends) (s .history) (f (s .ends)) (g (s .history)) → Onward s (goes f g s)
-  moves s r f g t =
+  moves : (s : State 𝓐) → Reached s → (f : Ends 𝓐 → Ends 𝓐) (g : History 𝓐 → History 𝓐) → Longer (s .history) (g (s .history))
+      → Step d (wholeEnds s) (s .history) (whole (s .start) (f (s .ends))) (g (s .history)) → Onward s (goes f g s)
+  moves s r f g longer t =
       record {
         reached = record {
           inv = t .inv;
-          fine = all-map (Fine (s .ends) (s .history)) (Fine (f (s .ends)) (g (s .history))) (s .letters)
-              (fine-later (s .ends) (s .history) (f (s .ends)) (g (s .history)) (r .inv) (t .later)) (r .fine);
+          fine = all-map (FineIn s) (FineIn (goes f g s)) (s .letters)
+              (λ x. fine-later (wholeEnds s) (s .history) (wholeEnds (goes f g s)) (g (s .history)) (r .inv) (t .later) (wholeLetter (s .start) x)) (r .fine);
+          openings = λ l. opening-later d (s .start) (s .ends) (s .history) (r .inv) l (r .openings l) (wholeEnds (goes f g s)) (g (s .history)) (t .later) longer;
         };
         later = t .later;
       }
 
   -- a letter more
-  wrote : (s : State 𝓐) → Reached s → (x : Letter 𝓐) → Fine (s .ends) (s .history) x → Onward s (writes x s)
+  wrote : (s : State 𝓐) → Reached s → (x : Letter 𝓐) → FineIn s x → Onward s (writes x s)
   wrote s r x ok =
       record {
-        reached = record { inv = r .inv; fine = all-append (Fine (s .ends) (s .history)) (s .letters) (x ∷ []) (r .fine) (ok, tt) };
-        later = later-refl (s .ends) (s .history);
+        reached = record { inv = r .inv; fine = all-append (FineIn s) (s .letters) (x ∷ []) (r .fine) (ok, tt); openings = r .openings };
+        later = later-refl (wholeEnds s) (s .history);
       }
+
+  -- a client joins: no letter is on its line, so that each letter reads as before
+  joined-ok : (s : State 𝓐) → Reached s → (l : ℕ) → unused l s ≡ true → Onward s (joins l s)
+  unfolding silent
+  joined-ok s r l e =
+      record {
+        reached = record {
+          inv = t .inv;
+          fine = letters (s .letters) (and-right (eqb (madeBy (s .history) l) 0) (silent l (s .letters)) e) (r .fine);
+          openings = λ k. opening k (eqb l k) refl;
+        };
+        later = t .later;
+      }
+    where
+      n : ℕ
+      n = length (s .history .served)
+
+      none-made : madeBy (s .history) l ≡ 0
+      none-made = eqb-eq (madeBy (s .history) l) 0 (and-left (eqb (madeBy (s .history) l) 0) (silent l (s .letters)) e)
+
+      t : Step d (wholeEnds s) (s .history) (wholeEnds (joins l s)) (afterJoin l (s .history))
+      t = step-join d (s .start) (s .ends) (s .history) (r .inv) l none-made
+
+      opening : (k : ℕ) (b : Bool) → eqb l k ≡ b
+          → Opening d (order (s .history) k) (s .history .served) (cond b (s .history .served) (s .history .applied k)) (cond b n (s .start k))
+      opening k true q =
+          subst (λ j. Opening d (order (s .history) j) (s .history .served) (s .history .served) n) (eqb-eq l k q) (opening-join d (wholeEnds s) (s .history) (r .inv) l none-made)
+      opening k false q = r .openings k
+
+      not-true : (b : Bool) → not b ≡ true → b ≡ false
+      not-true true q = absurd (false≢true q)
+      not-true false q = refl
+
+      letters : (xs : List (Letter 𝓐)) → silent l xs ≡ true → All (FineIn s) xs → All (FineIn (joins l s)) xs
+      letters [] q ok = tt
+      letters (x ∷ xs) q ok = (
+        subst (Fine (wholeEnds (joins l s)) (afterJoin l (s .history))) (sym (letter-same l n (s .start) x (not-true _ (and-left (not (eqb l (lineOf x))) (silent l xs) q))))
+            (fine-later (wholeEnds s) (s .history) (wholeEnds (joins l s)) (afterJoin l (s .history)) (r .inv) (t .later) (wholeLetter (s .start) x) (ok .0)),
+        letters xs (and-right (not (eqb l (lineOf x))) (silent l xs) q) (ok .1),
+      )
 
   pub all-get : (Q : Letter 𝓐 → Type 0) (xs : List (Letter 𝓐)) (i : ℕ) (x : Letter 𝓐) → All Q xs → getElem? xs i ≡ some x → Q x
   all-get Q [] i x h e = absurd (Option·none-ne-some x e)
@@ -74,7 +127,7 @@ module _ {𝓐 : Algebra} (d : 𝓐 .Doc) where
   all-get Q (y ∷ ys) (suc i) x h e = all-get Q ys i x (h .1) e
 
   module _ (laws : Laws 𝓐) where
-    receive-ok : (s : State 𝓐) → Reached s → (x : Letter 𝓐) → Fine (s .ends) (s .history) x → Onward s (receive (some x) s)
+    receive-ok : (s : State 𝓐) → Reached s → (x : Letter 𝓐) → FineIn s x → Onward s (receive (some x) s)
     unfolding receive
     receive-ok s r (up l m) ok = go (canTake m (s .ends .lines l)) refl
       where
@@ -82,8 +135,8 @@ module _ {𝓐 : Algebra} (d : 𝓐 .Doc) where
         go false e = stays s r
         go true e =
             let cur = and-right (eqb (m .number) (suc (s .ends .lines l .taken))) _ e in
-            moves s r (takingUp l m) (afterUp l)
-            (step-up d laws (s .ends) (s .history) (r .inv) l m ok (eqb-eq (m .number) (suc (s .ends .lines l .taken)) (and-left _ (current (m .seen) (s .ends .lines l)) e))
+            moves s r (takingUp l m) (afterUp l) (longer-up l (s .history))
+            (step-up d (s .start) (s .ends) (s .history) (r .inv) laws l m ok (eqb-eq (m .number) (suc (s .ends .lines l .taken)) (and-left _ (current (m .seen) (s .ends .lines l)) e))
             (leb-le _ _ (and-left (leb (s .ends .lines l .acked) (m .seen)) (leb (m .seen) (s .ends .lines l .made)) cur)))
     receive-ok s r (down l m) ok = go (canTake m (s .ends .clients l)) refl
       where
@@ -91,23 +144,23 @@ module _ {𝓐 : Algebra} (d : 𝓐 .Doc) where
         go false e = stays s r
         go true e =
             let cur = and-right (eqb (m .number) (suc (s .ends .clients l .taken))) _ e in
-            moves s r (takingDown l m) (afterDown l)
-            (step-down d (s .ends) (s .history) (r .inv) l m ok (eqb-eq (m .number) (suc (s .ends .clients l .taken)) (and-left _ (current (m .seen) (s .ends .clients l)) e))
+            moves s r (takingDown l m) (afterDown l) (longer-down l (s .history))
+            (step-down d (s .start) (s .ends) (s .history) (r .inv) l m ok (eqb-eq (m .number) (suc (s .ends .clients l .taken)) (and-left _ (current (m .seen) (s .ends .clients l)) e))
             (leb-le _ _ (and-left (leb (s .ends .clients l .acked) (m .seen)) (leb (m .seen) (s .ends .clients l .made)) cur)))
     receive-ok s r (upAck l n) ok = go (current n (s .ends .lines l)) refl
       where
         go : (b : Bool) → current n (s .ends .lines l) ≡ b → Onward s (cond b (goes (ackingUp l n) (λ h. h) s) s)
         go false e = stays s r
         go true e =
-            moves s r (ackingUp l n) (λ h. h)
-            (step-ack-up d (s .ends) (s .history) (r .inv) l n (leb-le _ _ (and-left (leb (s .ends .lines l .acked) n) (leb n (s .ends .lines l .made)) e)) ok)
+            moves s r (ackingUp l n) (λ h. h) (longer-refl (s .history))
+            (step-ack-up d (s .start) (s .ends) (s .history) (r .inv) l n (leb-le _ _ (and-left (leb (s .ends .lines l .acked) n) (leb n (s .ends .lines l .made)) e)) ok)
     receive-ok s r (downAck l n) ok = go (current n (s .ends .clients l)) refl
       where
         go : (b : Bool) → current n (s .ends .clients l) ≡ b → Onward s (cond b (goes (ackingDown l n) (λ h. h) s) s)
         go false e = stays s r
         go true e =
-            moves s r (ackingDown l n) (λ h. h)
-            (step-ack-down d (s .ends) (s .history) (r .inv) l n (leb-le _ _ (and-left (leb (s .ends .clients l .acked) n) (leb n (s .ends .clients l .made)) e)) ok)
+            moves s r (ackingDown l n) (λ h. h) (longer-refl (s .history))
+            (step-ack-down d (s .start) (s .ends) (s .history) (r .inv) l n (leb-le _ _ (and-left (leb (s .ends .clients l .acked) n) (leb n (s .ends .clients l .made)) e)) ok)
 
     pub step-ok : (s : State 𝓐) → Reached s → (call : Call 𝓐) → Onward s (step s call)
     unfolding step receive
@@ -116,15 +169,15 @@ module _ {𝓐 : Algebra} (d : 𝓐 .Doc) where
         go : (b : Bool) → 𝓐 .by l e && 𝓐 .fits e (s .ends .docs l) ≡ b → Onward s (cond b (goes (editing l e) (afterEdit l e) s) s)
         go false q = stays s r
         go true q =
-            moves s r (editing l e) (afterEdit l e)
-            (step-edit d laws (s .ends) (s .history) (r .inv) l e (to-T _ (and-left (𝓐 .by l e) (𝓐 .fits e (s .ends .docs l)) q)) (to-T _ (and-right (𝓐 .by l e) (𝓐 .fits e (s .ends .docs l)) q)))
+            moves s r (editing l e) (afterEdit l e) (longer-edit l e (s .history))
+            (step-edit d (s .start) (s .ends) (s .history) (r .inv) laws l e (to-T _ (and-left (𝓐 .by l e) (𝓐 .fits e (s .ends .docs l)) q)) (to-T _ (and-right (𝓐 .by l e) (𝓐 .fits e (s .ends .docs l)) q)))
     step-ok s r (sendUp l k) = go (canSend k (s .ends .clients l)) refl
       where
         go : (b : Bool) → canSend k (s .ends .clients l) ≡ b → Onward s (cond b (writes (up l (message k (s .ends .clients l))) s) s)
         go false q = stays s r
         go true q =
             wrote s r (up l (message k (s .ends .clients l)))
-            (up-message d (s .ends) (s .history) (r .inv) l k (ltb-lt (s .ends .clients l .acked) k (and-left _ (leb k (s .ends .clients l .made)) q))
+            (up-message d (s .start) (s .ends) (s .history) (r .inv) l k (ltb-lt (s .ends .clients l .acked) k (and-left _ (leb k (s .ends .clients l .made)) q))
             (leb-le k (s .ends .clients l .made) (and-right (ltb (s .ends .clients l .acked) k) _ q)))
     step-ok s r (sendDown l k) = go (canSend k (s .ends .lines l)) refl
       where
@@ -132,7 +185,7 @@ module _ {𝓐 : Algebra} (d : 𝓐 .Doc) where
         go false q = stays s r
         go true q =
             wrote s r (down l (message k (s .ends .lines l)))
-            (down-message d (s .ends) (s .history) (r .inv) l k (ltb-lt (s .ends .lines l .acked) k (and-left _ (leb k (s .ends .lines l .made)) q))
+            (down-message d (s .start) (s .ends) (s .history) (r .inv) l k (ltb-lt (s .ends .lines l .acked) k (and-left _ (leb k (s .ends .lines l .made)) q))
             (leb-le k (s .ends .lines l .made) (and-right (ltb (s .ends .lines l .acked) k) _ q)))
     step-ok s r (tellUp l) = wrote s r (upAck l (s .ends .clients l .taken)) (le-refl _)
     step-ok s r (tellDown l) = wrote s r (downAck l (s .ends .lines l .taken)) (le-refl _)
@@ -140,7 +193,12 @@ module _ {𝓐 : Algebra} (d : 𝓐 .Doc) where
       where
         go : (x : Option (Letter 𝓐)) → getElem? (s .letters) i ≡ x → Onward s (receive x s)
         go none e = stays s r
-        go (some x) e = receive-ok s r x (all-get (Fine (s .ends) (s .history)) (s .letters) i x (r .fine) e)
+        go (some x) e = receive-ok s r x (all-get (FineIn s) (s .letters) i x (r .fine) e)
+    step-ok s r (join l) = go (unused l s) refl
+      where
+        go : (b : Bool) → unused l s ≡ b → Onward s (cond b (joins l s) s)
+        go false q = stays s r
+        go true q = joined-ok s r l q
 
     pub run-ok : (cs : List (Call 𝓐)) (s : State 𝓐) → Reached s → Onward s (run s cs)
     unfolding run
@@ -151,4 +209,4 @@ module _ {𝓐 : Algebra} (d : 𝓐 .Doc) where
         record { reached = b .reached; later = later-trans _ _ _ _ _ _ (a .later) (b .later) }
 
     pub starts : Reached (initial d)
-    starts = record { inv = opens d; fine = tt }
+    starts = record { inv = from-opening d (initial d .ends) (initial d .history) (opens d); fine = tt; openings = λ l. opening-first d }

@@ -62,7 +62,8 @@ module _ {𝓐 : Algebra} where
       go false q true r ih = absurd (true≢false (sym (le (e .name) r) ∙ q))
       go false q false r ih = ih
 
-  same-set : (w w′ A B : List (Made 𝓐)) → ((x : Name) → holds (names A) x ≡ true → holds (names B) x ≡ true) → inOrder w′ B ≡ inOrder w B → inOrder w′ A ≡ inOrder w A
+  -- so an order that keeps the one keeps the other
+  pub same-set : (w w′ A B : List (Made 𝓐)) → ((x : Name) → holds (names A) x ≡ true → holds (names B) x ≡ true) → inOrder w′ B ≡ inOrder w B → inOrder w′ A ≡ inOrder w A
   same-set w w′ A B le e = sym (smaller w′ A B le) ∙ ap (λ r. inOrder r A) e ∙ smaller w A B le
 
   pub later-trans : (E : Ends 𝓐) (h : History 𝓐) (E′ : Ends 𝓐) (h′ : History 𝓐) (E″ : Ends 𝓐) (h″ : History 𝓐) → Later E h E′ h′ → Later E′ h′ E″ h″ → Later E h E″ h″

@@ -40,10 +40,12 @@ pub record Ends (𝓐 : Algebra) : Type 0 where
   pub clients : ℕ → End 𝓐
 
 module _ {𝓐 : Algebra} where
+  -- an end of a line as it starts
+  abbrev pub fresh : End 𝓐
+  fresh = record { made = 0; taken = 0; acked = 0; pending = [] }
+
   abbrev pub opened : 𝓐 .Doc → Ends 𝓐
-  opened d =
-      let fresh : End 𝓐 = record { made = 0; taken = 0; acked = 0; pending = [] } in
-      record { doc = d; lines = λ l. fresh; docs = λ l. d; clients = λ l. fresh }
+  opened d = record { doc = d; lines = λ l. fresh; docs = λ l. d; clients = λ l. fresh }
 
   -- one edit more is pending
   abbrev pub keeps : 𝓐 .Edit → End 𝓐 → End 𝓐
@@ -116,3 +118,13 @@ module _ {𝓐 : Algebra} where
   abbrev pub ackingDown : ℕ → ℕ → Ends 𝓐 → Ends 𝓐
   ackingDown l seen w =
       record { doc = w .doc; lines = w .lines; docs = w .docs; clients = at l (acks seen (w .clients l)) (w .clients) }
+
+  -- line l starts here: its client gets the server's list, and both its ends count from zero
+  abbrev pub joining : ℕ → Ends 𝓐 → Ends 𝓐
+  joining l w =
+      record {
+        doc = w .doc;
+        lines = at l fresh (w .lines);
+        docs = at l (w .doc) (w .docs);
+        clients = at l fresh (w .clients);
+      }

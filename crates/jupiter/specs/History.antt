@@ -67,3 +67,7 @@ module _ {𝓐 : Algebra} where
 
   abbrev pub afterDown : ℕ → History 𝓐 → History 𝓐
   afterDown l h = applies l (missing h l) h
+
+  -- line l starts here: what the server has taken counts as applied by client l, in the contexts of its edits too
+  abbrev pub afterJoin : ℕ → History 𝓐 → History 𝓐
+  afterJoin l h = record { served = h .served; untaken = h .untaken; applied = at l (h .served) (h .applied) }

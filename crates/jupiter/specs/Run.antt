@@ -1,12 +1,13 @@
 -- Lists of calls on the server and its clients, with no limit on any count, and what they leave.
 use Prim.Native.Nat.{ℕ, zero, suc}
-use mathlib.Core.Bool.{Bool, true, false, _&&_, cond}
+use mathlib.Core.Bool.{Bool, true, false, not, _&&_, cond}
 use mathlib.Core.Option.{Option, none, some}
 use mathlib.Core.List.{List, [], _∷_, _++_}
-use lib.ListN.{getElem?}
+use lib.Dec.{eqb}
+use lib.ListN.{length, getElem?}
 use Rattle.jupiter.specs.Algebra.{Algebra}
-use Rattle.jupiter.specs.History.{History, noHistory, afterEdit, afterUp, afterDown}
-use Rattle.jupiter.specs.Ends.{Message, Ends, opened, canSend, message, current, canTake, editing, takingUp, takingDown, ackingUp, ackingDown}
+use Rattle.jupiter.specs.History.{at, History, noHistory, madeBy, afterEdit, afterUp, afterDown, afterJoin}
+use Rattle.jupiter.specs.Ends.{Message, Ends, opened, canSend, message, current, canTake, editing, takingUp, takingDown, ackingUp, ackingDown, joining}
 
 -- What was written, with its line. An end takes only what goes its way on its line, so the letter says who may take it.
 pub data Letter (𝓐 : Algebra) : Type 0 where
@@ -22,21 +23,51 @@ pub data Call (𝓐 : Algebra) : Type 0 where
   tellUp tellDown : ℕ → Call 𝓐
   -- whoever may take it gets the letter that was written as the i-th, counted from 0: at any time, in any order, any number of times
   deliver : ℕ → Call 𝓐
+  -- client l joins late: its line starts at what the server has by now
+  join : ℕ → Call 𝓐
 
+-- `start l` is the number of edits behind line l's opening list: 0, or what the server had taken when client l joined. The counts of both ends
+-- and the numbers in the line's messages begin behind them.
 pub record State (𝓐 : Algebra) : Type 0 where
   pub ends : Ends 𝓐
   pub history : History 𝓐
   pub letters : List (Letter 𝓐)
+  pub start : ℕ → ℕ
 
 module _ {𝓐 : Algebra} where
   abbrev pub initial : 𝓐 .Doc → State 𝓐
-  initial d = record { ends = opened d; history = noHistory; letters = [] }
+  initial d = record { ends = opened d; history = noHistory; letters = []; start = λ l. 0 }
 
   abbrev pub writes : Letter 𝓐 → State 𝓐 → State 𝓐
-  writes x s = record { ends = s .ends; history = s .history; letters = s .letters ++ (x ∷ []) }
+  writes x s = record { ends = s .ends; history = s .history; letters = s .letters ++ (x ∷ []); start = s .start }
 
   abbrev pub goes : (Ends 𝓐 → Ends 𝓐) → (History 𝓐 → History 𝓐) → State 𝓐 → State 𝓐
-  goes f g s = record { ends = f (s .ends); history = g (s .history); letters = s .letters }
+  goes f g s = record { ends = f (s .ends); history = g (s .history); letters = s .letters; start = s .start }
+
+  abbrev pub lineOf : Letter 𝓐 → ℕ
+  lineOf (up l m) = l
+  lineOf (down l m) = l
+  lineOf (upAck l seen) = l
+  lineOf (downAck l seen) = l
+
+  -- none of the letters is on line l
+  unfoldable pub silent : ℕ → List (Letter 𝓐) → Bool
+  silent l [] = true
+  silent l (x ∷ xs) = not (eqb l (lineOf x)) && silent l xs
+
+  -- No edit was made on line l, and no letter written: only such a line may start late. One that has joined and done nothing since may do so
+  -- again.
+  abbrev pub unused : ℕ → State 𝓐 → Bool
+  unused l s = eqb (madeBy (s .history) l) 0 && silent l (s .letters)
+
+  abbrev pub joins : ℕ → State 𝓐 → State 𝓐
+  joins l s =
+      record {
+        ends = joining l (s .ends);
+        history = afterJoin l (s .history);
+        letters = s .letters;
+        start = at l (length (s .history .served)) (s .start);
+      }
 
   -- a letter that may not be taken changes nothing
   unfoldable pub receive : Option (Letter 𝓐) → State 𝓐 → State 𝓐
@@ -56,6 +87,7 @@ module _ {𝓐 : Algebra} where
   step s (tellUp l) = writes (upAck l (s .ends .clients l .taken)) s
   step s (tellDown l) = writes (downAck l (s .ends .lines l .taken)) s
   step s (deliver i) = receive (getElem? (s .letters) i) s
+  step s (join l) = cond (unused l s) (joins l s) s
 
   unfoldable pub run : State 𝓐 → List (Call 𝓐) → State 𝓐
   run s [] = s

@@ -3,6 +3,7 @@ use mathlib.Core.Path.{_≡_, refl, ap, ap₂, sym, _∙_, subst}
 use mathlib.Core.Bool.{Bool, true, false, cond}
 use mathlib.Core.List.{List, [], _∷_}
 use Prim.Native.Nat.{ℕ, zero, suc, _+_, _-_, _≤_, _<_}
+use native.Mathlib.Nat.{zero-add}
 use native.Mathlib.Omega.{arith}
 use lib.Dec.{eqb, leb}
 use lib.ListN.{length, replicate}
@@ -15,6 +16,7 @@ use Rattle.jupiter.specs.Ends.{Ends}
 use Rattle.jupiter.specs.Claims.{inserts, LineClaim}
 use Rattle.jupiter.proofs.Step.{opens}
 use Rattle.jupiter.proofs.World.{mine-served}
+use Rattle.jupiter.proofs.Start.{from-opening}
 use Rattle.jupiter.proofs.Theorem.{line-claim}
 use Rattle.model.specs.Limits.{maxLines, maxPending, maxInitial}
 use Rattle.model.specs.Questions.{asks, every, between, Answer, answer}
@@ -73,7 +75,7 @@ module _ (n : ℕ) (items : List ℕ) (s : State ours) (sim : Sim n items s) (fe
   on-line : (l : ℕ) → 1 ≤ l → l ≤ n → OnLine ours n s l
   on-line l lo hi =
       let C = clientFrom n l (E .clients l) (E .docs l) (sim .ci l) in
-      let line : LineClaim items h l (E .clients l) (E .lines l) (E .docs l) (E .doc) = line-claim items E h (sim .inv) l in
+      let line : LineClaim items h l 0 (E .clients l) (E .lines l) (E .docs l) (E .doc) = line-claim items (λ k. 0) E h (from-opening items E h (sim .inv)) l in
       let same = line-from n (length items) (E .doc) (E .lines) (sim .si) l lo hi in
       let here : s .ends l ≡ client C = sim .client-is l lo hi in
       let hub : s .ends 0 ≡ server S = sim .server-is in
@@ -85,7 +87,7 @@ module _ (n : ℕ) (items : List ℕ) (s : State ours) (sim : Sim n items s) (fe
         client-made = cm ∙ line .client-made ∙ ap length (mine-served l (h .served) (h .untaken l) (sim .inv .lines l .untaken-own)) ∙ lib.ListN.length-append (mine l (h .served)) (h .untaken l)
             ∙ sym (client-made-at h l lo);
         client-taken = ct ∙ sym (sim .taken l) ∙ sym (client-taken-at h l lo);
-        server-made = sm ∙ line .server-made ∙ sym (server-made-at h l);
+        server-made = sm ∙ sym (zero-add (E .lines l .made)) ∙ line .server-made ∙ sym (server-made-at h l);
         server-taken = st ∙ line .server-taken ∙ sym (server-taken-at h l);
         meeting = ap (λ (e : End). replay (order h l) (h .applied l) (missing h l) (ours .items e)) here ∙ line .meets
             ∙ ap (λ (e : End). replay (order h l) (h .served) (h .untaken l) (ours .items e)) (sym hub);

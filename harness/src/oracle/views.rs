@@ -3,7 +3,7 @@
 use super::{Asked, Expected, Line, Oracle};
 use crate::edit::{apply, fits, Edit};
 use crate::limits::*;
-use crate::protocol::*;
+use std::ops::RangeInclusive;
 
 impl Oracle {
     /// The form that a pending edit is owed, asked for once.
@@ -46,12 +46,9 @@ impl Oracle {
         bytes.extend_from_slice(&(items.len() as u16).to_be_bytes());
         if end == 0 {
             bytes.extend_from_slice(&self.initial.to_be_bytes());
-            for l in 1..=self.n {
-                self.dump_line(0, l, &mut bytes);
-            }
-            bytes.resize(ANSWER + 6 + LINES * (8 + 8 * PENDING), 0);
+            self.dump_lines(0, 1..=self.n, LINES, &mut bytes);
         } else {
-            self.dump_line(end, end, &mut bytes);
+            self.dump_lines(end, end..=end, 1, &mut bytes);
             self.meeting(end)?;
         }
         let length = bytes.len() + 4 * ITEMS;
@@ -60,23 +57,28 @@ impl Oracle {
         Ok(Expected::Bytes(bytes))
     }
 
-    pub(super) fn dump_line(&mut self, end: usize, l: usize, bytes: &mut Vec<u8>) {
-        let counts = if end == 0 { self.lines[l - 1].server } else { self.lines[l - 1].client };
-        for count in [counts.made, counts.taken, counts.acked, counts.inserts] {
-            bytes.extend_from_slice(&count.to_be_bytes());
+    /// The lines that are in use, in an end that has room for so many: each count of all of them, then the places and the items of their
+    /// pending edits.
+    pub(super) fn dump_lines(&mut self, end: usize, used: RangeInclusive<usize>, room: usize, bytes: &mut Vec<u8>) {
+        let counts: Vec<_> = used.clone().map(|l| if end == 0 { self.lines[l - 1].server } else { self.lines[l - 1].client }).collect();
+        let mut numbers = [(); 4].map(|_| vec![0u16; room]);
+        let mut places = vec![0u32; room * PENDING];
+        let mut items = vec![0u32; room * PENDING];
+        for (at, (l, counts)) in used.zip(counts).enumerate() {
+            for (row, count) in numbers.iter_mut().zip([counts.made, counts.taken, counts.acked, counts.inserts]) {
+                row[at] = count;
+            }
+            for (index, number) in (counts.acked + 1..=counts.made).enumerate() {
+                let slot = at * PENDING + index;
+                (places[slot], items[slot]) = match self.pending(end, l, number) {
+                    Edit::Nothing => (0, 0),
+                    Edit::Delete(position) => (position as u32 * 256, 0),
+                    Edit::Insert(position, item, priority) => (position as u32 * 256 + priority as u32, item),
+                };
+            }
         }
-        let length = bytes.len() + 8 * PENDING;
-        for number in counts.acked + 1..=counts.made {
-            let (kind, priority, position, item) = match self.pending(end, l, number) {
-                Edit::Nothing => (0, 0, 0, 0),
-                Edit::Delete(position) => (1, 0, position, 0),
-                Edit::Insert(position, item, priority) => (2, priority, position, item),
-            };
-            bytes.extend_from_slice(&[kind, priority]);
-            bytes.extend_from_slice(&position.to_be_bytes());
-            bytes.extend_from_slice(&item.to_be_bytes());
-        }
-        bytes.resize(length, 0);
+        bytes.extend(numbers.iter().flatten().flat_map(|number| number.to_be_bytes()));
+        bytes.extend(places.iter().chain(&items).flat_map(|number| number.to_be_bytes()));
     }
 
     /// The lists meet: the client's with the missing edits carried past the unaccepted, the server's with the unaccepted carried past the missing.

@@ -45,6 +45,25 @@ impl Edit {
         self.0 as u32
     }
 
+    /// The edit whose place (position * 256 + priority) and item stand in a slot. What no edit has there becomes a word that question 2 refuses
+    /// and that `place` and `item` give back; of the place's top byte only 0 to 2 are told apart.
+    pub fn of_slot(place: u32, item: u32) -> Edit {
+        let (top, position, priority) = ((place >> 24) as u8, (place >> 8) as u16, place as u8);
+        let mut edit = Edit::insert(position, item, priority);
+        if priority == 0 && item == 0 {
+            edit = if position == 0 { Edit::NOTHING } else { Edit::delete(position) };
+        }
+        if top != 0 {
+            edit = Edit(Edit::insert(position, item, priority).0 + ((top as u64) << 56));
+        }
+        edit
+    }
+
+    /// Position * 256 + priority, and above them what `of_slot` found there.
+    pub fn place(self) -> u32 {
+        (self.kind().max(INSERT) - INSERT) as u32 * (1 << 24) + self.key()
+    }
+
     /// Zero exactly for an unused place.
     #[inline]
     pub fn word(self) -> u64 {

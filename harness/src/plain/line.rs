@@ -49,6 +49,7 @@ impl Line {
             let outside = edit.position().wrapping_sub(1) >= ITEMS as u16;
             bad |= (edit.kind() != NOTHING) & outside & !R::slips(Slip::SoundPosition);
             bad |= (edit.kind() == INSERT) & !allowed(edit.priority()) & !R::slips(Slip::SoundPriority);
+            bad |= edit.kind() > INSERT;
         }
         let rest = unused.iter().fold(0, |all, edit| all | edit.word());
         !bad && (rest == 0 || R::slips(Slip::SoundPendingZero))

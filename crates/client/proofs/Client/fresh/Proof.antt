@@ -1,5 +1,5 @@
-use mathlib.Core.Path.{refl}
 use Rattle.pending.specs.Slots.{filled}
+use mathlib.Core.Path.{refl}
 use Rattle.client.proofs.Client.fresh.Statement.{statement}
 use Rattle.client.proofs.Client.fresh.Tie as tie
 

@@ -1,6 +1,6 @@
-use denote.Ref.{now}
-use native.Mathlib.Omega.{arith}
 use Rattle.client.proofs.Answers.{open-short, open-yes, open-no}
+use native.Mathlib.Omega.{arith}
+use denote.Ref.{now}
 use borrow.Author.Needs.{needs}
 use Rattle.client.proofs.Client.open.Statement.{statement}
 use Rattle.client.proofs.Client.open.Tie as tie

@@ -1,10 +1,10 @@
-use denote.Ref.{now}
-use mathlib.Core.Path.{sym, _∙_}
-use Rattle.wire.proofs.Codec.{codec}
-use Rattle.model.specs.Client.{takeClient}
-use Rattle.client.specs.Store.{view}
+use Rattle.client.proofs.Takes.{decidable, decided-room, decided-done, decided-refused, message-decided, read-refused, read-message}
 use Rattle.client.proofs.Answers.{unsound}
-use Rattle.client.proofs.Takes.{read-refused, read-message}
+use Rattle.client.specs.Store.{view}
+use Rattle.model.specs.Client.{takeClient}
+use Rattle.wire.proofs.Codec.{codec}
+use mathlib.Core.Path.{sym, _∙_}
+use denote.Ref.{now}
 use borrow.Author.Needs.{needs}
 use Rattle.client.proofs.Client.take.Statement.{statement}
 use Rattle.client.proofs.Client.take.Tie as tie
@@ -21,23 +21,23 @@ enum-known-m c = search needs
 enum-told : tie.Need-enum-told
 enum-told c = search needs
 
-refused-requires : tie.Need-refused-requires
-refused-requires c κs = search needs
-
 returns : tie.Need-returns
-returns c = c .refused .ensures ∙ read-refused (c .before .before .before .before .before .before .before .args .self) (c .before .before .before .before .before .is-sound .ensures .1 (c .before .before .before .before .if1 .taken)) (now (c .before .before .before .before .before .before .before .args .bytes)) (sym (c .before .before .before .parse .ensures) ∙ c .before .enum-told .given .1)
+returns c = read-refused (c .before .before .before .before .before .before .before .before .before .before .before .before .before .args .t1) (c .before .before .before .before .is-sound .ensures .1 (c .before .before .before .if1 .taken)) (now (c .before .before .before .before .before .before .before .before .before .before .before .before .before .args .bytes)) (sym (c .before .before .parse .ensures) ∙ c .enum-told .given .1)
 
-take-message-requires : tie.Need-take-message-requires
-take-message-requires c κs = (c .before .before .before .before .before .is-sound .ensures .1 (c .before .before .before .before .if1 .taken), codec .read-in-range (now (c .before .before .before .before .before .before .before .args .bytes)) _ (sym (c .before .before .before .parse .ensures) ∙ c .before .m .given .1))
+decide-requires : tie.Need-decide-requires
+decide-requires c κs = (codec .read-in-range (now (c .before .before .before .before .before .before .before .before .before .before .before .before .before .before .before .before .before .before .before .args .bytes)) _ (sym (c .before .before .before .before .before .before .before .before .parse .ensures) ∙ c .before .before .before .before .before .before .m .given .1), decidable (c .before .before .before .before .before .before .before .before .before .before .before .before .before .before .before .before .before .before .before .args .t1) (c .before .before .before .before .before .before .before .before .before .before .is-sound .ensures .1 (c .before .before .before .before .before .before .before .before .before .if1 .taken)))
+
+apply-requires : tie.Need-apply-requires
+apply-requires c κs = decided-room (c .before .before .before .before .before .before .before .before .before .before .before .before .before .before .before .before .before .before .before .before .before .before .before .before .before .args .t1) (c .before .before .before .before .before .before .before .before .before .before .before .before .before .before .before .before .is-sound .ensures .1 (c .before .before .before .before .before .before .before .before .before .before .before .before .before .before .before .if1 .taken)) (c .before .before .before .before .before .decide .result) _ (message-decided (c .before .before .before .before .before .before .before .before .before .before .before .before .before .before .before .before .before .before .before .before .before .before .before .before .before .args .t1) (c .before .before .before .before .before .before .before .before .before .before .before .before .before .before .before .before .is-sound .ensures .1 (c .before .before .before .before .before .before .before .before .before .before .before .before .before .before .before .if1 .taken)) (c .before .before .before .before .before .before .before .before .before .before .before .before .m .given .0 .0) (c .before .before .before .before .before .decide .result) (c .before .before .before .before .before .decide .ensures)) (c .before .before .before .if2 .taken)
 
 returns-2 : tie.Need-returns-2
-returns-2 c = c .take-message .ensures ∙ read-message (c .before .before .before .before .before .before .before .before .args .self) (now (c .before .before .before .before .before .before .before .before .args .bytes)) _ (sym (c .before .before .before .before .parse .ensures) ∙ c .before .before .m .given .1)
-
-refused-requires-2 : tie.Need-refused-requires-2
-refused-requires-2 c κs = search needs
+returns-2 c = decided-done (c .before .before .before .before .before .before .before .before .before .before .before .before .before .before .before .before .before .before .before .before .before .before .before .before .before .before .args .t1) (c .before .before .before .before .before .before .before .before .before .before .before .before .before .before .before .before .before .is-sound .ensures .1 (c .before .before .before .before .before .before .before .before .before .before .before .before .before .before .before .before .if1 .taken)) (c .before .before .before .before .before .before .decide .result) _ (message-decided (c .before .before .before .before .before .before .before .before .before .before .before .before .before .before .before .before .before .before .before .before .before .before .before .before .before .before .args .t1) (c .before .before .before .before .before .before .before .before .before .before .before .before .before .before .before .before .before .is-sound .ensures .1 (c .before .before .before .before .before .before .before .before .before .before .before .before .before .before .before .before .if1 .taken)) (c .before .before .before .before .before .before .before .before .before .before .before .before .before .m .given .0 .0) (c .before .before .before .before .before .before .decide .result) (c .before .before .before .before .before .before .decide .ensures)) (c .before .before .before .before .if2 .taken) (c .apply .result) (c .apply .last .0) (c .apply .ensures) ∙ read-message (c .before .before .before .before .before .before .before .before .before .before .before .before .before .before .before .before .before .before .before .before .before .before .before .before .before .before .args .t1) (now (c .before .before .before .before .before .before .before .before .before .before .before .before .before .before .before .before .before .before .before .before .before .before .before .before .before .before .args .bytes)) (c .before .before .before .before .before .before .before .before .before .before .before .before .before .m .given .0 .0) (sym (c .before .before .before .before .before .before .before .before .before .before .before .before .before .before .before .parse .ensures) ∙ c .before .before .before .before .before .before .before .before .before .before .before .before .before .m .given .1)
 
 returns-3 : tie.Need-returns-3
-returns-3 c = c .refused2 .ensures ∙ unsound (c .before .before .before .before .args .self) (takeClient (view (c .before .before .before .before .args .self)) (now (c .before .before .before .before .args .bytes))) (sym (c .before .before .is-sound .ensures .0) ∙ c .before .if1 .left)
+returns-3 c = decided-refused (c .before .before .before .before .before .before .before .before .before .before .before .before .before .before .before .before .before .before .before .before .before .before .args .t1) (c .before .before .before .before .before .before .before .before .before .before .before .before .before .is-sound .ensures .1 (c .before .before .before .before .before .before .before .before .before .before .before .before .if1 .taken)) (c .before .before .decide .result) _ (message-decided (c .before .before .before .before .before .before .before .before .before .before .before .before .before .before .before .before .before .before .before .before .before .before .args .t1) (c .before .before .before .before .before .before .before .before .before .before .before .before .before .is-sound .ensures .1 (c .before .before .before .before .before .before .before .before .before .before .before .before .if1 .taken)) (c .before .before .before .before .before .before .before .before .before .m .given .0 .0) (c .before .before .decide .result) (c .before .before .decide .ensures)) (c .if2 .left) ∙ read-message (c .before .before .before .before .before .before .before .before .before .before .before .before .before .before .before .before .before .before .before .before .before .before .args .t1) (now (c .before .before .before .before .before .before .before .before .before .before .before .before .before .before .before .before .before .before .before .before .before .before .args .bytes)) (c .before .before .before .before .before .before .before .before .before .m .given .0 .0) (sym (c .before .before .before .before .before .before .before .before .before .before .before .parse .ensures) ∙ c .before .before .before .before .before .before .before .before .before .m .given .1)
+
+returns-4 : tie.Need-returns-4
+returns-4 c = unsound (c .before .before .before .before .before .before .before .before .before .before .args .t1) (takeClient (view (c .before .before .before .before .before .before .before .before .before .before .args .t1)) (now (c .before .before .before .before .before .before .before .before .before .before .args .bytes))) (sym (c .before .is-sound .ensures .0) ∙ c .if1 .left)
 
 pub take-spec : {M : Type 1} → statement M
 take-spec =
@@ -47,9 +47,9 @@ take-spec =
     parse-requires
     enum-known-m
     enum-told
-    refused-requires
     returns
-    take-message-requires
+    decide-requires
+    apply-requires
     returns-2
-    refused-requires-2
-    returns-3)
+    returns-3
+    returns-4)

@@ -1,0 +1,39 @@
+use Rattle.client.proofs.Sound.{answers}
+use Rattle.client.specs.Store.{clientOf}
+use denote.Ref.{now}
+use borrow.Author.Needs.{needs}
+use Rattle.client.proofs.is_sound.Statement.{statement}
+use Rattle.client.proofs.is_sound.Tie as tie
+
+less-requires : tie.Need-less-requires
+less-requires c κs = search needs
+
+cast-count : tie.Need-cast-count
+cast-count c = search needs
+
+counts-sound-requires : tie.Need-counts-sound-requires
+counts-sound-requires c κs = search needs
+
+cast-zero-from : tie.Need-cast-zero-from
+cast-zero-from c = search needs
+
+zero-from-requires : tie.Need-zero-from-requires
+zero-from-requires c κs = search needs
+
+sound-requires : tie.Need-sound-requires
+sound-requires c κs = search needs
+
+returns : tie.Need-returns
+returns c = answers (clientOf (c .before .before .before .before .before .before .before .before .args .k) (now (c .before .before .before .before .before .before .before .before .args .items)) (now (c .before .before .before .before .before .before .before .before .args .places)) (now (c .before .before .before .before .before .before .before .before .args .pending))) (c .before .before .before .before .before .before .before .before .pre) (c .before .before .before .before .less .result) (c .before .before .before .counts-sound .result) (c .before .zero-from .result) (c .sound .result) (c .before .before .before .before .less .ensures) (c .before .before .before .counts-sound .ensures) (c .before .zero-from .ensures) (c .sound .ensures .answer)
+
+pub is-sound-spec : {M : Type 1} → statement M
+is-sound-spec =
+    tie.close
+    (tie.spec
+    less-requires
+    cast-count
+    counts-sound-requires
+    cast-zero-from
+    zero-from-requires
+    sound-requires
+    returns)

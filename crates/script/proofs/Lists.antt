@@ -1,0 +1,23 @@
+-- Laws of lists: what stands past the end, and writing one place.
+use mathlib.Core.Path.{_≡_, refl, ap, sym, _∙_}
+use mathlib.Core.List.{List, [], _∷_, _++_, map}
+use Prim.Native.Nat.{ℕ, zero, suc, _-_, _<_}
+use native.Mathlib.Omega.{arith}
+use lib.ListN.{length, getD, set, replicate, length-set}
+use lib.Seq.{set-append-left}
+use Rattle.ot.specs.Items.{padded}
+
+module _ {A : Type 0} where
+  pub getD-default : (l : List A) (i : ℕ) (d e : A) → i < length l → getD l i d ≡ getD l i e
+  getD-default [] i d e h = absurd (omega arith)
+  getD-default (x ∷ l) zero d e h = refl
+  getD-default (x ∷ l) (suc i) d e h = getD-default l i d e (omega arith)
+
+  pub pad-set : (n : ℕ) (z : A) (l : List A) (i : ℕ) (x : A) → i < length l → set (padded z n l) i x ≡ padded z n (set l i x)
+  pad-set n z l i x h =
+      set-append-left l (replicate (n - length l) z) i x h ∙ ap (λ (k : ℕ). set l i x ++ replicate (n - k) z) (sym (length-set l i x))
+
+pub set-map : {A B : Type 0} (f : A → B) (l : List A) (i : ℕ) (x : A) → set (map f l) i (f x) ≡ map f (set l i x)
+set-map f [] i x = refl
+set-map f (y ∷ l) zero x = refl
+set-map {B = B} f (y ∷ l) (suc i) x = ap (λ (r : List B). f y ∷ r) (set-map f l i x)

@@ -1,0 +1,327 @@
+-- What the calls of the structs do to the bench that they stand for.
+use Prim.Native.Nat.{ℕ, zero, suc, _+_, _-_, _<_, _≤_}
+use mathlib.Core.Path.{_≡_, refl, sym, ap, ap₂, _∙_, subst}
+use mathlib.Core.Bool.{Bool, true, false, cond}
+use mathlib.Core.List.{List, [], _∷_, _++_, map}
+use native.Mathlib.Omega.{arith}
+use borrow.Author.Tests.{eqb-false}
+use lib.Dec.{eqb}
+use lib.ListN.{length, getD, take, drop, set, length-map, length-append, List·getD-append, List·getD-map}
+use Rattle.ot.specs.declared.Edit.{Edit}
+use Rattle.ot.specs.Items.{padded}
+use Rattle.wire.specs.declared.Read.{Read}
+use Rattle.wire.specs.declared.Read.the-variants as read
+use Rattle.wire.specs.declared.Message.the-variants as message
+use Rattle.wire.specs.Bytes.{parsed}
+use Rattle.model.specs.Limits.{maxLines}
+use Rattle.model.specs.Questions.{Answer, answer, Sent, sent}
+use Rattle.model.specs.Client as models
+use Rattle.model.specs.Server as serverModels
+use Rattle.model.proofs.SoundServer.{server-facts}
+use Rattle.pending.proofs.Pad.{pad-length}
+use Rattle.endpoint.specs.declared.Sent as endpoint
+use Rattle.endpoint.specs.Sending.{answered as sentAs}
+use Rattle.client.specs.declared.Client.{Client}
+use Rattle.client.specs.declared.Answer as clientAnswer
+use Rattle.client.specs.Store as client
+use Rattle.client.specs.Answers.{guarded, given, refusedWith, guardedSending, sentEdit, sentAck}
+use Rattle.server.specs.declared.Server.{Server}
+use Rattle.server.specs.declared.Answer as serverAnswer
+use Rattle.server.specs.View as server
+use Rattle.server.specs.Calls.{answered, refused, sends, tells, takes}
+use Rattle.server.specs.Sound.{soundStruct}
+use Rattle.script.proofs.Lists.{getD-default, pad-set, set-map}
+use Rattle.server.proofs.Stored.{view-store, store-sound}
+use Rattle.client.proofs.Stored.{client-view, client-stored}
+use Rattle.script.specs.declared.ends.Ends.{Ends}
+use Rattle.script.specs.declared.parse.Command.{Command}
+use Rattle.script.specs.declared.parse.Command.the-variants.{Bad, Insert, Delete, Up, Down, Ack, Told}
+use Rattle.script.specs.Bench.{Bench, Step, clientOf, onClient, onServer, delivered, room, step}
+use Rattle.script.specs.Ends.{viewEnds, storeEnds, Whole, placeOf, upward, clientGets, serverGets, atClient, atServer}
+use Rattle.script.proofs.Sinks.{both}
+use Rattle.script.proofs.Benches.{every-at}
+
+-- the line of a command is one of 1 to n
+abbrev pub Within : ℕ → Command → Type 0
+Within n Bad = Unit {0}
+Within n (Insert l p x) = (1 ≤ l) × (l ≤ n)
+Within n (Delete l p) = (1 ≤ l) × (l ≤ n)
+Within n (Up l k) = (1 ≤ l) × (l ≤ n)
+Within n (Down l k) = (1 ≤ l) × (l ≤ n)
+Within n (Ack l) = (1 ≤ l) × (l ≤ n)
+Within n (Told l) = (1 ≤ l) × (l ≤ n)
+
+-- a refusal's number or 0, and the ends
+pub record Done : Type 0 where
+  pub refusal : ℕ
+  pub ends : Ends
+
+abbrev pub storeStep : Step → Done
+storeStep s = record { refusal = s .refusal; ends = storeEnds (s .bench) }
+
+abbrev pub clientDone : Ends → ℕ → clientAnswer.Answer → Done
+clientDone e i a = record { refusal = a .refusal; ends = record { server = e .server; clients = set (e .clients) i (a .client) } }
+
+abbrev pub serverDone : Ends → serverAnswer.Answer → Done
+serverDone e a = record { refusal = a .refusal; ends = record { server = a .server; clients = e .clients } }
+
+true-false : true ≡ false → ⊥
+true-false h = eqb-false 0 1 refl (ap (λ (t : Bool). cond t 1 0) (sym h))
+
+-- A refusal hands back the end as it came.
+abbrev pub Keeps : {E : Type 0} → E → Answer E → Type 0
+Keeps m a = (a .refusal ≡ 0 → ⊥) → a .end ≡ m
+
+keeps : {E : Type 0} (r : ℕ) (old new : E) (k : ℕ) → Keeps old (answer r old new k)
+unfolding answer
+keeps {E} r old new k = go (eqb r 0)
+  where
+    go : (t : Bool) → Keeps old (cond {A = Answer E} t (record { refusal = 0; end = new; passed = k }) (record { refusal = r; end = old; passed = 0 }))
+    go true no0 = absurd (no0 refl)
+    go false no0 = refl
+
+pub edit-keeps : (m : models.Client) (e : Edit) → Keeps m (models.editClient m e)
+unfolding models.editClient
+edit-keeps m e = keeps _ m _ _
+
+client-reads : (m : models.Client) (r : Read) → Keeps m (models.clientReads m r)
+unfolding models.clientTakesEdit models.clientTakesAck
+client-reads m read.Refused = keeps _ m m 0
+client-reads m (read.Message (message.Insert h p x q)) = keeps _ m _ _
+client-reads m (read.Message (message.Delete h p)) = keeps _ m _ _
+client-reads m (read.Message (message.Nothing h)) = keeps _ m _ _
+client-reads m (read.Message (message.Ack l d s)) = keeps _ m _ _
+
+pub client-keeps : (m : models.Client) (bytes : List ℕ) → Keeps m (models.takeClient m bytes)
+unfolding models.takeClient
+client-keeps m bytes = client-reads m (parsed bytes)
+
+server-reads : (m : serverModels.Server) (r : Read) → Keeps m (serverModels.serverReads m r)
+unfolding serverModels.serverTakesEdit serverModels.serverTakesAck
+server-reads m read.Refused = keeps _ m m 0
+server-reads m (read.Message (message.Insert h p x q)) = keeps _ m _ _
+server-reads m (read.Message (message.Delete h p)) = keeps _ m _ _
+server-reads m (read.Message (message.Nothing h)) = keeps _ m _ _
+server-reads m (read.Message (message.Ack l d s)) = keeps _ m _ _
+
+server-keeps : (m : serverModels.Server) (bytes : List ℕ) → Keeps m (serverModels.takeServer m bytes)
+unfolding serverModels.takeServer
+server-keeps m bytes = server-reads m (parsed bytes)
+
+pub open-keeps : (n l : ℕ) (items : List ℕ) → Keeps models.noClient (models.openClient n l items)
+unfolding models.openClient
+open-keeps n l items = keeps _ models.noClient _ _
+
+-- The struct of an answer's end.
+pub end-stored : {E F : Type 0} (store : E → F) (m : E) (a : Answer E) → Keeps m a → cond (eqb (a .refusal) 0) (store (a .end)) (store m) ≡ store (a .end)
+end-stored {E} {F} store m a h = go (eqb (a .refusal) 0) refl
+  where
+    go : (t : Bool) → eqb (a .refusal) 0 ≡ t → cond {A = F} t (store (a .end)) (store m) ≡ store (a .end)
+    go true e = refl
+    go false e = ap store (sym (h (eqb-false (a .refusal) 0 e)))
+
+client-answers : (m : models.Client) (call : models.Client → Answer models.Client) → models.soundClient m ≡ true → Keeps m (call m)
+    → guarded (client.store m) (call (client.view (client.store m))) ≡ record { refusal = call m .refusal; passed = call m .passed; client = client.store (call m .end) }
+unfolding guarded
+client-answers m call s h =
+    ap (λ (b : Bool). cond b (given (client.store m) (call (client.view (client.store m)))) (refusedWith 2 (client.store m))) (client-stored m s)
+    ∙ ap (λ (v : models.Client). given (client.store m) (call v)) (client-view m s)
+    ∙ ap (λ (c : Client). record { refusal = call m .refusal; passed = call m .passed; client = c }) (end-stored client.store m (call m) h)
+
+server-answers : (m : serverModels.Server) (bytes : List ℕ) → serverModels.soundServer m ≡ true
+    → takes (server.store m) bytes
+    ≡ record { refusal = serverModels.takeServer m bytes .refusal; passed = serverModels.takeServer m bytes .passed; server = server.store (serverModels.takeServer m bytes .end) }
+unfolding takes answered
+server-answers m bytes s =
+    ap (λ (b : Bool). cond b (answered (server.store m) (serverModels.takeServer (server.view (server.store m)) bytes)) (refused (server.store m) 2)) (store-sound m s)
+    ∙ ap (λ (v : serverModels.Server). answered (server.store m) (serverModels.takeServer v bytes)) (view-store m s)
+    ∙ ap (λ (c : Server). record { refusal = serverModels.takeServer m bytes .refusal; passed = serverModels.takeServer m bytes .passed; server = c })
+    (end-stored server.store m (serverModels.takeServer m bytes) (server-keeps m bytes))
+
+pub client-sends : (m : models.Client) (call : models.Client → Sent) (lent : List ℕ) → models.soundClient m ≡ true
+    → guardedSending (client.store m) (call (client.view (client.store m))) lent ≡ call m
+unfolding guardedSending
+client-sends m call lent s =
+    ap (λ (b : Bool). cond b (call (client.view (client.store m))) (record { refusal = 2; written = 0; buffer = lent })) (client-stored m s)
+    ∙ ap call (client-view m s)
+
+pub server-sends : (m : serverModels.Server) (l k : ℕ) (lent : List ℕ) → serverModels.soundServer m ≡ true → sends (server.store m) l k lent ≡ serverModels.sendServer m l k lent
+unfolding sends
+server-sends m l k lent s = rw (store-sound m s) (ap (λ (v : serverModels.Server). serverModels.sendServer v l k lent) (view-store m s))
+
+pub server-tells : (m : serverModels.Server) (l : ℕ) (lent : List ℕ) → serverModels.soundServer m ≡ true → tells (server.store m) l lent ≡ serverModels.tellServer m l lent
+unfolding tells
+server-tells m l lent s = rw (store-sound m s) (ap (λ (v : serverModels.Server). serverModels.tellServer v l lent) (view-store m s))
+
+-- The client of a line in its place.
+done-path : {r r′ : ℕ} {s s′ : Server} {c c′ : List Client} → r ≡ r′ → s ≡ s′ → c ≡ c′
+    → _≡_ {A = Done} (record { refusal = r; ends = record { server = s; clients = c } }) (record { refusal = r′; ends = record { server = s′; clients = c′ } })
+done-path p q r = λ i. record { refusal = p i; ends = record { server = q i; clients = r i } }
+
+set-same : {A : Type 0} (l : List A) (i : ℕ) (d : A) → set l i (getD l i d) ≡ l
+set-same [] i d = refl
+set-same (x ∷ l) zero d = refl
+set-same (x ∷ l) (suc i) d = ap (λ m. x ∷ m) (set-same l i d)
+
+module _ (e : Ends) (w : Whole e) where
+  abbrev B : Bench
+  B = viewEnds e
+
+  pub server-is : e .server ≡ server.store (B .server)
+  server-is = ap (λ (x : Ends). x .server) (w .whole)
+
+  clients-are : e .clients ≡ padded (client.store models.noClient) maxLines (map client.store (B .clients))
+  clients-are = ap (λ (x : Ends). x .clients) (w .whole)
+
+  pub lines-few : e .server .n ≤ 8
+  unfolding server.view
+  lines-few = server-facts (B .server) (w .sound .server) .n .1
+
+  pub eight : length (e .clients) ≡ 8
+  unfolding server.view
+  eight =
+      ap length clients-are
+      ∙ pad-length maxLines (client.store models.noClient) (map client.store (B .clients))
+      (rw (length-map (B .clients) client.store) (let k = w .sound .count in let f = lines-few in omega arith))
+
+  -- the ends as they were
+  as-were : (r : ℕ) → _≡_ {A = Done} (record { refusal = r; ends = e }) (storeStep (record { refusal = r; bench = B }))
+  as-were r = ap (λ (x : Ends). record { refusal = r; ends = x }) (w .whole)
+
+  -- one client as it was
+  same-client : (r i : ℕ) (c d : Client) → c ≡ getD (e .clients) i d → clientDone e i (refusedWith r c) ≡ storeStep (record { refusal = r; bench = B })
+  same-client r i c d p =
+      ap (λ (l : List Client). record { refusal = r; ends = record { server = e .server; clients = l } }) (ap (set (e .clients) i) p ∙ set-same (e .clients) i d) ∙ as-were r
+
+  server-call : (bytes : List ℕ) → serverDone e (takes (e .server) bytes) ≡ storeStep (onServer B (serverModels.takeServer (B .server) bytes))
+  server-call bytes =
+      let q = ap (λ s. takes s bytes) server-is ∙ server-answers (B .server) bytes (w .sound .server) in
+      done-path (ap (λ (x : serverAnswer.Answer). x .refusal) q) (ap (λ (x : serverAnswer.Answer). x .server) q) clients-are
+
+  module _ (l : ℕ) (low : 1 ≤ l) (high : l ≤ e .server .n) (c d : Client) (pc : c ≡ getD (e .clients) (l - 1) d) where
+    place-within : l - 1 < length (B .clients)
+    unfolding server.view
+    place-within = let k = w .sound .count in omega arith
+
+    pub client-sound : models.soundClient (clientOf B l) ≡ true
+    client-sound = every-at (B .clients) (l - 1) (w .sound .clients) place-within
+
+    pub client-is : c ≡ client.store (clientOf B l)
+    client-is =
+        let small : l - 1 < length (map client.store (B .clients)) = rw (length-map (B .clients) client.store) place-within in
+        pc ∙ ap (λ x. getD x (l - 1) d) clients-are
+        ∙ List·getD-append (map client.store (B .clients)) _ d (l - 1) small
+        ∙ getD-default (map client.store (B .clients)) (l - 1) d (client.store models.noClient) small
+        ∙ List·getD-map client.store (B .clients) (l - 1) models.noClient
+
+    client-call : (call : models.Client → Answer models.Client) → Keeps (clientOf B l) (call (clientOf B l))
+        → clientDone e (l - 1) (guarded c (call (client.view c))) ≡ storeStep (onClient B l (call (clientOf B l)))
+    client-call call h =
+        let m = clientOf B l in
+        let q = ap (λ (x : Client). guarded x (call (client.view x))) client-is ∙ client-answers m call client-sound h in
+        let few : l - 1 < length (map client.store (B .clients)) = rw (length-map (B .clients) client.store) place-within in
+        done-path (ap (λ (x : clientAnswer.Answer). x .refusal) q) server-is
+        (ap₂ (λ x y. set x (l - 1) y) clients-are (ap (λ (x : clientAnswer.Answer). x .client) q)
+        ∙ pad-set maxLines (client.store models.noClient) (map client.store (B .clients)) (l - 1) (client.store (call m .end)) few
+        ∙ ap (padded (client.store models.noClient) maxLines) (set-map client.store (B .clients) (l - 1) (call m .end)))
+
+    -- what the server sent, taken by the client
+    client-gets : (x m : Sent) → x ≡ m → clientDone e (l - 1) (clientGets x c) ≡ storeStep (delivered B m (λ bytes. onClient B l (models.takeClient (clientOf B l) bytes)))
+    client-gets x m p = ap (λ (y : Sent). clientDone e (l - 1) (clientGets y c)) p ∙ go (eqb (m .refusal) 0)
+      where
+        go : (t : Bool)
+            → clientDone e (l - 1) (cond t (guarded c (models.takeClient (client.view c) (take (m .written) (m .buffer)))) (refusedWith (m .refusal) c))
+            ≡ storeStep (cond t (onClient B l (models.takeClient (clientOf B l) (take (m .written) (m .buffer)))) (record { refusal = m .refusal; bench = B }))
+        go true = client-call (λ v. models.takeClient v (take (m .written) (m .buffer))) (client-keeps (clientOf B l) (take (m .written) (m .buffer)))
+        go false = same-client (m .refusal) (l - 1) c d pc
+
+    client-sent : (call : models.Client → Sent) → guardedSending c (call (client.view c)) room ≡ call (clientOf B l)
+    client-sent call =
+        ap (λ (x : Client). guardedSending x (call (client.view x)) room) client-is ∙ client-sends (clientOf B l) call room client-sound
+
+  -- what a client sent, taken by the server
+  server-gets : (x m : Sent) → x ≡ m → serverDone e (serverGets x (e .server)) ≡ storeStep (delivered B m (λ bytes. onServer B (serverModels.takeServer (B .server) bytes)))
+  server-gets x m p = ap (λ (y : Sent). serverDone e (serverGets y (e .server))) p ∙ go (eqb (m .refusal) 0)
+    where
+      go : (t : Bool)
+          → serverDone e (cond t (takes (e .server) (take (m .written) (m .buffer))) (refused (e .server) (m .refusal)))
+          ≡ storeStep (cond t (onServer B (serverModels.takeServer (B .server) (take (m .written) (m .buffer)))) (record { refusal = m .refusal; bench = B }))
+      go true = server-call (take (m .written) (m .buffer))
+      go false = as-were (m .refusal)
+
+  down-sent : (l k : ℕ) → sends (e .server) l k room ≡ serverModels.sendServer (B .server) l k room
+  down-sent l k = ap (λ (x : Server). sends x l k room) server-is ∙ server-sends (B .server) l k room (w .sound .server)
+
+  told-sent : (l : ℕ) → tells (e .server) l room ≡ serverModels.tellServer (B .server) l room
+  told-sent l = ap (λ (x : Server). tells x l room) server-is ∙ server-tells (B .server) l room (w .sound .server)
+
+  -- The place of a command's client is one of the eight.
+  pub place-few : (c : Command) → Within (e .server .n) c → placeOf c < 8
+  unfolding placeOf
+  place-few Bad h = omega arith
+  place-few (Insert l p x) h = let k = lines-few in omega arith
+  place-few (Delete l p) h = let k = lines-few in omega arith
+  place-few (Up l k) h = let k′ = lines-few in omega arith
+  place-few (Down l k) h = let k′ = lines-few in omega arith
+  place-few (Ack l) h = let k = lines-few in omega arith
+  place-few (Told l) h = let k = lines-few in omega arith
+
+  -- What the calls leave is what the step leaves, stored.
+  pub at-client-is : (c : Command) → Within (e .server .n) c → upward c ≡ false → (x d : Client) → x ≡ getD (e .clients) (placeOf c) d
+      → clientDone e (placeOf c) (atClient (e .server) x c) ≡ storeStep (step B c)
+  unfolding placeOf upward atClient step
+  at-client-is Bad h u x d p = same-client 0 0 x d p
+  at-client-is (Insert l q y) h u x d p = client-call l (h .0) (h .1) x d p (λ m. models.insertClient m q y) (edit-keeps (clientOf B l) _)
+  at-client-is (Delete l q) h u x d p = client-call l (h .0) (h .1) x d p (λ m. models.deleteClient m q) (edit-keeps (clientOf B l) _)
+  at-client-is (Up l k) h u x d p = absurd (true-false u)
+  at-client-is (Down l k) h u x d p = client-gets l (h .0) (h .1) x d p _ _ (down-sent l k)
+  at-client-is (Ack l) h u x d p = absurd (true-false u)
+  at-client-is (Told l) h u x d p = client-gets l (h .0) (h .1) x d p _ _ (told-sent l)
+
+  pub at-server-is : (c : Command) → Within (e .server .n) c → upward c ≡ true → (x d : Client) → x ≡ getD (e .clients) (placeOf c) d
+      → serverDone e (atServer (e .server) x c) ≡ storeStep (step B c)
+  unfolding placeOf upward atServer step
+  at-server-is Bad h u x d p = absurd (true-false (sym u))
+  at-server-is (Insert l q y) h u x d p = absurd (true-false (sym u))
+  at-server-is (Delete l q) h u x d p = absurd (true-false (sym u))
+  at-server-is (Up l k) h u x d p = server-gets _ _ (client-sent l (h .0) (h .1) x d p (λ v. models.sendClient v l k room))
+  at-server-is (Down l k) h u x d p = absurd (true-false (sym u))
+  at-server-is (Ack l) h u x d p = server-gets _ _ (client-sent l (h .0) (h .1) x d p (λ v. models.tellClient v l room))
+  at-server-is (Told l) h u x d p = absurd (true-false (sym u))
+
+-- Any sending writes within its buffer.
+sent-within : (r : ℕ) (bytes lent : List ℕ) → sent r bytes lent .written ≤ length (sent r bytes lent .buffer)
+unfolding sent
+sent-within r bytes lent =
+    both (λ (x : Sent). x .written ≤ length (x .buffer)) (eqb r 0) (record { refusal = 0; written = length bytes; buffer = bytes ++ drop (length bytes) lent })
+    (record { refusal = r; written = 0; buffer = lent }) (let l = length-append bytes (drop (length bytes) lent) in omega arith) (omega arith)
+
+module _ (s : endpoint.Sent) (out : List ℕ) (l : ℕ) where
+  written-within : (x : Sent) → x .written ≤ length (x .buffer) → sentAs s out ≡ x → s .written ≤ length out
+  written-within x h p = subst (λ (y : Sent). y .written ≤ length (y .buffer)) (sym p) h
+
+  guarded-within : (c : Client) (a : Sent) → a .written ≤ length (a .buffer) → sentAs s out ≡ guardedSending c a room → s .written ≤ length out
+  unfolding guardedSending
+  guarded-within c a h p =
+      written-within (guardedSending c a room)
+      (both (λ (x : Sent). x .written ≤ length (x .buffer)) (client.sound c) a (record { refusal = 2; written = 0; buffer = room }) h (omega arith)) p
+
+  pub up-within : (c : Client) (k : ℕ) → sentAs s out ≡ sentEdit c l k room → s .written ≤ length out
+  unfolding models.sendClient
+  up-within c k p = guarded-within c (models.sendClient (client.view c) l k room) (sent-within _ _ room) p
+
+  pub ack-within : (c : Client) → sentAs s out ≡ sentAck c l room → s .written ≤ length out
+  unfolding models.tellClient
+  ack-within c p = guarded-within c (models.tellClient (client.view c) l room) (sent-within _ _ room) p
+
+  pub down-within : (e : Server) (k : ℕ) → sentAs s out ≡ sends e l k room → s .written ≤ length out
+  unfolding sends serverModels.sendServer
+  down-within e k p =
+      written-within (sends e l k room)
+      (both (λ (x : Sent). x .written ≤ length (x .buffer)) (soundStruct e) (serverModels.sendServer (server.view e) l k room) (sent 2 [] room) (sent-within _ _ room) (sent-within 2 [] room)) p
+
+  pub told-within : (e : Server) → sentAs s out ≡ tells e l room → s .written ≤ length out
+  unfolding tells serverModels.tellServer
+  told-within e p =
+      written-within (tells e l room)
+      (both (λ (x : Sent). x .written ≤ length (x .buffer)) (soundStruct e) (serverModels.tellServer (server.view e) l room) (sent 2 [] room) (sent-within _ _ room) (sent-within 2 [] room)) p

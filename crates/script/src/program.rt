@@ -1,0 +1,170 @@
+// The run program over a text: reads lines, makes the calls they name, and prints.
+use crate::ends::Ends;
+use crate::ends::at_client;
+use crate::ends::at_server;
+use crate::ends::goes_up;
+use crate::ends::place;
+use crate::opening::First;
+use crate::opening::read_first;
+use crate::parse::Command;
+use crate::parse::end;
+use crate::parse::read_command;
+use crate::print::client_list;
+use crate::print::reply;
+use crate::print::server_list;
+use crate::print::text;
+use crate::print::unknown;
+use client::Client;
+use server::Server;
+ghost use mathlib.Core.Path.{_≡_};
+ghost use Prim.Native.Nat.{_≤_};
+ghost use lib.ListN.{length, take, drop};
+ghost use Rattle.script.specs.Sink.{sink, puts, Printed};
+ghost use Rattle.script.specs.Text.{linesOf};
+ghost use Rattle.script.specs.Opening.{maxHeld, held};
+ghost use Rattle.script.specs.Output.{understood, replies, clientList, clientLists, lists as Output·lists, ran, started as Output·started, output};
+ghost use Rattle.script.specs.Ends.{Whole, viewEnds, opening};
+
+// Whether a line was understood.
+fn known(c: Command) -> bool
+    ensures { λ r. ⌜ r ≡ understood c ⌝ }
+{
+    match c {
+        Command::Bad => false,
+        Command::Insert(_, _, _) => true,
+        Command::Delete(_, _) => true,
+        Command::Up(_, _) => true,
+        Command::Down(_, _) => true,
+        Command::Ack(_) => true,
+        Command::Told(_) => true,
+    }
+}
+
+// The answer to a line.
+fn answer(out: &mut [u8], at: usize, c: Command, r: u8) -> usize
+    ensures { λ r′. ⌜ sink (now (out .exit)) r′ ≡ puts (replies c r) (sink (now (out .entry)) at) ⌝ }
+{
+    if known(c) {
+        return reply(out, at, r);
+    }
+    unknown(out, at)
+}
+
+// The list of the client on a line.
+fn one_list(out: &mut [u8], at: usize, line: u8, c: Client) -> usize
+    requires { ⌜ c .len ≤ length (c .items) ⌝ }
+    ensures { λ r. ⌜ sink (now (out .exit)) r ≡ puts (clientList line (take (c .len) (c .items))) (sink (now (out .entry)) at) ⌝ }
+{
+    let items = c.items;
+    let len = c.len as usize;
+    client_list(out, at, line, &items[..len])
+}
+
+// The lists of the clients, in line order.
+fn client_lists(out: &mut [u8], at: usize, ends: Ends) -> usize
+    requires { ⌜ Whole ends ⌝ }
+    ensures { λ r. ⌜ sink (now (out .exit)) r ≡ puts (clientLists 1 (viewEnds ends .clients)) (sink (now (out .entry)) at) ⌝ }
+{
+    let mut to = at;
+    let mut i = 0;
+    while i < ends.server.n {
+        let k = i as usize;
+        let c = ends.clients[k];
+        i += 1;
+        to = one_list(out, to, i, c);
+    }
+    to
+}
+
+// All lists.
+fn lists(out: &mut [u8], at: usize, ends: Ends) -> usize
+    requires { ⌜ Whole ends ⌝ }
+    ensures { λ r. ⌜ sink (now (out .exit)) r ≡ puts (Output·lists (viewEnds ends)) (sink (now (out .entry)) at) ⌝ }
+{
+    let items = ends.server.items;
+    let len = ends.server.len as usize;
+    let to = server_list(out, at, &items[..len]);
+    client_lists(out, to, ends)
+}
+
+// The lines from a place of the input on, and the lists.
+fn commands(input: &[u8], from: usize, out: &mut [u8], at: usize, ends: Ends) -> usize
+    requires { ⌜ Whole ends ⌝ }
+    ensures { λ r. ⌜ sink (now (out .exit)) r ≡ puts (ran (viewEnds ends) (linesOf (drop from (now (input .entry))))) (sink (now (out .entry)) at) ⌝ }
+{
+    let mut now = ends;
+    let mut i = from;
+    let mut to = at;
+    while i < input.len() {
+        let b = i + end(&input[i..], 10);
+        let c = read_command(now.server.n, &input[i..b]);
+        let k = place(c);
+        let s = now.server;
+        let e = now.clients[k];
+        let mut r = 0;
+        if goes_up(c) {
+            let a = at_server(s, e, c);
+            r = a.refusal;
+            let t = a.server;
+            now.server = t;
+        } else {
+            let a = at_client(s, e, c);
+            r = a.refusal;
+            let t = a.client;
+            now.clients[k] = t;
+        }
+        to = answer(out, to, c, r);
+        i = b + 1;
+    }
+    lists(out, to, now)
+}
+
+// The clients of lines 1 to n. Opening refuses a line past n, and then gives an end that is all zeros.
+fn open_clients(n: u8, items: &[u32]) -> [Client; 8]
+    ensures { λ r. ⌜ r ≡ opening n (now (items .entry)) 1 8 ⌝ }
+{
+    let none = Client::open(0, 0, items);
+    let c = none.client;
+    let mut clients = [c; 8];
+    let mut i = 0;
+    while i < 8 {
+        let k = i as usize;
+        i += 1;
+        let a = Client::open(n, i, items);
+        let e = a.client;
+        clients[k] = e;
+    }
+    clients
+}
+
+// What the first line opens, and the lines after it.
+fn started(input: &[u8], from: usize, out: &mut [u8], f: First) -> usize
+    requires { ⌜ f .count ≤ maxHeld ⌝ }
+    ensures { λ r. ⌜ sink (now (out .exit)) r ≡ puts (Output·started (held f) (linesOf (drop from (now (input .entry))))) (sink (now (out .entry)) 0) ⌝ }
+{
+    if f.ok {
+        let list = f.list;
+        let count = f.count;
+        let a = Server::open(f.n, &list[..count]);
+        let to = reply(out, 0, a.refusal);
+        if a.refusal == 0 {
+            let server = a.server;
+            let clients = open_clients(f.n, &list[..count]);
+            return commands(input, from, out, to, Ends { server, clients });
+        }
+        return to;
+    }
+    unknown(out, 0)
+}
+
+// What the program prints for its input, into a lent buffer.
+pub fn run(input: &[u8], out: &mut [u8]) -> usize
+    ensures { λ r. ⌜ Printed (output (now (input .entry))) (now (out .entry)) (now (out .exit)) r ⌝ }
+{
+    if 65536 < input.len() {
+        return text(out, 0, b"long\n");
+    }
+    let e = end(input, 10);
+    let f = read_first(&input[..e]);
+    started(input, e + 1, out, f)
+}

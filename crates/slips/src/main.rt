@@ -1,0 +1,142 @@
+// The slips at the bench and the edges of seen, by the ends that run. A script of the run program sends every message fresh, so that it reaches
+// none of them. Each line is what calls answered: a refusal's number or 0, and where it says so a count.
+ghost use mathlib.Core.Path.{_≡_};
+ghost use mathlib.Core.List.{[], _∷_};
+ghost use Rattle.client.specs.Answers.{taken};
+use client::Client;
+use server::Server;
+
+fn number(n: u64) {
+    io::write_all(1, b" ");
+    io::print_decimal(1, n);
+}
+
+fn byte(b: u8) {
+    number(b as u64);
+}
+
+fn item(x: u32) {
+    number(x as u64);
+}
+
+// Client 1 takes an insert of client 2 at the front.
+fn take_insert(c: Client, k: u8, seen: u8) -> client::Answer
+    ensures { λ r. ⌜ r ≡ taken c (1 ∷ 1 ∷ 1 ∷ 0 ∷ k ∷ 0 ∷ seen ∷ 0 ∷ 1 ∷ 0 ∷ 0 ∷ 0 ∷ 9 ∷ 2 ∷ []) ⌝ }
+{
+    let m = [1u8, 1, 1, 0, k, 0, seen, 0, 1, 0, 0, 0, 9, 2];
+    c.take(&m)
+}
+
+// Client 1 takes an acknowledgement.
+fn take_ack(c: Client, seen: u8) -> client::Answer
+    ensures { λ r. ⌜ r ≡ taken c (4 ∷ 1 ∷ 1 ∷ 0 ∷ seen ∷ []) ⌝ }
+{
+    let m = [4u8, 1, 1, 0, seen];
+    c.take(&m)
+}
+
+fn refusal(a: client::Answer) {
+    number(a.refusal as u64);
+}
+
+// Sending its edit number k is not refused while the edit is pending.
+fn send(c: Client, k: u16) {
+    let mut m = [0u8; 14];
+    let s = c.send(1, k, &mut m);
+    number(s.refusal as u64);
+}
+
+// Seen as acknowledged, as made, and one more or less; then a repeat and a gap.
+fn seen(c: Client) {
+    io::write_all(1, b"seen");
+    refusal(take_insert(c, 1, 0));
+    refusal(take_insert(c, 1, 2));
+    refusal(take_insert(c, 1, 3));
+    let a = take_ack(c, 1);
+    let d = a.client;
+    refusal(take_insert(d, 1, 0));
+    refusal(take_insert(d, 1, 1));
+    refusal(take_ack(d, 0));
+    refusal(take_ack(d, 3));
+    let b = take_insert(d, 1, 1);
+    let e = b.client;
+    refusal(take_insert(e, 1, 1));
+    refusal(take_insert(e, 3, 1));
+    io::write_all(1, b"\n");
+}
+
+// A refused or repeated message acknowledges nothing: edit 1 can still be sent.
+fn refused(c: Client) {
+    io::write_all(1, b"refused");
+    let a = take_insert(c, 2, 2);
+    refusal(a);
+    send(a.client, 1);
+    let b = take_insert(c, 1, 0);
+    let d = take_insert(b.client, 1, 2);
+    refusal(d);
+    send(d.client, 1);
+    let e = take_ack(c, 2);
+    send(e.client, 1);
+    io::write_all(1, b"\n");
+}
+
+// An old message for the next number: the edits that it needs are gone.
+fn overtaken(c: Client) {
+    io::write_all(1, b"overtaken");
+    let a = take_ack(c, 2);
+    refusal(take_insert(a.client, 1, 0));
+    refusal(take_insert(a.client, 1, 2));
+    io::write_all(1, b"\n");
+}
+
+// Two inserts pending behind the arriving one: both move up by one. How many were passed, the list, and where the two stand now.
+fn kept(c: Client) {
+    io::write_all(1, b"kept");
+    let a = take_insert(c, 1, 0);
+    number(a.passed as u64);
+    let d = a.client;
+    item(d.items[0]);
+    item(d.items[1]);
+    item(d.items[2]);
+    let mut m = [0u8; 14];
+    d.send(1, 1, &mut m);
+    byte(m[8]);
+    d.send(1, 2, &mut m);
+    byte(m[8]);
+    io::write_all(1, b"\n");
+}
+
+// Both clients delete the one item. The second delete becomes nothing, and still has its number.
+fn nothing() {
+    io::write_all(1, b"nothing");
+    let items = [10u32];
+    let a = Server::open(2, &items);
+    let s = a.server;
+    let b = s.take(&[2u8, 1, 0, 0, 1, 0, 0, 0, 1]);
+    number(b.refusal as u64);
+    let t = b.server;
+    let d = t.take(&[2u8, 2, 0, 0, 1, 0, 0, 0, 1]);
+    number(d.refusal as u64);
+    number(d.passed as u64);
+    let u = d.server;
+    let mut m = [0u8; 14];
+    let e = u.send(1, 1, &mut m);
+    number(e.refusal as u64);
+    byte(m[0]);
+    byte(m[4]);
+    io::write_all(1, b"\n");
+}
+
+fn main() {
+    let items = [10u32];
+    let a = Client::open(2, 1, &items);
+    let b = a.client.insert(1, 20);
+    let c = b.client.insert(2, 30);
+    seen(c.client);
+    refused(c.client);
+    overtaken(c.client);
+    let d = a.client.insert(2, 20);
+    let e = d.client.insert(3, 30);
+    kept(e.client);
+    nothing();
+}
