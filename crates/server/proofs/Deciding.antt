@@ -245,7 +245,7 @@ module _ (s : Server) (h : Sound s) where
           size-items = filled-length itemOf (leftAt k ps xs (l - 1) seen) (left-few l seen here);
           few = omega arith;
           others = λ i n. place-still (l - 1) (model.lineAcked seen) (view s .lines) i n
-          ∙ sym (ap (λ (b : Bool). cond b (model.lineKeeps Nothing (getD (view s .lines) i model.noLine)) (getD (view s .lines) i model.noLine)) (le-ltb i 0 (omega arith)));
+              ∙ sym (ap (λ (b : Bool). cond b (model.lineKeeps Nothing (getD (view s .lines) i model.noLine)) (getD (view s .lines) i model.noLine)) (le-ltb i 0 (omega arith)));
           roomy = λ j lt n. absurd (omega arith);
         }
 
@@ -376,9 +376,9 @@ module _ (s : Server) (h : Sound s) where
           size-items = filled-length itemOf (over e left) (omega (arith, length-over e left, left-few (hd .line) (hd .seen) here));
           few = omega arith;
           others = λ i n. place-other at (model.lineTaken (hd .seen) e) (model.lineKeeps carry) (view s .lines) i n
-          ∙ ap (λ (m : ℕ). cond (ltb i m) (model.lineKeeps carry (getD (view s .lines) i model.noLine)) model.noLine) (lines-count s h)
-          ∙ ap (λ (d : Edit). cond (ltb i (s .n)) (model.lineKeeps d (getD (view s .lines) i model.noLine)) model.noLine) form
-          ∙ past-end i (ltb i (s .n)) refl;
+              ∙ ap (λ (m : ℕ). cond (ltb i m) (model.lineKeeps carry (getD (view s .lines) i model.noLine)) model.noLine) (lines-count s h)
+              ∙ ap (λ (d : Edit). cond (ltb i (s .n)) (model.lineKeeps d (getD (view s .lines) i model.noLine)) model.noLine) form
+              ∙ past-end i (ltb i (s .n)) refl;
           roomy = roomy-each k at (s .n) (yes .1 .1 .0);
         }
       where

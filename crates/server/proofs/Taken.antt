@@ -31,7 +31,7 @@ use Rattle.server.specs.declared.taking.Decision.{Decision}
 use Rattle.server.specs.View.{countsOf, pendingCount, view, store}
 use Rattle.server.specs.Sound.{soundStruct, Sized, Sound}
 use Rattle.server.specs.Calls.{refused, answered, takes}
-use Rattle.server.specs.Taking.{keeps, decided, Replaced, Kept, Raised, Few}
+use Rattle.server.specs.Taking.{keeps, decided, Raised, Few, Written}
 use Rattle.server.proofs.Rows.{Row, store-is}
 use Rattle.server.proofs.Whole.{line, means, lines-few, items-are, len-view, at-view, made-few, lines-row}
 use Rattle.server.proofs.Writing.{keeps-own}
@@ -57,41 +57,40 @@ module _ (s : Server) (h : Sound s) (d : Decision) (m : model.Server) (dec : Dec
   pub written-made : Few (d .others) (s .made)
   written-made j lt = made-few s h j (omega (arith, dec .few))
 
-  -- the slots of a line that keeps the edit
-  module _ (word : Edit → ℕ) (part before put now′ : List ℕ) (r : Replaced (d .at) part before put) (k : Kept (d .others) (d .at) (s .made) (s .acked) (word (d .edit)) put now′) where
+  -- the slots of a line
+  module _ (word : Edit → ℕ) (part before now′ : List ℕ) (k : Written (d .others) (d .at) (s .made) (s .acked) (word (d .edit)) part before now′) where
+    abbrev lines-of : Bool → Bool → ℕ → List ℕ
+    lines-of a b i =
+        cond a (set (stretch (maxPending * i) before) (getD (s .made) i 0 - getD (s .acked) i 0) (word (d .edit))) (cond b part (stretch (maxPending * i) before))
+
     own-slots : part ≡ filled word (getD (m .lines) (d .at) model.noLine .pending) → stretch (maxPending * d .at) now′ ≡ filled word (getD (m .lines) (d .at) model.noLine .pending)
     own-slots e =
         k .lines (d .at) written-at
-        ∙ ap (λ (b : Bool). cond b (set (stretch (maxPending * d .at) put) (getD (s .made) (d .at) 0 - getD (s .acked) (d .at) 0) (word (d .edit))) (stretch (maxPending * d .at) put)) (keeps-own (d .others) (d .at))
-        ∙ r .lines (d .at) written-at
-        ∙ ap (λ (b : Bool). cond b part (stretch (maxPending * d .at) before)) (eq-eqb (d .at) (d .at) refl)
+        ∙ ap (λ (b : Bool). lines-of b (eqb (d .at) (d .at)) (d .at)) (keeps-own (d .others) (d .at))
+        ∙ ap (λ (b : Bool). lines-of false b (d .at)) (eq-eqb (d .at) (d .at) refl)
         ∙ e
 
     module _ (i : ℕ) (lt : i < maxLines) (n : i ≡ d .at → ⊥) (v : model.Line) (old : stretch (maxPending * i) before ≡ filled word (v .pending)) where
-      was : stretch (maxPending * i) put ≡ filled word (v .pending)
-      was = r .lines i lt ∙ ap (λ (b : Bool). cond b part (stretch (maxPending * i) before)) (ne-eqb i (d .at) n) ∙ old
-
       kept-slots : ltb i (d .others) ≡ true → length (v .pending) ≡ getD (s .made) i 0 - getD (s .acked) i 0 → length (v .pending) < maxPending
           → stretch (maxPending * i) now′ ≡ filled word (v .pending ++ (d .edit ∷ []))
       kept-slots t c few =
           k .lines i lt
-          ∙ ap (λ (b : Bool). cond b (set (stretch (maxPending * i) put) (getD (s .made) i 0 - getD (s .acked) i 0) (word (d .edit))) (stretch (maxPending * i) put)) (keeps-other (d .others) (d .at) i true t n)
-          ∙ ap (λ (l : List ℕ). set l (getD (s .made) i 0 - getD (s .acked) i 0) (word (d .edit))) was
+          ∙ ap (λ (b : Bool). lines-of b (eqb i (d .at)) i) (keeps-other (d .others) (d .at) i true t n)
+          ∙ ap (λ (l : List ℕ). set l (getD (s .made) i 0 - getD (s .acked) i 0) (word (d .edit))) old
           ∙ ap (λ (j : ℕ). set (filled word (v .pending)) j (word (d .edit))) (sym c)
           ∙ filled-push word (v .pending) (d .edit) few
 
       same-slots : ltb i (d .others) ≡ false → stretch (maxPending * i) now′ ≡ filled word (v .pending)
       same-slots f =
           k .lines i lt
-          ∙ ap (λ (b : Bool). cond b (set (stretch (maxPending * i) put) (getD (s .made) i 0 - getD (s .acked) i 0) (word (d .edit))) (stretch (maxPending * i) put)) (keeps-other (d .others) (d .at) i false f n)
-          ∙ was
+          ∙ ap (λ (b : Bool). lines-of b (eqb i (d .at)) i) (keeps-other (d .others) (d .at) i false f n)
+          ∙ ap (λ (b : Bool). lines-of false b i) (ne-eqb i (d .at) n)
+          ∙ old
 
-  module _ (size : ℕ) (items made ps₁ ps₂ xs₁ xs₂ : List ℕ)
+  module _ (size : ℕ) (items made ps xs : List ℕ)
       (a : Edited (d .edit) (s .len) (s .items) items size)
-      (p₁ : Replaced (d .at) (d .places) (s .«pending_places») ps₁)
-      (x₁ : Replaced (d .at) (d .items) (s .«pending_items») xs₁)
-      (p₂ : Kept (d .others) (d .at) (s .made) (s .acked) (placeOf (d .edit)) ps₁ ps₂)
-      (x₂ : Kept (d .others) (d .at) (s .made) (s .acked) (itemOf (d .edit)) xs₁ xs₂)
+      (p : Written (d .others) (d .at) (s .made) (s .acked) (placeOf (d .edit)) (d .places) (s .«pending_places») ps)
+      (x : Written (d .others) (d .at) (s .made) (s .acked) (itemOf (d .edit)) (d .items) (s .«pending_items») xs)
       (r : Raised (d .others) (d .at) (s .made) made) where
     abbrev next : Server
     next =
@@ -104,8 +103,8 @@ module _ (s : Server) (h : Sound s) (d : Decision) (m : model.Server) (dec : Dec
           taken = set (s .taken) (d .at) (d .taken);
           acked = set (s .acked) (d .at) (d .acked);
           inserts = set (s .inserts) (d .at) (d .inserts);
-          «pending_places» = ps₂;
-          «pending_items» = xs₂;
+          «pending_places» = ps;
+          «pending_items» = xs;
         }
 
     sized : Sized next
@@ -115,8 +114,8 @@ module _ (s : Server) (h : Sound s) (d : Decision) (m : model.Server) (dec : Dec
           taken = length-set (s .taken) (d .at) (d .taken) ∙ h .sized .taken;
           acked = length-set (s .acked) (d .at) (d .acked) ∙ h .sized .acked;
           inserts = length-set (s .inserts) (d .at) (d .inserts) ∙ h .sized .inserts;
-          places = p₂ .size ∙ p₁ .size ∙ h .sized .places;
-          items = x₂ .size ∙ x₁ .size ∙ h .sized .items;
+          places = p .size ∙ h .sized .places;
+          items = x .size ∙ h .sized .items;
         }
 
     own-row : Row next (d .at) (getD (m .lines) (d .at) model.noLine)
@@ -129,8 +128,8 @@ module _ (s : Server) (h : Sound s) (d : Decision) (m : model.Server) (dec : Dec
           taken = getD-set-same (s .taken) (d .at) (d .taken) 0 (omega (arith, written-at, h .sized .taken)) ∙ sym (dec .own-taken);
           acked = getD-set-same (s .acked) (d .at) (d .acked) 0 (omega (arith, written-at, h .sized .acked)) ∙ sym (dec .own-acked);
           inserts = getD-set-same (s .inserts) (d .at) (d .inserts) 0 (omega (arith, written-at, h .sized .inserts)) ∙ sym (dec .own-inserts);
-          places = own-slots placeOf (d .places) (s .«pending_places») ps₁ ps₂ p₁ p₂ (dec .own-places);
-          items = own-slots itemOf (d .items) (s .«pending_items») xs₁ xs₂ x₁ x₂ (dec .own-items);
+          places = own-slots placeOf (d .places) (s .«pending_places») ps p (dec .own-places);
+          items = own-slots itemOf (d .items) (s .«pending_items») xs x (dec .own-items);
         }
 
     module _ (i : ℕ) (lt : i < maxLines) (n : i ≡ d .at → ⊥) where
@@ -155,8 +154,8 @@ module _ (s : Server) (h : Sound s) (d : Decision) (m : model.Server) (dec : Dec
             taken = getD-set-other (s .taken) (d .at) i (d .taken) 0 n ∙ old .taken;
             acked = getD-set-other (s .acked) (d .at) i (d .acked) 0 n ∙ old .acked;
             inserts = getD-set-other (s .inserts) (d .at) i (d .inserts) 0 n ∙ old .inserts;
-            places = kept-slots placeOf (d .places) (s .«pending_places») ps₁ ps₂ p₁ p₂ i lt n v (old .places) t count few;
-            items = kept-slots itemOf (d .items) (s .«pending_items») xs₁ xs₂ x₁ x₂ i lt n v (old .items) t count few;
+            places = kept-slots placeOf (d .places) (s .«pending_places») ps p i lt n v (old .places) t count few;
+            items = kept-slots itemOf (d .items) (s .«pending_items») xs x i lt n v (old .items) t count few;
           }
       other-row false t =
           record {
@@ -167,8 +166,8 @@ module _ (s : Server) (h : Sound s) (d : Decision) (m : model.Server) (dec : Dec
             taken = getD-set-other (s .taken) (d .at) i (d .taken) 0 n ∙ old .taken;
             acked = getD-set-other (s .acked) (d .at) i (d .acked) 0 n ∙ old .acked;
             inserts = getD-set-other (s .inserts) (d .at) i (d .inserts) 0 n ∙ old .inserts;
-            places = same-slots placeOf (d .places) (s .«pending_places») ps₁ ps₂ p₁ p₂ i lt n v (old .places) t;
-            items = same-slots itemOf (d .items) (s .«pending_items») xs₁ xs₂ x₁ x₂ i lt n v (old .items) t;
+            places = same-slots placeOf (d .places) (s .«pending_places») ps p i lt n v (old .places) t;
+            items = same-slots itemOf (d .items) (s .«pending_items») xs x i lt n v (old .items) t;
           }
 
     row : (i : ℕ) → i < maxLines → Row next i (getD (m .lines) i model.noLine)

@@ -14,7 +14,7 @@ use Rattle.model.specs.Limits.{maxLines, maxPending}
 use Rattle.pending.specs.Slots.{stretch}
 use Rattle.pending.proofs.Slots.{stretch-set, stretch-length}
 use Rattle.server.specs.View.{sumFrom}
-use Rattle.server.specs.Taking.{keeps, Replaced, Kept, Raised}
+use Rattle.server.specs.Taking.{keeps, Replaced, Kept, Raised, Written}
 use Rattle.server.proofs.Rows.{stretch-other}
 
 -- ---- a sum
@@ -188,3 +188,24 @@ module _ (at : ℕ) (part before : List ℕ) where
             ∙ swept-to part (stretch (maxPending * at) before) i
             (drop-of-length-le part {i = i} (omega arith) ∙ sym (drop-of-length-le (stretch (maxPending * at) before) {i = i} (omega (arith, same))))
         go j false f = p .others j (eqb-false j at f)
+
+-- ---- both
+
+differ : false ≡ true → ⊥
+differ e = let z : _≡_ {A = ℕ} 0 1 = cc in omega arith
+
+pub both-written : (n at : ℕ) (made acked : List ℕ) (word : ℕ) (part before put after : List ℕ) → Replaced at part before put → Kept n at made acked word put after
+    → Written n at made acked word part before after
+both-written n at made acked word part before put after r k = record { size = k .size ∙ r .size; lines = λ j l. k .lines j l ∙ go j l (keeps n at j) refl }
+  where
+    go : (j : ℕ) → j < maxLines → (b : Bool) → keeps n at j ≡ b
+        → cond b (set (stretch (maxPending * j) put) (getD made j 0 - getD acked j 0) word) (stretch (maxPending * j) put)
+        ≡ cond b (set (stretch (maxPending * j) before) (getD made j 0 - getD acked j 0) word) (cond (eqb j at) part (stretch (maxPending * j) before))
+    go j l true t =
+        ap (λ (p : List ℕ). set p (getD made j 0 - getD acked j 0) word)
+        (r .lines j l ∙ ap (λ (b : Bool). cond b part (stretch (maxPending * j) before)) (other (eqb j at) refl))
+      where
+        other : (b : Bool) → eqb j at ≡ b → eqb j at ≡ false
+        other true e = absurd (let z : _≡_ {A = Bool} false true = sym (ap (keeps n at) (eqb-true j at e) ∙ keeps-own n at) ∙ t in differ z)
+        other false e = e
+    go j l false f = r .lines j l

@@ -147,6 +147,12 @@ pub record Kept (n at : ℕ) (made acked : List ℕ) (word : ℕ) (before after 
   pub lines : (j : ℕ) → j < maxLines → stretch (maxPending * j) after
       ≡ cond (keeps n at j) (set (stretch (maxPending * j) before) (getD made j 0 - getD acked j 0) word) (stretch (maxPending * j) before)
 
+-- both
+pub record Written (n at : ℕ) (made acked : List ℕ) (word : ℕ) (part before after : List ℕ) : Type 0 where
+  pub size : length after ≡ length before
+  pub lines : (j : ℕ) → j < maxLines → stretch (maxPending * j) after
+      ≡ cond (keeps n at j) (set (stretch (maxPending * j) before) (getD made j 0 - getD acked j 0) word) (cond (eqb j at) part (stretch (maxPending * j) before))
+
 abbrev pub Roomy : ℕ → ℕ → List ℕ → List ℕ → Type 0
 Roomy n at made acked = (j : ℕ) → j < n → (j ≡ at → ⊥) → getD made j 0 - getD acked j 0 < maxPending
 

@@ -6,7 +6,7 @@ ghost use Rattle.model.specs.Questions.{asks};
 ghost use Rattle.server.specs.Calls.{sends, tells, sendAsked, messageAt};
 use crate::Counts;
 use crate::Server;
-use crate::question2::is_sound;
+use crate::is_sound;
 use endpoint::Sent;
 use wire::Header;
 use wire::Message;

@@ -10,14 +10,14 @@ ghost use Rattle.model.specs.Limits.{maxItems, maxPending};
 ghost use Rattle.model.specs.Cross.{priority};
 ghost use Rattle.model.specs.Questions.{asks};
 ghost use Rattle.pending.specs.Slots.{allFrom};
-ghost use Rattle.server.specs.Calls.{takes};
-ghost use Rattle.server.specs.Taking.{roomyAt, editAsked, lastAsked, ackAsked, refusing, editDecided, ackDecided, decided, Ready, Replaced, Kept, Roomy, Few, Raised};
+ghost use Rattle.server.specs.Calls.{refused, takes};
+ghost use Rattle.server.specs.Taking.{roomyAt, editAsked, lastAsked, ackAsked, refusing, editDecided, ackDecided, decided, Ready, Replaced, Kept, Roomy, Few, Raised, Written};
 use crate::Answer;
 use crate::Counts;
 use crate::Server;
-use crate::question2::is_sound;
-use crate::question2::less;
-use crate::question2::wide;
+use crate::is_sound;
+use crate::less;
+use crate::wide;
 use ot::Edit;
 use wire::Header;
 use wire::Message;
@@ -129,12 +129,19 @@ fn refusing(refusal: u8) -> Decision
 }
 
 // An acknowledgement only drops pending edits.
-fn decide_ack<'a>(k: Counts, places: &'a [u32], items: &'a [u32], line: u8, direction: u8, seen: u16) -> Decision
+fn decide_ack<'a>(
+    k: Counts,
+    places: &'a [u32],
+    items: &'a [u32],
+    line: u8,
+    direction: u8,
+    seen: u16,
+) -> Decision
     requires { ⌜ Ready k (now places) (now items) ⌝ }
     ensures { λ r. ⌜ r ≡ ackDecided k (now (places .entry)) (now (items .entry)) line direction seen ⌝ }
 {
-    let refusal = ask_ack(k, line, direction, seen);
-    if refusal == 0 {
+    let asked = ask_ack(k, line, direction, seen);
+    if asked == 0 {
         let i = (line - 1) as usize;
         let from = 64 * i + (seen - k.acked[i]) as usize;
         let count = (k.made[i] - seen) as usize;
@@ -151,7 +158,7 @@ fn decide_ack<'a>(k: Counts, places: &'a [u32], items: &'a [u32], line: u8, dire
             others: 0,
         };
     }
-    refusing(refusal)
+    refusing(asked)
 }
 
 // An edit drops the pending edits up to seen, is transformed past the others, and these past it.
@@ -228,13 +235,14 @@ fn keep(words: &mut [u32; 512], n: usize, at: usize, made: [u16; 8], acked: [u16
 }
 
 // The counts of what was made for each line, with one more for those lines.
-fn raised(n: usize, at: usize, made: [u16; 8]) -> [u16; 8]
-    requires { ⌜ (n ≤ 8) × Few n made ⌝ }
-    ensures { λ r. ⌜ Raised n at made r ⌝ }
+fn raised(n: usize, at: usize, k: Counts) -> [u16; 8]
+    requires { ⌜ (n ≤ 8) × Few n (k .made) ⌝ }
+    ensures { λ r. ⌜ Raised n at (k .made) r ⌝ }
 {
+    let made = k.made;
     let mut more = made;
     for i in 0..n {
-        if i == at {
+        if at == i {
             continue;
         }
         more[i] = made[i] + 1;
@@ -242,7 +250,29 @@ fn raised(n: usize, at: usize, made: [u16; 8]) -> [u16; 8]
     more
 }
 
+// Both of these, for the places or for the items: the line at a place gets its numbers, the others keep the word.
+fn write(words: &mut [u32; 512], part: &[u32], k: Counts, at: usize, n: usize, word: u32)
+    requires { ⌜ ((at < 8) × ((length (now part) ≡ maxPending) × (512 ≤ length (now words)))) × ((n ≤ 8) × Roomy n at (k .made) (k .acked)) ⌝ }
+    ensures { λ r. ⌜ Written n at (k .made) (k .acked) word (now (part .entry)) (now (words .entry)) (now (words .exit)) ⌝ }
+{
+    let made = k.made;
+    let acked = k.acked;
+    put(words, at, part);
+    keep(words, n, at, made, acked, word);
+}
+
 impl Server {
+    // The number of the question that said no, with the end as handed in.
+    fn refuse(self, number: u8) -> Answer
+        ensures { λ r. ⌜ r ≡ refused self number ⌝ }
+    {
+        Answer {
+            refusal: number,
+            passed: 0,
+            server: self,
+        }
+    }
+
     // Bytes that a client sent: exactly one message.
     pub fn take(mut self, bytes: &[u8]) -> Answer
         ensures { λ r. ⌜ r ≡ takes self (now (bytes .entry)) ⌝ }
@@ -258,7 +288,7 @@ impl Server {
         };
         if is_sound(k, &self.items, &self.pending_places, &self.pending_items) {
             let Read::Message(m) = wire::parse(bytes) else {
-                return Answer { refusal: 3, passed: 0, server: self };
+                return self.refuse(3);
             };
             let d = decide(k, &self.pending_places, &self.pending_items, m);
             if d.refusal == 0 {
@@ -266,22 +296,24 @@ impl Server {
                 let e = d.edit;
                 let places = d.places;
                 let items = d.items;
-                let made = k.made;
-                let acked = k.acked;
+                let made = raised(d.others, i, k);
                 self.len = ot::apply(&mut self.items, k.len, e);
-                put(&mut self.pending_places, i, &places);
-                put(&mut self.pending_items, i, &items);
-                keep(&mut self.pending_places, d.others, i, made, acked, pending::place_of(e));
-                keep(&mut self.pending_items, d.others, i, made, acked, pending::item_of(e));
-                let more = raised(d.others, i, made);
-                self.made = more;
+                let place = pending::place_of(e);
+                write(&mut self.pending_places, &places, k, i, d.others, place);
+                let item = pending::item_of(e);
+                write(&mut self.pending_items, &items, k, i, d.others, item);
+                self.made = made;
                 self.taken[i] = d.taken;
                 self.acked[i] = d.acked;
                 self.inserts[i] = d.inserts;
-                return Answer { refusal: 0, passed: d.passed, server: self };
+                return Answer {
+                    refusal: 0,
+                    passed: d.passed,
+                    server: self,
+                };
             }
-            return Answer { refusal: d.refusal, passed: 0, server: self };
+            return self.refuse(d.refusal);
         }
-        Answer { refusal: 2, passed: 0, server: self }
+        self.refuse(2)
     }
 }

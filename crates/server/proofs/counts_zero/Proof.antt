@@ -1,7 +1,7 @@
 use borrow.Author.Needs.{needs}
 use mathlib.Core.Bool.{and-assoc, and-true}
-use Rattle.server.proofs.question2.counts_zero.Statement.{statement}
-use Rattle.server.proofs.question2.counts_zero.Tie as tie
+use Rattle.server.proofs.counts_zero.Statement.{statement}
+use Rattle.server.proofs.counts_zero.Tie as tie
 
 returns : tie.Need-returns
 returns c = simp (and-assoc, and-true)

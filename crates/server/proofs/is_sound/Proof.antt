@@ -11,8 +11,8 @@ use Rattle.server.specs.declared.Server.{Server}
 use Rattle.server.specs.View.{serverOf}
 use Rattle.server.specs.Sound.{Sized}
 use Rattle.server.proofs.Whole.{limits-few, never, sound-no, sound-yes, struct-whole}
-use Rattle.server.proofs.question2.is_sound.Statement.{statement}
-use Rattle.server.proofs.question2.is_sound.Tie as tie
+use Rattle.server.proofs.is_sound.Statement.{statement}
+use Rattle.server.proofs.is_sound.Tie as tie
 
 cast-lines : tie.Need-cast-lines
 cast-lines c = search needs

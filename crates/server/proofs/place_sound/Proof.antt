@@ -1,6 +1,6 @@
 use borrow.Author.Needs.{needs}
-use Rattle.server.proofs.question2.place_sound.Statement.{statement}
-use Rattle.server.proofs.question2.place_sound.Tie as tie
+use Rattle.server.proofs.place_sound.Statement.{statement}
+use Rattle.server.proofs.place_sound.Tie as tie
 
 counts-sound-requires : tie.Need-counts-sound-requires
 counts-sound-requires c κs = search needs

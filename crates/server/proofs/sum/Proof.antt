@@ -4,8 +4,8 @@ use native.Mathlib.Omega.{arith}
 use Prim.Native.Nat.{_+_, _-_, _*_, _≤_}
 use Rattle.server.specs.View.{sumFrom}
 use Rattle.server.proofs.Writing.{sum-start, sum-turn, sum-end}
-use Rattle.server.proofs.question2.sum.Statement.{statement}
-use Rattle.server.proofs.question2.sum.Tie as tie
+use Rattle.server.proofs.sum.Statement.{statement}
+use Rattle.server.proofs.sum.Tie as tie
 
 abbrev Inv-loop : tie.InvT-loop
 Inv-loop n xs s₀ i₀ s i = (i ≤ n) × ((s + sumFrom xs i (n - i) ≡ sumFrom xs 0 n) × (s ≤ 65535 * i))

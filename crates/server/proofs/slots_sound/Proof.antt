@@ -7,8 +7,8 @@ use denote.Ref.{now}
 use Rattle.pending.specs.Slots.{allFrom}
 use Rattle.pending.proofs.Tests.{all-turn, all-end}
 use Rattle.server.specs.Sound.{slotsAt}
-use Rattle.server.proofs.question2.slots_sound.Statement.{statement}
-use Rattle.server.proofs.question2.slots_sound.Tie as tie
+use Rattle.server.proofs.slots_sound.Statement.{statement}
+use Rattle.server.proofs.slots_sound.Tie as tie
 
 abbrev Inv-loop : tie.InvT-loop
 Inv-loop places items k well₀ i₀ well i = (i ≤ 8) × ((well && allFrom (slotsAt k places items) i (8 - i)) ≡ allFrom (slotsAt k places items) 0 8)

@@ -6,8 +6,8 @@ use Prim.Native.Nat.{_-_, _≤_}
 use Rattle.pending.specs.Slots.{allFrom}
 use Rattle.pending.proofs.Tests.{all-turn, all-end}
 use Rattle.server.specs.Sound.{countsAt}
-use Rattle.server.proofs.question2.places_sound.Statement.{statement}
-use Rattle.server.proofs.question2.places_sound.Tie as tie
+use Rattle.server.proofs.places_sound.Statement.{statement}
+use Rattle.server.proofs.places_sound.Tie as tie
 
 abbrev Inv-loop : tie.InvT-loop
 Inv-loop total k well₀ i₀ well i = (i ≤ 8) × ((well && allFrom (countsAt k total) i (8 - i)) ≡ allFrom (countsAt k total) 0 8)
