@@ -5,11 +5,10 @@ use mathlib.Core.List.{List, [], _∷_}
 use Prim.Native.Nat.{ℕ, zero, suc, _+_, _-_, _*_, _≤_, _<_}
 use native.Mathlib.Numerals.{add-one}
 use native.Mathlib.Omega.{arith}
-use lib.Dec.{leb, ltb, eqb}
-use lib.ListN.{length, getD, take, drop, replicate, length-replicate}
+use lib.Dec.{leb, ltb}
+use lib.ListN.{length, getD, take, replicate, length-replicate}
 use lib.Seq.{take-all}
 use borrow.Author.Tests.{ne-eqb, eqb-false, leb-true}
-use Rattle.ot.specs.declared.Edit.{Edit}
 use Rattle.ot.specs.declared.Edit.the-variants.{Nothing}
 use Rattle.ot.specs.Items.{padded}
 use Rattle.wire.specs.declared.Message.{Message}
@@ -21,17 +20,17 @@ use Rattle.model.specs.Questions.{Question, ask, asks, every, between, answer, 
 use Rattle.model.specs.Client.{pendingAt}
 use Rattle.model.specs.Server as model
 use Rattle.model.proofs.Tests.{and-left, and-right, yes-all}
-use Rattle.pending.specs.Slots.{placeOf, itemOf, editAt, stretch, filled}
+use Rattle.pending.specs.Slots.{stretch, filled}
 use Rattle.pending.proofs.Pad.{pad-drop}
 use Rattle.pending.proofs.Slots.{edits-at}
 use Rattle.endpoint.specs.Items.{initialItems}
 use Rattle.endpoint.specs.Sending.{answered as sentAs, finished}
 use Rattle.server.specs.declared.Server.{Server}
 use Rattle.server.specs.View.{countsOf, pendingCount, view, store, fresh}
-use Rattle.server.specs.Sound.{Sized, soundStruct, Sound}
-use Rattle.server.specs.Calls.{refused, answered, opened, sends, tells, sendAsked, messageAt}
+use Rattle.server.specs.Sound.{soundStruct, Sound}
+use Rattle.server.specs.Calls.{answered, opened, sends, tells, sendAsked, messageAt}
 use Rattle.server.proofs.Rows.{Row, store-is}
-use Rattle.server.proofs.Whole.{line, means, line-of, place-used}
+use Rattle.server.proofs.Whole.{line, means, line-of}
 use Rattle.server.proofs.Asked.{asks-yes, asks-no, send-here}
 
 -- ---- opening
@@ -159,7 +158,6 @@ module _ (s : Server) (l k : ℕ) (lent : List ℕ) where
     message-is : asks (sendAsked (countsOf s) l k) ≡ 0 → messageAt (countsOf s) (s .«pending_places») (s .«pending_items») l k ≡ model.serverMessage (view s) l k
     message-is z =
         let y = send-here (countsOf s) l k z in
-        let at : ℕ = l - 1 in
         let i : k - (getD (s .acked) (l - 1) 0 + 1) ≡ k - 1 - getD (s .acked) (l - 1) 0 = omega arith in
         let yes = yes-all (sendAsked (countsOf s) l k) (eqb-false 4 0 refl, (eqb-false 13 0 refl, tt)) z in
         ap (messageOf (record { line = l; direction = 1; number = k; seen = getD (s .taken) (l - 1) 0 }))

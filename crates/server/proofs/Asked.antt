@@ -1,12 +1,12 @@
 -- What the questions that were answered yes say of a message, and what is then known of the slots of its line.
 use mathlib.Core.Path.{_≡_, refl, ap, sym, _∙_, subst}
 use mathlib.Core.Bool.{Bool, true, false, _&&_, cond}
-use mathlib.Core.List.{List, [], _∷_, _++_}
+use mathlib.Core.List.{List, [], _∷_}
 use Prim.Native.Nat.{ℕ, _+_, _-_, _*_, _≤_, _<_}
 use native.Mathlib.Omega.{arith}
 use lib.Dec.{leb, ltb, eqb}
-use lib.ListN.{length, getD, take, drop}
-use borrow.Author.Tests.{eqb-false, ne-eqb, leb-true, ltb-true, le-leb, lt-leb}
+use lib.ListN.{getD, take, drop}
+use borrow.Author.Tests.{eqb-false, leb-true, ltb-true, le-leb, lt-leb}
 use Rattle.ot.specs.declared.Edit.{Edit}
 use Rattle.ot.specs.Items.{padded}
 use Rattle.wire.specs.declared.Header.{Header}
@@ -14,7 +14,7 @@ use Rattle.model.specs.Limits.{maxLines, maxPending, maxInserts}
 use Rattle.model.specs.Questions.{Question, ask, asks, between}
 use Rattle.model.specs.Cross.{priority, insertsOf}
 use Rattle.model.proofs.Tests.{and-left, and-right, between-true, yes-all}
-use Rattle.pending.specs.Slots.{placeOf, itemOf, editsFrom, filled, allFrom, Kept, Whole}
+use Rattle.pending.specs.Slots.{placeOf, itemOf, editsFrom, filled, allFrom, Whole}
 use Rattle.endpoint.specs.Items.{roomy}
 use Rattle.pending.specs.Slots as slots
 use Rattle.pending.proofs.Slots.{edits-drop, kept-places, kept-items, kept-ready}
@@ -98,21 +98,18 @@ module _ (k : Counts) where
         subst (λ (n : ℕ). slots.Ready (maxPending * i + gone) n ps xs) left-count
         (kept-ready (maxPending * i) (pendingCount k i) ps xs (r .kept i eight) whole gone (omega (arith, h .new)))
 
-    left-is : drop gone (editsFrom ps xs (maxPending * i) (pendingCount k i)) ≡ leftAt k ps xs i seen
-    left-is = edits-drop ps xs (maxPending * i) (pendingCount k i) gone ∙ ap (editsFrom ps xs (maxPending * i + gone)) left-count
+    pub left-line : drop gone (editsFrom ps xs (maxPending * i) (pendingCount k i)) ≡ leftAt k ps xs i seen
+    left-line = edits-drop ps xs (maxPending * i) (pendingCount k i) gone ∙ ap (editsFrom ps xs (maxPending * i + gone)) left-count
 
     pub left-places : padded 0 maxPending (take (getD (k .made) i 0 - seen) (drop (maxPending * i + gone) ps)) ≡ filled placeOf (leftAt k ps xs i seen)
     left-places =
         ap (λ (n : ℕ). padded 0 maxPending (take n (drop (maxPending * i + gone) ps))) (sym left-count)
-        ∙ kept-places (maxPending * i) (pendingCount k i) ps xs (r .kept i eight) whole gone ∙ ap (filled placeOf) left-is
+        ∙ kept-places (maxPending * i) (pendingCount k i) ps xs (r .kept i eight) whole gone ∙ ap (filled placeOf) left-line
 
     pub left-items : padded 0 maxPending (take (getD (k .made) i 0 - seen) (drop (maxPending * i + gone) xs)) ≡ filled itemOf (leftAt k ps xs i seen)
     left-items =
         ap (λ (n : ℕ). padded 0 maxPending (take n (drop (maxPending * i + gone) xs))) (sym left-count)
-        ∙ kept-items (maxPending * i) (pendingCount k i) ps xs (r .kept i eight) whole gone ∙ ap (filled itemOf) left-is
-
-    pub left-line : drop gone (editsFrom ps xs (maxPending * i) (pendingCount k i)) ≡ leftAt k ps xs i seen
-    left-line = left-is
+        ∙ kept-items (maxPending * i) (pendingCount k i) ps xs (r .kept i eight) whole gone ∙ ap (filled itemOf) left-line
 
 -- ---- questions 9, 10 and 12
 

@@ -1,9 +1,9 @@
 -- The decision that the code makes is the one of its definition.
 use mathlib.Core.Path.{_≡_, refl, ap, sym, _∙_}
-use mathlib.Core.Bool.{Bool, true, false, cond}
+use mathlib.Core.Bool.{Bool, cond}
 use mathlib.Core.List.{List}
 use Prim.Native.Nat.{ℕ, _+_, _-_, _≤_}
-use lib.Dec.{leb, eqb}
+use lib.Dec.{eqb}
 use lib.ListN.{getD}
 use borrow.Author.Tests.{ne-eqb, eq-eqb, eqb-false, leb-true}
 use Rattle.ot.specs.declared.Edit.{Edit}
@@ -11,7 +11,7 @@ use Rattle.ot.specs.declared.Edit.the-variants.{Nothing}
 use Rattle.wire.specs.declared.Header.{Header}
 use Rattle.model.specs.Limits.{maxInserts}
 use Rattle.model.specs.Questions.{asks}
-use Rattle.model.specs.Cross.{past, over, allPlaced, insertsOf}
+use Rattle.model.specs.Cross.{insertsOf}
 use Rattle.model.proofs.Tests.{yes-all}
 use Rattle.pending.specs.declared.Crossed.{Crossed}
 use Rattle.pending.specs.Slots.{placeOf, itemOf, filled, crossed}

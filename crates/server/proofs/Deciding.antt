@@ -5,8 +5,8 @@ use mathlib.Core.List.{List, [], _∷_, _++_, map, map-id}
 use Prim.Native.Nat.{ℕ, zero, suc, _+_, _-_, _*_, _≤_, _<_}
 use native.Mathlib.Omega.{arith}
 use lib.Dec.{leb, ltb, eqb}
-use lib.ListN.{length, getD, drop, List·getD-eq-default}
-use borrow.Author.Tests.{eqb-true, eqb-false, ne-eqb, eq-eqb, ltb-true, lt-ltb, le-ltb, leb-true, ltb-false}
+use lib.ListN.{length, getD, List·getD-eq-default}
+use borrow.Author.Tests.{eqb-true, eqb-false, ne-eqb, eq-eqb, ltb-true, lt-ltb, le-ltb, ltb-false}
 use Rattle.ot.specs.declared.Edit.{Edit}
 use Rattle.ot.specs.declared.Edit.the-variants.{Nothing, Delete, Insert}
 use Rattle.ot.specs.Edit.{applied, fits}
@@ -14,14 +14,14 @@ use Rattle.ot.specs.Items.{Room, sizeAfter}
 use Rattle.wire.specs.declared.Header.{Header}
 use Rattle.wire.specs.declared.Message.{Message}
 use Rattle.wire.specs.declared.Message.the-variants as message
-use Rattle.model.specs.Limits.{maxLines, maxItems, maxInserts, maxPending}
+use Rattle.model.specs.Limits.{maxItems, maxInserts, maxPending}
 use Rattle.model.specs.Questions.{Question, ask, asks, every, between, Answer, answer}
 use Rattle.model.specs.Cross.{past, over, allPlaced, priority, insertsOf}
 use Rattle.model.specs.Server as model
 use Rattle.model.proofs.Tests.{and-left, and-right, yes-all}
 use Rattle.model.proofs.Cross.{length-over}
 use Rattle.model.proofs.SoundServer.{length-atPlace}
-use Rattle.pending.specs.Slots.{placeOf, itemOf, editsFrom, filled, allFrom, steps}
+use Rattle.pending.specs.Slots.{placeOf, itemOf, filled, allFrom}
 use Rattle.pending.proofs.Slots.{edits-length, filled-length}
 use Rattle.pending.proofs.Crossing.{steps-length}
 use Rattle.endpoint.specs.Items.{roomy}
@@ -31,13 +31,13 @@ use Rattle.endpoint.proofs.Room.{roomy-model, roomy-room}
 use Rattle.server.specs.declared.Counts.{Counts}
 use Rattle.server.specs.declared.Server.{Server}
 use Rattle.server.specs.declared.taking.Decision.{Decision}
-use Rattle.server.specs.View.{countsOf, pendingCount, lineAt, linesFrom, view}
+use Rattle.server.specs.View.{countsOf, pendingCount, linesFrom, view}
 use Rattle.server.specs.Sound.{Sound}
-use Rattle.server.specs.Taking.{editAsked, ackAsked, roomyAt, lastAsked, leftAsked, leftAt, refusing, ackAccepted, ackDecided, editAccepted, editDecided, decided, Ready, Roomy}
-use Rattle.server.proofs.Asked.{asks-yes, asks-no, Here, ack-here, edit-here, left-ready, left-line}
+use Rattle.server.specs.Taking.{editAsked, ackAsked, roomyAt, leftAsked, leftAt, refusing, ackAccepted, ackDecided, editAccepted, editDecided, decided, Ready, Roomy}
+use Rattle.server.proofs.Asked.{asks-yes, Here, ack-here, edit-here, left-ready, left-line}
 use Rattle.server.proofs.Decided.{ack-yes, edit-yes}
 use Rattle.server.proofs.Places.{each-first}
-use Rattle.server.proofs.Whole.{line, means, facts, lines-few, lines-count, len-view, at-view, at-facts, place-used, line-of}
+use Rattle.server.proofs.Whole.{line, means, facts, lines-few, lines-count, len-view, at-view, at-facts, line-of}
 
 -- ---- question 12: every line but one
 

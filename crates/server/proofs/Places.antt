@@ -7,7 +7,7 @@ use native.Mathlib.Numerals.{add-one}
 use native.Mathlib.Omega.{arith}
 use lib.Dec.{leb, ltb, eqb}
 use lib.ListN.{length, getD, List·getD-eq-default}
-use borrow.Author.Tests.{eqb-true, eq-eqb, le-leb, lt-ltb, le-ltb, ltb-true, ltb-false}
+use borrow.Author.Tests.{eqb-true, eq-eqb, lt-ltb, le-ltb, ltb-true, ltb-false}
 use Rattle.model.specs.Limits.{maxInserts, maxEdits, maxPending, maxLines}
 use Rattle.model.specs.Questions.{every}
 use Rattle.model.specs.Cross.{allPlaced, priorities}
@@ -19,7 +19,7 @@ use Rattle.pending.proofs.Slots.{edits-length}
 use Rattle.pending.proofs.Tests.{all-each, each-all}
 use Rattle.server.specs.declared.Counts.{Counts}
 use Rattle.server.specs.View.{pendingCount, lineAt, linesFrom, sumFrom}
-use Rattle.server.specs.Sound.{countsSound, countsZero, countsAt, slotsAt, tidyLine, zeroLine}
+use Rattle.server.specs.Sound.{countsAt, slotsAt, tidyLine, zeroLine}
 
 -- ---- tests of the first places
 

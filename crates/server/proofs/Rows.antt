@@ -6,7 +6,7 @@ use mathlib.Core.List.{List, [], _∷_, _++_, map}
 use Prim.Native.Nat.{ℕ, zero, suc, _+_, _-_, _*_, _≤_, _<_}
 use native.Mathlib.Omega.{arith}
 use lib.Dec.{ltb}
-use lib.ListN.{length, getD, take, drop, set, length-append, length-map, take-append-drop, drop-of-length-le, List·getD-map}
+use lib.ListN.{length, getD, take, drop, set, length-map, take-append-drop, drop-of-length-le, List·getD-map}
 use lib.Seq.{take-at, drop-append-add, drop-drop, drop-set-add, drop-set-lt, take-set-le, ext-getD}
 use borrow.Author.Tests.{ltb-true, ltb-false}
 use Rattle.ot.specs.declared.Edit.{Edit}
@@ -30,7 +30,6 @@ stretch-other j i k ws v h n = go (ltb j i) refl
     go : (b : Bool) → ltb j i ≡ b → stretch (maxPending * j) (set ws (maxPending * i + k) v) ≡ stretch (maxPending * j) ws
     go true t =
         let lt : j < i = ltb-true j i t in
-        let q : ℕ = maxPending * i + k - maxPending * j in
         let e : maxPending * i + k ≡ maxPending * j + (maxPending * i + k - maxPending * j) = omega arith in
         ap (λ (p : ℕ). stretch (maxPending * j) (set ws p v)) e
         ∙ ap (take maxPending) (drop-set-add (maxPending * j) ws (maxPending * i + k - maxPending * j) v)
@@ -73,13 +72,6 @@ module _ (word : Edit → ℕ) where
   -- no line has more than 64 pending edits
   abbrev pub AllFew : List model.Line → Type 0
   AllFew vs = (k : ℕ) → length (getD vs k model.noLine .pending) ≤ maxPending
-
-  pub slots-length : (vs : List model.Line) → AllFew vs → length (slotsOf word vs) ≡ maxPending * length vs
-  unfolding slotsOf
-  slots-length [] f = refl
-  slots-length (v ∷ vs) f =
-      length-append (filled word (v .pending)) (slotsOf word vs)
-      ∙ omega (arith, filled-length word (v .pending) (f 0), slots-length vs (λ k. f (suc k)))
 
   pub slots-at : (vs : List model.Line) (i : ℕ) → AllFew vs → i < length vs → stretch (maxPending * i) (slotsOf word vs) ≡ filled word (getD vs i model.noLine .pending)
   unfolding slotsOf
@@ -168,16 +160,4 @@ module _ (m : model.Server) (few : length (m .lines) ≤ maxLines) where
               slots-at placeOf (allLines m) i all-few (omega (arith, eight)) ∙ ap (λ (v : model.Line). filled placeOf (v .pending)) (line-is i);
           items =
               slots-at itemOf (allLines m) i all-few (omega (arith, eight)) ∙ ap (λ (v : model.Line). filled itemOf (v .pending)) (line-is i);
-        }
-
-    pub store-sized : Sized (store m)
-    unfolding store
-    store-sized =
-        record {
-          made = length-map (allLines m) (λ v. v .made) ∙ eight;
-          taken = length-map (allLines m) (λ v. v .taken) ∙ eight;
-          acked = length-map (allLines m) (λ v. v .acked) ∙ eight;
-          inserts = length-map (allLines m) (λ v. v .inserts) ∙ eight;
-          places = slots-length placeOf (allLines m) all-few ∙ ap (λ (k : ℕ). maxPending * k) eight;
-          items = slots-length itemOf (allLines m) all-few ∙ ap (λ (k : ℕ). maxPending * k) eight;
         }

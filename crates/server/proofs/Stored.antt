@@ -6,10 +6,9 @@ use Prim.Native.Nat.{ℕ, zero, suc, _+_, _-_, _*_, _≤_, _<_}
 use native.Mathlib.Nat.{le-refl}
 use native.Mathlib.Omega.{arith}
 use lib.Dec.{eqb, ltb}
-use lib.ListN.{length, getD, take, drop, replicate, List·getD-eq-default}
+use lib.ListN.{length, getD, take, replicate, List·getD-eq-default}
 use lib.Seq.{ext-getD}
 use borrow.Author.Tests.{le-leb, eq-eqb, ltb-true, ltb-false}
-use Rattle.ot.specs.declared.Edit.{Edit}
 use Rattle.ot.specs.Items.{padded}
 use Rattle.model.specs.Limits.{maxLines, maxItems, maxPending}
 use Rattle.model.specs.Questions.{every}
@@ -87,7 +86,6 @@ module _ (m : model.Server) (s : model.soundServer m ≡ true) where
 
     line-tidy : tidyLine (countsOf (store m)) ps xs i ≡ true
     line-tidy =
-        let k : ℕ = length (v .pending) in
         both (allFrom (tidyAt ps xs) (maxPending * i) (pendingCount (countsOf (store m)) i))
         (allFrom (emptyAt ps xs) (maxPending * i + pendingCount (countsOf (store m)) i) (maxPending - pendingCount (countsOf (store m)) i))
         (ap (allFrom (tidyAt ps xs) (maxPending * i)) count

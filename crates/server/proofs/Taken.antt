@@ -9,9 +9,7 @@ use lib.ListN.{length, getD, set, length-set}
 use lib.Seq.{getD-set-same, getD-set-other}
 use borrow.Author.Tests.{eqb-true, eqb-false, eq-eqb, ne-eqb, ltb-true}
 use Rattle.ot.specs.declared.Edit.{Edit}
-use Rattle.ot.specs.declared.Edit.the-variants.{Nothing}
-use Rattle.ot.specs.Edit.{applied}
-use Rattle.ot.specs.Items.{Room, Edited, padded}
+use Rattle.ot.specs.Items.{Edited, padded}
 use Rattle.wire.specs.declared.Message.{Message}
 use Rattle.wire.specs.declared.Read.{Read}
 use Rattle.wire.specs.declared.Read.the-variants as read
@@ -26,14 +24,13 @@ use Rattle.pending.proofs.Slots.{edits-length, filled-push}
 use Rattle.endpoint.specs.Items.{stored}
 use Rattle.endpoint.proofs.Room.{room-stored, room-length}
 use Rattle.server.specs.declared.Server.{Server}
-use Rattle.server.specs.declared.Answer.{Answer}
 use Rattle.server.specs.declared.taking.Decision.{Decision}
 use Rattle.server.specs.View.{countsOf, pendingCount, view, store}
 use Rattle.server.specs.Sound.{soundStruct, Sized, Sound}
 use Rattle.server.specs.Calls.{refused, answered, takes}
 use Rattle.server.specs.Taking.{keeps, decided, Raised, Few, Written}
 use Rattle.server.proofs.Rows.{Row, store-is}
-use Rattle.server.proofs.Whole.{line, means, lines-few, items-are, len-view, at-view, made-few, lines-row}
+use Rattle.server.proofs.Whole.{means, lines-few, items-are, len-view, at-view, made-few, lines-row}
 use Rattle.server.proofs.Writing.{keeps-own}
 use Rattle.server.proofs.Asked.{asks-yes, asks-no}
 use Rattle.server.proofs.Deciding.{Decides, Right, message-right}

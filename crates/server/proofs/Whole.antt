@@ -15,7 +15,7 @@ use Rattle.model.specs.Client.{other}
 use Rattle.model.specs.Server as model
 use Rattle.model.proofs.Tests.{both, and-left, and-right, hold, held, between-true}
 use Rattle.model.proofs.SoundServer.{LineFacts, LinesFacts, ServerFacts, server-facts, takenSum}
-use Rattle.pending.specs.Slots.{placeOf, itemOf, editsFrom, filled, allFrom, emptyAt, Kept, Whole}
+use Rattle.pending.specs.Slots.{placeOf, itemOf, editsFrom, filled, allFrom, emptyAt}
 use Rattle.pending.proofs.Pad.{pad-length}
 use Rattle.pending.proofs.Slot.{bool-ext}
 use Rattle.pending.proofs.Tests.{sound-kept}
@@ -23,7 +23,7 @@ use Rattle.endpoint.specs.Items.{allZero}
 use Rattle.endpoint.proofs.Items.{stored-of}
 use Rattle.server.specs.declared.Server.{Server}
 use Rattle.server.specs.View.{countsOf, pendingCount, lineAt, linesFrom, sumFrom, view, store}
-use Rattle.server.specs.Sound.{countsAt, slotsAt, tidyLine, zeroLine, structTests, soundStruct, AllKept, Sized, Sound}
+use Rattle.server.specs.Sound.{countsAt, slotsAt, zeroLine, structTests, soundStruct, AllKept, Sized, Sound}
 use Rattle.server.proofs.Rows.{Row, store-is}
 use Rattle.server.proofs.Places.{each-first, each-last, lines-length, line-used, line-unused, total-is, places-yes, yes-places}
 
@@ -186,7 +186,6 @@ module _ (s : Server) (long : length (s .items) ≡ 512) where
             subst (λ (v : model.Line). Row s i v) (sym (line-used (countsOf s) ps xs (s .n) i (ltb-true i (s .n) t)))
             (record { made = refl; taken = refl; acked = refl; inserts = refl; places = kept i h .places; items = kept i h .items })
         go false f =
-            let zeros : List Bool = eqb (getD (s .made) i 0) 0 ∷ eqb (getD (s .taken) i 0) 0 ∷ eqb (getD (s .acked) i 0) 0 ∷ eqb (getD (s .inserts) i 0) 0 ∷ [] in
             let t = hold (structTests s) e in
             let y = each-last (zeroLine (countsOf s) ps xs) (s .n) maxLines (t .1 .1 .1 .1 .0) i (ltb-false i (s .n) f) h in
             let c = hold (eqb (getD (s .made) i 0) 0 ∷ eqb (getD (s .taken) i 0) 0 ∷ eqb (getD (s .acked) i 0) 0 ∷ eqb (getD (s .inserts) i 0) 0 ∷ [])

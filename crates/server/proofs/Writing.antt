@@ -1,12 +1,12 @@
 -- What is written into the arrays, line by line: one turn of each loop.
 use mathlib.Core.Path.{_≡_, refl, ap, sym, _∙_}
 use mathlib.Core.Bool.{Bool, true, false, _&&_, not, cond}
-use mathlib.Core.List.{List, []}
+use mathlib.Core.List.{List}
 use Prim.Native.Nat.{ℕ, suc, _+_, _-_, _*_, _≤_, _<_}
 use native.Mathlib.Numerals.{add-one}
 use native.Mathlib.Omega.{arith}
 use lib.Dec.{ltb, eqb}
-use lib.ListN.{length, getD, drop, set, length-set, drop-of-length-le}
+use lib.ListN.{length, getD, set, length-set, drop-of-length-le}
 use lib.Seq.{getD-set-same, getD-set-other}
 use borrow.Author.Tests.{lt-ltb, le-ltb, ltb-true, ltb-false, eqb-true, eqb-false, eq-eqb, ne-eqb}
 use Rattle.ot.proofs.Sweep.{swept, swept-store, swept-to}
@@ -16,6 +16,7 @@ use Rattle.pending.proofs.Slots.{stretch-set, stretch-length}
 use Rattle.server.specs.View.{sumFrom}
 use Rattle.server.specs.Taking.{keeps, Replaced, Kept, Raised, Written}
 use Rattle.server.proofs.Rows.{stretch-other}
+use Rattle.server.proofs.Whole.{never}
 
 -- ---- a sum
 
@@ -191,9 +192,6 @@ module _ (at : ℕ) (part before : List ℕ) where
 
 -- ---- both
 
-differ : false ≡ true → ⊥
-differ e = let z : _≡_ {A = ℕ} 0 1 = cc in omega arith
-
 pub both-written : (n at : ℕ) (made acked : List ℕ) (word : ℕ) (part before put after : List ℕ) → Replaced at part before put → Kept n at made acked word put after
     → Written n at made acked word part before after
 both-written n at made acked word part before put after r k = record { size = k .size ∙ r .size; lines = λ j l. k .lines j l ∙ go j l (keeps n at j) refl }
@@ -206,6 +204,6 @@ both-written n at made acked word part before put after r k = record { size = k 
         (r .lines j l ∙ ap (λ (b : Bool). cond b part (stretch (maxPending * j) before)) (other (eqb j at) refl))
       where
         other : (b : Bool) → eqb j at ≡ b → eqb j at ≡ false
-        other true e = absurd (let z : _≡_ {A = Bool} false true = sym (ap (keeps n at) (eqb-true j at e) ∙ keeps-own n at) ∙ t in differ z)
+        other true e = never (sym (ap (keeps n at) (eqb-true j at e) ∙ keeps-own n at) ∙ t)
         other false e = e
     go j l false f = r .lines j l

@@ -250,7 +250,7 @@ fn raised(n: usize, at: usize, k: Counts) -> [u16; 8]
     more
 }
 
-// Both of these, for the places or for the items: the line at a place gets its numbers, the others keep the word.
+// Of the places, or of the items: the line at a place gets its own, and the first n others keep one more.
 fn write(words: &mut [u32; 512], part: &[u32], k: Counts, at: usize, n: usize, word: u32)
     requires { ⌜ ((at < 8) × ((length (now part) ≡ maxPending) × (512 ≤ length (now words)))) × ((n ≤ 8) × Roomy n at (k .made) (k .acked)) ⌝ }
     ensures { λ r. ⌜ Written n at (k .made) (k .acked) word (now (part .entry)) (now (words .entry)) (now (words .exit)) ⌝ }

@@ -1,4 +1,3 @@
-use borrow.Author.Needs.{needs}
 use mathlib.Core.Bool.{and-assoc, and-true}
 use Rattle.server.proofs.counts_zero.Statement.{statement}
 use Rattle.server.proofs.counts_zero.Tie as tie

@@ -1,5 +1,4 @@
 use borrow.Author.Needs.{needs}
-use mathlib.Core.Path.{_∙_}
 use native.Mathlib.Omega.{arith}
 use Rattle.server.proofs.Answers.{open-short, open-done, open-refused}
 use Rattle.server.proofs.Server.open.Statement.{statement}

@@ -1,6 +1,5 @@
 use borrow.Author.Needs.{needs}
 use mathlib.Core.Path.{sym, _∙_}
-use native.Mathlib.Omega.{arith}
 use Rattle.server.proofs.Whole.{lines-few}
 use Rattle.server.proofs.Answers.{sends-no, send-refused, send-done}
 use Rattle.server.proofs.Server.send.Statement.{statement}

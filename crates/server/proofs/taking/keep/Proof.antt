@@ -1,8 +1,7 @@
 use borrow.Author.Needs.{needs}
-use mathlib.Core.Path.{_≡_, ap, _∙_, sym, subst}
+use mathlib.Core.Path.{_≡_, subst}
 use native.Mathlib.Omega.{arith}
 use Prim.Native.Nat.{ℕ, _-_, _≤_}
-use lib.ListN.{length}
 use Rattle.server.specs.Taking.{Kept}
 use Rattle.server.proofs.Writing.{kept-none, kept-turn, kept-skip}
 use Rattle.server.proofs.taking.keep.Statement.{statement}

@@ -1,9 +1,8 @@
-use borrow.Author.Needs.{needs}
-use mathlib.Core.Path.{_≡_, refl, ap, _∙_, sym, subst}
+use mathlib.Core.Path.{_≡_, refl, sym, subst}
 use native.Mathlib.Omega.{arith}
 use denote.Ref.{now}
 use Prim.Native.Nat.{ℕ, _-_, _*_, _≤_, _+_}
-use lib.ListN.{length, getD, set}
+use lib.ListN.{getD, set}
 use Rattle.server.proofs.Writing.{Putting, put-none, put-turn, put-end}
 use Rattle.server.proofs.taking.put.Statement.{statement}
 use Rattle.server.proofs.taking.put.Tie as tie

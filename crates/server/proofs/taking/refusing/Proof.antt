@@ -1,4 +1,3 @@
-use borrow.Author.Needs.{needs}
 use mathlib.Core.Path.{refl}
 use Rattle.server.specs.Taking.{refusing}
 use Rattle.server.proofs.taking.refusing.Statement.{statement}

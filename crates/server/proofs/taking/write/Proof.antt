@@ -1,4 +1,3 @@
-use borrow.Author.Needs.{needs}
 use denote.Ref.{now}
 use Rattle.server.proofs.Writing.{both-written}
 use Rattle.server.proofs.taking.write.Statement.{statement}
