@@ -1,84 +1,109 @@
-use native.Mathlib.Omega.{arith}
-use mathlib.Core.Path.{refl, _∙_}
-use lib.ListN.{length-set}
-use Rattle.probe.specs.Dump.{serverBytes}
-use Rattle.probe.proofs.Bytes.{put-length, put-more, put-pair}
 use borrow.Author.Needs.{needs}
 use Rattle.probe.proofs.dump.put_server.Statement.{statement}
 use Rattle.probe.proofs.dump.put_server.Tie as tie
 use Rattle.probe.proofs.dump.put_server.Reads as reads
 use Rattle.probe.proofs.dump.put_server.Lts as lts
-use Rattle.probe.proofs.dump.put_items.Reads as put-items-reads
-use Rattle.probe.proofs.dump.put_lines.Reads as put-lines-reads
+use Rattle.probe.proofs.dump.put_fours.Reads as put-fours-reads
+use Rattle.probe.proofs.dump.put_head.Reads as put-head-reads
 use Rattle.probe.proofs.dump.put_two.Reads as put-two-reads
+use Rattle.probe.proofs.dump.put_twos.Reads as put-twos-reads
 
--- src/dump.rt:134:5
-slice-write-out : tie.Need-slice-write-out
-slice-write-out c = search needs
+-- src/dump.rt:94:5
+put-head-requires : tie.Need-put-head-requires
+put-head-requires c κs = search needs
 
--- src/dump.rt:135:9
-add-out : tie.Need-add-out
-add-out c = search needs
-
--- src/dump.rt:135:5
-slice-write-out-2 : tie.Need-slice-write-out-2
-slice-write-out-2 c = simp length-set (omega arith)
-
--- src/dump.rt:136:18
+-- src/dump.rt:95:18
 add-put-two : tie.Need-add-put-two
 add-put-two c = search needs
 
--- src/dump.rt:136:5
+-- src/dump.rt:95:5
 put-two-requires : tie.Need-put-two-requires
-put-two-requires c κs = simp length-set (omega arith)
+put-two-requires c κs = search needs
 
--- src/dump.rt:137:18
-add-put-two-2 : tie.Need-add-put-two-2
-add-put-two-2 c = search needs
+-- src/dump.rt:96:19
+add-put-twos : tie.Need-add-put-twos
+add-put-twos c = search needs
 
--- src/dump.rt:137:5
-put-two-requires-2 : tie.Need-put-two-requires-2
-put-two-requires-2 c κs = rw (put-length (c .before .before .before .put-two .ensures)) (simp length-set (omega arith))
+-- src/dump.rt:96:5
+put-twos-requires : tie.Need-put-twos-requires
+put-twos-requires c κs = search needs
 
--- src/dump.rt:139:20
-add-put-lines : tie.Need-add-put-lines
-add-put-lines c = search needs
+-- src/dump.rt:97:19
+add-put-twos-2 : tie.Need-add-put-twos-2
+add-put-twos-2 c = search needs
 
--- src/dump.rt:139:5
-put-lines-requires : tie.Need-put-lines-requires
-put-lines-requires c κs = rw (put-length (c .before .before .before .before .put-two2 .ensures), put-length (c .before .before .before .before .before .before .before .before .put-two .ensures)) (simp length-set (omega arith))
+-- src/dump.rt:97:5
+put-twos-requires-2 : tie.Need-put-twos-requires-2
+put-twos-requires-2 c κs = search needs
 
--- src/dump.rt:141:20
-add-put-items : tie.Need-add-put-items
-add-put-items c = search needs
+-- src/dump.rt:98:19
+add-put-twos-3 : tie.Need-add-put-twos-3
+add-put-twos-3 c = search needs
 
--- src/dump.rt:141:5
-put-items-requires : tie.Need-put-items-requires
-put-items-requires c κs = rw (put-length (c .before .before .before .before .put-lines .ensures), put-length (c .before .before .before .before .before .before .before .before .before .put-two2 .ensures), put-length (c .before .before .before .before .before .before .before .before .before .before .before .before .before .put-two .ensures)) (simp length-set (omega arith))
+-- src/dump.rt:98:5
+put-twos-requires-3 : tie.Need-put-twos-requires-3
+put-twos-requires-3 c κs = search needs
 
--- src/dump.rt:130:1
+-- src/dump.rt:99:19
+add-put-twos-4 : tie.Need-add-put-twos-4
+add-put-twos-4 c = search needs
+
+-- src/dump.rt:99:5
+put-twos-requires-4 : tie.Need-put-twos-requires-4
+put-twos-requires-4 c κs = search needs
+
+-- src/dump.rt:100:20
+add-put-fours : tie.Need-add-put-fours
+add-put-fours c = ?
+
+-- src/dump.rt:100:5
+put-fours-requires : tie.Need-put-fours-requires
+put-fours-requires c κs = ?
+
+-- src/dump.rt:101:20
+add-put-fours-2 : tie.Need-add-put-fours-2
+add-put-fours-2 c = ?
+
+-- src/dump.rt:101:5
+put-fours-requires-2 : tie.Need-put-fours-requires-2
+put-fours-requires-2 c κs = ?
+
+-- src/dump.rt:102:20
+add-put-fours-3 : tie.Need-add-put-fours-3
+add-put-fours-3 c = ?
+
+-- src/dump.rt:102:5
+put-fours-requires-3 : tie.Need-put-fours-requires-3
+put-fours-requires-3 c κs = ?
+
+-- src/dump.rt:90:1
 same-length : tie.Need-same-length
-same-length c = put-length (c .before .before .put-items .ensures) ∙ put-length (c .before .before .before .before .before .before .before .put-lines .ensures) ∙ put-length (c .before .before .before .before .before .before .before .before .before .before .before .before .put-two2 .ensures) ∙ put-length (c .before .before .before .before .before .before .before .before .before .before .before .before .before .before .before .before .put-two .ensures) ∙ simp length-set
+same-length c = ?
 
--- src/dump.rt:130:1
+-- src/dump.rt:90:1
 returns : tie.Need-returns
-unfolding serverBytes
-returns c = put-more (put-more (put-more (put-more (put-pair _ _ _ _) (c .before .before .before .before .before .before .before .before .before .before .before .before .before .before .before .before .put-two .ensures)) (c .before .before .before .before .before .before .before .before .before .before .before .before .put-two2 .ensures)) (c .before .before .before .before .before .before .before .put-lines .ensures)) (c .before .before .put-items .ensures)
+returns c = ?
 
 pub put-server-spec : {M : Type 1} → statement M
 put-server-spec =
     tie.close
     (tie.spec
-    slice-write-out
-    add-out
-    slice-write-out-2
+    put-head-requires
     add-put-two
     put-two-requires
-    add-put-two-2
-    put-two-requires-2
-    add-put-lines
-    put-lines-requires
-    add-put-items
-    put-items-requires
+    add-put-twos
+    put-twos-requires
+    add-put-twos-2
+    put-twos-requires-2
+    add-put-twos-3
+    put-twos-requires-3
+    add-put-twos-4
+    put-twos-requires-4
+    add-put-fours
+    put-fours-requires
+    add-put-fours-2
+    put-fours-requires-2
+    add-put-fours-3
+    put-fours-requires-3
     same-length
     returns)
