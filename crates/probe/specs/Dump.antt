@@ -27,26 +27,24 @@ headBytes n line len = n ∷ line ∷ two len
 abbrev pub countBytes : ℕ → ℕ → ℕ → ℕ → List ℕ
 countBytes made taken acked inserts = two made ++ two taken ++ two acked ++ two inserts
 
+-- the four counts of all lines
+abbrev pub twosBytes : List ℕ → List ℕ → List ℕ → List ℕ → List ℕ
+twosBytes made taken acked inserts = each two made ++ (each two taken ++ (each two acked ++ each two inserts))
+
+-- the pending edits and the list
+abbrev pub foursBytes : List ℕ → List ℕ → List ℕ → List ℕ
+foursBytes places pending items = each four places ++ (each four pending ++ each four items)
+
 unfoldable pub clientBytes : Client → List ℕ
 clientBytes c =
-    headBytes (c .n) (c .line) (c .len)
-    ++ countBytes (c .made) (c .taken) (c .acked) (c .inserts)
-    ++ each four (c .«pending_places»)
-    ++ each four (c .«pending_items»)
-    ++ each four (c .items)
+    (headBytes (c .n) (c .line) (c .len) ++ countBytes (c .made) (c .taken) (c .acked) (c .inserts))
+    ++ foursBytes (c .«pending_places») (c .«pending_items») (c .items)
 
 -- the server has no line, and a 0 in its place
 unfoldable pub serverBytes : Server → List ℕ
 serverBytes s =
-    headBytes (s .n) 0 (s .len)
-    ++ two (s .initial)
-    ++ each two (s .made)
-    ++ each two (s .taken)
-    ++ each two (s .acked)
-    ++ each two (s .inserts)
-    ++ each four (s .«pending_places»)
-    ++ each four (s .«pending_items»)
-    ++ each four (s .items)
+    ((headBytes (s .n) 0 (s .len) ++ two (s .initial)) ++ twosBytes (s .made) (s .taken) (s .acked) (s .inserts))
+    ++ foursBytes (s .«pending_places») (s .«pending_items») (s .items)
 
 abbrev pub slotBytes : ℕ → List ℕ → List ℕ
 slotBytes len slot = len ∷ slot

@@ -3,7 +3,7 @@ ghost use mathlib.Core.Path.{_≡_};
 ghost use Prim.Native.Nat.{_+_, _*_, _≤_};
 ghost use lib.ListN.{length};
 ghost use Rattle.wire.specs.Bytes.{two, four};
-ghost use Rattle.probe.specs.Dump.{Put, each, headBytes, countBytes, clientBytes, serverBytes, answerBytes, slotBytes};
+ghost use Rattle.probe.specs.Dump.{Put, each, headBytes, countBytes, twosBytes, foursBytes, clientBytes, serverBytes, answerBytes, slotBytes};
 use client::Client;
 use server::Server;
 
@@ -55,6 +55,30 @@ fn put_fours(out: &mut [u8], at: usize, words: &[u32])
     }
 }
 
+// The four counts of all lines.
+fn put_lines<'a>(out: &mut [u8], at: usize, made: &'a [u16], taken: &'a [u16], acked: &'a [u16], inserts: &'a [u16])
+    requires { ⌜ at + (2 * length (now made) + (2 * length (now taken) + (2 * length (now acked) + 2 * length (now inserts)))) ≤ length (now out) ⌝ }
+    ensures { λ _. ⌜ Put at (2 * length (now (made .entry)) + (2 * length (now (taken .entry)) + (2 * length (now (acked .entry)) + 2 * length (now (inserts .entry))))) (twosBytes (now (made .entry)) (now (taken .entry)) (now (acked .entry)) (now (inserts .entry))) (now (out .entry)) (now (out .exit)) ⌝ }
+{
+    put_twos(out, at, made);
+    let second = at + 2 * made.len();
+    put_twos(out, second, taken);
+    let third = second + 2 * taken.len();
+    put_twos(out, third, acked);
+    put_twos(out, third + 2 * acked.len(), inserts);
+}
+
+// The pending edits and the list.
+fn put_arrays<'a>(out: &mut [u8], at: usize, places: &'a [u32], pending: &'a [u32], items: &'a [u32])
+    requires { ⌜ at + (4 * length (now places) + (4 * length (now pending) + 4 * length (now items))) ≤ length (now out) ⌝ }
+    ensures { λ _. ⌜ Put at (4 * length (now (places .entry)) + (4 * length (now (pending .entry)) + 4 * length (now (items .entry)))) (foursBytes (now (places .entry)) (now (pending .entry)) (now (items .entry))) (now (out .entry)) (now (out .exit)) ⌝ }
+{
+    put_fours(out, at, places);
+    let second = at + 4 * places.len();
+    put_fours(out, second, pending);
+    put_fours(out, second + 4 * pending.len(), items);
+}
+
 // ---- ends
 
 fn put_head(out: &mut [u8], at: usize, n: u8, line: u8, len: u16)
@@ -82,9 +106,7 @@ pub fn put_client(out: &mut [u8], at: usize, c: Client)
 {
     put_head(out, at, c.n, c.line, c.len);
     put_counts(out, at + 4, c.made, c.taken, c.acked, c.inserts);
-    put_fours(out, at + 12, &c.pending_places);
-    put_fours(out, at + 268, &c.pending_items);
-    put_fours(out, at + 524, &c.items);
+    put_arrays(out, at + 12, &c.pending_places, &c.pending_items, &c.items);
 }
 
 pub fn put_server(out: &mut [u8], at: usize, s: Server)
@@ -93,13 +115,8 @@ pub fn put_server(out: &mut [u8], at: usize, s: Server)
 {
     put_head(out, at, s.n, 0, s.len);
     put_two(out, at + 4, s.initial);
-    put_twos(out, at + 6, &s.made);
-    put_twos(out, at + 22, &s.taken);
-    put_twos(out, at + 38, &s.acked);
-    put_twos(out, at + 54, &s.inserts);
-    put_fours(out, at + 70, &s.pending_places);
-    put_fours(out, at + 2118, &s.pending_items);
-    put_fours(out, at + 4166, &s.items);
+    put_lines(out, at + 6, &s.made, &s.taken, &s.acked, &s.inserts);
+    put_arrays(out, at + 70, &s.pending_places, &s.pending_items, &s.items);
 }
 
 // ---- a slot

@@ -41,7 +41,7 @@ shared-slice-read-put-four c = omega arith
 
 -- src/dump.rt:54:9
 put-four-requires : tie.Need-put-four-requires Inv-loop μ-loop
-put-four-requires c κs = omega (arith, c .before .before .loop .inv .1)
+put-four-requires c κs = omega (arith, c .before .before .before .loop .inv .1)
 
 -- src/dump.rt:53:9
 add-i : tie.Need-add-i Inv-loop μ-loop
@@ -53,7 +53,7 @@ loop-less c = omega arith
 
 -- src/dump.rt:53:5
 loop-again : tie.Need-loop-again Inv-loop μ-loop
-loop-again c = (omega arith, put-length (c .before .before .put-four .ensures) ∙ c .before .before .before .before .before .loop .inv .1, each-turn four 4 _ 0 _ (search needs) refl (c .before .before .before .before .before .loop .inv .2) (c .before .before .put-four .ensures))
+loop-again c = (omega arith, put-length (c .before .before .put-four .ensures) ∙ c .before .before .before .before .before .before .loop .inv .1, each-turn four 4 _ 0 _ (search needs) refl (c .before .before .before .before .before .before .loop .inv .2) (c .before .before .put-four .ensures))
 
 -- src/dump.rt:49:1
 same-length : tie.Need-same-length Inv-loop μ-loop

@@ -41,7 +41,7 @@ shared-slice-read-put-two c = omega arith
 
 -- src/dump.rt:45:9
 put-two-requires : tie.Need-put-two-requires Inv-loop μ-loop
-put-two-requires c κs = omega (arith, c .before .before .loop .inv .1)
+put-two-requires c κs = omega (arith, c .before .before .before .loop .inv .1)
 
 -- src/dump.rt:44:9
 add-i : tie.Need-add-i Inv-loop μ-loop
@@ -53,7 +53,7 @@ loop-less c = omega arith
 
 -- src/dump.rt:44:5
 loop-again : tie.Need-loop-again Inv-loop μ-loop
-loop-again c = (omega arith, put-length (c .before .before .put-two .ensures) ∙ c .before .before .before .before .before .loop .inv .1, each-turn two 2 _ 0 _ (search needs) refl (c .before .before .before .before .before .loop .inv .2) (c .before .before .put-two .ensures))
+loop-again c = (omega arith, put-length (c .before .before .put-two .ensures) ∙ c .before .before .before .before .before .before .loop .inv .1, each-turn two 2 _ 0 _ (search needs) refl (c .before .before .before .before .before .before .loop .inv .2) (c .before .before .put-two .ensures))
 
 -- src/dump.rt:40:1
 same-length : tie.Need-same-length Inv-loop μ-loop

@@ -1,3 +1,4 @@
+use Rattle.probe.specs.Set.{clientSet}
 use borrow.Author.Needs.{needs}
 use Rattle.probe.proofs.set.set_client.Statement.{statement}
 use Rattle.probe.proofs.set.set_client.Tie as tie
@@ -59,7 +60,8 @@ set-in-64-requires-2 c κs = search needs
 
 -- src/set.rt:76:1
 returns : tie.Need-returns
-returns c = ?
+unfolding clientSet
+returns c = rw (c .set-in-642 .ensures, c .before .before .set-in-64 .ensures, c .before .before .before .before .before .set-in-512 .ensures, c .before .before .before .before .before .before .before .set-count5 .ensures, c .before .before .before .before .before .before .before .before .set-count4 .ensures, c .before .before .before .before .before .before .before .before .before .set-count3 .ensures, c .before .before .before .before .before .before .before .before .before .before .set-count2 .ensures, c .before .before .before .before .before .before .before .before .before .before .before .set-count .ensures, c .before .before .before .before .before .before .before .before .before .before .before .before .set-byte2 .ensures, c .before .before .before .before .before .before .before .before .before .before .before .before .before .set-byte .ensures, c .before .before .before .slot-place .ensures)
 
 pub set-client-spec : {M : Type 1} → statement M
 set-client-spec =

@@ -1,3 +1,5 @@
+use mathlib.Core.Path.{sym}
+use lib.Seq.{set-out}
 use borrow.Author.Needs.{needs}
 use Rattle.probe.proofs.set.set_in_8.Statement.{statement}
 use Rattle.probe.proofs.set.set_in_8.Tie as tie
@@ -14,11 +16,11 @@ array-write-words c = search needs
 
 -- src/set.rt:43:1
 returns : tie.Need-returns
-returns c = ?
+returns c = simp (c .before .if1 .taken)
 
 -- src/set.rt:43:1
 returns-2 : tie.Need-returns-2
-returns-2 c = ?
+returns-2 c = rw (c .before .if1 .taken) (sym (set-out (c .before .before .args .words) (c .before .before .args .i) (c .before .before .args .value) (search needs)))
 
 -- src/set.rt:43:1
 returns-3 : tie.Need-returns-3

@@ -1,3 +1,4 @@
+use Rattle.probe.specs.Set.{serverSet}
 use borrow.Author.Needs.{needs}
 use Rattle.probe.proofs.set.set_server.Statement.{statement}
 use Rattle.probe.proofs.set.set_server.Tie as tie
@@ -76,7 +77,8 @@ set-in-512-requires-3 c κs = search needs
 
 -- src/set.rt:97:1
 returns : tie.Need-returns
-returns c = ?
+unfolding serverSet
+returns c = rw (c .set-in-5123 .ensures, c .before .before .set-in-5122 .ensures, c .before .before .before .before .before .set-in-84 .ensures, c .before .before .before .before .before .before .before .set-in-83 .ensures, c .before .before .before .before .before .before .before .before .before .set-in-82 .ensures, c .before .before .before .before .before .before .before .before .before .before .before .set-in-8 .ensures, c .before .before .before .before .before .before .before .before .before .before .before .before .before .set-in-512 .ensures, c .before .before .before .before .before .before .before .before .before .before .before .before .before .before .before .set-count2 .ensures, c .before .before .before .before .before .before .before .before .before .before .before .before .before .before .before .before .set-count .ensures, c .before .before .before .before .before .before .before .before .before .before .before .before .before .before .before .before .before .set-byte .ensures, c .before .before .before .slot-place .ensures, c .before .before .before .before .before .before .before .before .before .before .before .before .before .before .before .before .before .before .before .before .before .before .before .before .before .before .before .line-index .ensures)
 
 pub set-server-spec : {M : Type 1} → statement M
 set-server-spec =
