@@ -20,7 +20,7 @@ returns c = simp (c .before .if1 .taken)
 
 -- src/set.rt:54:1
 returns-2 : tie.Need-returns-2
-returns-2 c = rw (c .before .if1 .taken) (sym (set-out (c .before .before .args .words) (c .before .before .args .i) (c .before .before .args .value) (search needs)))
+returns-2 c = rw (c .before .if1 .taken) (sym (set-out (c .before .before .args .t4) (c .before .before .args .i) (c .before .before .args .value) (search needs)))
 
 -- src/set.rt:54:1
 returns-3 : tie.Need-returns-3
