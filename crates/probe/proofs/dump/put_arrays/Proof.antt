@@ -1,3 +1,4 @@
+use Rattle.probe.proofs.Bytes.{put-more}
 use borrow.Author.Needs.{needs}
 use Rattle.probe.proofs.dump.put_arrays.Statement.{statement}
 use Rattle.probe.proofs.dump.put_arrays.Tie as tie
@@ -39,7 +40,7 @@ same-length c = search needs
 
 -- src/dump.rt:72:1
 returns : tie.Need-returns
-returns c = ?
+returns c = put-more (c .before .before .before .before .before .before .before .before .before .before .put-fours .ensures) (put-more (c .before .before .before .before .before .before .put-fours2 .ensures) (c .before .before .put-fours3 .ensures))
 
 pub put-arrays-spec : {M : Type 1} → statement M
 put-arrays-spec =

@@ -1,3 +1,5 @@
+use Rattle.probe.specs.Dump.{clientBytes}
+use Rattle.probe.proofs.Bytes.{put-more, put-size}
 use borrow.Author.Needs.{needs}
 use Rattle.probe.proofs.dump.put_client.Statement.{statement}
 use Rattle.probe.proofs.dump.put_client.Tie as tie
@@ -33,7 +35,8 @@ same-length c = search needs
 
 -- src/dump.rt:103:1
 returns : tie.Need-returns
-returns c = ?
+unfolding clientBytes
+returns c = put-more (put-more (c .before .before .before .before .before .before .before .before .before .before .before .before .before .before .before .before .before .put-head .ensures) (c .before .before .before .before .before .before .before .before .before .before .before .before .before .put-counts .ensures)) (put-size 2560 (search needs) (c .before .before .put-arrays .ensures))
 
 pub put-client-spec : {M : Type 1} → statement M
 put-client-spec =

@@ -1,3 +1,4 @@
+use Rattle.probe.proofs.Bytes.{put-more}
 use borrow.Author.Needs.{needs}
 use Rattle.probe.proofs.dump.put_lines.Statement.{statement}
 use Rattle.probe.proofs.dump.put_lines.Tie as tie
@@ -51,7 +52,7 @@ same-length c = search needs
 
 -- src/dump.rt:59:1
 returns : tie.Need-returns
-returns c = ?
+returns c = put-more (c .before .before .before .before .before .before .before .before .before .before .before .before .before .before .put-twos .ensures) (put-more (c .before .before .before .before .before .before .before .before .before .before .put-twos2 .ensures) (put-more (c .before .before .before .before .before .before .put-twos3 .ensures) (c .before .before .put-twos4 .ensures)))
 
 pub put-lines-spec : {M : Type 1} → statement M
 put-lines-spec =

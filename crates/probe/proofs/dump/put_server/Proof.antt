@@ -1,3 +1,5 @@
+use Rattle.probe.specs.Dump.{serverBytes}
+use Rattle.probe.proofs.Bytes.{put-more, put-size}
 use borrow.Author.Needs.{needs}
 use Rattle.probe.proofs.dump.put_server.Statement.{statement}
 use Rattle.probe.proofs.dump.put_server.Tie as tie
@@ -42,7 +44,8 @@ same-length c = search needs
 
 -- src/dump.rt:112:1
 returns : tie.Need-returns
-returns c = ?
+unfolding serverBytes
+returns c = put-more (put-more (put-more (c .before .before .before .before .before .before .before .before .before .before .before .before .before .before .before .before .before .before .before .before .before .before .before .before .before .before .before .before .before .before .put-head .ensures) (c .before .before .before .before .before .before .before .before .before .before .before .before .before .before .before .before .before .before .before .before .before .before .before .before .before .before .put-two .ensures)) (put-size 64 (search needs) (c .before .before .before .before .before .before .before .before .before .before .before .before .before .put-lines .ensures))) (put-size 6144 (search needs) (c .before .before .put-arrays .ensures))
 
 pub put-server-spec : {M : Type 1} → statement M
 put-server-spec =
