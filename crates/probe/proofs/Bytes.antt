@@ -27,6 +27,9 @@ put-more {at} {n} {m} {a} {b} {l} {l₁} {l₂} p q =
           ∙ sets-append a b l at;
     }
 
+pub put-size : (m : ℕ) {at n : ℕ} {a l l₁ : List ℕ} → n ≡ m → Put at n a l l₁ → Put at m a l l₁
+put-size m e p = record { size = p .size ∙ e; wrote = p .wrote }
+
 pub put-pair : (at x y : ℕ) (l : List ℕ) → Put at 2 (x ∷ y ∷ []) l (set (set l at x) (at + 1) y)
 put-pair at x y l = record { size = refl; wrote = ap (λ (i : ℕ). set (set l at x) i y) (add-one at) }
 

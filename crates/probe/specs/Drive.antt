@@ -28,7 +28,19 @@ start =
 
 -- what lies past the last client
 abbrev pub noClient : Client
-noClient = record { n = 0; line = 0; made = 0; taken = 0; acked = 0; inserts = 0; len = 0; items = []; pending = [] }
+noClient =
+    record {
+      n = 0;
+      line = 0;
+      made = 0;
+      taken = 0;
+      acked = 0;
+      inserts = 0;
+      len = 0;
+      items = [];
+      «pending_places» = [];
+      «pending_items» = [];
+    }
 
 -- a call that reads no slot may name any
 abbrev pub slotOf : Call → ℕ

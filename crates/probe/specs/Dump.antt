@@ -4,12 +4,8 @@ use mathlib.Core.Path.{_≡_}
 use mathlib.Core.List.{List, [], _∷_, _++_}
 use lib.ListN.{length}
 use lib.Seq.{sets}
-use Rattle.ot.specs.declared.Edit.{Edit}
-use Rattle.ot.specs.declared.Edit.the-variants.{Nothing, Delete, Insert}
 use Rattle.wire.specs.Bytes.{two, four}
-use Rattle.pending.specs.Slots.{edits}
 use Rattle.client.specs.declared.Client.{Client}
-use Rattle.server.specs.declared.Line.{Line}
 use Rattle.server.specs.declared.Server.{Server}
 
 -- The n bytes were written from place `at` on, and nothing else changed.
@@ -25,29 +21,30 @@ each f (x ∷ xs) = f x ++ each f xs
 abbrev pub answerBytes : ℕ → ℕ → ℕ → List ℕ
 answerBytes refusal written passed = refusal ∷ written ∷ two passed
 
-abbrev pub row : ℕ → ℕ → ℕ → ℕ → List ℕ
-row kind priority position item = kind ∷ priority ∷ two position ++ four item
-
-abbrev pub editBytes : Edit → List ℕ
-editBytes Nothing = row 0 0 0 0
-editBytes (Delete p) = row 1 0 p 0
-editBytes (Insert p x r) = row 2 r p x
+abbrev pub headBytes : ℕ → ℕ → ℕ → List ℕ
+headBytes n line len = n ∷ line ∷ two len
 
 abbrev pub countBytes : ℕ → ℕ → ℕ → ℕ → List ℕ
 countBytes made taken acked inserts = two made ++ two taken ++ two acked ++ two inserts
 
-unfoldable pub lineBytes : Line → List ℕ
-lineBytes v = countBytes (v .made) (v .taken) (v .acked) (v .inserts) ++ each editBytes (edits (v .pending))
+-- the four counts of all lines
+abbrev pub twosBytes : List ℕ → List ℕ → List ℕ → List ℕ → List ℕ
+twosBytes made taken acked inserts = each two made ++ (each two taken ++ (each two acked ++ each two inserts))
+
+-- the pending edits and the list
+abbrev pub foursBytes : List ℕ → List ℕ → List ℕ → List ℕ
+foursBytes places pending items = each four places ++ (each four pending ++ each four items)
 
 unfoldable pub clientBytes : Client → List ℕ
 clientBytes c =
-    (c .n ∷ c .line ∷ two (c .len))
-    ++ countBytes (c .made) (c .taken) (c .acked) (c .inserts)
-    ++ each editBytes (edits (c .pending))
-    ++ each four (c .items)
+    (headBytes (c .n) (c .line) (c .len) ++ countBytes (c .made) (c .taken) (c .acked) (c .inserts))
+    ++ foursBytes (c .«pending_places») (c .«pending_items») (c .items)
 
+-- the server has no line, and a 0 in its place
 unfoldable pub serverBytes : Server → List ℕ
-serverBytes s = (s .n ∷ 0 ∷ two (s .len)) ++ two (s .initial) ++ each lineBytes (s .lines) ++ each four (s .items)
+serverBytes s =
+    ((headBytes (s .n) 0 (s .len) ++ two (s .initial)) ++ twosBytes (s .made) (s .taken) (s .acked) (s .inserts))
+    ++ foursBytes (s .«pending_places») (s .«pending_items») (s .items)
 
 abbrev pub slotBytes : ℕ → List ℕ → List ℕ
 slotBytes len slot = len ∷ slot

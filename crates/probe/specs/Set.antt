@@ -1,15 +1,10 @@
--- The call set: one field of an end is overwritten.
-use Prim.Native.Nat.{ℕ, _-_, _%_}
-use mathlib.Core.Bool.{Bool, _&&_, cond}
-use mathlib.Core.List.{List, []}
-use lib.Dec.{leb, ltb, eqb}
-use lib.ListN.{getD, set}
-use Rattle.ot.specs.declared.Edit.{Edit}
-use Rattle.ot.specs.declared.Edit.the-variants.{Nothing, Delete, Insert}
-use Rattle.pending.specs.declared.Slot.{Slot}
-use Rattle.pending.specs.Slots.{slot}
+-- The call set: one field of an end is overwritten. A line and a number that the end has not are no call (specs/Calls.antt).
+use Prim.Native.Nat.{ℕ, _+_, _-_, _*_, _%_}
+use mathlib.Core.Bool.{Bool, cond}
+use mathlib.Core.List.{List}
+use lib.Dec.{eqb}
+use lib.ListN.{set}
 use Rattle.client.specs.declared.Client.{Client}
-use Rattle.server.specs.declared.Line.{Line}
 use Rattle.server.specs.declared.Server.{Server}
 use Rattle.probe.specs.declared.call.Call.{Call}
 
@@ -20,33 +15,13 @@ byteSet k field old = cond (eqb (k .field) field) (k .value % 256) old
 abbrev pub countSet : Call → ℕ → ℕ → ℕ
 countSet k field old = cond (eqb (k .field) field) (k .value % 65536) old
 
-abbrev pub editOf : Call → Edit
-editOf k =
-    cond (eqb (k .size) 1) (Delete (k .position)) (cond (eqb (k .size) 2) (Insert (k .position) (k .value) (k .priority)) Nothing)
+-- one element of an array, where the call is for that array
+abbrev pub setAt : Bool → ℕ → ℕ → List ℕ → List ℕ
+setAt on i value words = cond on (set words i value) words
 
-abbrev pub itemsSet : Call → List ℕ → List ℕ
-itemsSet k items = cond (eqb (k .field) 8 && ltb (k .number) 512) (set items (k .number) (k .value)) items
-
-abbrev pub pendingSet : Call → List Slot → List Slot
-pendingSet k slots = cond (eqb (k .field) 9 && ltb (k .number) 64) (set slots (k .number) (slot (editOf k))) slots
-
-abbrev pub lineSet : Call → Line → Line
-lineSet k v =
-    record {
-      made = countSet k 4 (v .made);
-      taken = countSet k 5 (v .taken);
-      acked = countSet k 6 (v .acked);
-      inserts = countSet k 7 (v .inserts);
-      pending = pendingSet k (v .pending);
-    }
-
--- what lies past the last line
-abbrev pub noLine : Line
-noLine = record { made = 0; taken = 0; acked = 0; inserts = 0; pending = [] }
-
-abbrev pub linesSet : Call → List Line → List Line
-linesSet k lines =
-    cond (leb 1 (k .line) && leb (k .line) 8) (set lines (k .line - 1) (lineSet k (getD lines (k .line - 1) noLine))) lines
+-- the place that field 9 puts into a slot
+abbrev pub slotPlace : Call → ℕ
+slotPlace k = k .size * 16777216 + k .position * 256 + k .priority
 
 unfoldable pub clientSet : Call → Client → Client
 clientSet k c =
@@ -58,9 +33,17 @@ clientSet k c =
       acked = countSet k 6 (c .acked);
       inserts = countSet k 7 (c .inserts);
       len = countSet k 2 (c .len);
-      items = itemsSet k (c .items);
-      pending = pendingSet k (c .pending);
+      items = setAt (eqb (k .field) 8) (k .number) (k .value) (c .items);
+      «pending_places» = setAt (eqb (k .field) 9) (k .number) (slotPlace k) (c .«pending_places»);
+      «pending_items» = setAt (eqb (k .field) 9) (k .number) (k .value) (c .«pending_items»);
     }
+
+-- a count of the call's line, and the place of its slot `number`
+abbrev pub lineSet : Call → ℕ → List ℕ → List ℕ
+lineSet k field counts = setAt (eqb (k .field) field) (k .line - 1) (k .value % 65536) counts
+
+abbrev pub slotIndex : Call → ℕ
+slotIndex k = 64 * (k .line - 1) + k .number
 
 unfoldable pub serverSet : Call → Server → Server
 serverSet k s =
@@ -68,6 +51,11 @@ serverSet k s =
       n = byteSet k 0 (s .n);
       initial = countSet k 3 (s .initial);
       len = countSet k 2 (s .len);
-      items = itemsSet k (s .items);
-      lines = linesSet k (s .lines);
+      items = setAt (eqb (k .field) 8) (k .number) (k .value) (s .items);
+      made = lineSet k 4 (s .made);
+      taken = lineSet k 5 (s .taken);
+      acked = lineSet k 6 (s .acked);
+      inserts = lineSet k 7 (s .inserts);
+      «pending_places» = setAt (eqb (k .field) 9) (slotIndex k) (slotPlace k) (s .«pending_places»);
+      «pending_items» = setAt (eqb (k .field) 9) (slotIndex k) (k .value) (s .«pending_items»);
     }

@@ -1,14 +1,10 @@
-// The bytes that answer a call: numbers, edits, and the whole of an end. Every place is written, unused ones too.
+// The bytes that answer a call: numbers, and the whole of an end. Every place is written, unused ones too.
 ghost use mathlib.Core.Path.{_≡_};
-ghost use Prim.Native.Nat.{_+_, _≤_};
+ghost use Prim.Native.Nat.{_+_, _*_, _≤_};
 ghost use lib.ListN.{length};
 ghost use Rattle.wire.specs.Bytes.{two, four};
-ghost use Rattle.pending.specs.Slots.{edits};
-ghost use Rattle.probe.specs.Dump.{Put, each, row, editBytes, countBytes, lineBytes, clientBytes, serverBytes, answerBytes, slotBytes};
+ghost use Rattle.probe.specs.Dump.{Put, each, headBytes, countBytes, twosBytes, foursBytes, clientBytes, serverBytes, answerBytes, slotBytes};
 use client::Client;
-use ot::Edit;
-use pending::Slot;
-use server::Line;
 use server::Server;
 
 fn put_two(out: &mut [u8], at: usize, x: u16)
@@ -39,51 +35,60 @@ pub fn put_answer(out: &mut [u8], at: usize, refusal: u8, written: u8, passed: u
     put_two(out, at + 2, passed);
 }
 
-// ---- edits
+// ---- arrays
 
-fn put_row(out: &mut [u8], at: usize, kind: u8, priority: u8, position: u16, item: u32)
-    requires { ⌜ at + 8 ≤ length (now out) ⌝ }
-    ensures { λ _. ⌜ Put at 8 (row kind priority position item) (now (out .entry)) (now (out .exit)) ⌝ }
+fn put_twos(out: &mut [u8], at: usize, words: &[u16])
+    requires { ⌜ at + 2 * length (now words) ≤ length (now out) ⌝ }
+    ensures { λ _. ⌜ Put at (2 * length (now (words .entry))) (each two (now (words .entry))) (now (out .entry)) (now (out .exit)) ⌝ }
 {
-    out[at] = kind;
-    out[at + 1] = priority;
-    put_two(out, at + 2, position);
-    put_four(out, at + 4, item);
-}
-
-// What a kind of edit has not is 0.
-fn put_edit(out: &mut [u8], at: usize, e: Edit)
-    requires { ⌜ at + 8 ≤ length (now out) ⌝ }
-    ensures { λ _. ⌜ Put at 8 (editBytes e) (now (out .entry)) (now (out .exit)) ⌝ }
-{
-    match e {
-        Edit::Nothing => put_row(out, at, 0, 0, 0, 0),
-        Edit::Delete(p) => put_row(out, at, 1, 0, p, 0),
-        Edit::Insert(p, x, r) => put_row(out, at, 2, r, p, x),
+    for i in 0..words.len() {
+        put_two(out, at + 2 * i, words[i]);
     }
 }
 
-fn put_pending(out: &mut [u8], at: usize, slots: [Slot; 64])
-    requires { ⌜ at + 512 ≤ length (now out) ⌝ }
-    ensures { λ _. ⌜ Put at 512 (each editBytes (edits slots)) (now (out .entry)) (now (out .exit)) ⌝ }
+fn put_fours(out: &mut [u8], at: usize, words: &[u32])
+    requires { ⌜ at + 4 * length (now words) ≤ length (now out) ⌝ }
+    ensures { λ _. ⌜ Put at (4 * length (now (words .entry))) (each four (now (words .entry))) (now (out .entry)) (now (out .exit)) ⌝ }
 {
-    for i in 0..64 {
-        let s = slots[i];
-        let e = s.edit;
-        put_edit(out, at + 8 * i, e);
+    for i in 0..words.len() {
+        put_four(out, at + 4 * i, words[i]);
     }
 }
 
-fn put_items(out: &mut [u8], at: usize, items: [u32; 512])
-    requires { ⌜ at + 2048 ≤ length (now out) ⌝ }
-    ensures { λ _. ⌜ Put at 2048 (each four items) (now (out .entry)) (now (out .exit)) ⌝ }
+// The four counts of all lines.
+fn put_lines<'a>(out: &mut [u8], at: usize, made: &'a [u16], taken: &'a [u16], acked: &'a [u16], inserts: &'a [u16])
+    requires { ⌜ at + (2 * length (now made) + (2 * length (now taken) + (2 * length (now acked) + 2 * length (now inserts)))) ≤ length (now out) ⌝ }
+    ensures { λ _. ⌜ Put at (2 * length (now (made .entry)) + (2 * length (now (taken .entry)) + (2 * length (now (acked .entry)) + 2 * length (now (inserts .entry))))) (twosBytes (now (made .entry)) (now (taken .entry)) (now (acked .entry)) (now (inserts .entry))) (now (out .entry)) (now (out .exit)) ⌝ }
 {
-    for i in 0..512 {
-        put_four(out, at + 4 * i, items[i]);
-    }
+    put_twos(out, at, made);
+    let second = at + 2 * made.len();
+    put_twos(out, second, taken);
+    let third = second + 2 * taken.len();
+    put_twos(out, third, acked);
+    put_twos(out, third + 2 * acked.len(), inserts);
+}
+
+// The pending edits and the list.
+fn put_arrays<'a>(out: &mut [u8], at: usize, places: &'a [u32], pending: &'a [u32], items: &'a [u32])
+    requires { ⌜ at + (4 * length (now places) + (4 * length (now pending) + 4 * length (now items))) ≤ length (now out) ⌝ }
+    ensures { λ _. ⌜ Put at (4 * length (now (places .entry)) + (4 * length (now (pending .entry)) + 4 * length (now (items .entry)))) (foursBytes (now (places .entry)) (now (pending .entry)) (now (items .entry))) (now (out .entry)) (now (out .exit)) ⌝ }
+{
+    put_fours(out, at, places);
+    let second = at + 4 * places.len();
+    put_fours(out, second, pending);
+    put_fours(out, second + 4 * pending.len(), items);
 }
 
 // ---- ends
+
+fn put_head(out: &mut [u8], at: usize, n: u8, line: u8, len: u16)
+    requires { ⌜ at + 4 ≤ length (now out) ⌝ }
+    ensures { λ _. ⌜ Put at 4 (headBytes n line len) (now (out .entry)) (now (out .exit)) ⌝ }
+{
+    out[at] = n;
+    out[at + 1] = line;
+    put_two(out, at + 2, len);
+}
 
 fn put_counts(out: &mut [u8], at: usize, made: u16, taken: u16, acked: u16, inserts: u16)
     requires { ⌜ at + 8 ≤ length (now out) ⌝ }
@@ -95,51 +100,23 @@ fn put_counts(out: &mut [u8], at: usize, made: u16, taken: u16, acked: u16, inse
     put_two(out, at + 6, inserts);
 }
 
-fn put_line(out: &mut [u8], at: usize, v: Line)
-    requires { ⌜ at + 520 ≤ length (now out) ⌝ }
-    ensures { λ _. ⌜ Put at 520 (lineBytes v) (now (out .entry)) (now (out .exit)) ⌝ }
-{
-    put_counts(out, at, v.made, v.taken, v.acked, v.inserts);
-    let slots = v.pending;
-    put_pending(out, at + 8, slots);
-}
-
-fn put_lines(out: &mut [u8], at: usize, lines: [Line; 8])
-    requires { ⌜ at + 4160 ≤ length (now out) ⌝ }
-    ensures { λ _. ⌜ Put at 4160 (each lineBytes lines) (now (out .entry)) (now (out .exit)) ⌝ }
-{
-    for i in 0..8 {
-        let v = lines[i];
-        put_line(out, at + 520 * i, v);
-    }
-}
-
 pub fn put_client(out: &mut [u8], at: usize, c: Client)
     requires { ⌜ at + 2572 ≤ length (now out) ⌝ }
     ensures { λ _. ⌜ Put at 2572 (clientBytes c) (now (out .entry)) (now (out .exit)) ⌝ }
 {
-    out[at] = c.n;
-    out[at + 1] = c.line;
-    put_two(out, at + 2, c.len);
+    put_head(out, at, c.n, c.line, c.len);
     put_counts(out, at + 4, c.made, c.taken, c.acked, c.inserts);
-    let slots = c.pending;
-    put_pending(out, at + 12, slots);
-    let items = c.items;
-    put_items(out, at + 524, items);
+    put_arrays(out, at + 12, &c.pending_places, &c.pending_items, &c.items);
 }
 
 pub fn put_server(out: &mut [u8], at: usize, s: Server)
     requires { ⌜ at + 6214 ≤ length (now out) ⌝ }
     ensures { λ _. ⌜ Put at 6214 (serverBytes s) (now (out .entry)) (now (out .exit)) ⌝ }
 {
-    out[at] = s.n;
-    out[at + 1] = 0;
-    put_two(out, at + 2, s.len);
+    put_head(out, at, s.n, 0, s.len);
     put_two(out, at + 4, s.initial);
-    let lines = s.lines;
-    put_lines(out, at + 6, lines);
-    let items = s.items;
-    put_items(out, at + 4166, items);
+    put_lines(out, at + 6, &s.made, &s.taken, &s.acked, &s.inserts);
+    put_arrays(out, at + 70, &s.pending_places, &s.pending_items, &s.items);
 }
 
 // ---- a slot

@@ -1,5 +1,7 @@
 // The boundary between the proved ends and a harness in another language (harness/PROTOCOL.md).
 ghost use lib.ListN.{length};
+ghost use Rattle.script.specs.Output.{output};
+ghost use Rattle.script.specs.Sink.{Printed};
 ghost use Rattle.probe.specs.Probe.{answers, repeated, Wrote};
 
 mod call;
@@ -51,4 +53,12 @@ pub extern "C" fn probe_repeat(calls: &[u8], times: u32, out: &mut [u8]) -> usiz
         return 4;
     }
     0
+}
+
+// The run program with its input and output in memory.
+#[no_mangle]
+pub extern "C" fn probe_script(input: &[u8], out: &mut [u8]) -> usize
+    ensures { λ r. ⌜ Printed (output (now (input .entry))) (now (out .entry)) (now (out .exit)) r ⌝ }
+{
+    script::run(input, out)
 }

@@ -1,84 +1,62 @@
-use native.Mathlib.Omega.{arith}
-use mathlib.Core.Path.{refl, _∙_}
-use lib.ListN.{length-set}
 use Rattle.probe.specs.Dump.{serverBytes}
-use Rattle.probe.proofs.Bytes.{put-length, put-more, put-pair}
+use Rattle.probe.proofs.Bytes.{put-more, put-size}
 use borrow.Author.Needs.{needs}
 use Rattle.probe.proofs.dump.put_server.Statement.{statement}
 use Rattle.probe.proofs.dump.put_server.Tie as tie
 use Rattle.probe.proofs.dump.put_server.Reads as reads
 use Rattle.probe.proofs.dump.put_server.Lts as lts
-use Rattle.probe.proofs.dump.put_items.Reads as put-items-reads
+use Rattle.probe.proofs.dump.put_arrays.Reads as put-arrays-reads
+use Rattle.probe.proofs.dump.put_head.Reads as put-head-reads
 use Rattle.probe.proofs.dump.put_lines.Reads as put-lines-reads
 use Rattle.probe.proofs.dump.put_two.Reads as put-two-reads
 
--- src/dump.rt:134:5
-slice-write-out : tie.Need-slice-write-out
-slice-write-out c = search needs
+-- src/dump.rt:116:5
+put-head-requires : tie.Need-put-head-requires
+put-head-requires c κs = search needs
 
--- src/dump.rt:135:9
-add-out : tie.Need-add-out
-add-out c = search needs
-
--- src/dump.rt:135:5
-slice-write-out-2 : tie.Need-slice-write-out-2
-slice-write-out-2 c = simp length-set (omega arith)
-
--- src/dump.rt:136:18
+-- src/dump.rt:117:18
 add-put-two : tie.Need-add-put-two
 add-put-two c = search needs
 
--- src/dump.rt:136:5
+-- src/dump.rt:117:5
 put-two-requires : tie.Need-put-two-requires
-put-two-requires c κs = simp length-set (omega arith)
+put-two-requires c κs = search needs
 
--- src/dump.rt:137:18
-add-put-two-2 : tie.Need-add-put-two-2
-add-put-two-2 c = search needs
-
--- src/dump.rt:137:5
-put-two-requires-2 : tie.Need-put-two-requires-2
-put-two-requires-2 c κs = rw (put-length (c .before .before .before .put-two .ensures)) (simp length-set (omega arith))
-
--- src/dump.rt:139:20
+-- src/dump.rt:118:20
 add-put-lines : tie.Need-add-put-lines
 add-put-lines c = search needs
 
--- src/dump.rt:139:5
+-- src/dump.rt:118:5
 put-lines-requires : tie.Need-put-lines-requires
-put-lines-requires c κs = rw (put-length (c .before .before .before .before .put-two2 .ensures), put-length (c .before .before .before .before .before .before .before .before .put-two .ensures)) (simp length-set (omega arith))
+put-lines-requires c κs = search needs
 
--- src/dump.rt:141:20
-add-put-items : tie.Need-add-put-items
-add-put-items c = search needs
+-- src/dump.rt:119:21
+add-put-arrays : tie.Need-add-put-arrays
+add-put-arrays c = search needs
 
--- src/dump.rt:141:5
-put-items-requires : tie.Need-put-items-requires
-put-items-requires c κs = rw (put-length (c .before .before .before .before .put-lines .ensures), put-length (c .before .before .before .before .before .before .before .before .before .put-two2 .ensures), put-length (c .before .before .before .before .before .before .before .before .before .before .before .before .before .put-two .ensures)) (simp length-set (omega arith))
+-- src/dump.rt:119:5
+put-arrays-requires : tie.Need-put-arrays-requires
+put-arrays-requires c κs = search needs
 
--- src/dump.rt:130:1
+-- src/dump.rt:112:1
 same-length : tie.Need-same-length
-same-length c = put-length (c .before .before .put-items .ensures) ∙ put-length (c .before .before .before .before .before .before .before .put-lines .ensures) ∙ put-length (c .before .before .before .before .before .before .before .before .before .before .before .before .put-two2 .ensures) ∙ put-length (c .before .before .before .before .before .before .before .before .before .before .before .before .before .before .before .before .put-two .ensures) ∙ simp length-set
+same-length c = search needs
 
--- src/dump.rt:130:1
+-- src/dump.rt:112:1
 returns : tie.Need-returns
 unfolding serverBytes
-returns c = put-more (put-more (put-more (put-more (put-pair _ _ _ _) (c .before .before .before .before .before .before .before .before .before .before .before .before .before .before .before .before .put-two .ensures)) (c .before .before .before .before .before .before .before .before .before .before .before .before .put-two2 .ensures)) (c .before .before .before .before .before .before .before .put-lines .ensures)) (c .before .before .put-items .ensures)
+returns c = put-more (put-more (put-more (c .before .before .before .before .before .before .before .before .before .before .before .before .before .before .before .before .before .before .before .before .before .before .before .before .before .before .before .before .before .before .put-head .ensures) (c .before .before .before .before .before .before .before .before .before .before .before .before .before .before .before .before .before .before .before .before .before .before .before .before .before .before .put-two .ensures)) (put-size 64 (search needs) (c .before .before .before .before .before .before .before .before .before .before .before .before .before .put-lines .ensures))) (put-size 6144 (search needs) (c .before .before .put-arrays .ensures))
 
 pub put-server-spec : {M : Type 1} → statement M
 put-server-spec =
     tie.close
     (tie.spec
-    slice-write-out
-    add-out
-    slice-write-out-2
+    put-head-requires
     add-put-two
     put-two-requires
-    add-put-two-2
-    put-two-requires-2
     add-put-lines
     put-lines-requires
-    add-put-items
-    put-items-requires
+    add-put-arrays
+    put-arrays-requires
     same-length
     returns)

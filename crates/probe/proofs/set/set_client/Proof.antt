@@ -6,54 +6,68 @@ use Rattle.probe.proofs.set.set_client.Reads as reads
 use Rattle.probe.proofs.set.set_client.Lts as lts
 use Rattle.probe.proofs.set.set_byte.Reads as set-byte-reads
 use Rattle.probe.proofs.set.set_count.Reads as set-count-reads
-use Rattle.probe.proofs.set.set_items.Reads as set-items-reads
-use Rattle.probe.proofs.set.set_pending.Reads as set-pending-reads
+use Rattle.probe.proofs.set.set_in_512.Reads as set-in-512-reads
+use Rattle.probe.proofs.set.set_in_64.Reads as set-in-64-reads
+use Rattle.probe.proofs.set.slot_place.Reads as slot-place-reads
 
--- src/set.rt:103:12
+-- src/set.rt:79:13
+cast-i : tie.Need-cast-i
+cast-i c = search needs
+
+-- src/set.rt:84:12
 set-byte-requires : tie.Need-set-byte-requires
 set-byte-requires c κs = search needs
 
--- src/set.rt:104:15
+-- src/set.rt:85:15
 set-byte-requires-2 : tie.Need-set-byte-requires-2
 set-byte-requires-2 c κs = search needs
 
--- src/set.rt:105:15
+-- src/set.rt:86:15
 set-count-requires : tie.Need-set-count-requires
 set-count-requires c κs = search needs
 
--- src/set.rt:106:16
+-- src/set.rt:87:16
 set-count-requires-2 : tie.Need-set-count-requires-2
 set-count-requires-2 c κs = search needs
 
--- src/set.rt:107:16
+-- src/set.rt:88:16
 set-count-requires-3 : tie.Need-set-count-requires-3
 set-count-requires-3 c κs = search needs
 
--- src/set.rt:108:18
+-- src/set.rt:89:18
 set-count-requires-4 : tie.Need-set-count-requires-4
 set-count-requires-4 c κs = search needs
 
--- src/set.rt:109:14
+-- src/set.rt:90:14
 set-count-requires-5 : tie.Need-set-count-requires-5
 set-count-requires-5 c κs = search needs
 
--- src/set.rt:110:16
-set-items-requires : tie.Need-set-items-requires
-set-items-requires c κs = search needs
+-- src/set.rt:91:16
+set-in-512-requires : tie.Need-set-in-512-requires
+set-in-512-requires c κs = search needs
 
--- src/set.rt:111:18
-set-pending-requires : tie.Need-set-pending-requires
-set-pending-requires c κs = search needs
+-- src/set.rt:92:52
+slot-place-requires : tie.Need-slot-place-requires
+slot-place-requires c κs = search needs
 
--- src/set.rt:97:1
+-- src/set.rt:92:25
+set-in-64-requires : tie.Need-set-in-64-requires
+set-in-64-requires c κs = search needs
+
+-- src/set.rt:93:24
+set-in-64-requires-2 : tie.Need-set-in-64-requires-2
+set-in-64-requires-2 c κs = search needs
+
+-- src/set.rt:76:1
 returns : tie.Need-returns
 unfolding clientSet
-returns c = rw (c .before .before .before .before .before .before .before .before .set-byte .ensures, c .before .before .before .before .before .before .before .set-byte2 .ensures, c .before .before .before .before .before .before .set-count .ensures, c .before .before .before .before .before .set-count2 .ensures, c .before .before .before .before .set-count3 .ensures, c .before .before .before .set-count4 .ensures, c .before .before .set-count5 .ensures, c .before .set-items .ensures, c .set-pending .ensures)
+returns c = rw (c .set-in-642 .ensures, c .before .before .set-in-64 .ensures, c .before .before .before .before .before .set-in-512 .ensures, c .before .before .before .before .before .before .before .set-count5 .ensures, c .before .before .before .before .before .before .before .before .set-count4 .ensures, c .before .before .before .before .before .before .before .before .before .set-count3 .ensures, c .before .before .before .before .before .before .before .before .before .before .set-count2 .ensures, c .before .before .before .before .before .before .before .before .before .before .before .set-count .ensures, c .before .before .before .before .before .before .before .before .before .before .before .before .set-byte2 .ensures, c .before .before .before .before .before .before .before .before .before .before .before .before .before .set-byte .ensures, c .before .before .before .slot-place .ensures)
 
 pub set-client-spec : {M : Type 1} → statement M
 set-client-spec =
     tie.close
     (tie.spec
+    cast-i
     set-byte-requires
     set-byte-requires-2
     set-count-requires
@@ -61,6 +75,8 @@ set-client-spec =
     set-count-requires-3
     set-count-requires-4
     set-count-requires-5
-    set-items-requires
-    set-pending-requires
+    set-in-512-requires
+    slot-place-requires
+    set-in-64-requires
+    set-in-64-requires-2
     returns)

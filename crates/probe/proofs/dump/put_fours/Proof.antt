@@ -7,64 +7,64 @@ use borrow.Author.Needs.{needs}
 use Rattle.probe.specs.Dump.{Put, each}
 use Rattle.probe.proofs.Bytes.{put-length, each-none, each-turn, each-end}
 use Rattle.wire.specs.Bytes.{four}
-use Rattle.probe.proofs.dump.put_items.Statement.{statement}
-use Rattle.probe.proofs.dump.put_items.Tie as tie
-use Rattle.probe.proofs.dump.put_items.Reads as reads
-use Rattle.probe.proofs.dump.put_items.Lts as lts
+use Rattle.probe.proofs.dump.put_fours.Statement.{statement}
+use Rattle.probe.proofs.dump.put_fours.Tie as tie
+use Rattle.probe.proofs.dump.put_fours.Reads as reads
+use Rattle.probe.proofs.dump.put_fours.Lts as lts
 use Rattle.probe.proofs.dump.put_four.Reads as put-four-reads
 
 abbrev Inv-loop : tie.InvT-loop
-Inv-loop out₀ at items i₀ out i = (i ≤ 512) × (length out ≡ length out₀) × Put at (4 * i) (each four (take i items)) out₀ out
+Inv-loop out₀ at words i₀ i-end out i = (i ≤ i-end) × (length out ≡ length out₀) × Put at (4 * i) (each four (take i words)) out₀ out
 
 abbrev μ-loop : tie.MeasureT-loop
-μ-loop out₀ at items i₀ out i = 512 - i
+μ-loop out₀ at words i₀ i-end out i = i-end - i
 
--- src/dump.rt:83:5
+-- src/dump.rt:53:5
 loop-holds : tie.Need-loop-holds Inv-loop μ-loop
 loop-holds c = (omega arith, refl, each-none four 4 [])
 
--- src/dump.rt:84:28
+-- src/dump.rt:54:28
 mul-put-four : tie.Need-mul-put-four Inv-loop μ-loop
 mul-put-four c = omega arith
 
--- src/dump.rt:84:23
+-- src/dump.rt:54:23
 add-put-four : tie.Need-add-put-four Inv-loop μ-loop
 add-put-four c = omega arith
 
--- src/dump.rt:84:35
+-- src/dump.rt:54:35
 mul-put-four-2 : tie.Need-mul-put-four-2 Inv-loop μ-loop
 mul-put-four-2 c = omega arith
 
--- src/dump.rt:84:35
-array-read-put-four : tie.Need-array-read-put-four Inv-loop μ-loop
-array-read-put-four c = omega arith
+-- src/dump.rt:54:35
+shared-slice-read-put-four : tie.Need-shared-slice-read-put-four Inv-loop μ-loop
+shared-slice-read-put-four c = omega arith
 
--- src/dump.rt:84:9
+-- src/dump.rt:54:9
 put-four-requires : tie.Need-put-four-requires Inv-loop μ-loop
-put-four-requires c κs = omega (arith, c .before .before .loop .inv .1)
+put-four-requires c κs = omega (arith, c .before .before .before .loop .inv .1)
 
--- src/dump.rt:83:9
+-- src/dump.rt:53:9
 add-i : tie.Need-add-i Inv-loop μ-loop
 add-i c = omega arith
 
--- src/dump.rt:83:5
+-- src/dump.rt:53:5
 loop-less : tie.Need-loop-less Inv-loop μ-loop
 loop-less c = omega arith
 
--- src/dump.rt:83:5
+-- src/dump.rt:53:5
 loop-again : tie.Need-loop-again Inv-loop μ-loop
-loop-again c = (omega arith, put-length (c .before .before .put-four .ensures) ∙ c .before .before .before .before .before .loop .inv .1, each-turn four 4 _ 0 _ (search needs) refl (c .before .before .before .before .before .loop .inv .2) (c .before .before .put-four .ensures))
+loop-again c = (omega arith, put-length (c .before .before .put-four .ensures) ∙ c .before .before .before .before .before .before .loop .inv .1, each-turn four 4 _ 0 _ (search needs) refl (c .before .before .before .before .before .before .loop .inv .2) (c .before .before .put-four .ensures))
 
--- src/dump.rt:79:1
+-- src/dump.rt:49:1
 same-length : tie.Need-same-length Inv-loop μ-loop
 same-length c = c .before .loop .inv .1
 
--- src/dump.rt:79:1
+-- src/dump.rt:49:1
 returns : tie.Need-returns Inv-loop μ-loop
-returns c = each-end four 4 _ _ 512 (search needs) (omega arith) (c .before .loop .inv .2)
+returns c = each-end four 4 _ _ _ refl (omega arith) (c .before .loop .inv .2)
 
-pub put-items-spec : {M : Type 1} → statement M
-put-items-spec =
+pub put-fours-spec : {M : Type 1} → statement M
+put-fours-spec =
     tie.close
     (tie.spec
     Inv-loop
@@ -73,7 +73,7 @@ put-items-spec =
     mul-put-four
     add-put-four
     mul-put-four-2
-    array-read-put-four
+    shared-slice-read-put-four
     put-four-requires
     add-i
     loop-less
