@@ -56,7 +56,14 @@ fn put_fours(out: &mut [u8], at: usize, words: &[u32])
 }
 
 // The four counts of all lines.
-fn put_lines<'a>(out: &mut [u8], at: usize, made: &'a [u16], taken: &'a [u16], acked: &'a [u16], inserts: &'a [u16])
+fn put_lines<'a>(
+    out: &mut [u8],
+    at: usize,
+    made: &'a [u16],
+    taken: &'a [u16],
+    acked: &'a [u16],
+    inserts: &'a [u16],
+)
     requires { ⌜ at + (2 * length (now made) + (2 * length (now taken) + (2 * length (now acked) + 2 * length (now inserts)))) ≤ length (now out) ⌝ }
     ensures { λ _. ⌜ Put at (2 * length (now (made .entry)) + (2 * length (now (taken .entry)) + (2 * length (now (acked .entry)) + 2 * length (now (inserts .entry))))) (twosBytes (now (made .entry)) (now (taken .entry)) (now (acked .entry)) (now (inserts .entry))) (now (out .entry)) (now (out .exit)) ⌝ }
 {
@@ -69,7 +76,13 @@ fn put_lines<'a>(out: &mut [u8], at: usize, made: &'a [u16], taken: &'a [u16], a
 }
 
 // The pending edits and the list.
-fn put_arrays<'a>(out: &mut [u8], at: usize, places: &'a [u32], pending: &'a [u32], items: &'a [u32])
+fn put_arrays<'a>(
+    out: &mut [u8],
+    at: usize,
+    places: &'a [u32],
+    pending: &'a [u32],
+    items: &'a [u32],
+)
     requires { ⌜ at + (4 * length (now places) + (4 * length (now pending) + 4 * length (now items))) ≤ length (now out) ⌝ }
     ensures { λ _. ⌜ Put at (4 * length (now (places .entry)) + (4 * length (now (pending .entry)) + 4 * length (now (items .entry)))) (foursBytes (now (places .entry)) (now (pending .entry)) (now (items .entry))) (now (out .entry)) (now (out .exit)) ⌝ }
 {

@@ -1,5 +1,5 @@
 use native.Mathlib.Omega.{arith}
-use mathlib.Core.Path.{refl, _∙_}
+use mathlib.Core.Path.{_∙_}
 use lib.ListN.{length-set}
 use Rattle.probe.proofs.Bytes.{put-length, put-more, put-pair}
 use borrow.Author.Needs.{needs}
