@@ -8,25 +8,28 @@ use mathlib.Core.List.{List, [], _∷_}
 use lib.Dec.{eqb}
 use lib.ListN.{length, getD, take, drop, set, replicate, length-take, length-drop, drop-of-length-le}
 use lib.Seq.{drop-cons, getD-take}
+use lib.Bits.{bitOr}
 use borrow.Author.Tests.{eqb-true}
 use Rattle.model.specs.Limits.{maxItems}
 use Rattle.model.proofs.Tests.{and-left, and-right}
 use Rattle.ot.specs.Items.{padded}
 use Rattle.pending.proofs.Pad.{pad-of, fill-turn, fill-end}
+use Rattle.pending.proofs.Zero.{or-zero}
 use Rattle.ot.proofs.Sweep.{swept}
 use Rattle.endpoint.specs.Items.{stored, allZero}
 use Rattle.endpoint.proofs.Bools.{and-true, and-assoc}
 
 -- ---- unused places
 
--- The loop's flag after i turns, with what is still to be looked at, is the answer.
-pub zero-turn : (l : List ℕ) (i : ℕ) (flag : Bool) → i < length l
-    → ((flag && eqb (getD l i 0) 0) && allZero (drop (i + 1) l)) ≡ (flag && allZero (drop i l))
+-- What the loop has gathered after i turns, with what is still to be looked at, is the answer.
+pub zero-turn : (l : List ℕ) (i all : ℕ) → i < length l
+    → (eqb (bitOr all (getD l i 0)) 0 && allZero (drop (i + 1) l)) ≡ (eqb all 0 && allZero (drop i l))
 unfolding allZero
-zero-turn l i flag h =
-    ap (λ (k : ℕ). (flag && eqb (getD l i 0) 0) && allZero (drop k l)) (add-one i)
-    ∙ and-assoc flag (eqb (getD l i 0) 0) (allZero (drop (suc i) l))
-    ∙ ap (λ (r : List ℕ). flag && allZero r) (sym (drop-cons l i 0 h))
+zero-turn l i all h =
+    ap (λ (b : Bool). b && allZero (drop (i + 1) l)) (or-zero all (getD l i 0))
+    ∙ ap (λ (k : ℕ). (eqb all 0 && eqb (getD l i 0) 0) && allZero (drop k l)) (add-one i)
+    ∙ and-assoc (eqb all 0) (eqb (getD l i 0) 0) (allZero (drop (suc i) l))
+    ∙ ap (λ (r : List ℕ). eqb all 0 && allZero r) (sym (drop-cons l i 0 h))
 
 pub zero-end : (l : List ℕ) (i : ℕ) (flag : Bool) → length l ≤ i → flag ≡ (flag && allZero (drop i l))
 unfolding allZero

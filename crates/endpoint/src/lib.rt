@@ -35,17 +35,17 @@ pub fn initial(items: &[u32]) -> [u32; 512]
     a
 }
 
-// Are the places from len on zero? It looks at each of them whatever it finds, so that the loop has no branch.
+// Are the places from len on zero? One number gathers the bits of all, so that the loop has no branch.
 pub fn zero_from(items: &[u32], len: usize) -> bool
     ensures { λ r. ⌜ r ≡ allZero (drop len (now (items .entry))) ⌝ }
 {
-    let mut well = true;
+    let mut all = 0u32;
     let mut i = len;
     while i < items.len() {
-        well = well & (items[i] == 0);
+        all = all | items[i];
         i += 1;
     }
-    well
+    all == 0
 }
 
 // 1 for an insert, else 0.

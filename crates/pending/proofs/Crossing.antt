@@ -6,13 +6,14 @@ use native.Mathlib.Omega.{arith}
 use mathlib.Core.Path.{_≡_, refl, ap, _∙_, sym}
 use mathlib.Core.Bool.{Bool, true, _&&_, and-true, and-assoc}
 use mathlib.Core.List.{List, [], _∷_, map}
+use mathlib.Core.Option.{Option, none, some}
 use lib.ListN.{length, getD, take, set, replicate, length-take, length-map, List·getD-map}
 use lib.Seq.{take-all}
 use Rattle.ot.specs.declared.Edit.{Edit}
 use Rattle.ot.specs.declared.Edit.the-variants.{Nothing, Delete, Insert}
 use Rattle.ot.specs.Edit.{positionOf, transformed}
 use Rattle.ot.specs.Items.{padded}
-use Rattle.ot.specs.Laws.{within}
+use Rattle.ot.specs.Laws.{within, stamp}
 use Rattle.ot.proofs.Laws.{laws}
 use Rattle.ot.proofs.Sweep.{swept}
 use Rattle.model.specs.Limits.{maxPending, maxItems}
@@ -72,18 +73,17 @@ abbrev pub sofar : (Edit → ℕ) → List Edit → ℕ → List ℕ
 sofar word es i = swept (padded 0 maxPending (map word es)) (replicate maxPending 0) i
 
 -- After i turns: the first i slots hold the later forms, the edit stands past the first i.
-pub record Crossing (e : Edit) (es : List Edit) (i : ℕ) (ps xs : List ℕ) (current : Edit) (good : Bool) : Type 0 where
+pub record Crossing (e : Edit) (es : List Edit) (i : ℕ) (ps : List ℕ) (current : Edit) (good : Bool) : Type 0 where
   pub turns : i ≤ length es
   pub places : ps ≡ sofar placeOf (over e es) i
-  pub items : xs ≡ sofar itemOf (over e es) i
   pub form : current ≡ past e (take i es)
   pub fine : good ≡ allPlaced (take i (over e es))
 
-pub crossing-none : (e : Edit) (es : List Edit) → Crossing e es 0 (replicate maxPending 0) (replicate maxPending 0) e true
+pub crossing-none : (e : Edit) (es : List Edit) (ps : List ℕ) → ps ≡ replicate maxPending 0 → Crossing e es 0 ps e true
 unfolding past allPlaced
-crossing-none e es = record { turns = omega arith; places = refl; items = refl; form = refl; fine = refl }
+crossing-none e es ps z = record { turns = omega arith; places = z; form = refl; fine = refl }
 
-module _ (e : Edit) (es : List Edit) (few : length es ≤ maxPending) (i : ℕ) (ps xs : List ℕ) (current : Edit) (good : Bool) (now : Crossing e es i ps xs current good) where
+module _ (e : Edit) (es : List Edit) (few : length es ≤ maxPending) (i : ℕ) (ps : List ℕ) (current : Edit) (good : Bool) (now : Crossing e es i ps current good) where
   -- positions stay far below what 16 bits hold
   pub current-position : positionOf current ≤ positionOf e + maxPending
   current-position = rw (now .form) (omega (arith, past-position e (take i es), length-take i es))
@@ -94,10 +94,10 @@ module _ (e : Edit) (es : List Edit) (few : length es ≤ maxPending) (i : ℕ) 
       fill-turn maxPending 0 (map word (over e es)) (rw (length-map, length-over) few) i v a (omega arith) ea
       (ev ∙ ap word ef ∙ sym (List·getD-map word (over e es) i Nothing) ∙ ap (getD (map word (over e es)) i) z)
 
-  pub crossing-turn : (p f n : Edit) (place item : ℕ) (ok : Bool) → i < length es → p ≡ getD es i Nothing → f ≡ transformed p current
-      → place ≡ placeOf f → item ≡ itemOf f → ok ≡ placed f → n ≡ transformed current p
-      → Crossing e es (i + 1) (set ps i place) (set xs i item) n (good && ok)
-  crossing-turn p f n place item ok h ep ef epl eit eo en =
+  pub crossing-turn : (p f n : Edit) (place : ℕ) (ok : Bool) → i < length es → p ≡ getD es i Nothing → f ≡ transformed p current
+      → place ≡ placeOf f → ok ≡ placed f → n ≡ transformed current p
+      → Crossing e es (i + 1) (set ps i place) n (good && ok)
+  crossing-turn p f n place ok h ep ef epl eo en =
       let inside : i < length (over e es) = omega (arith, length-over e es) in
       let f′ : f ≡ getD (over e es) i Nothing =
       ef ∙ ap (λ (q : Edit). transformed q current) ep ∙ ap (transformed (getD es i Nothing)) (now .form)
@@ -105,7 +105,6 @@ module _ (e : Edit) (es : List Edit) (few : length es ≤ maxPending) (i : ℕ) 
       record {
         turns = omega arith;
         places = stored placeOf refl ps f place h (now .places) f′ epl;
-        items = stored itemOf refl xs f item h (now .items) f′ eit;
         form =
             en ∙ ap (transformed current) ep ∙ ap (λ (x : Edit). transformed x (getD es i Nothing)) (now .form)
             ∙ sym (past-more e es i h) ∙ ap (λ (k : ℕ). past e (take k es)) (sym (add-one i));
@@ -120,15 +119,36 @@ module _ (e : Edit) (es : List Edit) (few : length es ≤ maxPending) (i : ℕ) 
       fill-end maxPending 0 (map word (over e es)) (rw (length-map, length-over) few) i a (rw (length-map, length-over) h) ea
 
   pub crossing-end : length es ≤ i
-      → _≡_ {A = Crossed} (record { places = ps; items = xs; edit = current; placed = good; passed = i }) (crossed e es)
+      → (_≡_ {A = Crossed} (record { edit = current; placed = good; passed = i }) (crossed e es)) × (ps ≡ filled placeOf (over e es))
   crossing-end h =
-      let ps′ : ps ≡ filled placeOf (over e es) = done placeOf ps h (now .places) in
-      let xs′ : xs ≡ filled itemOf (over e es) = done itemOf xs h (now .items) in
       let c′ : current ≡ past e es = now .form ∙ ap (past e) (take-all i es (omega arith)) in
       let g′ : good ≡ allPlaced (over e es) = now .fine ∙ ap allPlaced (take-all i (over e es) (omega (arith, length-over e es))) in
       let all : i ≡ length es = omega (arith, now .turns) in
       let p′ : i ≡ steps e es = all ∙ sym (steps-length e es) in
-      cc
+      (cc, done placeOf ps h (now .places))
+
+-- The later forms have the items of the edits.
+abbrev stampItem : Option (ℕ × ℕ) → ℕ
+stampItem none = 0
+stampItem (some (x, r)) = x
+
+item-stamp : (e : Edit) → itemOf e ≡ stampItem (stamp e)
+unfolding stamp
+item-stamp Nothing = refl
+item-stamp (Delete p) = refl
+item-stamp (Insert p x r) = refl
+
+item-kept : (a b : Edit) → itemOf (transformed a b) ≡ itemOf a
+item-kept a b = item-stamp (transformed a b) ∙ ap stampItem (laws .keeps a b) ∙ sym (item-stamp a)
+
+over-items : (e : Edit) (es : List Edit) → map itemOf (over e es) ≡ map itemOf es
+unfolding over
+over-items e [] = refl
+over-items e (p ∷ es) = ap (λ (x : ℕ). x ∷ map itemOf (over (transformed e p) es)) (item-kept p e) ∙ ap (λ (l : List ℕ). itemOf p ∷ l) (over-items (transformed e p) es)
+
+pub filled-over : (e : Edit) (es : List Edit) → filled itemOf (over e es) ≡ filled itemOf es
+unfolding filled
+filled-over e es = ap (padded 0 maxPending) (over-items e es)
 
 -- What the loop reads.
 module _ (from count : ℕ) (ps xs : List ℕ) (ready : Ready from count ps xs) where
@@ -137,3 +157,11 @@ module _ (from count : ℕ) (ps xs : List ℕ) (ready : Ready from count ps xs) 
 
   pub ready-position : (i : ℕ) → i < count → positionOf (editAt ps xs (from + i)) ≤ maxItems
   ready-position i h = rw (sym (edits-at ps xs from count i h)) (placed-at (editsFrom ps xs from count) i (ready .placed))
+
+-- Nothing that arrives leaves the pending edits as they are.
+pub over-nothing : (es : List Edit) → over Nothing es ≡ es
+unfolding over transformed
+over-nothing [] = refl
+over-nothing (Nothing ∷ es) = ap (λ (l : List Edit). Nothing ∷ l) (over-nothing es)
+over-nothing (Delete p ∷ es) = ap (λ (l : List Edit). Delete p ∷ l) (over-nothing es)
+over-nothing (Insert p x r ∷ es) = ap (λ (l : List Edit). Insert p x r ∷ l) (over-nothing es)

@@ -1,3 +1,4 @@
+pub mod Zero
 pub mod Pad
 pub mod Slot
 pub mod Slots

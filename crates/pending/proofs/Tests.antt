@@ -9,6 +9,7 @@ use mathlib.Core.List.{List, [], _∷_}
 use lib.Dec.{ltb, eqb}
 use lib.ListN.{length, getD, List·getD-eq-default}
 use lib.Seq.{ext-getD}
+use lib.Bits.{bitOr}
 use borrow.Author.Tests.{lt-leb, le-leb, eq-eqb, leb-true, eqb-true, ltb-true, ltb-false}
 use Rattle.ot.specs.declared.Edit.{Edit}
 use Rattle.ot.specs.declared.Edit.the-variants.{Nothing}
@@ -17,6 +18,7 @@ use Rattle.model.specs.Limits.{maxPending}
 use Rattle.model.specs.Cross.{placed, allPlaced, priority, priorities}
 use Rattle.model.proofs.Tests.{both, and-left, and-right, hold, held}
 use Rattle.pending.specs.Slots.{placeOf, itemOf, editOf, tidy, editAt, editsFrom, stretch, filled, allFrom, tidyAt, emptyAt, rightAt, soundTests, soundSlots, Kept, Tested, Whole}
+use Rattle.pending.proofs.Zero.{or-zero}
 use Rattle.pending.proofs.Slot.{tidy-place, tidy-item, Ranks, slot-edit, tidy-edit}
 use Rattle.pending.proofs.Slots.{edits-length, edits-at, stretch-at, stretch-length, filled-length, filled-at, whole-at}
 
@@ -60,6 +62,15 @@ module _ (test : ℕ → Bool) where
       (λ i h.
       let e : suc from + i ≡ from + suc i = omega arith in
       ap test e ∙ f (suc i) (omega arith)))
+
+-- The same where the bits of all are gathered in one number.
+pub gather-turn : (places items : List ℕ) (i to all : ℕ) → i < to
+    → (eqb (bitOr all (bitOr (getD places i 0) (getD items i 0))) 0 && allFrom (emptyAt places items) (i + 1) (to - (i + 1)))
+    ≡ (eqb all 0 && allFrom (emptyAt places items) i (to - i))
+gather-turn places items i to all h =
+    ap (λ (b : Bool). b && allFrom (emptyAt places items) (i + 1) (to - (i + 1)))
+    (or-zero all (bitOr (getD places i 0) (getD items i 0)) ∙ ap (λ (b : Bool). eqb all 0 && b) (or-zero (getD places i 0) (getD items i 0)))
+    ∙ all-turn (emptyAt places items) i to (eqb all 0) (emptyAt places items i) h refl
 
 -- ---- the tests of a line
 

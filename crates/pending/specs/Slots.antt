@@ -131,13 +131,6 @@ unfoldable pub steps : Edit → List Edit → ℕ
 steps e [] = 0
 steps e (p ∷ ps) = suc (steps (transformed e p) ps)
 
--- What an arriving edit leaves of the pending ones, its own form, question 9's test of the forms, and the count that the answer gives.
+-- What an arriving edit becomes, question 9's test of the pending ones' later forms, and the count that the answer gives.
 abbrev pub crossed : Edit → List Edit → Crossed
-crossed e es =
-    record {
-      places = filled placeOf (over e es);
-      items = filled itemOf (over e es);
-      edit = past e es;
-      placed = allPlaced (over e es);
-      passed = steps e es;
-    }
+crossed e es = record { edit = past e es; placed = allPlaced (over e es); passed = steps e es }

@@ -3,19 +3,17 @@
 // have one lifetime for the two, since then they may be fields of one end.
 ghost use mathlib.Core.Path.{_≡_};
 ghost use Prim.Native.Nat.{_+_, _-_, _≤_};
-ghost use lib.ListN.{length, getD, take, drop};
+ghost use lib.ListN.{length, getD, take, drop, replicate};
 ghost use Rattle.model.specs.Limits.{maxItems, maxPending};
-ghost use Rattle.model.specs.Cross.{placed};
+ghost use Rattle.model.specs.Cross.{over, placed};
 ghost use Rattle.ot.specs.Edit.{positionOf};
 ghost use Rattle.ot.specs.Items.{padded};
-ghost use Rattle.pending.specs.Slots.{placeOf, itemOf, editOf, editAt, editsFrom, rightPriority, rightSlot, rightAt, allFrom, emptyAt, crossed, Ready, Whole, Tested};
+ghost use Rattle.pending.specs.Slots.{placeOf, itemOf, editOf, editAt, editsFrom, filled, rightPriority, rightSlot, rightAt, allFrom, emptyAt, crossed, Ready, Whole, Tested};
 use ot::Edit;
 
-// What an arriving edit leaves: the pending edits in their forms after it, its own form after them, whether those forms
-// have positions that a message can carry, and how many pending edits it was transformed past.
+// What an arriving edit leaves: its own form after the pending edits, whether the forms of these after it have positions that a message
+// can carry, and how many pending edits it was transformed past.
 pub struct Crossed {
-    pub places: [u32; 64],
-    pub items: [u32; 64],
     pub edit: Edit,
     pub placed: bool,
     pub passed: u16,
@@ -116,15 +114,16 @@ fn used_right(
     right
 }
 
+// Nothing but zeros: one number gathers the bits of all, and is tested at the end.
 fn unused_empty(places: &[u32], items: &[u32], from: usize, to: usize) -> bool
     requires { ⌜ (from ≤ to) × ((to ≤ length (now places)) × (to ≤ length (now items))) ⌝ }
     ensures { λ r. ⌜ r ≡ allFrom (emptyAt (now (places .entry)) (now (items .entry))) from (to - from) ⌝ }
 {
-    let mut empty = true;
+    let mut all = 0u32;
     for i in from..to {
-        empty = empty & ((places[i] == 0) & (items[i] == 0));
+        all = all | (places[i] | items[i]);
     }
-    empty
+    all == 0
 }
 
 // Question 2 about the line whose first slot is from: the pending edits of a client (own), or those that the server keeps for a line.
@@ -175,13 +174,19 @@ fn is_placed(e: Edit) -> bool
 }
 
 // The arriving edit goes past the count pending ones whose first slot is from, in order, and each of these past the arriving edit as
-// it stood before that one.
-pub fn cross<'a>(places: &'a [u32], items: &'a [u32], from: usize, count: usize, e: Edit) -> Crossed
-    requires { ⌜ (positionOf e ≤ maxItems) × Ready from count (now places) (now items) ⌝ }
-    ensures { λ r. ⌜ r ≡ crossed e (editsFrom (now (places .entry)) (now (items .entry)) from count) ⌝ }
+// it stood before that one. The places of their later forms go into the lent array, so that a refusal has nothing to undo; their items
+// stay what they are.
+pub fn cross<'a>(
+    places: &'a [u32],
+    items: &'a [u32],
+    from: usize,
+    count: usize,
+    e: Edit,
+    later: &mut [u32; 64],
+) -> Crossed
+    requires { ⌜ (positionOf e ≤ maxItems) × (Ready from count (now places) (now items) × (now later ≡ replicate maxPending 0)) ⌝ }
+    ensures { λ r. ⌜ (r ≡ crossed e (editsFrom (now (places .entry)) (now (items .entry)) from count)) × (now (later .exit) ≡ filled placeOf (over e (editsFrom (now (places .entry)) (now (items .entry)) from count))) ⌝ }
 {
-    let mut later_places = [0u32; 64];
-    let mut later_items = [0u32; 64];
     let mut current = e;
     let mut good = true;
     let mut passed = 0;
@@ -189,15 +194,12 @@ pub fn cross<'a>(places: &'a [u32], items: &'a [u32], from: usize, count: usize,
         let j = from + passed;
         let p = edit_of(places[j], items[j]);
         let form = ot::transform(p, current);
-        later_places[passed] = place_of(form);
-        later_items[passed] = item_of(form);
+        later[passed] = place_of(form);
         good = good & is_placed(form);
         current = ot::transform(current, p);
         passed += 1;
     }
     Crossed {
-        places: later_places,
-        items: later_items,
         edit: current,
         placed: good,
         passed: passed as u16,
