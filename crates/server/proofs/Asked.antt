@@ -14,14 +14,14 @@ use Rattle.model.specs.Limits.{maxLines, maxPending, maxInserts}
 use Rattle.model.specs.Questions.{Question, ask, asks, between}
 use Rattle.model.specs.Cross.{priority, insertsOf}
 use Rattle.model.proofs.Tests.{and-left, and-right, between-true, yes-all}
-use Rattle.pending.specs.Slots.{placeOf, itemOf, editsFrom, filled, allFrom, Whole}
+use Rattle.pending.specs.Slots.{itemOf, editsFrom, filled, allFrom, Whole}
 use Rattle.endpoint.specs.Items.{roomy}
 use Rattle.pending.specs.Slots as slots
-use Rattle.pending.proofs.Slots.{edits-drop, kept-places, kept-items, kept-ready}
+use Rattle.pending.proofs.Slots.{edits-drop, kept-items, kept-ready}
 use Rattle.server.specs.declared.Counts.{Counts}
 use Rattle.server.specs.View.{pendingCount}
 use Rattle.server.specs.Calls.{sendAsked}
-use Rattle.server.specs.Taking.{editAsked, ackAsked, roomyAt, lastAsked, leftAt, Ready}
+use Rattle.server.specs.Taking.{editAsked, ackAsked, roomyAt, lastAsked, leftAt, Ready, Seen}
 
 -- ---- questions
 
@@ -101,15 +101,27 @@ module _ (k : Counts) where
     pub left-line : drop gone (editsFrom ps xs (maxPending * i) (pendingCount k i)) ≡ leftAt k ps xs i seen
     left-line = edits-drop ps xs (maxPending * i) (pendingCount k i) gone ∙ ap (editsFrom ps xs (maxPending * i + gone)) left-count
 
-    pub left-places : padded 0 maxPending (take (getD (k .made) i 0 - seen) (drop (maxPending * i + gone) ps)) ≡ filled placeOf (leftAt k ps xs i seen)
-    left-places =
-        ap (λ (n : ℕ). padded 0 maxPending (take n (drop (maxPending * i + gone) ps))) (sym left-count)
-        ∙ kept-places (maxPending * i) (pendingCount k i) ps xs (r .kept i eight) whole gone ∙ ap (filled placeOf) left-line
-
     pub left-items : padded 0 maxPending (take (getD (k .made) i 0 - seen) (drop (maxPending * i + gone) xs)) ≡ filled itemOf (leftAt k ps xs i seen)
     left-items =
         ap (λ (n : ℕ). padded 0 maxPending (take n (drop (maxPending * i + gone) xs))) (sym left-count)
         ∙ kept-items (maxPending * i) (pendingCount k i) ps xs (r .kept i eight) whole gone ∙ ap (filled itemOf) left-line
+
+    pub left-seen : Seen k i seen xs
+    left-seen =
+        record {
+          old = h .old;
+          new = h .new;
+          few = r .kept i eight .few;
+          filled = r .kept i eight .items ∙ sym (first-kept (kept-items (maxPending * i) (pendingCount k i) ps xs (r .kept i eight) whole 0));
+        }
+      where
+        first-kept : padded 0 maxPending (take (pendingCount k i - 0) (drop (maxPending * i + 0) xs)) ≡ filled itemOf (drop 0 (editsFrom ps xs (maxPending * i) (pendingCount k i)))
+            → padded 0 maxPending (take (pendingCount k i) (drop (maxPending * i) xs)) ≡ filled itemOf (editsFrom ps xs (maxPending * i) (pendingCount k i))
+        first-kept e =
+            let from : maxPending * i ≡ maxPending * i + 0 = omega arith in
+            let all : pendingCount k i ≡ pendingCount k i - 0 = omega arith in
+            ap (λ (j : ℕ). padded 0 maxPending (take (pendingCount k i) (drop j xs))) from
+            ∙ ap (λ (n : ℕ). padded 0 maxPending (take n (drop (maxPending * i + 0) xs))) all ∙ e
 
 -- ---- questions 9, 10 and 12
 

@@ -14,39 +14,42 @@ use Rattle.model.specs.Questions.{asks}
 use Rattle.model.specs.Cross.{insertsOf}
 use Rattle.model.proofs.Tests.{yes-all}
 use Rattle.pending.specs.declared.Crossed.{Crossed}
-use Rattle.pending.specs.Slots.{placeOf, itemOf, filled, crossed}
+use Rattle.pending.specs.Slots.{crossed}
 use Rattle.server.specs.declared.Counts.{Counts}
 use Rattle.server.specs.declared.taking.Decision.{Decision}
-use Rattle.server.specs.Taking.{editAsked, ackAsked, lastAsked, leftAsked, leftAt, refusing, ackAccepted, ackDecided, editAccepted, editDecided}
+use Rattle.server.specs.Taking.{editAsked, ackAsked, lastAsked, leftAsked, leftAt, refusing, ackAccepted, ackDecided, editAccepted, editDecided, Decided}
 
 pub last-few : (k : Counts) (at : ℕ) (e form : Edit) (placed : Bool) → asks (lastAsked k at e form placed) ≡ 0 → getD (k .inserts) at 0 + insertsOf e ≤ maxInserts
 last-few k at e form placed z =
     leb-true (getD (k .inserts) at 0 + insertsOf e) maxInserts
     (yes-all (lastAsked k at e form placed) (eqb-false 9 0 refl, (eqb-false 10 0 refl, (eqb-false 12 0 refl, tt))) z .1 .0)
 
+-- a refusal, whatever the lent array holds
+pub refused-decided : (q : ℕ) (d r : Decision) (es : List Edit) (later : List ℕ) → (q ≡ 0 → ⊥) → r ≡ refusing q → refusing q ≡ d → Decided d es later r
+unfolding refusing
+refused-decided q d r es later n e f = record { is = e ∙ f; kept = λ z. absurd (n (sym (ap (λ (x : Decision). x .refusal) e) ∙ z)) }
+
+module _ (k : Counts) (line direction seen : ℕ) where
+  pub ack-no : (q : ℕ) → q ≡ asks (ackAsked k line direction seen) → (q ≡ 0 → ⊥) → refusing q ≡ ackDecided k line direction seen
+  unfolding ackDecided
+  ack-no q e n =
+      ap refusing e
+      ∙ sym (ap (λ (b : Bool). cond b (ackAccepted k (line - 1) seen) (refusing (asks (ackAsked k line direction seen))))
+      (ne-eqb (asks (ackAsked k line direction seen)) 0 (λ z. n (e ∙ z))))
+
+  pub ack-yes : asks (ackAsked k line direction seen) ≡ 0 → ackDecided k line direction seen ≡ ackAccepted k (line - 1) seen
+  unfolding ackDecided
+  ack-yes z =
+      ap (λ (b : Bool). cond b (ackAccepted k (line - 1) seen) (refusing (asks (ackAsked k line direction seen))))
+      (eq-eqb (asks (ackAsked k line direction seen)) 0 z)
+
+  pub ack-made : asks (ackAsked k line direction seen) ≡ 0
+      → record { refusal = 0; passed = 0; at = line - 1; taken = getD (k .taken) (line - 1) 0; acked = seen; inserts = getD (k .inserts) (line - 1) 0; edit = Nothing; others = 0 }
+      ≡ ackDecided k line direction seen
+  unfolding ackAccepted
+  ack-made z = sym (ack-yes z)
+
 module _ (k : Counts) (ps xs : List ℕ) where
-  module _ (line direction seen : ℕ) where
-    pub ack-no : (q : ℕ) → q ≡ asks (ackAsked k line direction seen) → (q ≡ 0 → ⊥) → refusing q ≡ ackDecided k ps xs line direction seen
-    unfolding ackDecided
-    ack-no q e n =
-        ap refusing e
-        ∙ sym (ap (λ (b : Bool). cond b (ackAccepted k (leftAt k ps xs (line - 1) seen) (line - 1) seen) (refusing (asks (ackAsked k line direction seen))))
-        (ne-eqb (asks (ackAsked k line direction seen)) 0 (λ z. n (e ∙ z))))
-
-    pub ack-yes : asks (ackAsked k line direction seen) ≡ 0 → ackDecided k ps xs line direction seen ≡ ackAccepted k (leftAt k ps xs (line - 1) seen) (line - 1) seen
-    unfolding ackDecided
-    ack-yes z =
-        ap (λ (b : Bool). cond b (ackAccepted k (leftAt k ps xs (line - 1) seen) (line - 1) seen) (refusing (asks (ackAsked k line direction seen))))
-        (eq-eqb (asks (ackAsked k line direction seen)) 0 z)
-
-    pub ack-made : (a b : List ℕ) → asks (ackAsked k line direction seen) ≡ 0 → a ≡ filled placeOf (leftAt k ps xs (line - 1) seen) → b ≡ filled itemOf (leftAt k ps xs (line - 1) seen)
-        → record { refusal = 0; passed = 0; at = line - 1; taken = getD (k .taken) (line - 1) 0; acked = seen; inserts = getD (k .inserts) (line - 1) 0; places = a; items = b; edit = Nothing; others = 0 }
-        ≡ ackDecided k ps xs line direction seen
-    unfolding ackAccepted
-    ack-made a b z e f =
-        (λ j. record { refusal = 0; passed = 0; at = line - 1; taken = getD (k .taken) (line - 1) 0; acked = seen; inserts = getD (k .inserts) (line - 1) 0; places = e j; items = f j; edit = Nothing; others = 0 })
-        ∙ sym (ack-yes z)
-
   module _ (h : Header) (e : Edit) where
     abbrev at : ℕ
     at = h .line - 1
@@ -85,7 +88,7 @@ module _ (k : Counts) (ps xs : List ℕ) where
       late-asked = ap (λ (c : Crossed). asks (lastAsked k at e (c .edit) (c .placed))) m
 
       pub edit-made : (i : ℕ) → asks (editAsked k h e) ≡ 0 → asks (lastAsked k at e (x .edit) (x .placed)) ≡ 0 → i ≡ insertsOf e
-          → record { refusal = 0; passed = x .passed; at = at; taken = getD (k .taken) at 0 + 1; acked = h .seen; inserts = getD (k .inserts) at 0 + i; places = x .places; items = x .items; edit = x .edit; others = k .n }
+          → record { refusal = 0; passed = x .passed; at = at; taken = getD (k .taken) at 0 + 1; acked = h .seen; inserts = getD (k .inserts) at 0 + i; edit = x .edit; others = k .n }
           ≡ editDecided k ps xs h e
       unfolding editAccepted
       edit-made i z y f =
@@ -96,8 +99,6 @@ module _ (k : Counts) (ps xs : List ℕ) where
             taken = getD (k .taken) at 0 + 1;
             acked = h .seen;
             inserts = getD (k .inserts) at 0 + f j;
-            places = m j .places;
-            items = m j .items;
             edit = m j .edit;
             others = k .n;
           })

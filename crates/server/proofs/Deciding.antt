@@ -21,9 +21,9 @@ use Rattle.model.specs.Server as model
 use Rattle.model.proofs.Tests.{and-left, and-right, yes-all}
 use Rattle.model.proofs.Cross.{length-over}
 use Rattle.model.proofs.SoundServer.{length-atPlace}
-use Rattle.pending.specs.Slots.{placeOf, itemOf, filled, allFrom}
-use Rattle.pending.proofs.Slots.{edits-length, filled-length}
-use Rattle.pending.proofs.Crossing.{steps-length}
+use Rattle.pending.specs.Slots.{itemOf, filled, allFrom}
+use Rattle.pending.proofs.Slots.{edits-length}
+use Rattle.pending.proofs.Crossing.{steps-length, filled-over}
 use Rattle.endpoint.specs.Items.{roomy}
 use Rattle.endpoint.specs.Line.{seenQuestions, editQuestions, thenAsked}
 use Rattle.endpoint.proofs.Line.{edit-then}
@@ -33,8 +33,8 @@ use Rattle.server.specs.declared.Server.{Server}
 use Rattle.server.specs.declared.taking.Decision.{Decision}
 use Rattle.server.specs.View.{countsOf, pendingCount, linesFrom, view}
 use Rattle.server.specs.Sound.{Sound}
-use Rattle.server.specs.Taking.{editAsked, ackAsked, roomyAt, leftAsked, leftAt, refusing, ackAccepted, ackDecided, editAccepted, editDecided, decided, Ready, Roomy}
-use Rattle.server.proofs.Asked.{asks-yes, Here, ack-here, edit-here, left-ready, left-line}
+use Rattle.server.specs.Taking.{editAsked, ackAsked, roomyAt, leftAsked, leftAt, refusing, ackAccepted, ackDecided, editAccepted, editDecided, decided, stays, stayingAt, Seen, Ready, Roomy}
+use Rattle.server.proofs.Asked.{asks-yes, Here, ack-here, edit-here, left-ready, left-line, left-items, left-seen}
 use Rattle.server.proofs.Decided.{ack-yes, edit-yes}
 use Rattle.server.proofs.Places.{each-first}
 use Rattle.server.proofs.Whole.{line, means, facts, lines-few, lines-count, len-view, at-view, at-facts, line-of}
@@ -73,7 +73,8 @@ roomy-each k at n a j h ne =
 
 -- ---- what a decision says of the new end
 
-pub record Decides (s : Server) (d : Decision) (m : model.Server) : Type 0 where
+-- es: the pending edits of the line that the message came on
+pub record Decides (s : Server) (d : Decision) (es : List Edit) (m : model.Server) : Type 0 where
   pub at : d .at < s .n
   pub n : s .n ≡ m .n
   pub initial : s .initial ≡ m .initial
@@ -85,10 +86,10 @@ pub record Decides (s : Server) (d : Decision) (m : model.Server) : Type 0 where
   pub own-taken : getD (m .lines) (d .at) model.noLine .taken ≡ d .taken
   pub own-acked : getD (m .lines) (d .at) model.noLine .acked ≡ d .acked
   pub own-inserts : getD (m .lines) (d .at) model.noLine .inserts ≡ d .inserts
-  pub own-places : d .places ≡ filled placeOf (getD (m .lines) (d .at) model.noLine .pending)
-  pub own-items : d .items ≡ filled itemOf (getD (m .lines) (d .at) model.noLine .pending)
-  pub size-places : length (d .places) ≡ maxPending
-  pub size-items : length (d .items) ≡ maxPending
+  pub own-pending : es ≡ getD (m .lines) (d .at) model.noLine .pending
+  pub few-pending : length es ≤ maxPending
+  pub own-items : stayingAt (countsOf s) (d .at) (d .acked) (s .«pending_items») ≡ filled itemOf es
+  pub own-seen : Seen (countsOf s) (d .at) (d .acked) (s .«pending_items»)
   -- the others
   pub few : d .others ≤ s .n
   pub others : (i : ℕ) → (i ≡ d .at → ⊥) → getD (m .lines) i model.noLine
@@ -96,17 +97,17 @@ pub record Decides (s : Server) (d : Decision) (m : model.Server) : Type 0 where
   pub roomy : Roomy (d .others) (d .at) (s .made) (s .acked)
 
 -- the decision is that of the model's answer
-pub record Right (s : Server) (d : Decision) (a : Answer model.Server) : Type 0 where
+pub record Right (s : Server) (d : Decision) (es : List Edit) (a : Answer model.Server) : Type 0 where
   pub refusal : d .refusal ≡ a .refusal
   pub none-passed : (d .refusal ≡ 0 → ⊥) → a .passed ≡ 0
   pub passed : d .refusal ≡ 0 → d .passed ≡ a .passed
-  pub becomes : d .refusal ≡ 0 → Decides s d (a .end)
+  pub becomes : d .refusal ≡ 0 → Decides s d es (a .end)
 
-right-of : (s : Server) (d : Decision) (q : ℕ) (old new : model.Server) (k : ℕ) → d .refusal ≡ q → (q ≡ 0 → d .passed ≡ k) → (q ≡ 0 → Decides s d new) → Right s d (answer q old new k)
+right-of : (s : Server) (d : Decision) (es : List Edit) (q : ℕ) (old new : model.Server) (k : ℕ) → d .refusal ≡ q → (q ≡ 0 → d .passed ≡ k) → (q ≡ 0 → Decides s d es new) → Right s d es (answer q old new k)
 unfolding answer
-right-of s d q old new k e p b = go (eqb q 0) refl
+right-of s d es q old new k e p b = go (eqb q 0) refl
   where
-    go : (t : Bool) → eqb q 0 ≡ t → Right s d (cond {A = Answer model.Server} t (record { refusal = 0; end = new; passed = k }) (record { refusal = q; end = old; passed = 0 }))
+    go : (t : Bool) → eqb q 0 ≡ t → Right s d es (cond {A = Answer model.Server} t (record { refusal = 0; end = new; passed = k }) (record { refusal = q; end = old; passed = 0 }))
     go true t =
         let z : q ≡ 0 = eqb-true q 0 t in
         record { refusal = e ∙ z; none-passed = λ n. absurd (n (e ∙ z)); passed = λ y. p z; becomes = λ y. b z }
@@ -221,7 +222,7 @@ module _ (s : Server) (h : Sound s) where
             ap (λ (v : model.Line). asks (seenQuestions seen (v .acked) (v .made))) (line-of s h l (and-right (eqb direction 0) (between 1 (s .n) l) t))
         go false t = refl
 
-    ack-decides : asks (ackAsked k l direction seen) ≡ 0 → Decides s (ackAccepted k (leftAt k ps xs (l - 1) seen) (l - 1) seen) (model.serverAcked (view s) l seen)
+    ack-decides : asks (ackAsked k l direction seen) ≡ 0 → Decides s (ackAccepted k (l - 1) seen) (leftAt k ps xs (l - 1) seen) (model.serverAcked (view s) l seen)
     unfolding ackAccepted applied
     ack-decides z =
         let here = ack-here k l direction seen z in
@@ -239,28 +240,28 @@ module _ (s : Server) (h : Sound s) where
           own-taken = ap (λ (v : model.Line). v .taken) own;
           own-acked = ap (λ (v : model.Line). v .acked) own;
           own-inserts = ap (λ (v : model.Line). v .inserts) own;
-          own-places = ap (filled placeOf) (sym left) ∙ ap (λ (v : model.Line). filled placeOf (v .pending)) (sym own);
-          own-items = ap (filled itemOf) (sym left) ∙ ap (λ (v : model.Line). filled itemOf (v .pending)) (sym own);
-          size-places = filled-length placeOf (leftAt k ps xs (l - 1) seen) (left-few l seen here);
-          size-items = filled-length itemOf (leftAt k ps xs (l - 1) seen) (left-few l seen here);
+          own-pending = sym left ∙ ap (λ (v : model.Line). v .pending) (sym own);
+          few-pending = left-few l seen here;
+          own-items = left-items k ps xs ready l seen here;
+          own-seen = left-seen k ps xs ready l seen here;
           few = omega arith;
           others = λ i n. place-still (l - 1) (model.lineAcked seen) (view s .lines) i n
               ∙ sym (ap (λ (b : Bool). cond b (model.lineKeeps Nothing (getD (view s .lines) i model.noLine)) (getD (view s .lines) i model.noLine)) (le-ltb i 0 (omega arith)));
           roomy = λ j lt n. absurd (omega arith);
         }
 
-    pub ack-right : Right s (ackDecided k ps xs l direction seen) (model.serverTakesAck (view s) l direction seen)
+    pub ack-right : Right s (ackDecided k l direction seen) (leftAt k ps xs (l - 1) seen) (model.serverTakesAck (view s) l direction seen)
     unfolding model.serverTakesAck ackDecided refusing ackAccepted
-    ack-right = right-of s (ackDecided k ps xs l direction seen) (asks (model.serverAckQuestions (view s) l direction seen)) (view s) (model.serverAcked (view s) l seen) 0
+    ack-right = right-of s (ackDecided k l direction seen) (leftAt k ps xs (l - 1) seen) (asks (model.serverAckQuestions (view s) l direction seen)) (view s) (model.serverAcked (view s) l seen) 0
         (go (eqb (asks (ackAsked k l direction seen)) 0) refl ∙ sym ack-asks)
-        (λ z. ap (λ (d : Decision). d .passed) (ack-yes k ps xs l direction seen (sym ack-asks ∙ z)) ∙ none′)
-        (λ z. subst (λ (d : Decision). Decides s d (model.serverAcked (view s) l seen)) (sym (ack-yes k ps xs l direction seen (sym ack-asks ∙ z))) (ack-decides (sym ack-asks ∙ z)))
+        (λ z. ap (λ (d : Decision). d .passed) (ack-yes k l direction seen (sym ack-asks ∙ z)) ∙ none′)
+        (λ z. subst (λ (d : Decision). Decides s d (leftAt k ps xs (l - 1) seen) (model.serverAcked (view s) l seen)) (sym (ack-yes k l direction seen (sym ack-asks ∙ z))) (ack-decides (sym ack-asks ∙ z)))
       where
-        none′ : ackAccepted k (leftAt k ps xs (l - 1) seen) (l - 1) seen .passed ≡ 0
+        none′ : ackAccepted k (l - 1) seen .passed ≡ 0
         none′ = refl
 
         go : (b : Bool) → eqb (asks (ackAsked k l direction seen)) 0 ≡ b
-            → cond b (ackAccepted k (leftAt k ps xs (l - 1) seen) (l - 1) seen) (refusing (asks (ackAsked k l direction seen))) .refusal ≡ asks (ackAsked k l direction seen)
+            → cond b (ackAccepted k (l - 1) seen) (refusing (asks (ackAsked k l direction seen))) .refusal ≡ asks (ackAsked k l direction seen)
         go true t = sym (eqb-true (asks (ackAsked k l direction seen)) 0 t)
         go false t = refl
 
@@ -347,7 +348,7 @@ module _ (s : Server) (h : Sound s) where
             (λ z. last-same (edit-here k hd e (asks-yes 4 isUp (numbered (line s at)) t ∙ z)))
         up false t = refl
 
-    edit-decides : asks (editAsked k hd e) ≡ 0 → asks (leftAsked k left at e) ≡ 0 → Decides s (editAccepted k left at (hd .seen) e) (model.serverTaken (view s) (hd .line) (hd .seen) e)
+    edit-decides : asks (editAsked k hd e) ≡ 0 → asks (leftAsked k left at e) ≡ 0 → Decides s (editAccepted k left at (hd .seen) e) (over e left) (model.serverTaken (view s) (hd .line) (hd .seen) e)
     unfolding editAccepted
     edit-decides z y =
         let here = edit-here k hd e z in
@@ -370,10 +371,10 @@ module _ (s : Server) (h : Sound s) where
           own-taken = ap (λ (v : model.Line). v .taken) own;
           own-acked = ap (λ (v : model.Line). v .acked) own;
           own-inserts = ap (λ (v : model.Line). v .inserts) own;
-          own-places = ap (λ (es : List Edit). filled placeOf (over e es)) (sym mine) ∙ ap (λ (v : model.Line). filled placeOf (v .pending)) (sym own);
-          own-items = ap (λ (es : List Edit). filled itemOf (over e es)) (sym mine) ∙ ap (λ (v : model.Line). filled itemOf (v .pending)) (sym own);
-          size-places = filled-length placeOf (over e left) (omega (arith, length-over e left, left-few (hd .line) (hd .seen) here));
-          size-items = filled-length itemOf (over e left) (omega (arith, length-over e left, left-few (hd .line) (hd .seen) here));
+          own-pending = ap (over e) (sym mine) ∙ ap (λ (v : model.Line). v .pending) (sym own);
+          few-pending = omega (arith, length-over e left, left-few (hd .line) (hd .seen) here);
+          own-items = left-items k ps xs ready (hd .line) (hd .seen) here ∙ sym (filled-over e left);
+          own-seen = left-seen k ps xs ready (hd .line) (hd .seen) here;
           few = omega arith;
           others = λ i n. place-other at (model.lineTaken (hd .seen) e) (model.lineKeeps carry) (view s .lines) i n
               ∙ ap (λ (m : ℕ). cond (ltb i m) (model.lineKeeps carry (getD (view s .lines) i model.noLine)) model.noLine) (lines-count s h)
@@ -387,14 +388,14 @@ module _ (s : Server) (h : Sound s) where
         past-end i true t = refl
         past-end i false f = sym (List·getD-eq-default (view s .lines) model.noLine (omega (arith, lines-count s h, ltb-false i (s .n) f)))
 
-    pub edit-right : Right s (editDecided k ps xs hd e) (model.serverTakesEdit (view s) hd e)
+    pub edit-right : Right s (editDecided k ps xs hd e) (over e left) (model.serverTakesEdit (view s) hd e)
     unfolding model.serverTakesEdit editDecided refusing editAccepted
-    edit-right = right-of s (editDecided k ps xs hd e) (asks (model.serverEditQuestions (view s) hd e)) (view s) (model.serverTaken (view s) (hd .line) (hd .seen) e) (model.lineOf (view s) (hd .line) .made - hd .seen)
+    edit-right = right-of s (editDecided k ps xs hd e) (over e left) (asks (model.serverEditQuestions (view s) hd e)) (view s) (model.serverTaken (view s) (hd .line) (hd .seen) e) (model.lineOf (view s) (hd .line) .made - hd .seen)
         (go (eqb (asks (editAsked k hd e)) 0) refl (eqb (asks (leftAsked k left at e)) 0) refl ∙ sym edit-asks)
         (λ z. let y = zeros (asks (editAsked k hd e)) (asks (leftAsked k left at e)) (sym edit-asks ∙ z) in
         ap (λ (d : Decision). d .passed) (edit-yes k ps xs hd e (y .0) (y .1)) ∙ passed′ (edit-here k hd e (y .0)))
         (λ z. let y = zeros (asks (editAsked k hd e)) (asks (leftAsked k left at e)) (sym edit-asks ∙ z) in
-        subst (λ (d : Decision). Decides s d (model.serverTaken (view s) (hd .line) (hd .seen) e)) (sym (edit-yes k ps xs hd e (y .0) (y .1))) (edit-decides (y .0) (y .1)))
+        subst (λ (d : Decision). Decides s d (over e left) (model.serverTaken (view s) (hd .line) (hd .seen) e)) (sym (edit-yes k ps xs hd e (y .0) (y .1))) (edit-decides (y .0) (y .1)))
       where
         zeros : (p q : ℕ) → thenAsked p q ≡ 0 → (p ≡ 0) × (q ≡ 0)
         zeros p q = go′ (eqb p 0) refl
@@ -418,7 +419,7 @@ module _ (s : Server) (h : Sound s) where
 
   -- ---- any message
 
-  pub message-right : (m : Message) → Right s (decided k ps xs m) (model.serverTakes (view s) m)
+  pub message-right : (m : Message) → Right s (decided k ps xs m) (stays k ps xs m) (model.serverTakes (view s) m)
   message-right (message.Insert hd p x r) = edit-right hd (Insert p x r)
   message-right (message.Delete hd p) = edit-right hd (Delete p)
   message-right (message.Nothing hd) = edit-right hd Nothing

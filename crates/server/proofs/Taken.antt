@@ -20,7 +20,7 @@ use Rattle.model.specs.Limits.{maxLines, maxItems, maxPending}
 use Rattle.model.specs.Questions.{ask, asks, answer}
 use Rattle.model.specs.Server as model
 use Rattle.pending.specs.Slots.{placeOf, itemOf, stretch, filled}
-use Rattle.pending.proofs.Slots.{edits-length, filled-push}
+use Rattle.pending.proofs.Slots.{edits-length, filled-length, filled-push}
 use Rattle.endpoint.specs.Items.{stored}
 use Rattle.endpoint.proofs.Room.{room-stored, room-length}
 use Rattle.server.specs.declared.Server.{Server}
@@ -28,7 +28,7 @@ use Rattle.server.specs.declared.taking.Decision.{Decision}
 use Rattle.server.specs.View.{countsOf, pendingCount, view, store}
 use Rattle.server.specs.Sound.{soundStruct, Sized, Sound}
 use Rattle.server.specs.Calls.{refused, answered, takes}
-use Rattle.server.specs.Taking.{keeps, decided, Raised, Few, Written}
+use Rattle.server.specs.Taking.{keeps, decided, stays, stayingAt, Raised, Few, Written}
 use Rattle.server.proofs.Rows.{Row, store-is}
 use Rattle.server.proofs.Whole.{means, lines-few, items-are, len-view, at-view, made-few, lines-row}
 use Rattle.server.proofs.Writing.{keeps-own}
@@ -44,7 +44,7 @@ keeps-other n at i b t ne = ap (λ (x : Bool). ltb i n && not x) (ne-eqb i at ne
     go true = refl
     go false = refl
 
-module _ (s : Server) (h : Sound s) (d : Decision) (m : model.Server) (dec : Decides s d m) where
+module _ (s : Server) (h : Sound s) (d : Decision) (es : List Edit) (m : model.Server) (dec : Decides s d es m) where
   pub written-at : d .at < 8
   written-at = omega (arith, dec .at, lines-few s h)
 
@@ -53,6 +53,9 @@ module _ (s : Server) (h : Sound s) (d : Decision) (m : model.Server) (dec : Dec
 
   pub written-made : Few (d .others) (s .made)
   written-made j lt = made-few s h j (omega (arith, dec .few))
+
+  pub later-length : (later : List ℕ) → later ≡ filled placeOf es → length later ≡ maxPending
+  later-length later e = ap length e ∙ filled-length placeOf es (dec .few-pending)
 
   -- the slots of a line
   module _ (word : Edit → ℕ) (part before now′ : List ℕ) (k : Written (d .others) (d .at) (s .made) (s .acked) (word (d .edit)) part before now′) where
@@ -84,10 +87,17 @@ module _ (s : Server) (h : Sound s) (d : Decision) (m : model.Server) (dec : Dec
           ∙ ap (λ (b : Bool). lines-of false b i) (ne-eqb i (d .at) n)
           ∙ old
 
-  module _ (size : ℕ) (items made ps xs : List ℕ)
+  -- what stays of the line, as the lent array and the written items have it
+  own-filled : (word : Edit → ℕ) → filled word es ≡ filled word (getD (m .lines) (d .at) model.noLine .pending)
+  own-filled word = ap (filled word) (dec .own-pending)
+
+  abbrev stay : List ℕ
+  stay = stayingAt (countsOf s) (d .at) (d .acked) (s .«pending_items»)
+
+  module _ (size : ℕ) (items made ps xs later : List ℕ) (kept : later ≡ filled placeOf es)
       (a : Edited (d .edit) (s .len) (s .items) items size)
-      (p : Written (d .others) (d .at) (s .made) (s .acked) (placeOf (d .edit)) (d .places) (s .«pending_places») ps)
-      (x : Written (d .others) (d .at) (s .made) (s .acked) (itemOf (d .edit)) (d .items) (s .«pending_items») xs)
+      (p : Written (d .others) (d .at) (s .made) (s .acked) (placeOf (d .edit)) later (s .«pending_places») ps)
+      (x : Written (d .others) (d .at) (s .made) (s .acked) (itemOf (d .edit)) (stayingAt (countsOf s) (d .at) (d .acked) (s .«pending_items»)) (s .«pending_items») xs)
       (r : Raised (d .others) (d .at) (s .made) made) where
     abbrev next : Server
     next =
@@ -125,8 +135,8 @@ module _ (s : Server) (h : Sound s) (d : Decision) (m : model.Server) (dec : Dec
           taken = getD-set-same (s .taken) (d .at) (d .taken) 0 (omega (arith, written-at, h .sized .taken)) ∙ sym (dec .own-taken);
           acked = getD-set-same (s .acked) (d .at) (d .acked) 0 (omega (arith, written-at, h .sized .acked)) ∙ sym (dec .own-acked);
           inserts = getD-set-same (s .inserts) (d .at) (d .inserts) 0 (omega (arith, written-at, h .sized .inserts)) ∙ sym (dec .own-inserts);
-          places = own-slots placeOf (d .places) (s .«pending_places») ps p (dec .own-places);
-          items = own-slots itemOf (d .items) (s .«pending_items») xs x (dec .own-items);
+          places = own-slots placeOf later (s .«pending_places») ps p (kept ∙ own-filled placeOf);
+          items = own-slots itemOf stay (s .«pending_items») xs x (dec .own-items ∙ own-filled itemOf);
         }
 
     module _ (i : ℕ) (lt : i < maxLines) (n : i ≡ d .at → ⊥) where
@@ -151,8 +161,8 @@ module _ (s : Server) (h : Sound s) (d : Decision) (m : model.Server) (dec : Dec
             taken = getD-set-other (s .taken) (d .at) i (d .taken) 0 n ∙ old .taken;
             acked = getD-set-other (s .acked) (d .at) i (d .acked) 0 n ∙ old .acked;
             inserts = getD-set-other (s .inserts) (d .at) i (d .inserts) 0 n ∙ old .inserts;
-            places = kept-slots placeOf (d .places) (s .«pending_places») ps p i lt n v (old .places) t count few;
-            items = kept-slots itemOf (d .items) (s .«pending_items») xs x i lt n v (old .items) t count few;
+            places = kept-slots placeOf later (s .«pending_places») ps p i lt n v (old .places) t count few;
+            items = kept-slots itemOf stay (s .«pending_items») xs x i lt n v (old .items) t count few;
           }
       other-row false t =
           record {
@@ -163,8 +173,8 @@ module _ (s : Server) (h : Sound s) (d : Decision) (m : model.Server) (dec : Dec
             taken = getD-set-other (s .taken) (d .at) i (d .taken) 0 n ∙ old .taken;
             acked = getD-set-other (s .acked) (d .at) i (d .acked) 0 n ∙ old .acked;
             inserts = getD-set-other (s .inserts) (d .at) i (d .inserts) 0 n ∙ old .inserts;
-            places = same-slots placeOf (d .places) (s .«pending_places») ps p i lt n v (old .places) t;
-            items = same-slots itemOf (d .items) (s .«pending_items») xs x i lt n v (old .items) t;
+            places = same-slots placeOf later (s .«pending_places») ps p i lt n v (old .places) t;
+            items = same-slots itemOf stay (s .«pending_items») xs x i lt n v (old .items) t;
           }
 
     row : (i : ℕ) → i < maxLines → Row next i (getD (m .lines) i model.noLine)
@@ -216,9 +226,12 @@ module _ (s : Server) (bytes : List ℕ) where
       unfolding model.takeServer
       take-read = ap (λ (x : Read). answered s (model.serverReads (view s) x)) (sym z ∙ f) ∙ take-sound
 
+      abbrev stayed : List Edit
+      stayed = stays (countsOf s) (s .«pending_places») (s .«pending_items») m
+
       module _ (d : Decision) (g : d ≡ decided (countsOf s) (s .«pending_places») (s .«pending_items») m) where
-        right : Right s d (model.serverTakes (view s) m)
-        right = subst (λ (x : Decision). Right s x (model.serverTakes (view s) m)) (sym g) (message-right s h m)
+        right : Right s d stayed (model.serverTakes (view s) m)
+        right = subst (λ (x : Decision). Right s x stayed (model.serverTakes (view s) m)) (sym g) (message-right s h m)
 
         pub take-refused : (d .refusal ≡ 0 → ⊥) → refused s (d .refusal) ≡ takes s bytes
         unfolding answered
@@ -228,7 +241,7 @@ module _ (s : Server) (bytes : List ℕ) where
             ∙ sym (ap (λ (b : Bool). record { refusal = a .refusal; passed = a .passed; server = cond b (store (a .end)) s }) (ne-eqb (a .refusal) 0 (λ y. n (right .refusal ∙ y))))
             ∙ take-read
 
-        pub take-decides : d .refusal ≡ 0 → Decides s d (model.serverTakes (view s) m .end)
+        pub take-decides : d .refusal ≡ 0 → Decides s d stayed (model.serverTakes (view s) m .end)
         take-decides y = right .becomes y
 
         pub take-done : (t : Server) → d .refusal ≡ 0 → t ≡ store (model.serverTakes (view s) m .end) → record { refusal = 0; passed = d .passed; server = t } ≡ takes s bytes

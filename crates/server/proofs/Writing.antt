@@ -1,20 +1,23 @@
 -- What is written into the arrays, line by line: one turn of each loop.
-use mathlib.Core.Path.{_≡_, refl, ap, sym, _∙_}
+use mathlib.Core.Path.{_≡_, refl, ap, sym, _∙_, subst}
 use mathlib.Core.Bool.{Bool, true, false, _&&_, not, cond}
 use mathlib.Core.List.{List}
 use Prim.Native.Nat.{ℕ, suc, _+_, _-_, _*_, _≤_, _<_}
 use native.Mathlib.Numerals.{add-one}
 use native.Mathlib.Omega.{arith}
 use lib.Dec.{ltb, eqb}
-use lib.ListN.{length, getD, set, length-set, drop-of-length-le}
+use lib.ListN.{length, getD, set, take, drop, length-set, length-take, drop-of-length-le}
 use lib.Seq.{getD-set-same, getD-set-other}
 use borrow.Author.Tests.{lt-ltb, le-ltb, ltb-true, ltb-false, eqb-true, eqb-false, eq-eqb, ne-eqb}
+use Rattle.ot.specs.Items.{padded}
 use Rattle.ot.proofs.Sweep.{swept, swept-store, swept-to}
 use Rattle.model.specs.Limits.{maxLines, maxPending}
 use Rattle.pending.specs.Slots.{stretch}
 use Rattle.pending.proofs.Slots.{stretch-set, stretch-length}
-use Rattle.server.specs.View.{sumFrom}
-use Rattle.server.specs.Taking.{keeps, Replaced, Kept, Raised, Written}
+use Rattle.pending.proofs.Pad.{pad-length}
+use Rattle.server.specs.declared.Counts.{Counts}
+use Rattle.server.specs.View.{sumFrom, pendingCount}
+use Rattle.server.specs.Taking.{keeps, staying, Filled, Seen, Replaced, Kept, Raised, Written}
 use Rattle.server.proofs.Rows.{stretch-other}
 use Rattle.server.proofs.Whole.{never}
 
@@ -129,6 +132,10 @@ module _ (at : ℕ) (before : List ℕ) where
       record { size = refl; counts = λ j h. sym (ap (λ (b : Bool). cond b (getD before j 0 + 1) (getD before j 0)) (keeps-none at j)) }
 
   module _ (i : ℕ) (now′ : List ℕ) (k : Raised i at before now′) where
+    -- what is not raised yet
+    pub raised-here : i < maxLines → getD now′ i 0 ≡ getD before i 0
+    raised-here l = k .counts i l ∙ ap (λ (b : Bool). cond b (getD before i 0 + 1) (getD before i 0)) (keeps-not i at)
+
     pub raised-turn : (i ≡ at → ⊥) → i < length now′ → Raised (i + 1) at before (set now′ i (getD before i 0 + 1))
     raised-turn n few =
         record { size = length-set now′ i (getD before i 0 + 1) ∙ k .size; counts = λ j l. go j l (eqb j i) refl }
@@ -207,3 +214,30 @@ both-written n at made acked word part before put after r k = record { size = k 
         other true e = never (sym (ap (keeps n at) (eqb-true j at e) ∙ keeps-own n at) ∙ t)
         other false e = e
     go j l false f = r .lines j l
+
+-- ---- forgetting
+
+-- where none are gone the line is as it was
+pub none-forgotten : (at gone count : ℕ) (ws : List ℕ) → gone ≡ 0 → Filled (maxPending * at) (gone + count) ws → Replaced at (staying (maxPending * at) gone count ws) ws ws
+none-forgotten at gone count ws z f = record { size = refl; lines = λ j l. go j (eqb j at) refl }
+  where
+    go : (j : ℕ) → (b : Bool) → eqb j at ≡ b → stretch (maxPending * j) ws ≡ cond b (staying (maxPending * at) gone count ws) (stretch (maxPending * j) ws)
+    go j true t =
+        let from : maxPending * at ≡ maxPending * at + gone = omega arith in
+        let all : gone + count ≡ count = omega arith in
+        ap (λ (m : ℕ). stretch (maxPending * m) ws) (eqb-true j at t) ∙ f
+        ∙ ap (λ (n : ℕ). padded 0 maxPending (take n (drop (maxPending * at) ws))) all
+        ∙ ap (λ (i : ℕ). padded 0 maxPending (take count (drop i ws))) from
+    go j false t = refl
+
+-- the numbers that stay fill a line
+pub staying-length : (at gone count : ℕ) (ws part : List ℕ) → count ≤ maxPending → part ≡ staying (maxPending * at) gone count ws → length part ≡ maxPending
+staying-length at gone count ws part h e =
+    ap length e ∙ pad-length maxPending 0 (take count (drop (maxPending * at + gone) ws)) (omega (arith, length-take count (drop (maxPending * at + gone) ws)))
+
+-- what seen splits is what was pending
+pub seen-filled : (k : Counts) (at seen : ℕ) (ws : List ℕ) → Seen k at seen ws
+    → (seen - getD (k .acked) at 0 + (getD (k .made) at 0 - seen) ≤ maxPending) × Filled (maxPending * at) (seen - getD (k .acked) at 0 + (getD (k .made) at 0 - seen)) ws
+seen-filled k at seen ws s =
+    let all : pendingCount k at ≡ seen - getD (k .acked) at 0 + (getD (k .made) at 0 - seen) = omega (arith, s .old, s .new) in
+    (omega (arith, s .few), subst (λ (n : ℕ). Filled (maxPending * at) n ws) all (s .filled))

@@ -4,16 +4,17 @@ use mathlib.Core.Bool.{Bool, _&&_, _||_, not, cond}
 use mathlib.Core.List.{List, [], _∷_}
 use Prim.Native.Nat.{ℕ, _+_, _-_, _*_, _≤_, _<_}
 use lib.Dec.{leb, ltb, eqb}
-use lib.ListN.{length, getD, set, replicate}
+use lib.ListN.{length, getD, set, take, drop}
 use Rattle.ot.specs.declared.Edit.{Edit}
 use Rattle.ot.specs.declared.Edit.the-variants.{Nothing, Delete, Insert}
+use Rattle.ot.specs.Items.{padded}
 use Rattle.wire.specs.declared.Header.{Header}
 use Rattle.wire.specs.declared.Message.{Message}
 use Rattle.wire.specs.declared.Message.the-variants as message
 use Rattle.model.specs.Limits.{maxLines, maxInserts, maxEdits, maxPending}
 use Rattle.model.specs.Questions.{Question, ask, asks, between}
 use Rattle.model.specs.Cross.{past, over, allPlaced, priority, insertsOf}
-use Rattle.pending.specs.Slots.{placeOf, itemOf, editsFrom, stretch, filled, allFrom, steps}
+use Rattle.pending.specs.Slots.{placeOf, editsFrom, stretch, filled, allFrom, steps}
 use Rattle.endpoint.specs.Items.{roomy}
 use Rattle.endpoint.specs.Line.{seenQuestions, editQuestions}
 use Rattle.server.specs.declared.Counts.{Counts}
@@ -57,8 +58,6 @@ refusing r =
       taken = 0;
       acked = 0;
       inserts = 0;
-      places = replicate 64 0;
-      items = replicate 64 0;
       edit = Nothing;
       others = 0;
     }
@@ -67,8 +66,8 @@ refusing r =
 abbrev pub leftAt : Counts → List ℕ → List ℕ → ℕ → ℕ → List Edit
 leftAt k ps xs i seen = editsFrom ps xs (maxPending * i + (seen - getD (k .acked) i 0)) (getD (k .made) i 0 - seen)
 
-unfoldable pub ackAccepted : Counts → List Edit → ℕ → ℕ → Decision
-ackAccepted k left i seen =
+unfoldable pub ackAccepted : Counts → ℕ → ℕ → Decision
+ackAccepted k i seen =
     record {
       refusal = 0;
       passed = 0;
@@ -76,17 +75,13 @@ ackAccepted k left i seen =
       taken = getD (k .taken) i 0;
       acked = seen;
       inserts = getD (k .inserts) i 0;
-      places = filled placeOf left;
-      items = filled itemOf left;
       edit = Nothing;
       others = 0;
     }
 
-unfoldable pub ackDecided : Counts → List ℕ → List ℕ → ℕ → ℕ → ℕ → Decision
-ackDecided k ps xs line direction seen =
-    cond (eqb (asks (ackAsked k line direction seen)) 0)
-    (ackAccepted k (leftAt k ps xs (line - 1) seen) (line - 1) seen)
-    (refusing (asks (ackAsked k line direction seen)))
+unfoldable pub ackDecided : Counts → ℕ → ℕ → ℕ → Decision
+ackDecided k line direction seen =
+    cond (eqb (asks (ackAsked k line direction seen)) 0) (ackAccepted k (line - 1) seen) (refusing (asks (ackAsked k line direction seen)))
 
 unfoldable pub editAccepted : Counts → List Edit → ℕ → ℕ → Edit → Decision
 editAccepted k left i seen e =
@@ -97,8 +92,6 @@ editAccepted k left i seen e =
       taken = getD (k .taken) i 0 + 1;
       acked = seen;
       inserts = getD (k .inserts) i 0 + insertsOf e;
-      places = filled placeOf (over e left);
-      items = filled itemOf (over e left);
       edit = past e left;
       others = k .n;
     }
@@ -119,7 +112,22 @@ abbrev pub decided : Counts → List ℕ → List ℕ → Message → Decision
 decided k ps xs (message.Insert h p x r) = editDecided k ps xs h (Insert p x r)
 decided k ps xs (message.Delete h p) = editDecided k ps xs h (Delete p)
 decided k ps xs (message.Nothing h) = editDecided k ps xs h Nothing
-decided k ps xs (message.Ack l d seen) = ackDecided k ps xs l d seen
+decided k ps xs (message.Ack l d seen) = ackDecided k l d seen
+
+-- the pending edits of the line that the message came on, once it is accepted
+abbrev pub editStays : Counts → List ℕ → List ℕ → Header → Edit → List Edit
+editStays k ps xs h e = over e (leftAt k ps xs (h .line - 1) (h .seen))
+
+abbrev pub stays : Counts → List ℕ → List ℕ → Message → List Edit
+stays k ps xs (message.Insert h p x r) = editStays k ps xs h (Insert p x r)
+stays k ps xs (message.Delete h p) = editStays k ps xs h (Delete p)
+stays k ps xs (message.Nothing h) = editStays k ps xs h Nothing
+stays k ps xs (message.Ack l d seen) = leftAt k ps xs (l - 1) seen
+
+-- r is the decision d, and where it accepts, the lent array has the places of the edits es
+pub record Decided (d : Decision) (es : List Edit) (later : List ℕ) (r : Decision) : Type 0 where
+  pub is : r ≡ d
+  pub kept : r .refusal ≡ 0 → later ≡ filled placeOf es
 
 -- what deciding asks of an end; question 2 gives it
 pub record Ready (k : Counts) (ps xs : List ℕ) : Type 0 where
@@ -131,6 +139,25 @@ pub record Ready (k : Counts) (ps xs : List ℕ) : Type 0 where
   pub inserts : (i : ℕ) → i < k .n → getD (k .inserts) i 0 ≤ maxInserts
 
 -- ---- what is written, line by line
+
+-- behind the first count numbers of the line at from there are zeros
+abbrev pub Filled : ℕ → ℕ → List ℕ → Type 0
+Filled from count ws = stretch from ws ≡ padded 0 maxPending (take count (drop from ws))
+
+-- its numbers without the first gone of gone + count
+abbrev pub staying : ℕ → ℕ → ℕ → List ℕ → List ℕ
+staying from gone count ws = padded 0 maxPending (take count (drop (from + gone) ws))
+
+-- the same of the line at place i, without those up to seen
+abbrev pub stayingAt : Counts → ℕ → ℕ → List ℕ → List ℕ
+stayingAt k i seen ws = staying (maxPending * i) (seen - getD (k .acked) i 0) (getD (k .made) i 0 - seen) ws
+
+-- seen is one of the line's pending edits, or the last before them
+pub record Seen (k : Counts) (i seen : ℕ) (ws : List ℕ) : Type 0 where
+  pub old : getD (k .acked) i 0 ≤ seen
+  pub new : seen ≤ getD (k .made) i 0
+  pub few : pendingCount k i ≤ maxPending
+  pub filled : Filled (maxPending * i) (pendingCount k i) ws
 
 -- the numbers of the line at one place are others now
 pub record Replaced (at : ℕ) (part before after : List ℕ) : Type 0 where

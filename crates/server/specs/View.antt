@@ -10,9 +10,12 @@ use Rattle.pending.specs.Slots.{placeOf, itemOf, editsFrom, filled}
 use Rattle.server.specs.declared.Server.{Server}
 use Rattle.server.specs.declared.Counts.{Counts}
 
+abbrev pub counts : ℕ → ℕ → ℕ → List ℕ → List ℕ → List ℕ → List ℕ → Counts
+counts n initial len made taken acked inserts =
+    record { n = n; initial = initial; len = len; made = made; taken = taken; acked = acked; inserts = inserts }
+
 abbrev pub countsOf : Server → Counts
-countsOf s =
-    record { n = s .n; initial = s .initial; len = s .len; made = s .made; taken = s .taken; acked = s .acked; inserts = s .inserts }
+countsOf s = counts (s .n) (s .initial) (s .len) (s .made) (s .taken) (s .acked) (s .inserts)
 
 -- the end with these counts, items, and places and items of the pending edits
 abbrev pub serverOf : Counts → List ℕ → List ℕ → List ℕ → Server

@@ -7,7 +7,8 @@ ghost use mathlib.Core.Bool.{true, cond};
 ghost use Prim.Native.Nat.{_+_, _-_, _≤_, _<_};
 ghost use lib.ListN.{length};
 ghost use Rattle.pending.specs.Slots.{allFrom};
-ghost use Rattle.server.specs.View.{sumFrom, serverOf, fresh};
+ghost use mathlib.Core.List.{[]};
+ghost use Rattle.server.specs.View.{counts, sumFrom, serverOf, fresh};
 ghost use Rattle.server.specs.Sound.{countsSound, countsZero, countsAt, slotsAt, soundStruct, Sound, Sizes};
 ghost use Rattle.server.specs.Calls.{opened};
 
@@ -76,9 +77,9 @@ fn minus(a: u32, b: u32) -> u32
 }
 
 // The first n of eight counts together.
-fn sum(n: usize, xs: [u16; 8]) -> u32
-    requires { ⌜ n ≤ 8 ⌝ }
-    ensures { λ r. ⌜ (r ≡ sumFrom xs 0 n) × (r ≤ 524280) ⌝ }
+fn sum(n: usize, xs: &[u16]) -> u32
+    requires { ⌜ (n ≤ 8) × (length (now xs) ≡ 8) ⌝ }
+    ensures { λ r. ⌜ (r ≡ sumFrom (now (xs .entry)) 0 n) × (r ≤ 524280) ⌝ }
 {
     let mut s: u32 = 0;
     for i in 0..n {
@@ -125,46 +126,70 @@ fn place_sound(used: bool, total: u32, made: u16, taken: u16, acked: u16, insert
 }
 
 // The counts of all places: one of the first n holds a line in use.
-fn places_sound(k: Counts, total: u32) -> bool
-    ensures { λ r. ⌜ r ≡ allFrom (countsAt k total) 0 8 ⌝ }
+fn places_sound<'a>(
+    n: u8,
+    made: &'a [u16],
+    taken: &'a [u16],
+    acked: &'a [u16],
+    inserts: &'a [u16],
+    total: u32,
+) -> bool
+    requires { ⌜ (length (now made) ≡ 8) × ((length (now taken) ≡ 8) × ((length (now acked) ≡ 8) × (length (now inserts) ≡ 8))) ⌝ }
+    ensures { λ r. ⌜ r ≡ allFrom (countsAt (counts n 0 0 (now (made .entry)) (now (taken .entry)) (now (acked .entry)) (now (inserts .entry))) total) 0 8 ⌝ }
 {
     let mut well = true;
     for i in 0..8 {
-        let used = i < k.n as usize;
-        well = well & place_sound(used, total, k.made[i], k.taken[i], k.acked[i], k.inserts[i]);
+        let used = i < n as usize;
+        well = well & place_sound(used, total, made[i], taken[i], acked[i], inserts[i]);
     }
     well
 }
 
 // The slots of all places. Of a line that is not in use the counts are 0, so that its pending edits are tested as none.
-fn slots_sound<'a>(k: Counts, places: &'a [u32], items: &'a [u32]) -> bool
-    requires { ⌜ (512 ≤ length (now places)) × (512 ≤ length (now items)) ⌝ }
-    ensures { λ r. ⌜ r ≡ allFrom (slotsAt k (now (places .entry)) (now (items .entry))) 0 8 ⌝ }
+fn slots_sound<'a>(
+    n: u8,
+    made: &'a [u16],
+    acked: &'a [u16],
+    places: &'a [u32],
+    items: &'a [u32],
+) -> bool
+    requires { ⌜ ((length (now made) ≡ 8) × (length (now acked) ≡ 8)) × ((512 ≤ length (now places)) × (512 ≤ length (now items))) ⌝ }
+    ensures { λ r. ⌜ r ≡ allFrom (slotsAt (counts n 0 0 (now (made .entry)) [] (now (acked .entry)) []) (now (places .entry)) (now (items .entry))) 0 8 ⌝ }
 {
     let mut well = true;
     for i in 0..8 {
-        let count = less(k.made[i], k.acked[i]) as usize;
+        let count = less(made[i], acked[i]) as usize;
         let line = i as u8 + 1;
-        well = well & pending::sound(places, items, 64 * i, count, k.n, line, false);
+        well = well & pending::sound(places, items, 64 * i, count, n, line, false);
     }
     well
 }
 
-fn is_sound<'a>(k: Counts, items: &'a [u32], places: &'a [u32], slots: &'a [u32]) -> bool
-    requires { ⌜ Sizes k (now items) (now places) (now slots) ⌝ }
-    ensures answer { λ r. ⌜ r ≡ soundStruct (serverOf k (now (items .entry)) (now (places .entry)) (now (slots .entry))) ⌝ }
-    ensures whole { λ r. ⌜ (r ≡ true → Sound (serverOf k (now (items .entry)) (now (places .entry)) (now (slots .entry)))) ⌝ }
+// All arrays are lent as they stand in the end: put together in a struct they would be copied, and read back too soon.
+fn is_sound<'a>(
+    n: u8,
+    initial: u16,
+    len: u16,
+    made: &'a [u16],
+    taken: &'a [u16],
+    acked: &'a [u16],
+    inserts: &'a [u16],
+    items: &'a [u32],
+    places: &'a [u32],
+    slots: &'a [u32],
+) -> bool
+    requires { ⌜ Sizes (counts n initial len (now made) (now taken) (now acked) (now inserts)) (now items) (now places) (now slots) ⌝ }
+    ensures answer { λ r. ⌜ r ≡ soundStruct (serverOf (counts n initial len (now (made .entry)) (now (taken .entry)) (now (acked .entry)) (now (inserts .entry))) (now (items .entry)) (now (places .entry)) (now (slots .entry))) ⌝ }
+    ensures whole { λ r. ⌜ (r ≡ true → Sound (serverOf (counts n initial len (now (made .entry)) (now (taken .entry)) (now (acked .entry)) (now (inserts .entry))) (now (items .entry)) (now (places .entry)) (now (slots .entry)))) ⌝ }
 {
-    let lines = (1 <= k.n) & (k.n as usize <= Server::LINES);
-    if lines & (k.initial as usize <= Server::INITIAL) & (k.len as usize <= Server::ITEMS) {
-        let m = k.n as usize;
-        let taken = k.taken;
-        let inserts = k.inserts;
-        let most = k.initial as u32 + sum(m, inserts);
-        return (k.len as u32 <= most)
-            & endpoint::zero_from(items, k.len as usize)
-            & places_sound(k, sum(m, taken))
-            & slots_sound(k, places, slots);
+    let lines = (1 <= n) & (n as usize <= Server::LINES);
+    if lines & (initial as usize <= Server::INITIAL) & (len as usize <= Server::ITEMS) {
+        let m = n as usize;
+        let most = initial as u32 + sum(m, inserts);
+        return (len as u32 <= most)
+            & endpoint::zero_from(items, len as usize)
+            & places_sound(n, made, taken, acked, inserts, sum(m, taken))
+            & slots_sound(n, made, acked, places, slots);
     }
     false
 }

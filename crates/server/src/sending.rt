@@ -56,7 +56,18 @@ impl Server {
             acked: self.acked,
             inserts: self.inserts,
         };
-        if is_sound(c, &self.items, &self.pending_places, &self.pending_items) {
+        if is_sound(
+            self.n,
+            self.initial,
+            self.len,
+            &self.made,
+            &self.taken,
+            &self.acked,
+            &self.inserts,
+            &self.items,
+            &self.pending_places,
+            &self.pending_items,
+        ) {
             let refusal = ask_send(c, line, k);
             if refusal == 0 {
                 let m = message(c, &self.pending_places, &self.pending_items, line, k);
@@ -77,19 +88,21 @@ impl Server {
     pub fn tell(self, line: u8, out: &mut [u8]) -> Sent
         ensures { λ r. ⌜ sentAs r (now (out .exit)) ≡ tells self line (now (out .entry)) ⌝ }
     {
-        let c = Counts {
-            n: self.n,
-            initial: self.initial,
-            len: self.len,
-            made: self.made,
-            taken: self.taken,
-            acked: self.acked,
-            inserts: self.inserts,
-        };
-        if is_sound(c, &self.items, &self.pending_places, &self.pending_items) {
-            if (1 <= line) & (line <= c.n) {
+        if is_sound(
+            self.n,
+            self.initial,
+            self.len,
+            &self.made,
+            &self.taken,
+            &self.acked,
+            &self.inserts,
+            &self.items,
+            &self.pending_places,
+            &self.pending_items,
+        ) {
+            if (1 <= line) & (line <= self.n) {
                 let i = (line - 1) as usize;
-                return endpoint::finish(0, Message::Ack(line, 1, c.taken[i]), out);
+                return endpoint::finish(0, Message::Ack(line, 1, self.taken[i]), out);
             }
             return Sent {
                 refusal: 4,

@@ -1,9 +1,9 @@
 // Taking: a message of a client, an edit or an acknowledgement.
 ghost use mathlib.Core.Path.{_≡_};
 ghost use mathlib.Core.Bool.{true};
-ghost use Prim.Native.Nat.{_≤_, _<_, _-_};
+ghost use Prim.Native.Nat.{_≤_, _<_, _-_, _+_, _*_};
 ghost use lib.Dec.{eqb};
-ghost use lib.ListN.{length};
+ghost use lib.ListN.{length, replicate};
 ghost use Rattle.ot.specs.Edit.{positionOf};
 ghost use Rattle.wire.specs.Message.{inRange};
 ghost use Rattle.model.specs.Limits.{maxItems, maxPending};
@@ -11,7 +11,7 @@ ghost use Rattle.model.specs.Cross.{priority};
 ghost use Rattle.model.specs.Questions.{asks};
 ghost use Rattle.pending.specs.Slots.{allFrom};
 ghost use Rattle.server.specs.Calls.{refused, takes};
-ghost use Rattle.server.specs.Taking.{roomyAt, editAsked, lastAsked, ackAsked, refusing, editDecided, ackDecided, decided, Ready, Replaced, Kept, Roomy, Few, Raised, Written};
+ghost use Rattle.server.specs.Taking.{roomyAt, editAsked, lastAsked, ackAsked, refusing, leftAt, editDecided, ackDecided, decided, editStays, stays, Decided, Ready, staying, stayingAt, Filled, Seen, Replaced, Kept, Roomy, Few, Raised, Written};
 use crate::Answer;
 use crate::Counts;
 use crate::Server;
@@ -24,8 +24,8 @@ use wire::Message;
 use wire::Read;
 
 // What a message makes of an end: 0 or the number of the question that says no, how many pending edits the edit was transformed past;
-// the place of the line that it came on, counted from 0, with the counts and pending edits of that line; the edit to apply, and how
-// many of the lines it is kept for (that line left out): all of them, or none for an acknowledgement.
+// the place of the line that it came on, counted from 0, with the counts of that line; the edit to apply, and how many of the lines it is
+// kept for (that line left out): all of them, or none for an acknowledgement. The line's pending edits go into a lent array.
 struct Decision {
     refusal: u8,
     passed: u16,
@@ -33,8 +33,6 @@ struct Decision {
     taken: u16,
     acked: u16,
     inserts: u16,
-    places: [u32; 64],
-    items: [u32; 64],
     edit: Edit,
     others: usize,
 }
@@ -121,14 +119,12 @@ fn refusing(refusal: u8) -> Decision
         taken: 0,
         acked: 0,
         inserts: 0,
-        places: [0; 64],
-        items: [0; 64],
         edit: Edit::Nothing,
         others: 0,
     }
 }
 
-// An acknowledgement only drops pending edits.
+// An acknowledgement only drops pending edits: nothing goes past those that stay.
 fn decide_ack<'a>(
     k: Counts,
     places: &'a [u32],
@@ -136,15 +132,17 @@ fn decide_ack<'a>(
     line: u8,
     direction: u8,
     seen: u16,
+    later: &mut [u32; 64],
 ) -> Decision
-    requires { ⌜ Ready k (now places) (now items) ⌝ }
-    ensures { λ r. ⌜ r ≡ ackDecided k (now (places .entry)) (now (items .entry)) line direction seen ⌝ }
+    requires { ⌜ Ready k (now places) (now items) × (now later ≡ replicate maxPending 0) ⌝ }
+    ensures { λ r. ⌜ Decided (ackDecided k line direction seen) (leftAt k (now (places .entry)) (now (items .entry)) (line - 1) seen) (now (later .exit)) r ⌝ }
 {
     let asked = ask_ack(k, line, direction, seen);
     if asked == 0 {
         let i = (line - 1) as usize;
         let from = 64 * i + (seen - k.acked[i]) as usize;
         let count = (k.made[i] - seen) as usize;
+        pending::cross(places, items, from, count, Edit::Nothing, later);
         return Decision {
             refusal: 0,
             passed: 0,
@@ -152,8 +150,6 @@ fn decide_ack<'a>(
             taken: k.taken[i],
             acked: seen,
             inserts: k.inserts[i],
-            places: pending::acked(places, from, count),
-            items: pending::acked(items, from, count),
             edit: Edit::Nothing,
             others: 0,
         };
@@ -162,20 +158,25 @@ fn decide_ack<'a>(
 }
 
 // An edit drops the pending edits up to seen, is transformed past the others, and these past it.
-fn decide_edit<'a>(k: Counts, places: &'a [u32], items: &'a [u32], h: Header, e: Edit) -> Decision
-    requires { ⌜ (positionOf e ≤ maxItems) × Ready k (now places) (now items) ⌝ }
-    ensures { λ r. ⌜ r ≡ editDecided k (now (places .entry)) (now (items .entry)) h e ⌝ }
+fn decide_edit<'a>(
+    k: Counts,
+    places: &'a [u32],
+    items: &'a [u32],
+    h: Header,
+    e: Edit,
+    later: &mut [u32; 64],
+) -> Decision
+    requires { ⌜ (positionOf e ≤ maxItems) × (Ready k (now places) (now items) × (now later ≡ replicate maxPending 0)) ⌝ }
+    ensures { λ r. ⌜ Decided (editDecided k (now (places .entry)) (now (items .entry)) h e) (editStays k (now (places .entry)) (now (items .entry)) h e) (now (later .exit)) r ⌝ }
 {
     let refusal = ask_edit(k, h, e);
     if refusal == 0 {
         let i = (h.line - 1) as usize;
         let from = 64 * i + (h.seen - k.acked[i]) as usize;
-        let x = pending::cross(places, items, from, (k.made[i] - h.seen) as usize, e);
+        let x = pending::cross(places, items, from, (k.made[i] - h.seen) as usize, e, later);
         let form = x.edit;
         let late = ask_last(k, i, e, form, x.placed);
         if late == 0 {
-            let later_places = x.places;
-            let later_items = x.items;
             return Decision {
                 refusal: 0,
                 passed: x.passed,
@@ -183,8 +184,6 @@ fn decide_edit<'a>(k: Counts, places: &'a [u32], items: &'a [u32], h: Header, e:
                 taken: k.taken[i] + 1,
                 acked: h.seen,
                 inserts: k.inserts[i] + endpoint::inserts_of(e),
-                places: later_places,
-                items: later_items,
                 edit: form,
                 others: k.n as usize,
             };
@@ -194,15 +193,23 @@ fn decide_edit<'a>(k: Counts, places: &'a [u32], items: &'a [u32], h: Header, e:
     refusing(refusal)
 }
 
-fn decide<'a>(k: Counts, places: &'a [u32], items: &'a [u32], m: Message) -> Decision
-    requires { ⌜ (inRange m ≡ true) × Ready k (now places) (now items) ⌝ }
-    ensures { λ r. ⌜ r ≡ decided k (now (places .entry)) (now (items .entry)) m ⌝ }
+fn decide<'a>(
+    k: Counts,
+    places: &'a [u32],
+    items: &'a [u32],
+    m: Message,
+    later: &mut [u32; 64],
+) -> Decision
+    requires { ⌜ (inRange m ≡ true) × (Ready k (now places) (now items) × (now later ≡ replicate maxPending 0)) ⌝ }
+    ensures { λ r. ⌜ Decided (decided k (now (places .entry)) (now (items .entry)) m) (stays k (now (places .entry)) (now (items .entry)) m) (now (later .exit)) r ⌝ }
 {
     match m {
-        Message::Insert(h, p, x, r) => decide_edit(k, places, items, h, Edit::Insert(p, x, r)),
-        Message::Delete(h, p) => decide_edit(k, places, items, h, Edit::Delete(p)),
-        Message::Nothing(h) => decide_edit(k, places, items, h, Edit::Nothing),
-        Message::Ack(l, d, s) => decide_ack(k, places, items, l, d, s),
+        Message::Insert(h, p, x, r) => {
+            decide_edit(k, places, items, h, Edit::Insert(p, x, r), later)
+        }
+        Message::Delete(h, p) => decide_edit(k, places, items, h, Edit::Delete(p), later),
+        Message::Nothing(h) => decide_edit(k, places, items, h, Edit::Nothing, later),
+        Message::Ack(l, d, s) => decide_ack(k, places, items, l, d, s, later),
     }
 }
 
@@ -234,30 +241,55 @@ fn keep(words: &mut [u32; 512], n: usize, at: usize, made: [u16; 8], acked: [u16
     }
 }
 
-// The counts of what was made for each line, with one more for those lines.
-fn raised(n: usize, at: usize, k: Counts) -> [u16; 8]
-    requires { ⌜ (n ≤ 8) × Few n (k .made) ⌝ }
-    ensures { λ r. ⌜ Raised n at (k .made) r ⌝ }
+// One more is made for each of those lines.
+fn raise(made: &mut [u16; 8], n: usize, at: usize)
+    requires { ⌜ (n ≤ 8) × ((length (now made) ≡ 8) × Few n (now made)) ⌝ }
+    ensures { λ r. ⌜ Raised n at (now (made .entry)) (now (made .exit)) ⌝ }
 {
-    let made = k.made;
-    let mut more = made;
     for i in 0..n {
         if at == i {
             continue;
         }
-        more[i] = made[i] + 1;
+        made[i] = made[i] + 1;
     }
-    more
 }
 
-// Of the places, or of the items: the line at a place gets its own, and the first n others keep one more.
-fn write(words: &mut [u32; 512], part: &[u32], k: Counts, at: usize, n: usize, word: u32)
+// Of the places: the line at a place gets its own, and the first n others keep one more.
+fn write_places(words: &mut [u32; 512], part: &[u32], k: Counts, at: usize, n: usize, word: u32)
     requires { ⌜ ((at < 8) × ((length (now part) ≡ maxPending) × (512 ≤ length (now words)))) × ((n ≤ 8) × Roomy n at (k .made) (k .acked)) ⌝ }
     ensures { λ r. ⌜ Written n at (k .made) (k .acked) word (now (part .entry)) (now (words .entry)) (now (words .exit)) ⌝ }
 {
     let made = k.made;
     let acked = k.acked;
     put(words, at, part);
+    keep(words, n, at, made, acked, word);
+}
+
+// The line at a place loses the first gone of its gone + count numbers. Where none are gone nothing moves.
+fn forget(words: &mut [u32; 512], at: usize, gone: usize, count: usize)
+    requires { ⌜ (at < 8) × ((512 ≤ length (now words)) × ((gone + count ≤ maxPending) × Filled (maxPending * at) (gone + count) (now words))) ⌝ }
+    ensures { λ r. ⌜ Replaced at (staying (maxPending * at) gone count (now (words .entry))) (now (words .entry)) (now (words .exit)) ⌝ }
+{
+    if gone == 0 {
+        return;
+    }
+    let part = pending::acked(words, 64 * at + gone, count);
+    put(words, at, &part);
+}
+
+// Of the items, which no transformation changes: the line at a place forgets those up to seen, and the first n others keep one more.
+fn write_items(words: &mut [u32; 512], k: Counts, at: usize, seen: u16, n: usize, word: u32)
+    requires { ⌜ ((at < 8) × ((512 ≤ length (now words)) × Seen k at seen (now words))) × ((n ≤ 8) × Roomy n at (k .made) (k .acked)) ⌝ }
+    ensures { λ r. ⌜ Written n at (k .made) (k .acked) word (stayingAt k at seen (now (words .entry))) (now (words .entry)) (now (words .exit)) ⌝ }
+{
+    let made = k.made;
+    let acked = k.acked;
+    forget(
+        words,
+        at,
+        (seen - acked[at]) as usize,
+        (made[at] - seen) as usize,
+    );
     keep(words, n, at, made, acked, word);
 }
 
@@ -277,32 +309,41 @@ impl Server {
     pub fn take(mut self, bytes: &[u8]) -> Answer
         ensures { λ r. ⌜ r ≡ takes self (now (bytes .entry)) ⌝ }
     {
-        let k = Counts {
-            n: self.n,
-            initial: self.initial,
-            len: self.len,
-            made: self.made,
-            taken: self.taken,
-            acked: self.acked,
-            inserts: self.inserts,
-        };
-        if is_sound(k, &self.items, &self.pending_places, &self.pending_items) {
+        if is_sound(
+            self.n,
+            self.initial,
+            self.len,
+            &self.made,
+            &self.taken,
+            &self.acked,
+            &self.inserts,
+            &self.items,
+            &self.pending_places,
+            &self.pending_items,
+        ) {
             let Read::Message(m) = wire::parse(bytes) else {
                 return self.refuse(3);
             };
-            let d = decide(k, &self.pending_places, &self.pending_items, m);
+            let k = Counts {
+                n: self.n,
+                initial: self.initial,
+                len: self.len,
+                made: self.made,
+                taken: self.taken,
+                acked: self.acked,
+                inserts: self.inserts,
+            };
+            let mut later = [0u32; 64];
+            let d = decide(k, &self.pending_places, &self.pending_items, m, &mut later);
             if d.refusal == 0 {
                 let i = d.at;
                 let e = d.edit;
-                let places = d.places;
-                let items = d.items;
-                let made = raised(d.others, i, k);
                 self.len = ot::apply(&mut self.items, k.len, e);
                 let place = pending::place_of(e);
-                write(&mut self.pending_places, &places, k, i, d.others, place);
+                write_places(&mut self.pending_places, &later, k, i, d.others, place);
                 let item = pending::item_of(e);
-                write(&mut self.pending_items, &items, k, i, d.others, item);
-                self.made = made;
+                write_items(&mut self.pending_items, k, i, d.acked, d.others, item);
+                raise(&mut self.made, d.others, i);
                 self.taken[i] = d.taken;
                 self.acked[i] = d.acked;
                 self.inserts[i] = d.inserts;
