@@ -26,12 +26,14 @@ use Rattle.pending.proofs.Slots.{edits-at}
 use Rattle.endpoint.specs.Items.{initialItems}
 use Rattle.endpoint.specs.Sending.{answered as sentAs, finished}
 use Rattle.server.specs.declared.Server.{Server}
-use Rattle.server.specs.View.{countsOf, pendingCount, view, store, fresh}
+use Rattle.lines.specs.Lines.{pendingCount}
+use Rattle.server.specs.View.{countsOf, view, store, fresh}
 use Rattle.server.specs.Sound.{soundStruct, Sound}
-use Rattle.server.specs.Calls.{answered, opened, sends, tells, sendAsked, messageAt}
+use Rattle.lines.specs.Sending.{sendAsked, messageAt}
+use Rattle.server.specs.Calls.{answered, opened, sends, tells}
 use Rattle.server.proofs.Rows.{Row, store-is}
 use Rattle.server.proofs.Whole.{line, means, line-of}
-use Rattle.server.proofs.Asked.{asks-yes, asks-no, send-here}
+use Rattle.lines.proofs.Asked.{asks-yes, asks-no, send-here}
 
 -- ---- opening
 

@@ -17,9 +17,11 @@ use Rattle.model.proofs.Tests.{both, and-left, and-right, hold, held}
 use Rattle.pending.specs.Slots.{editsFrom, allFrom, tidyAt, emptyAt, soundTests, soundSlots}
 use Rattle.pending.proofs.Slots.{edits-length}
 use Rattle.pending.proofs.Tests.{all-each, each-all}
-use Rattle.server.specs.declared.Counts.{Counts}
-use Rattle.server.specs.View.{pendingCount, lineAt, linesFrom, sumFrom}
-use Rattle.server.specs.Sound.{countsAt, slotsAt, tidyLine, zeroLine}
+use Rattle.lines.specs.declared.Counts.{Counts}
+use Rattle.lines.specs.Lines.{pendingCount, sumFrom}
+use Rattle.server.specs.View.{lineAt, linesFrom}
+use Rattle.lines.specs.Lines.{countsAt, slotsAt}
+use Rattle.server.specs.Sound.{tidyLine, zeroLine}
 
 -- ---- tests of the first places
 

@@ -20,32 +20,6 @@ use Rattle.server.specs.declared.Server.{Server}
 use Rattle.server.specs.View.{slotsOf, allLines, store}
 use Rattle.server.specs.Sound.{Sized}
 
--- ---- the 64 numbers of a line
-
--- a number written into one line leaves the others as they were
-pub stretch-other : (j i k : ℕ) (ws : List ℕ) (v : ℕ) → k < maxPending → (j ≡ i → ⊥)
-    → stretch (maxPending * j) (set ws (maxPending * i + k) v) ≡ stretch (maxPending * j) ws
-stretch-other j i k ws v h n = go (ltb j i) refl
-  where
-    go : (b : Bool) → ltb j i ≡ b → stretch (maxPending * j) (set ws (maxPending * i + k) v) ≡ stretch (maxPending * j) ws
-    go true t =
-        let lt : j < i = ltb-true j i t in
-        let e : maxPending * i + k ≡ maxPending * j + (maxPending * i + k - maxPending * j) = omega arith in
-        ap (λ (p : ℕ). stretch (maxPending * j) (set ws p v)) e
-        ∙ ap (take maxPending) (drop-set-add (maxPending * j) ws (maxPending * i + k - maxPending * j) v)
-        ∙ take-set-le maxPending (drop (maxPending * j) ws) (maxPending * i + k - maxPending * j) v (omega arith)
-    go false f =
-        let le : i ≤ j = ltb-false j i f in
-        let lt : i < j = apart le in
-        ap (take maxPending) (drop-set-lt (maxPending * j) ws (maxPending * i + k) v (omega arith))
-      where
-        apart : i ≤ j → i < j
-        apart le = go′ (ltb i j) refl
-          where
-            go′ : (b : Bool) → ltb i j ≡ b → i < j
-            go′ true t = ltb-true i j t
-            go′ false g = let ge : j ≤ i = ltb-false i j g in absurd (n (omega arith))
-
 -- ---- the slots of some lines one after the other
 
 module _ (word : Edit → ℕ) where

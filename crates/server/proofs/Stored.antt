@@ -23,7 +23,8 @@ use Rattle.pending.proofs.Slot.{other-ranks}
 use Rattle.pending.proofs.Tests.{filled-edits, filled-tidy, filled-empty}
 use Rattle.endpoint.specs.Items.{allZero}
 use Rattle.server.specs.declared.Server.{Server}
-use Rattle.server.specs.View.{countsOf, pendingCount, lineAt, linesFrom, view, store}
+use Rattle.lines.specs.Lines.{pendingCount}
+use Rattle.server.specs.View.{countsOf, lineAt, linesFrom, view, store}
 use Rattle.server.specs.Sound.{tidyLine, zeroLine, structTests, soundStruct}
 use Rattle.server.proofs.Rows.{Row, store-row}
 use Rattle.server.proofs.Places.{first-each, last-each, lines-length, line-used}

@@ -22,8 +22,10 @@ use Rattle.pending.proofs.Tests.{sound-kept}
 use Rattle.endpoint.specs.Items.{allZero}
 use Rattle.endpoint.proofs.Items.{stored-of}
 use Rattle.server.specs.declared.Server.{Server}
-use Rattle.server.specs.View.{countsOf, pendingCount, lineAt, linesFrom, sumFrom, view, store}
-use Rattle.server.specs.Sound.{countsAt, slotsAt, zeroLine, structTests, soundStruct, AllKept, Sized, Sound}
+use Rattle.lines.specs.Lines.{pendingCount, sumFrom}
+use Rattle.server.specs.View.{countsOf, lineAt, linesFrom, view, store}
+use Rattle.lines.specs.Lines.{countsAt, slotsAt, AllKept}
+use Rattle.server.specs.Sound.{zeroLine, structTests, soundStruct, Sized, Sound}
 use Rattle.server.proofs.Rows.{Row, store-is}
 use Rattle.server.proofs.Places.{each-first, each-last, lines-length, line-used, line-unused, total-is, places-yes, yes-places}
 
@@ -47,9 +49,6 @@ codeTests s =
     ∷ allFrom (countsAt (countsOf s) (sumFrom (s .taken) 0 (s .n))) 0 8
     ∷ allFrom (slotsAt (countsOf s) (s .«pending_places») (s .«pending_items»)) 0 8
     ∷ []
-
-pub never : {A : Type 0} → false ≡ true → A
-never e = absurd (let z : _≡_ {A = ℕ} 0 1 = cc in omega arith)
 
 pub limits-few : (n initial len : ℕ) → (((leb 1 n && leb n 8) && leb initial 128) && leb len 512) ≡ true → n ≤ 8
 limits-few n initial len t =

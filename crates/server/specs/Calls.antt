@@ -7,11 +7,6 @@ use lib.Dec.{ltb, leb, eqb}
 use lib.ListN.{getD}
 use Rattle.model.specs.Questions as model
 use Rattle.model.specs.Server as end
-use Rattle.wire.specs.declared.Message.{Message}
-use Rattle.wire.specs.Message.{messageOf}
-use Rattle.model.specs.Limits.{maxPending}
-use Rattle.pending.specs.Slots.{editAt}
-use Rattle.server.specs.declared.Counts.{Counts}
 use Rattle.server.specs.declared.Server.{Server}
 use Rattle.server.specs.declared.Answer.{Answer}
 use Rattle.server.specs.View.{view, store}
@@ -37,16 +32,3 @@ tells s line lent = cond (soundStruct s) (end.tellServer (view s) line lent) (mo
 
 unfoldable pub takes : Server → List ℕ → Answer
 takes s bytes = cond (soundStruct s) (answered s (end.takeServer (view s) bytes)) (refused s 2)
-
--- questions 4 and 13 of sending number k, by the counts
-abbrev pub sendAsked : Counts → ℕ → ℕ → List model.Question
-sendAsked c line k =
-    model.ask 4 (model.between 1 (c .n) line)
-    ∷ model.ask 13 (ltb (getD (c .acked) (line - 1) 0) k && leb k (getD (c .made) (line - 1) 0))
-    ∷ []
-
--- its message
-abbrev pub messageAt : Counts → List ℕ → List ℕ → ℕ → ℕ → Message
-messageAt c ps xs line k =
-    messageOf (record { line = line; direction = 1; number = k; seen = getD (c .taken) (line - 1) 0 })
-    (editAt ps xs (maxPending * (line - 1) + (k - 1 - getD (c .acked) (line - 1) 0)))

@@ -1,4 +1,3 @@
 pub mod View
 pub mod Sound
 pub mod Calls
-pub mod Taking

@@ -11,28 +11,10 @@ use Rattle.model.specs.Client.{other}
 use Rattle.model.specs.Server.{soundServer}
 use Rattle.pending.specs.Slots.{allFrom, tidyAt, emptyAt, soundSlots, Kept}
 use Rattle.endpoint.specs.Items.{allZero}
-use Rattle.server.specs.declared.Counts.{Counts}
+use Rattle.lines.specs.declared.Counts.{Counts}
+use Rattle.lines.specs.Lines.{countsZero, pendingCount, AllKept}
 use Rattle.server.specs.declared.Server.{Server}
-use Rattle.server.specs.View.{countsOf, serverOf, pendingCount, view, store}
-
--- question 2 about the counts of a line, in use and not in use
-abbrev pub countsSound : ℕ → ℕ → ℕ → ℕ → ℕ → Bool
-countsSound sum made taken acked inserts =
-    every (leb taken maxEdits ∷ eqb made (sum - taken) ∷ leb acked made ∷ leb inserts maxInserts ∷ leb inserts taken ∷ [])
-
-abbrev pub countsZero : ℕ → ℕ → ℕ → ℕ → Bool
-countsZero made taken acked inserts = every (eqb made 0 ∷ eqb taken 0 ∷ eqb acked 0 ∷ eqb inserts 0 ∷ [])
-
--- the counts at place i, counted from 0: one of the first n holds a line in use
-abbrev pub countsAt : Counts → ℕ → ℕ → Bool
-countsAt k sum i =
-    cond (ltb i (k .n))
-    (countsSound sum (getD (k .made) i 0) (getD (k .taken) i 0) (getD (k .acked) i 0) (getD (k .inserts) i 0))
-    (countsZero (getD (k .made) i 0) (getD (k .taken) i 0) (getD (k .acked) i 0) (getD (k .inserts) i 0))
-
--- the slots at place i
-abbrev pub slotsAt : Counts → List ℕ → List ℕ → ℕ → Bool
-slotsAt k ps xs i = soundSlots (other (k .n) (i + 1)) (maxPending * i) (pendingCount k i) ps xs
+use Rattle.server.specs.View.{countsOf, serverOf, view, store}
 
 -- the line at place i is in use: its slots have no bits that mean nothing
 abbrev pub tidyLine : Counts → List ℕ → List ℕ → ℕ → Bool
@@ -58,10 +40,6 @@ structTests s =
 
 unfoldable pub soundStruct : Server → Bool
 soundStruct s = every (structTests s)
-
--- every line's slots are those of its pending edits
-abbrev pub AllKept : Counts → List ℕ → List ℕ → Type 0
-AllKept k ps xs = (i : ℕ) → i < maxLines → Kept (maxPending * i) (pendingCount k i) ps xs
 
 -- its arrays have their lengths
 pub record Sized (s : Server) : Type 0 where

@@ -8,11 +8,8 @@ use Rattle.model.specs.Limits.{maxLines, maxPending, maxItems}
 use Rattle.model.specs.Server as model
 use Rattle.pending.specs.Slots.{placeOf, itemOf, editsFrom, filled}
 use Rattle.server.specs.declared.Server.{Server}
-use Rattle.server.specs.declared.Counts.{Counts}
-
-abbrev pub counts : ℕ → ℕ → ℕ → List ℕ → List ℕ → List ℕ → List ℕ → Counts
-counts n initial len made taken acked inserts =
-    record { n = n; initial = initial; len = len; made = made; taken = taken; acked = acked; inserts = inserts }
+use Rattle.lines.specs.declared.Counts.{Counts}
+use Rattle.lines.specs.Lines.{counts, pendingCount}
 
 abbrev pub countsOf : Server → Counts
 countsOf s = counts (s .n) (s .initial) (s .len) (s .made) (s .taken) (s .acked) (s .inserts)
@@ -33,10 +30,6 @@ serverOf k items ps xs =
       «pending_items» = xs;
     }
 
--- how many edits are pending at place i
-abbrev pub pendingCount : Counts → ℕ → ℕ
-pendingCount k i = getD (k .made) i 0 - getD (k .acked) i 0
-
 -- The line at place i, counted from 0. Its pending edits stand in the first slots of its 64.
 abbrev pub lineAt : Counts → List ℕ → List ℕ → ℕ → model.Line
 lineAt k ps xs i =
@@ -52,11 +45,6 @@ lineAt k ps xs i =
 unfoldable pub linesFrom : Counts → List ℕ → List ℕ → ℕ → ℕ → List model.Line
 linesFrom k ps xs i zero = []
 linesFrom k ps xs i (suc count) = lineAt k ps xs i ∷ linesFrom k ps xs (suc i) count
-
--- so many numbers together, the first of them at place i
-unfoldable pub sumFrom : List ℕ → ℕ → ℕ → ℕ
-sumFrom ws i zero = 0
-sumFrom ws i (suc count) = getD ws i 0 + sumFrom ws (suc i) count
 
 -- the items stand in the first len places, lines 1 to n in the first n
 unfoldable pub view : Server → model.Server

@@ -1,46 +1,13 @@
 // Sending: a pending edit, or an acknowledgement.
 ghost use mathlib.Core.Path.{_≡_};
 ghost use Rattle.endpoint.specs.Sending.{answered as sentAs};
-ghost use Prim.Native.Nat.{_≤_};
-ghost use Rattle.model.specs.Questions.{asks};
-ghost use Rattle.server.specs.Calls.{sends, tells, sendAsked, messageAt};
-use crate::Counts;
+ghost use Rattle.server.specs.Calls.{sends, tells};
 use crate::Server;
 use crate::is_sound;
 use endpoint::Sent;
-use wire::Header;
+use lines::Counts;
+use lines::sending;
 use wire::Message;
-
-// Questions 4 and 13.
-fn ask_send(c: Counts, line: u8, k: u16) -> u8
-    requires { ⌜ c .n ≤ 8 ⌝ }
-    ensures { λ r. ⌜ r ≡ asks (sendAsked c line k) ⌝ }
-{
-    if (1 <= line) & (line <= c.n) {
-        let i = (line - 1) as usize;
-        if (c.acked[i] < k) & (k <= c.made[i]) {
-            return 0;
-        }
-        return 13;
-    }
-    4
-}
-
-// The message of number k of the pending edits of a line.
-fn message<'a>(c: Counts, places: &'a [u32], items: &'a [u32], line: u8, k: u16) -> Message
-    requires { ⌜ (c .n ≤ 8) × (asks (sendAsked c line k) ≡ 0) ⌝ }
-    ensures { λ r. ⌜ r ≡ messageAt c (now (places .entry)) (now (items .entry)) line k ⌝ }
-{
-    let i = (line - 1) as usize;
-    let at = 64 * i + (k - 1 - c.acked[i]) as usize;
-    let h = Header {
-        line,
-        direction: 1,
-        number: k,
-        seen: c.taken[i],
-    };
-    wire::of_edit(h, pending::at(places, items, at))
-}
 
 impl Server {
     // Number k of the pending edits of a line, in its present form.
@@ -68,9 +35,9 @@ impl Server {
             &self.pending_places,
             &self.pending_items,
         ) {
-            let refusal = ask_send(c, line, k);
+            let refusal = sending::ask_send(c, line, k);
             if refusal == 0 {
-                let m = message(c, &self.pending_places, &self.pending_items, line, k);
+                let m = sending::message(c, &self.pending_places, &self.pending_items, line, k);
                 return endpoint::finish(0, m, out);
             }
             return Sent {

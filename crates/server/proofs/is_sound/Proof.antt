@@ -3,9 +3,11 @@ use native.Mathlib.Omega.{arith}
 use mathlib.Core.Path.{ap, sym, _∙_}
 use Prim.Native.Nat.{ℕ, _+_}
 use denote.Ref.{now}
-use Rattle.server.specs.View.{counts, serverOf}
+use Rattle.lines.specs.Lines.{counts}
+use Rattle.server.specs.View.{serverOf}
 use Rattle.server.specs.Sound.{Sized}
-use Rattle.server.proofs.Whole.{limits-few, never, sound-no, sound-yes, struct-whole}
+use Rattle.lines.proofs.Writing.{never}
+use Rattle.server.proofs.Whole.{limits-few, sound-no, sound-yes, struct-whole}
 use borrow.Author.Needs.{needs}
 use Rattle.server.proofs.is_sound.Statement.{statement}
 use Rattle.server.proofs.is_sound.Tie as tie

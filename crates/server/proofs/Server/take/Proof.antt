@@ -5,7 +5,7 @@ use native.Mathlib.Omega.{arith}
 use Prim.Native.Nat.{ℕ}
 use Rattle.model.specs.Server as model
 use Rattle.server.specs.View.{countsOf, view}
-use Rattle.server.specs.Taking.{stays, stayingAt, Written}
+use Rattle.lines.specs.Taking.{stays, stayingAt, Written}
 use Rattle.server.proofs.Deciding.{ready}
 use Rattle.server.proofs.Taken.{written, written-at, written-few, written-made, later-length, take-unsound, take-unread, take-ranged, take-refused, take-decides, take-done}
 use borrow.Author.Needs.{needs}

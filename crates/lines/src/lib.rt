@@ -1,0 +1,144 @@
+// The lines of the server, each with its counts and its pending edits: question 2 about them, and what a message makes of one of them
+// and of the others. The server's end lends its arrays.
+pub mod sending;
+pub mod taking;
+
+ghost use mathlib.Core.Path.{_≡_};
+ghost use mathlib.Core.Bool.{cond};
+ghost use mathlib.Core.List.{[]};
+ghost use Prim.Native.Nat.{_+_, _-_, _≤_};
+ghost use lib.ListN.{length};
+ghost use Rattle.pending.specs.Slots.{allFrom};
+ghost use Rattle.lines.specs.Lines.{counts, sumFrom, countsSound, countsZero, countsAt, slotsAt};
+
+// The small part of an end. Functions that only ask get it and lent arrays, since an end by value is copied at each call.
+pub struct Counts {
+    pub n: u8,
+    pub initial: u16,
+    pub len: u16,
+    pub made: [u16; 8],
+    pub taken: [u16; 8],
+    pub acked: [u16; 8],
+    pub inserts: [u16; 8],
+}
+
+impl Counts {
+    // The limits of a line, by name.
+    pub const INSERTS: u16 = 48;
+
+    pub const EDITS: u16 = 400;
+
+    pub const PENDING: u16 = 64;
+}
+
+// ---- question 2: every test is made whatever the others find, so that no loop has a branch
+
+// A count, in a type that the sum of eight fits.
+fn wide(x: u16) -> u32
+    ensures { λ r. ⌜ (r ≡ x) × (r ≤ 65535) ⌝ }
+{
+    x as u32
+}
+
+// How many edits of a line are pending: 0 where acked is the larger.
+fn less(made: u16, acked: u16) -> u16
+    ensures { λ r. ⌜ r ≡ made - acked ⌝ }
+{
+    if acked < made { made - acked } else { 0 }
+}
+
+// 0 where b is the larger.
+fn minus(a: u32, b: u32) -> u32
+    ensures { λ r. ⌜ r ≡ a - b ⌝ }
+{
+    if b < a { a - b } else { 0 }
+}
+
+// The first n of eight counts together.
+pub fn sum(n: usize, xs: &[u16]) -> u32
+    requires { ⌜ (n ≤ 8) × (length (now xs) ≡ 8) ⌝ }
+    ensures { λ r. ⌜ (r ≡ sumFrom (now (xs .entry)) 0 n) × (r ≤ 524280) ⌝ }
+{
+    let mut s: u32 = 0;
+    for i in 0..n {
+        s += wide(xs[i]);
+    }
+    s
+}
+
+// The counts of a line in use, where all lines together took total edits.
+fn counts_sound(total: u32, made: u16, taken: u16, acked: u16, inserts: u16) -> bool
+    ensures { λ r. ⌜ r ≡ countsSound total made taken acked inserts ⌝ }
+{
+    let others = minus(total, taken as u32);
+    (taken <= Counts::EDITS)
+        & (made as u32 == others)
+        & (acked <= made)
+        & (inserts <= Counts::INSERTS)
+        & (inserts <= taken)
+}
+
+// The counts of a line that is not in use.
+fn counts_zero(made: u16, taken: u16, acked: u16, inserts: u16) -> bool
+    ensures { λ r. ⌜ r ≡ countsZero made taken acked inserts ⌝ }
+{
+    (made == 0) & (taken == 0) & (acked == 0) & (inserts == 0)
+}
+
+// The one or the other, without a branch where it is called.
+fn pick(first: bool, a: bool, b: bool) -> bool
+    ensures { λ r. ⌜ r ≡ cond first a b ⌝ }
+{
+    if first { a } else { b }
+}
+
+// The counts of a place, used or not.
+fn place_sound(used: bool, total: u32, made: u16, taken: u16, acked: u16, inserts: u16) -> bool
+    ensures { λ r. ⌜ r ≡ cond used (countsSound total made taken acked inserts) (countsZero made taken acked inserts) ⌝ }
+{
+    pick(
+        used,
+        counts_sound(total, made, taken, acked, inserts),
+        counts_zero(made, taken, acked, inserts),
+    )
+}
+
+// The counts of all places: one of the first n holds a line in use.
+pub fn places_sound<'a>(
+    n: u8,
+    made: &'a [u16],
+    taken: &'a [u16],
+    acked: &'a [u16],
+    inserts: &'a [u16],
+    total: u32,
+) -> bool
+    requires { ⌜ (length (now made) ≡ 8) × ((length (now taken) ≡ 8) × ((length (now acked) ≡ 8) × (length (now inserts) ≡ 8))) ⌝ }
+    ensures { λ r. ⌜ r ≡ allFrom (countsAt (counts n 0 0 (now (made .entry)) (now (taken .entry)) (now (acked .entry)) (now (inserts .entry))) total) 0 8 ⌝ }
+{
+    let mut well = true;
+    for i in 0..8 {
+        let used = i < n as usize;
+        well = well & place_sound(used, total, made[i], taken[i], acked[i], inserts[i]);
+    }
+    well
+}
+
+// The slots of all places. Of a line that is not in use the counts are 0, so that its pending edits are tested as none.
+pub fn slots_sound<'a>(
+    n: u8,
+    made: &'a [u16],
+    acked: &'a [u16],
+    places: &'a [u32],
+    items: &'a [u32],
+) -> bool
+    requires { ⌜ ((length (now made) ≡ 8) × (length (now acked) ≡ 8)) × ((512 ≤ length (now places)) × (512 ≤ length (now items))) ⌝ }
+    ensures { λ r. ⌜ r ≡ allFrom (slotsAt (counts n 0 0 (now (made .entry)) [] (now (acked .entry)) []) (now (places .entry)) (now (items .entry))) 0 8 ⌝ }
+{
+    let mut well = true;
+    for i in 0..8 {
+        let count = less(made[i], acked[i]) as usize;
+        let line = i as u8 + 1;
+        well = well & pending::sound(places, items, 64 * i, count, n, line, false);
+    }
+    well
+}
