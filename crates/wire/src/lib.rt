@@ -1,11 +1,10 @@
 // Messages between a client and the server, and their bytes.
 ghost use mathlib.Core.Path.{_≡_};
-ghost use mathlib.Core.List.{_∷_};
-ghost use Prim.Native.Nat.{_<_, _≤_};
-ghost use lib.ListN.{length, getD};
-ghost use lib.Seq.{sets};
+ghost use mathlib.Core.List.{[], _∷_, _++_};
+ghost use Prim.Native.Nat.{_<_};
+ghost use lib.ListN.{length, getD, take};
 ghost use Rattle.wire.specs.Message.{messageOf, headerInRange, inRange};
-ghost use Rattle.wire.specs.Bytes.{header, bytesOf, sizeOfKind, twoAt, fourAt, headerAt, fieldsOf, parsed, Written};
+ghost use Rattle.wire.specs.Bytes.{two, four, header, bytesOf, sizeOfKind, twoAt, fourAt, headerAt, fieldsOf, parsed, Written};
 use ot::Edit;
 
 // What every edit message begins with. Direction 0 goes up to the server, 1 down to a client.
@@ -164,81 +163,64 @@ pub fn size(m: Message) -> usize
     }
 }
 
-// The first seven bytes of an edit message, high byte first.
-fn put_header(out: &mut [u8], kind: u8, h: Header)
-    requires { ⌜ 7 ≤ length (now out) ⌝ }
-    ensures { λ _. ⌜ now (out .exit) ≡ sets (now (out .entry)) 0 (kind ∷ header h) ⌝ }
+// All that a message can hold, in its places: a kind that has less takes only the first of these bytes.
+fn pack(kind: u8, h: Header, p: u16, x: u32, r: u8) -> [u8; 14]
+    ensures { λ b. ⌜ b ≡ kind ∷ header h ++ two p ++ four x ++ (r ∷ []) ⌝ }
 {
-    out[0] = kind;
-    out[1] = h.line;
-    out[2] = h.direction;
-    out[3] = (h.number / 256) as u8;
-    out[4] = (h.number % 256) as u8;
-    out[5] = (h.seen / 256) as u8;
-    out[6] = (h.seen % 256) as u8;
+    [
+        kind,
+        h.line,
+        h.direction,
+        (h.number / 256) as u8,
+        (h.number % 256) as u8,
+        (h.seen / 256) as u8,
+        (h.seen % 256) as u8,
+        (p / 256) as u8,
+        (p % 256) as u8,
+        (x / 65536 / 256) as u8,
+        (x / 65536 % 256) as u8,
+        (x % 65536 / 256) as u8,
+        (x % 65536 % 256) as u8,
+        r,
+    ]
 }
 
-fn write_insert(h: Header, p: u16, x: u32, r: u8, out: &mut [u8]) -> usize
-    ensures { λ n. ⌜ Written (Message.Insert h p x r) (now (out .entry)) n (now (out .exit)) ⌝ }
+// The bytes of a message, with zeros behind them.
+fn bytes(m: Message) -> [u8; 14]
+    ensures { λ b. ⌜ take (length (bytesOf m)) b ≡ bytesOf m ⌝ }
 {
-    if out.len() < 14 {
-        return 0;
+    match m {
+        Message::Insert(h, p, x, r) => pack(1, h, p, x, r),
+        Message::Delete(h, p) => pack(2, h, p, 0, 0),
+        Message::Nothing(h) => pack(3, h, 0, 0, 0),
+        Message::Ack(line, direction, seen) => pack(
+            4,
+            Header {
+                line,
+                direction,
+                number: seen,
+                seen: 0,
+            },
+            0,
+            0,
+            0,
+        ),
     }
-    put_header(out, 1, h);
-    out[7] = (p / 256) as u8;
-    out[8] = (p % 256) as u8;
-    out[9] = (x / 65536 / 256) as u8;
-    out[10] = (x / 65536 % 256) as u8;
-    out[11] = (x % 65536 / 256) as u8;
-    out[12] = (x % 65536 % 256) as u8;
-    out[13] = r;
-    14
-}
-
-fn write_delete(h: Header, p: u16, out: &mut [u8]) -> usize
-    ensures { λ n. ⌜ Written (Message.Delete h p) (now (out .entry)) n (now (out .exit)) ⌝ }
-{
-    if out.len() < 9 {
-        return 0;
-    }
-    put_header(out, 2, h);
-    out[7] = (p / 256) as u8;
-    out[8] = (p % 256) as u8;
-    9
-}
-
-fn write_nothing(h: Header, out: &mut [u8]) -> usize
-    ensures { λ n. ⌜ Written (Message.Nothing h) (now (out .entry)) n (now (out .exit)) ⌝ }
-{
-    if out.len() < 7 {
-        return 0;
-    }
-    put_header(out, 3, h);
-    7
-}
-
-fn write_ack(line: u8, direction: u8, seen: u16, out: &mut [u8]) -> usize
-    ensures { λ n. ⌜ Written (Message.Ack line direction seen) (now (out .entry)) n (now (out .exit)) ⌝ }
-{
-    if out.len() < 5 {
-        return 0;
-    }
-    out[0] = 4;
-    out[1] = line;
-    out[2] = direction;
-    out[3] = (seen / 256) as u8;
-    out[4] = (seen % 256) as u8;
-    5
 }
 
 // The message at the front of the buffer, and its length; a buffer that is too short stays as it is, and the answer is 0.
 pub fn write(m: Message, out: &mut [u8]) -> usize
     ensures { λ n. ⌜ Written m (now (out .entry)) n (now (out .exit)) ⌝ }
 {
-    match m {
-        Message::Insert(h, p, x, r) => write_insert(h, p, x, r, out),
-        Message::Delete(h, p) => write_delete(h, p, out),
-        Message::Nothing(h) => write_nothing(h, out),
-        Message::Ack(l, d, s) => write_ack(l, d, s, out),
+    let n = size(m);
+    if out.len() < n {
+        return 0;
     }
+    let b = bytes(m);
+    let mut i = 0;
+    while i < n {
+        out[i] = b[i];
+        i += 1;
+    }
+    n
 }
