@@ -1,9 +1,10 @@
 // Messages between a client and the server, and their bytes.
 ghost use mathlib.Core.Path.{_≡_};
+ghost use mathlib.Core.Bool.{_&&_};
 ghost use mathlib.Core.List.{[], _∷_, _++_};
 ghost use Prim.Native.Nat.{_<_};
 ghost use lib.ListN.{length, getD, take};
-ghost use Rattle.wire.specs.Message.{messageOf, headerInRange, inRange};
+ghost use Rattle.wire.specs.Message.{messageOf, between, headerInRange, inRange};
 ghost use Rattle.wire.specs.Bytes.{two, four, header, bytesOf, sizeOfKind, twoAt, fourAt, headerAt, fieldsOf, parsed, Written};
 use ot::Edit;
 
@@ -50,27 +51,25 @@ const MAX_UP: u16 = 400;
 
 const MAX_DOWN: u16 = 2800;
 
-fn header_in_range(h: Header) -> bool
-    ensures { λ r. ⌜ r ≡ headerInRange h ⌝ }
+// The header of an edit message, its position and its priority.
+fn numbers_in_range(h: Header, p: u16, r: u8) -> bool
+    ensures { λ b. ⌜ b ≡ (headerInRange h && between 1 512 p && between 1 8 r) ⌝ }
 {
     let line = (1 <= h.line) & (h.line <= 8);
     let up = (h.direction == 0) & ((1 <= h.number) & (h.number <= MAX_UP) & (h.seen <= MAX_DOWN));
     let down = (h.direction == 1) & ((1 <= h.number) & (h.number <= MAX_DOWN) & (h.seen <= MAX_UP));
-    line & (up | down)
+    (line & (up | down)) & ((1 <= p) & (p <= 512)) & ((1 <= r) & (r <= 8))
 }
 
+// What a kind does not have stands in with a number in range; an acknowledgement counts what it has seen as an edit's header does.
 fn in_range(m: Message) -> bool
     ensures { λ r. ⌜ r ≡ inRange m ⌝ }
 {
     match m {
-        Message::Insert(h, p, _, r) => {
-            header_in_range(h) & ((1 <= p) & (p <= 512)) & ((1 <= r) & (r <= 8))
-        }
-        Message::Delete(h, p) => header_in_range(h) & ((1 <= p) & (p <= 512)),
-        Message::Nothing(h) => header_in_range(h),
-        Message::Ack(l, d, s) => {
-            ((1 <= l) & (l <= 8)) & ((d == 0) & (s <= MAX_DOWN) | (d == 1) & (s <= MAX_UP))
-        }
+        Message::Insert(h, p, _, r) => numbers_in_range(h, p, r),
+        Message::Delete(h, p) => numbers_in_range(h, p, 1),
+        Message::Nothing(h) => numbers_in_range(h, 1, 1),
+        Message::Ack(line, direction, seen) => numbers_in_range(Header { line, direction, number: 1, seen }, 1, 1),
     }
 }
 
@@ -126,11 +125,12 @@ pub fn size_of_kind(kind: u8) -> usize
 fn fields(kind: u8, s: &[u8]) -> Message
     ensures { λ r. ⌜ r ≡ fieldsOf kind (now (s .entry)) ⌝ }
 {
+    let h = header_at(s);
     match kind {
-        1 => Message::Insert(header_at(s), two_at(s, 7), four_at(s, 9), byte_at(s, 13)),
-        2 => Message::Delete(header_at(s), two_at(s, 7)),
-        3 => Message::Nothing(header_at(s)),
-        _ => Message::Ack(byte_at(s, 1), byte_at(s, 2), two_at(s, 3)),
+        1 => Message::Insert(h, two_at(s, 7), four_at(s, 9), byte_at(s, 13)),
+        2 => Message::Delete(h, two_at(s, 7)),
+        3 => Message::Nothing(h),
+        _ => Message::Ack(h.line, h.direction, h.number),
     }
 }
 
