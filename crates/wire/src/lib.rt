@@ -2,7 +2,7 @@
 ghost use mathlib.Core.Path.{_≡_};
 ghost use mathlib.Core.Bool.{_&&_};
 ghost use mathlib.Core.List.{[], _∷_, _++_};
-ghost use Prim.Native.Nat.{_<_};
+ghost use Prim.Native.Nat.{_/_, _%_, _<_};
 ghost use lib.ListN.{length, getD, take};
 ghost use Rattle.wire.specs.Message.{messageOf, between, headerInRange, inRange};
 ghost use Rattle.wire.specs.Bytes.{two, four, header, bytesOf, sizeOfKind, twoAt, fourAt, headerAt, fieldsOf, parsed, Written};
@@ -51,26 +51,20 @@ const MAX_UP: u16 = 400;
 
 const MAX_DOWN: u16 = 2800;
 
-// The header of an edit message, its position and its priority.
-fn numbers_in_range(h: Header, p: u16, r: u8) -> bool
-    ensures { λ b. ⌜ b ≡ (headerInRange h && between 1 512 p && between 1 8 r) ⌝ }
+// The header of an edit message, its position p and its priority r, field by field.
+fn numbers_in_range(line: u8, direction: u8, number: u16, seen: u16, p: u16, r: u8) -> bool
+    ensures { λ b. ⌜ b ≡ (headerInRange (record { line = line; direction = direction; number = number; seen = seen }) && between 1 512 p && between 1 8 r) ⌝ }
 {
-    let line = (1 <= h.line) & (h.line <= 8);
-    let up = (h.direction == 0) & ((1 <= h.number) & (h.number <= MAX_UP) & (h.seen <= MAX_DOWN));
-    let down = (h.direction == 1) & ((1 <= h.number) & (h.number <= MAX_DOWN) & (h.seen <= MAX_UP));
-    (line & (up | down)) & ((1 <= p) & (p <= 512)) & ((1 <= r) & (r <= 8))
-}
-
-// What a kind does not have stands in with a number in range; an acknowledgement counts what it has seen as an edit's header does.
-fn in_range(m: Message) -> bool
-    ensures { λ r. ⌜ r ≡ inRange m ⌝ }
-{
-    match m {
-        Message::Insert(h, p, _, r) => numbers_in_range(h, p, r),
-        Message::Delete(h, p) => numbers_in_range(h, p, 1),
-        Message::Nothing(h) => numbers_in_range(h, 1, 1),
-        Message::Ack(line, direction, seen) => numbers_in_range(Header { line, direction, number: 1, seen }, 1, 1),
-    }
+    let mut up = 1 <= number;
+    up &= number <= MAX_UP;
+    up &= seen <= MAX_DOWN;
+    let mut down = 1 <= number;
+    down &= number <= MAX_DOWN;
+    down &= seen <= MAX_UP;
+    let mut all = (1 <= line) & (line <= 8);
+    all &= (direction == 0) & up | (direction == 1) & down;
+    all &= (1 <= p) & (p <= 512);
+    all & ((1 <= r) & (r <= 8))
 }
 
 // ---- reading
@@ -134,16 +128,36 @@ fn fields(kind: u8, s: &[u8]) -> Message
     }
 }
 
+// Whether they are. A number that a kind does not have is given as 1, which is in every range; an acknowledgement has what it has seen
+// at the place of a number.
+fn in_range(kind: u8, s: &[u8]) -> bool
+    ensures { λ r. ⌜ r ≡ inRange (fieldsOf kind (now (s .entry))) ⌝ }
+{
+    let h = header_at(s);
+    match kind {
+        1 => numbers_in_range(
+            h.line,
+            h.direction,
+            h.number,
+            h.seen,
+            two_at(s, 7),
+            byte_at(s, 13),
+        ),
+        2 => numbers_in_range(h.line, h.direction, h.number, h.seen, two_at(s, 7), 1),
+        3 => numbers_in_range(h.line, h.direction, h.number, h.seen, 1, 1),
+        _ => numbers_in_range(h.line, h.direction, 1, h.number, 1, 1),
+    }
+}
+
 // Exactly one message with every field in its range, or a refusal.
 pub fn parse(s: &[u8]) -> Read
     ensures { λ r. ⌜ r ≡ parsed (now (s .entry)) ⌝ }
 {
     let kind = byte_at(s, 0);
-    let whole = (1 <= s.len()) & (s.len() == size_of_kind(kind));
-    if whole {
-        let m = fields(kind, s);
-        if in_range(m) {
-            return Read::Message(m);
+    let n = s.len();
+    if (1 <= n) & (n == size_of_kind(kind)) {
+        if in_range(kind, s) {
+            return Read::Message(fields(kind, s));
         }
     }
     Read::Refused
@@ -163,24 +177,38 @@ pub fn size(m: Message) -> usize
     }
 }
 
+fn high(n: u16) -> u8
+    ensures { λ r. ⌜ r ≡ n / 256 ⌝ }
+{
+    (n / 256) as u8
+}
+
+fn low(n: u16) -> u8
+    ensures { λ r. ⌜ r ≡ n % 256 ⌝ }
+{
+    (n % 256) as u8
+}
+
 // All that a message can hold, in its places: a kind that has less takes only the first of these bytes.
 fn pack(kind: u8, h: Header, p: u16, x: u32, r: u8) -> [u8; 14]
     ensures { λ b. ⌜ b ≡ kind ∷ header h ++ two p ++ four x ++ (r ∷ []) ⌝ }
 {
+    let upper = (x / 65536) as u16;
+    let lower = (x % 65536) as u16;
     [
         kind,
         h.line,
         h.direction,
-        (h.number / 256) as u8,
-        (h.number % 256) as u8,
-        (h.seen / 256) as u8,
-        (h.seen % 256) as u8,
-        (p / 256) as u8,
-        (p % 256) as u8,
-        (x / 65536 / 256) as u8,
-        (x / 65536 % 256) as u8,
-        (x % 65536 / 256) as u8,
-        (x % 65536 % 256) as u8,
+        high(h.number),
+        low(h.number),
+        high(h.seen),
+        low(h.seen),
+        high(p),
+        low(p),
+        high(upper),
+        low(upper),
+        high(lower),
+        low(lower),
         r,
     ]
 }
