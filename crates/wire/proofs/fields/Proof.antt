@@ -1,6 +1,7 @@
--- `wire::fields` meets its contract: each kind is a case of the definition.
-use borrow.Author.Tests.{ne-eqb}
+-- `wire::fields` meets its contract: each kind is a law of proofs/Reading.antt.
+use denote.Ref.{now}
 use borrow.Author.Needs.{needs}
+use Rattle.wire.proofs.Reading.{insert-fields, delete-fields, nothing-fields, ack-fields}
 use Rattle.wire.proofs.fields.Statement.{statement}
 use Rattle.wire.proofs.fields.Tie as tie
 
@@ -20,17 +21,17 @@ two-at-requires-2 : tie.Need-two-at-requires-2
 two-at-requires-2 c κs = search needs
 
 returns : tie.Need-returns
-returns c = simp (c .before .before .before .match .keys1, c .before .before .before .before .header-at .ensures, c .before .before .two-at .ensures, c .before .four-at .ensures, c .byte-at .ensures)
+returns c = insert-fields (now (c .before .before .before .before .before .before .args .s)) (c .before .before .before .before .header-at .ensures) (c .before .before .before .match .keys1) (c .before .before .two-at .ensures) (c .before .four-at .ensures) (c .byte-at .ensures)
 
 returns-2 : tie.Need-returns-2
-returns-2 c = simp (c .before .match .keys2, c .before .before .header-at .ensures, c .two-at2 .ensures)
+returns-2 c = delete-fields (now (c .before .before .before .before .args .s)) (c .before .before .header-at .ensures) (c .before .match .keys2) (c .two-at2 .ensures)
 
 returns-3 : tie.Need-returns-3
-returns-3 c = simp (c .match .keys3, c .before .header-at .ensures)
+returns-3 c = nothing-fields (now (c .before .before .before .args .s)) (c .before .header-at .ensures) (c .match .keys3)
 
 returns-4 : tie.Need-returns-4
 returns-4 c = let r = c .match .rest in
-    simp (ne-eqb _ _ (r .0 .0 .1), ne-eqb _ _ (r .0 .1), ne-eqb _ _ (r .1), c .before .header-at .ensures)
+    ack-fields (now (c .before .before .before .args .s)) (c .before .header-at .ensures) (r .0 .0 .1, r .0 .1, r .1)
 
 pub fields-spec : {M : Type 1} → statement M
 fields-spec =

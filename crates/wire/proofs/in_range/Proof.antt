@@ -1,12 +1,8 @@
--- `wire::in_range` meets its contract: a number that a kind does not have is in range, and drops out of the tests.
-use Prim.Native.Nat.{_≤_}
+-- `wire::in_range` meets its contract: each kind is a law of proofs/Reading.antt.
 use native.Mathlib.Omega.{arith}
-use mathlib.Core.Bool.{and-true}
 use denote.Ref.{now}
-use borrow.Author.Tests.{le-leb, ne-eqb}
-use Rattle.wire.specs.Message.{inRange}
-use Rattle.wire.specs.Bytes.{fourAt}
 use borrow.Author.Needs.{needs}
+use Rattle.wire.proofs.Reading.{insert-range, delete-range, nothing-range, ack-range}
 use Rattle.wire.proofs.in_range.Statement.{statement}
 use Rattle.wire.proofs.in_range.Tie as tie
 
@@ -35,23 +31,17 @@ numbers-in-range-requires-4 : tie.Need-numbers-in-range-requires-4
 numbers-in-range-requires-4 c κs = search needs
 
 returns : tie.Need-returns
-unfolding inRange
-returns c = let known = c .before .before .before .before .before .shared-slice-known .given in
-    let fits : fourAt (now (c .before .before .before .before .before .before .args .s)) 9 ≤ 4294967295 = omega (arith, known 9, known 10, known 11, known 12) in
-    simp (c .numbers-in-range .ensures, c .before .before .before .match .keys1, c .before .before .before .before .header-at .ensures, c .before .before .two-at .ensures, c .before .byte-at .ensures, le-leb _ _ fits, and-true)
+returns c = insert-range (now (c .before .before .before .before .before .before .args .s)) (c .before .before .before .before .header-at .ensures) (λ i. omega (arith, c .before .before .before .before .before .shared-slice-known .given i)) (c .before .before .before .match .keys1) (c .before .before .two-at .ensures) (c .before .byte-at .ensures) (c .numbers-in-range .ensures)
 
 returns-2 : tie.Need-returns-2
-unfolding inRange
-returns-2 c = simp (c .numbers-in-range2 .ensures, c .before .before .match .keys2, c .before .before .before .header-at .ensures, c .before .two-at2 .ensures, and-true)
+returns-2 c = delete-range (now (c .before .before .before .before .before .args .s)) (c .before .before .before .header-at .ensures) (c .before .before .match .keys2) (c .before .two-at2 .ensures) (c .numbers-in-range2 .ensures)
 
 returns-3 : tie.Need-returns-3
-unfolding inRange
-returns-3 c = simp (c .numbers-in-range3 .ensures, c .before .match .keys3, c .before .before .header-at .ensures, and-true)
+returns-3 c = nothing-range (now (c .before .before .before .before .args .s)) (c .before .before .header-at .ensures) (c .before .match .keys3) (c .numbers-in-range3 .ensures)
 
 returns-4 : tie.Need-returns-4
-unfolding inRange
 returns-4 c = let r = c .before .match .rest in
-    simp (c .numbers-in-range4 .ensures, ne-eqb _ _ (r .0 .0 .1), ne-eqb _ _ (r .0 .1), ne-eqb _ _ (r .1), c .before .before .header-at .ensures, and-true)
+    ack-range (now (c .before .before .before .before .args .s)) (c .before .before .header-at .ensures) (r .0 .0 .1, r .0 .1, r .1) (c .numbers-in-range4 .ensures)
 
 pub in-range-spec : {M : Type 1} → statement M
 in-range-spec =
