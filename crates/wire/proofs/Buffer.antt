@@ -21,12 +21,12 @@ pub record Copied (b before : List ℕ) (n : ℕ) (out : List ℕ) (i : ℕ) : T
   pub held : n ≤ length b
   pub size : length out ≡ length before
 
-module _ (b before : List ℕ) (n : ℕ) where
+module _ {b before : List ℕ} {n : ℕ} where
   pub copied-start : n ≤ length before → n ≤ length b → Copied b before n before 0
   copied-start h k = record { to = omega arith; bytes = refl; room = h; held = k; size = refl }
 
-  pub copied-turn : (out : List ℕ) (i : ℕ) → i < n → Copied b before n out i → Copied b before n (set out i (getD b i 0)) (i + 1)
-  copied-turn out i h v =
+  pub copied-turn : {out : List ℕ} {i : ℕ} → i < n → Copied b before n out i → Copied b before n (set out i (getD b i 0)) (i + 1)
+  copied-turn {out} {i} h v =
       let e = paste-suc before 0 b i 0 (rw zero-add (omega arith)) (omega arith) in
       record {
         to = omega arith;
@@ -36,13 +36,13 @@ module _ (b before : List ℕ) (n : ℕ) where
         size = length-set out i (getD b i 0) ∙ v .size;
       }
 
-module _ (m : Message) (b before : List ℕ) (n : ℕ) (size : n ≡ length (bytesOf m)) (packed : take (length (bytesOf m)) b ≡ bytesOf m) where
+module _ (m : Message) (b : List ℕ) {n : ℕ} (size : n ≡ length (bytesOf m)) (packed : take (length (bytesOf m)) b ≡ bytesOf m) where
   -- the bytes are all there
   pub enough : n ≤ length b
   enough = omega (arith, ap length packed, length-take (length (bytesOf m)) b)
 
-  pub copied-end : (after : List ℕ) (i : ℕ) → n ≤ i → Copied b before n after i → Written m before n after
-  copied-end after i h v =
+  pub copied-end : {before after : List ℕ} {i : ℕ} → n ≤ i → Copied b before n after i → Written m before n after
+  copied-end {before} {after} {i} h v =
       let fits : length (bytesOf m) ≤ length before = omega arith in
       let e : i ≡ length (bytesOf m) = omega arith in
       let all = subst (λ (j : ℕ). after ≡ take j b ++ drop j before) e (v .bytes) in

@@ -23,10 +23,10 @@ bytes-requires : tie.Need-bytes-requires Inv-loop μ-loop
 bytes-requires c κs = search needs
 
 loop-holds : tie.Need-loop-holds Inv-loop μ-loop
-loop-holds c = copied-start (c .bytes .result) (now (c .before .before .before .before .args .out)) (c .before .before .size .result) (omega arith) (enough (c .before .before .before .before .args .m) _ (now (c .before .before .before .before .args .out)) _ (c .before .before .size .ensures) (c .bytes .ensures))
+loop-holds c = copied-start (omega arith) (enough (c .before .before .before .before .args .m) (c .bytes .result) (c .before .before .size .ensures) (c .bytes .ensures))
 
 array-read-out : tie.Need-array-read-out Inv-loop μ-loop
-array-read-out c = search needs
+array-read-out c = omega arith
 
 slice-write-out : tie.Need-slice-write-out Inv-loop μ-loop
 slice-write-out c = omega arith
@@ -38,13 +38,13 @@ loop-less : tie.Need-loop-less Inv-loop μ-loop
 loop-less c = omega arith
 
 loop-again : tie.Need-loop-again Inv-loop μ-loop
-loop-again c = copied-turn _ _ _ _ _ (omega arith) (c .before .loop .inv)
+loop-again c = copied-turn (omega arith) (c .before .loop .inv)
 
 same-length : tie.Need-same-length Inv-loop μ-loop
 same-length c = c .before .loop .inv .size
 
 returns-2 : tie.Need-returns-2 Inv-loop μ-loop
-returns-2 c = copied-end _ _ _ _ (c .before .before .before .before .size .ensures) (c .before .before .bytes .ensures) _ _ (omega arith) (c .before .loop .inv)
+returns-2 c = copied-end _ _ (c .before .before .before .before .size .ensures) (c .before .before .bytes .ensures) (omega arith) (c .before .loop .inv)
 
 pub write-spec : {M : Type 1} → statement M
 write-spec =
