@@ -81,7 +81,9 @@ fn two_at(s: &[u8], i: usize) -> u16
     requires { ⌜ i < 16 ⌝ }
     ensures { λ r. ⌜ r ≡ twoAt (now (s .entry)) i ⌝ }
 {
-    byte_at(s, i) as u16 * 256 + byte_at(s, i + 1) as u16
+    let first = byte_at(s, i);
+    let second = byte_at(s, i + 1);
+    first as u16 * 256 + second as u16
 }
 
 fn four_at(s: &[u8], i: usize) -> u32
