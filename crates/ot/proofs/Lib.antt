@@ -1,6 +1,7 @@
 pub mod Exchange
 pub mod Fits
 pub mod Keeps
+pub mod Moved
 pub mod Square
 pub mod Sweep
 pub mod Array

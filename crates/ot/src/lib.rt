@@ -43,30 +43,27 @@ fn transform_delete(p: u16, b: Edit) -> Edit
     }
 }
 
-// The form of an insert of x at p with priority r after b.
-fn transform_insert(p: u16, x: u32, r: u8, b: Edit) -> Edit
+// The position after b of an insert at p with priority r; its item plays no part.
+fn insert_moved(p: u16, r: u8, b: Edit) -> u16
     requires { ⌜ p < 65535 ⌝ }
-    ensures { λ r1. ⌜ r1 ≡ transformed (Edit.Insert p x r) b ⌝ }
+    ensures { λ n. ⌜ n ≡ positionOf (transformed (Edit.Insert p 0 r) b) ⌝ }
 {
     match b {
-        Edit::Nothing => Edit::Insert(p, x, r),
+        Edit::Nothing => p,
         Edit::Delete(q) => {
             if p <= q {
-                return Edit::Insert(p, x, r);
+                return p;
             }
-            Edit::Insert(p - 1, x, r)
+            p - 1
         }
         Edit::Insert(q, _, s) => {
             if p < q {
-                return Edit::Insert(p, x, r);
+                return p;
             }
-            if q < p {
-                return Edit::Insert(p + 1, x, r);
+            if (q < p) | (s < r) {
+                return p + 1;
             }
-            if s < r {
-                return Edit::Insert(p + 1, x, r);
-            }
-            Edit::Insert(p, x, r)
+            p
         }
     }
 }
@@ -79,14 +76,8 @@ pub fn transform(a: Edit, b: Edit) -> Edit
     match a {
         Edit::Nothing => Edit::Nothing,
         Edit::Delete(p) => transform_delete(p, b),
-        Edit::Insert(p, x, r) => transform_insert(p, x, r, b),
+        Edit::Insert(p, x, r) => Edit::Insert(insert_moved(p, r, b), x, r),
     }
-}
-
-fn wide(x: u16) -> u32
-    ensures { λ r. ⌜ r ≡ x ⌝ }
-{
-    x as u32
 }
 
 // Whether the position of e fits a list of len items.
@@ -96,7 +87,7 @@ pub fn fit(e: Edit, len: u16) -> bool
     match e {
         Edit::Nothing => true,
         Edit::Delete(p) => (1 <= p) & (p <= len),
-        Edit::Insert(p, _, _) => (1 <= p) & (wide(p) <= wide(len) + 1),
+        Edit::Insert(p, _, _) => (1 <= p) & (p as u32 <= len as u32 + 1),
     }
 }
 
@@ -106,13 +97,8 @@ pub fn enough(e: Edit, len: u16) -> bool
 {
     match e {
         Edit::Nothing => len <= 512,
-        Edit::Delete(_) => {
-            if len == 0 {
-                return true;
-            }
-            len - 1 <= 512
-        }
-        Edit::Insert(_, _, _) => wide(len) + 1 <= 512,
+        Edit::Delete(_) => len <= 513,
+        Edit::Insert(_, _, _) => len < 512,
     }
 }
 

@@ -1,4 +1,5 @@
 pub mod Ranges
 pub mod Buffer
+pub mod Reading
 pub mod Codec
 pub mod Cases

@@ -1,11 +1,11 @@
 // Messages between a client and the server, and their bytes.
 ghost use mathlib.Core.Path.{_≡_};
-ghost use mathlib.Core.List.{_∷_};
-ghost use Prim.Native.Nat.{_<_, _≤_};
-ghost use lib.ListN.{length, getD};
-ghost use lib.Seq.{sets};
-ghost use Rattle.wire.specs.Message.{messageOf, headerInRange, inRange};
-ghost use Rattle.wire.specs.Bytes.{header, bytesOf, sizeOfKind, twoAt, fourAt, headerAt, fieldsOf, parsed, Written};
+ghost use mathlib.Core.Bool.{_&&_};
+ghost use mathlib.Core.List.{[], _∷_, _++_};
+ghost use Prim.Native.Nat.{_/_, _%_, _<_};
+ghost use lib.ListN.{length, getD, take};
+ghost use Rattle.wire.specs.Message.{messageOf, between, headerInRange, inRange};
+ghost use Rattle.wire.specs.Bytes.{two, four, header, bytesOf, sizeOfKind, twoAt, fourAt, headerAt, fieldsOf, parsed, Written};
 use ot::Edit;
 
 // What every edit message begins with. Direction 0 goes up to the server, 1 down to a client.
@@ -51,28 +51,20 @@ const MAX_UP: u16 = 400;
 
 const MAX_DOWN: u16 = 2800;
 
-fn header_in_range(h: Header) -> bool
-    ensures { λ r. ⌜ r ≡ headerInRange h ⌝ }
+// The header of an edit message, its position p and its priority r, field by field.
+fn numbers_in_range(line: u8, direction: u8, number: u16, seen: u16, p: u16, r: u8) -> bool
+    ensures { λ b. ⌜ b ≡ (headerInRange (record { line = line; direction = direction; number = number; seen = seen }) && between 1 512 p && between 1 8 r) ⌝ }
 {
-    let line = (1 <= h.line) & (h.line <= 8);
-    let up = (h.direction == 0) & ((1 <= h.number) & (h.number <= MAX_UP) & (h.seen <= MAX_DOWN));
-    let down = (h.direction == 1) & ((1 <= h.number) & (h.number <= MAX_DOWN) & (h.seen <= MAX_UP));
-    line & (up | down)
-}
-
-fn in_range(m: Message) -> bool
-    ensures { λ r. ⌜ r ≡ inRange m ⌝ }
-{
-    match m {
-        Message::Insert(h, p, _, r) => {
-            header_in_range(h) & ((1 <= p) & (p <= 512)) & ((1 <= r) & (r <= 8))
-        }
-        Message::Delete(h, p) => header_in_range(h) & ((1 <= p) & (p <= 512)),
-        Message::Nothing(h) => header_in_range(h),
-        Message::Ack(l, d, s) => {
-            ((1 <= l) & (l <= 8)) & ((d == 0) & (s <= MAX_DOWN) | (d == 1) & (s <= MAX_UP))
-        }
-    }
+    let mut up = 1 <= number;
+    up &= number <= MAX_UP;
+    up &= seen <= MAX_DOWN;
+    let mut down = 1 <= number;
+    down &= number <= MAX_DOWN;
+    down &= seen <= MAX_UP;
+    let mut all = (1 <= line) & (line <= 8);
+    all &= (direction == 0) & up | (direction == 1) & down;
+    all &= (1 <= p) & (p <= 512);
+    all & ((1 <= r) & (r <= 8))
 }
 
 // ---- reading
@@ -89,7 +81,9 @@ fn two_at(s: &[u8], i: usize) -> u16
     requires { ⌜ i < 16 ⌝ }
     ensures { λ r. ⌜ r ≡ twoAt (now (s .entry)) i ⌝ }
 {
-    byte_at(s, i) as u16 * 256 + byte_at(s, i + 1) as u16
+    let first = byte_at(s, i);
+    let second = byte_at(s, i + 1);
+    first as u16 * 256 + second as u16
 }
 
 fn four_at(s: &[u8], i: usize) -> u32
@@ -127,11 +121,33 @@ pub fn size_of_kind(kind: u8) -> usize
 fn fields(kind: u8, s: &[u8]) -> Message
     ensures { λ r. ⌜ r ≡ fieldsOf kind (now (s .entry)) ⌝ }
 {
+    let h = header_at(s);
     match kind {
-        1 => Message::Insert(header_at(s), two_at(s, 7), four_at(s, 9), byte_at(s, 13)),
-        2 => Message::Delete(header_at(s), two_at(s, 7)),
-        3 => Message::Nothing(header_at(s)),
-        _ => Message::Ack(byte_at(s, 1), byte_at(s, 2), two_at(s, 3)),
+        1 => Message::Insert(h, two_at(s, 7), four_at(s, 9), byte_at(s, 13)),
+        2 => Message::Delete(h, two_at(s, 7)),
+        3 => Message::Nothing(h),
+        _ => Message::Ack(h.line, h.direction, h.number),
+    }
+}
+
+// Whether they are. A number that a kind does not have is given as 1, which is in every range; an acknowledgement has what it has seen
+// at the place of a number.
+fn in_range(kind: u8, s: &[u8]) -> bool
+    ensures { λ r. ⌜ r ≡ inRange (fieldsOf kind (now (s .entry))) ⌝ }
+{
+    let h = header_at(s);
+    match kind {
+        1 => numbers_in_range(
+            h.line,
+            h.direction,
+            h.number,
+            h.seen,
+            two_at(s, 7),
+            byte_at(s, 13),
+        ),
+        2 => numbers_in_range(h.line, h.direction, h.number, h.seen, two_at(s, 7), 1),
+        3 => numbers_in_range(h.line, h.direction, h.number, h.seen, 1, 1),
+        _ => numbers_in_range(h.line, h.direction, 1, h.number, 1, 1),
     }
 }
 
@@ -140,11 +156,10 @@ pub fn parse(s: &[u8]) -> Read
     ensures { λ r. ⌜ r ≡ parsed (now (s .entry)) ⌝ }
 {
     let kind = byte_at(s, 0);
-    let whole = (1 <= s.len()) & (s.len() == size_of_kind(kind));
-    if whole {
-        let m = fields(kind, s);
-        if in_range(m) {
-            return Read::Message(m);
+    let n = s.len();
+    if (1 <= n) & (n == size_of_kind(kind)) {
+        if in_range(kind, s) {
+            return Read::Message(fields(kind, s));
         }
     }
     Read::Refused
@@ -164,81 +179,78 @@ pub fn size(m: Message) -> usize
     }
 }
 
-// The first seven bytes of an edit message, high byte first.
-fn put_header(out: &mut [u8], kind: u8, h: Header)
-    requires { ⌜ 7 ≤ length (now out) ⌝ }
-    ensures { λ _. ⌜ now (out .exit) ≡ sets (now (out .entry)) 0 (kind ∷ header h) ⌝ }
+fn high(n: u16) -> u8
+    ensures { λ r. ⌜ r ≡ n / 256 ⌝ }
 {
-    out[0] = kind;
-    out[1] = h.line;
-    out[2] = h.direction;
-    out[3] = (h.number / 256) as u8;
-    out[4] = (h.number % 256) as u8;
-    out[5] = (h.seen / 256) as u8;
-    out[6] = (h.seen % 256) as u8;
+    (n / 256) as u8
 }
 
-fn write_insert(h: Header, p: u16, x: u32, r: u8, out: &mut [u8]) -> usize
-    ensures { λ n. ⌜ Written (Message.Insert h p x r) (now (out .entry)) n (now (out .exit)) ⌝ }
+fn low(n: u16) -> u8
+    ensures { λ r. ⌜ r ≡ n % 256 ⌝ }
 {
-    if out.len() < 14 {
-        return 0;
-    }
-    put_header(out, 1, h);
-    out[7] = (p / 256) as u8;
-    out[8] = (p % 256) as u8;
-    out[9] = (x / 65536 / 256) as u8;
-    out[10] = (x / 65536 % 256) as u8;
-    out[11] = (x % 65536 / 256) as u8;
-    out[12] = (x % 65536 % 256) as u8;
-    out[13] = r;
-    14
+    (n % 256) as u8
 }
 
-fn write_delete(h: Header, p: u16, out: &mut [u8]) -> usize
-    ensures { λ n. ⌜ Written (Message.Delete h p) (now (out .entry)) n (now (out .exit)) ⌝ }
+// All that a message can hold, in its places: a kind that has less takes only the first of these bytes.
+fn pack(kind: u8, h: Header, p: u16, x: u32, r: u8) -> [u8; 14]
+    ensures { λ b. ⌜ b ≡ kind ∷ header h ++ two p ++ four x ++ (r ∷ []) ⌝ }
 {
-    if out.len() < 9 {
-        return 0;
-    }
-    put_header(out, 2, h);
-    out[7] = (p / 256) as u8;
-    out[8] = (p % 256) as u8;
-    9
+    let upper = (x / 65536) as u16;
+    let lower = (x % 65536) as u16;
+    [
+        kind,
+        h.line,
+        h.direction,
+        high(h.number),
+        low(h.number),
+        high(h.seen),
+        low(h.seen),
+        high(p),
+        low(p),
+        high(upper),
+        low(upper),
+        high(lower),
+        low(lower),
+        r,
+    ]
 }
 
-fn write_nothing(h: Header, out: &mut [u8]) -> usize
-    ensures { λ n. ⌜ Written (Message.Nothing h) (now (out .entry)) n (now (out .exit)) ⌝ }
+// The bytes of a message, with zeros behind them.
+fn bytes(m: Message) -> [u8; 14]
+    ensures { λ b. ⌜ take (length (bytesOf m)) b ≡ bytesOf m ⌝ }
 {
-    if out.len() < 7 {
-        return 0;
+    match m {
+        Message::Insert(h, p, x, r) => pack(1, h, p, x, r),
+        Message::Delete(h, p) => pack(2, h, p, 0, 0),
+        Message::Nothing(h) => pack(3, h, 0, 0, 0),
+        Message::Ack(line, direction, seen) => pack(
+            4,
+            Header {
+                line,
+                direction,
+                number: seen,
+                seen: 0,
+            },
+            0,
+            0,
+            0,
+        ),
     }
-    put_header(out, 3, h);
-    7
-}
-
-fn write_ack(line: u8, direction: u8, seen: u16, out: &mut [u8]) -> usize
-    ensures { λ n. ⌜ Written (Message.Ack line direction seen) (now (out .entry)) n (now (out .exit)) ⌝ }
-{
-    if out.len() < 5 {
-        return 0;
-    }
-    out[0] = 4;
-    out[1] = line;
-    out[2] = direction;
-    out[3] = (seen / 256) as u8;
-    out[4] = (seen % 256) as u8;
-    5
 }
 
 // The message at the front of the buffer, and its length; a buffer that is too short stays as it is, and the answer is 0.
 pub fn write(m: Message, out: &mut [u8]) -> usize
     ensures { λ n. ⌜ Written m (now (out .entry)) n (now (out .exit)) ⌝ }
 {
-    match m {
-        Message::Insert(h, p, x, r) => write_insert(h, p, x, r, out),
-        Message::Delete(h, p) => write_delete(h, p, out),
-        Message::Nothing(h) => write_nothing(h, out),
-        Message::Ack(l, d, s) => write_ack(l, d, s, out),
+    let n = size(m);
+    if out.len() < n {
+        return 0;
     }
+    let b = bytes(m);
+    let mut i = 0;
+    while i < n {
+        out[i] = b[i];
+        i += 1;
+    }
+    n
 }

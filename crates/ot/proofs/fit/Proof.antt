@@ -13,11 +13,8 @@ enum-known-e c = search needs
 enum-known-e-2 : tie.Need-enum-known-e-2
 enum-known-e-2 c = search needs
 
-wide-requires : tie.Need-wide-requires
-wide-requires c κs = search needs
-
-wide-requires-2 : tie.Need-wide-requires-2
-wide-requires-2 c κs = search needs
+cast-result : tie.Need-cast-result
+cast-result c = search needs
 
 add-result : tie.Need-add-result
 add-result c = search needs
@@ -32,7 +29,7 @@ returns-2 c = simp (c .before .e .given .1)
 
 returns-3 : tie.Need-returns-3
 unfolding fits
-returns-3 c = simp (c .before .before .before .e2 .given .1, c .before .wide .ensures, c .wide2 .ensures)
+returns-3 c = simp (c .before .e2 .given .1)
 
 pub fit-spec : {M : Type 1} → statement M
 fit-spec =
@@ -41,8 +38,7 @@ fit-spec =
     enum-told
     enum-known-e
     enum-known-e-2
-    wide-requires
-    wide-requires-2
+    cast-result
     add-result
     returns
     returns-2

@@ -1,5 +1,6 @@
--- `ot::transform` meets its contract: the two kinds of edit have a function each.
+-- `ot::transform` meets its contract: a delete has a function of its own, of an insert only the position is to be found.
 use Rattle.ot.specs.Edit.{transformed}
+use Rattle.ot.proofs.Moved.{insert-form}
 use borrow.Author.Needs.{needs}
 use Rattle.ot.proofs.transform.Statement.{statement}
 use Rattle.ot.proofs.transform.Tie as tie
@@ -16,8 +17,8 @@ transform-delete-requires c κs = rw (c .before .a .given .1) at (c .before .bef
 enum-known-a-2 : tie.Need-enum-known-a-2
 enum-known-a-2 c = search needs
 
-transform-insert-requires : tie.Need-transform-insert-requires
-transform-insert-requires c κs = rw (c .before .a2 .given .1) at (c .before .before .before .pre)
+insert-moved-requires : tie.Need-insert-moved-requires
+insert-moved-requires c κs = rw (c .before .a2 .given .1) at (c .before .before .before .pre)
 
 returns : tie.Need-returns
 unfolding transformed
@@ -27,7 +28,7 @@ returns-2 : tie.Need-returns-2
 returns-2 c = rw (c .before .before .a .given .1) (c .transform-delete .ensures)
 
 returns-3 : tie.Need-returns-3
-returns-3 c = rw (c .before .before .a2 .given .1) (c .transform-insert .ensures)
+returns-3 c = rw (c .before .before .a2 .given .1, c .insert-moved .ensures) (insert-form _ _ _ _)
 
 pub transform-spec : {M : Type 1} → statement M
 transform-spec =
@@ -37,7 +38,7 @@ transform-spec =
     enum-known-a
     transform-delete-requires
     enum-known-a-2
-    transform-insert-requires
+    insert-moved-requires
     returns
     returns-2
     returns-3)

@@ -1,5 +1,7 @@
-use borrow.Author.Tests.{ne-eqb}
+-- `wire::fields` meets its contract: each kind is a law of proofs/Reading.antt.
+use denote.Ref.{now}
 use borrow.Author.Needs.{needs}
+use Rattle.wire.proofs.Reading.{insert-fields, delete-fields, nothing-fields, ack-fields}
 use Rattle.wire.proofs.fields.Statement.{statement}
 use Rattle.wire.proofs.fields.Tie as tie
 
@@ -15,36 +17,21 @@ four-at-requires c κs = search needs
 byte-at-requires : tie.Need-byte-at-requires
 byte-at-requires c κs = search needs
 
-header-at-requires-2 : tie.Need-header-at-requires-2
-header-at-requires-2 c κs = search needs
-
 two-at-requires-2 : tie.Need-two-at-requires-2
 two-at-requires-2 c κs = search needs
 
-header-at-requires-3 : tie.Need-header-at-requires-3
-header-at-requires-3 c κs = search needs
-
-byte-at-requires-2 : tie.Need-byte-at-requires-2
-byte-at-requires-2 c κs = search needs
-
-byte-at-requires-3 : tie.Need-byte-at-requires-3
-byte-at-requires-3 c κs = search needs
-
-two-at-requires-3 : tie.Need-two-at-requires-3
-two-at-requires-3 c κs = search needs
-
 returns : tie.Need-returns
-returns c = simp (c .before .before .before .before .match .keys1, c .before .before .before .header-at .ensures, c .before .before .two-at .ensures, c .before .four-at .ensures, c .byte-at .ensures)
+returns c = insert-fields (now (c .before .before .before .before .before .before .args .s)) (c .before .before .before .before .header-at .ensures) (c .before .before .before .match .keys1) (c .before .before .two-at .ensures) (c .before .four-at .ensures) (c .byte-at .ensures)
 
 returns-2 : tie.Need-returns-2
-returns-2 c = simp (c .before .before .match .keys2, c .before .header-at2 .ensures, c .two-at2 .ensures)
+returns-2 c = delete-fields (now (c .before .before .before .before .args .s)) (c .before .before .header-at .ensures) (c .before .match .keys2) (c .two-at2 .ensures)
 
 returns-3 : tie.Need-returns-3
-returns-3 c = simp (c .before .match .keys3, c .header-at3 .ensures)
+returns-3 c = nothing-fields (now (c .before .before .before .args .s)) (c .before .header-at .ensures) (c .match .keys3)
 
 returns-4 : tie.Need-returns-4
-returns-4 c = let r = c .before .before .before .match .rest in
-    simp (ne-eqb _ _ (r .0 .0 .1), ne-eqb _ _ (r .0 .1), ne-eqb _ _ (r .1), c .before .before .byte-at2 .ensures, c .before .byte-at3 .ensures, c .two-at3 .ensures)
+returns-4 c = let r = c .match .rest in
+    ack-fields (now (c .before .before .before .args .s)) (c .before .header-at .ensures) (r .0 .0 .1, r .0 .1, r .1)
 
 pub fields-spec : {M : Type 1} → statement M
 fields-spec =
@@ -54,12 +41,7 @@ fields-spec =
     two-at-requires
     four-at-requires
     byte-at-requires
-    header-at-requires-2
     two-at-requires-2
-    header-at-requires-3
-    byte-at-requires-2
-    byte-at-requires-3
-    two-at-requires-3
     returns
     returns-2
     returns-3

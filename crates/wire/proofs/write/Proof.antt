@@ -1,72 +1,65 @@
+-- `wire::write` meets its contract: each turn of the copy is a law of proofs/Buffer.antt.
+use Prim.Native.Nat.{_-_}
+use native.Mathlib.Omega.{arith}
+use denote.Ref.{now}
 use borrow.Author.Needs.{needs}
+use Rattle.wire.proofs.Buffer.{Copied, copied-start, copied-turn, copied-end, enough, too-long}
 use Rattle.wire.proofs.write.Statement.{statement}
 use Rattle.wire.proofs.write.Tie as tie
 
-enum-known-m : tie.Need-enum-known-m
-enum-known-m c = search needs
+abbrev Inv-loop : tie.InvT-loop
+Inv-loop out₀ n b i₀ out i = Copied b out₀ n out i
 
-write-insert-requires : tie.Need-write-insert-requires
-write-insert-requires c κs = search needs
+abbrev μ-loop : tie.MeasureT-loop
+μ-loop out₀ n b i₀ out i = n - i
 
-enum-known-m-2 : tie.Need-enum-known-m-2
-enum-known-m-2 c = search needs
+size-requires : tie.Need-size-requires Inv-loop μ-loop
+size-requires c κs = search needs
 
-write-delete-requires : tie.Need-write-delete-requires
-write-delete-requires c κs = search needs
+returns : tie.Need-returns Inv-loop μ-loop
+returns c = too-long (c .before .before .before .args .m) (now (c .before .before .before .args .out)) (omega arith)
 
-enum-known-m-3 : tie.Need-enum-known-m-3
-enum-known-m-3 c = search needs
+bytes-requires : tie.Need-bytes-requires Inv-loop μ-loop
+bytes-requires c κs = search needs
 
-write-nothing-requires : tie.Need-write-nothing-requires
-write-nothing-requires c κs = search needs
+loop-holds : tie.Need-loop-holds Inv-loop μ-loop
+loop-holds c = copied-start (omega arith) (enough (c .before .before .before .before .args .m) (c .bytes .result) (c .before .before .size .ensures) (c .bytes .ensures))
 
-enum-known-m-4 : tie.Need-enum-known-m-4
-enum-known-m-4 c = search needs
+array-read-out : tie.Need-array-read-out Inv-loop μ-loop
+array-read-out c = omega arith
 
-write-ack-requires : tie.Need-write-ack-requires
-write-ack-requires c κs = search needs
+slice-write-out : tie.Need-slice-write-out Inv-loop μ-loop
+slice-write-out c = omega arith
 
-same-length : tie.Need-same-length
-same-length c = search needs
+add-i : tie.Need-add-i Inv-loop μ-loop
+add-i c = omega arith
 
-returns : tie.Need-returns
-returns c = rw (c .before .before .before .before .before .m .given .1) (c .before .before .write-insert .ensures)
+loop-less : tie.Need-loop-less Inv-loop μ-loop
+loop-less c = omega arith
 
-same-length-2 : tie.Need-same-length-2
-same-length-2 c = search needs
+loop-again : tie.Need-loop-again Inv-loop μ-loop
+loop-again c = copied-turn (omega arith) (c .before .loop .inv)
 
-returns-2 : tie.Need-returns-2
-returns-2 c = rw (c .before .before .before .before .before .m2 .given .1) (c .before .before .write-delete .ensures)
+same-length : tie.Need-same-length Inv-loop μ-loop
+same-length c = c .before .loop .inv .size
 
-same-length-3 : tie.Need-same-length-3
-same-length-3 c = search needs
-
-returns-3 : tie.Need-returns-3
-returns-3 c = rw (c .before .before .before .before .before .m3 .given .1) (c .before .before .write-nothing .ensures)
-
-same-length-4 : tie.Need-same-length-4
-same-length-4 c = search needs
-
-returns-4 : tie.Need-returns-4
-returns-4 c = rw (c .before .before .before .before .before .m4 .given .1) (c .before .before .write-ack .ensures)
+returns-2 : tie.Need-returns-2 Inv-loop μ-loop
+returns-2 c = copied-end _ _ (c .before .before .before .before .size .ensures) (c .before .before .bytes .ensures) (omega arith) (c .before .loop .inv)
 
 pub write-spec : {M : Type 1} → statement M
 write-spec =
     tie.close
     (tie.spec
-    enum-known-m
-    write-insert-requires
-    enum-known-m-2
-    write-delete-requires
-    enum-known-m-3
-    write-nothing-requires
-    enum-known-m-4
-    write-ack-requires
-    same-length
+    Inv-loop
+    μ-loop
+    size-requires
     returns
-    same-length-2
-    returns-2
-    same-length-3
-    returns-3
-    same-length-4
-    returns-4)
+    bytes-requires
+    loop-holds
+    array-read-out
+    slice-write-out
+    add-i
+    loop-less
+    loop-again
+    same-length
+    returns-2)

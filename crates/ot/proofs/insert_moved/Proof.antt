@@ -1,0 +1,54 @@
+-- `ot::insert_moved` meets its contract: each return is a law of proofs/Moved.antt.
+use Rattle.ot.proofs.Moved.{past-nothing, before-delete, behind-delete, before-insert, behind-insert, stays-at-insert}
+use borrow.Author.Needs.{needs}
+use Rattle.ot.proofs.insert_moved.Statement.{statement}
+use Rattle.ot.proofs.insert_moved.Tie as tie
+
+enum-told : tie.Need-enum-told
+enum-told c = search needs
+
+enum-known-b : tie.Need-enum-known-b
+enum-known-b c = search needs
+
+returns : tie.Need-returns
+returns c = before-delete (c .before .before .before .before .args .p) (c .before .before .before .before .args .r) (c .before .before .b .given .1) (c .if1 .taken)
+
+sub-result : tie.Need-sub-result
+sub-result c = search needs
+
+enum-known-b-2 : tie.Need-enum-known-b-2
+enum-known-b-2 c = search needs
+
+returns-2 : tie.Need-returns-2
+returns-2 c = before-insert (c .before .before .before .before .args .p) (c .before .before .before .before .args .r) (c .before .before .b2 .given .1) (c .if2 .taken)
+
+add-result : tie.Need-add-result
+add-result c = search needs
+
+returns-3 : tie.Need-returns-3
+returns-3 c = behind-insert (c .before .before .before .before .before .args .p) (c .before .before .before .before .before .args .r) (c .before .before .before .b2 .given .1) (c .before .if2 .left) (c .if3 .taken)
+
+returns-4 : tie.Need-returns-4
+returns-4 c = past-nothing (c .before .before .args .p) (c .before .before .args .r) (c .enum-told .given .1)
+
+returns-5 : tie.Need-returns-5
+returns-5 c = behind-delete (c .before .before .before .before .args .p) (c .before .before .before .before .args .r) (c .before .before .b .given .1) (c .if1 .left)
+
+returns-6 : tie.Need-returns-6
+returns-6 c = stays-at-insert (c .before .before .before .before .before .args .p) (c .before .before .before .before .before .args .r) (c .before .before .before .b2 .given .1) (c .before .if2 .left) (c .if3 .left)
+
+pub insert-moved-spec : {M : Type 1} → statement M
+insert-moved-spec =
+    tie.close
+    (tie.spec
+    enum-told
+    enum-known-b
+    returns
+    sub-result
+    enum-known-b-2
+    returns-2
+    add-result
+    returns-3
+    returns-4
+    returns-5
+    returns-6)
