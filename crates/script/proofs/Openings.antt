@@ -11,11 +11,11 @@ use lib.ListN.{length, take, drop, set, length-append, length-set}
 use lib.Seq.{take-all, take-append-le, take-suc-set}
 use Rattle.model.specs.Questions.{every}
 use Rattle.script.specs.declared.opening.First.{First}
-use Rattle.script.specs.Decimal.{numberOf, tooWide}
-use Rattle.script.specs.Text.{before, wordsOf, same}
-use Rattle.script.specs.Command.{linesWord, itemsWord}
-use Rattle.script.proofs.Sinks.{both}
-use Rattle.script.proofs.Texts.{words-cut, words-whole}
+use Rattle.text.specs.Decimal.{numberOf, tooWide}
+use Rattle.text.specs.Text.{before, wordsOf, same}
+use Rattle.text.specs.Command.{linesWord, itemsWord}
+use Rattle.text.proofs.Sinks.{both}
+use Rattle.text.proofs.Texts.{words-cut, words-whole}
 use Rattle.script.specs.Opening.{Opening, none, sheet, withItems, afterNumber, afterLines, openingOf, held, cut, maxHeld, Reads, begun, push}
 
 -- all items of some words, one after another

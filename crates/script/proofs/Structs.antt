@@ -34,11 +34,11 @@ use Rattle.script.proofs.Lists.{getD-default, pad-set, set-map}
 use Rattle.server.proofs.Stored.{view-store, store-sound}
 use Rattle.client.proofs.Stored.{client-view, client-stored}
 use Rattle.script.specs.declared.ends.Ends.{Ends}
-use Rattle.script.specs.declared.parse.Command.{Command}
-use Rattle.script.specs.declared.parse.Command.the-variants.{Bad, Insert, Delete, Up, Down, Ack, Told}
+use Rattle.text.specs.declared.parse.Command.{Command}
+use Rattle.text.specs.declared.parse.Command.the-variants.{Bad, Insert, Delete, Up, Down, Ack, Told}
 use Rattle.script.specs.Bench.{Bench, Step, clientOf, onClient, onServer, delivered, room, step}
 use Rattle.script.specs.Ends.{viewEnds, storeEnds, Whole, placeOf, upward, clientGets, serverGets, atClient, atServer}
-use Rattle.script.proofs.Sinks.{both}
+use Rattle.text.proofs.Sinks.{both}
 use Rattle.script.proofs.Benches.{every-at}
 
 -- the line of a command is one of 1 to n

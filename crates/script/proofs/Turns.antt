@@ -7,10 +7,10 @@ use native.Mathlib.Numerals.{add-one}
 use native.Mathlib.Omega.{arith}
 use lib.ListN.{length, getD, take, drop, replicate, length-append, length-map, drop-of-length-le}
 use lib.Seq.{drop-cons}
-use lib.Dec.{ltb}
+use lib.Dec.{leb, ltb}
 use Rattle.ot.specs.Items.{padded}
 use Rattle.model.specs.Limits.{maxLines}
-use Rattle.model.specs.Questions.{every, between}
+use Rattle.model.specs.Questions.{every}
 use Rattle.model.specs.Client as models
 use Rattle.model.specs.Server as serverModels
 use Rattle.model.proofs.Tests.{between-true}
@@ -24,18 +24,19 @@ use Rattle.server.specs.View as server
 use Rattle.server.proofs.Stored.{view-store}
 use Rattle.client.proofs.Stored.{client-view}
 use Rattle.script.specs.declared.ends.Ends.{Ends}
-use Rattle.script.specs.declared.parse.Command.{Command}
-use Rattle.script.specs.declared.parse.Command.the-variants.{Bad, Insert}
-use Rattle.script.specs.Sink.{Sink, sink, puts}
-use Rattle.script.specs.Text.{before, linesOf, same}
-use Rattle.script.specs.Decimal.{numberOf, tooWide}
-use Rattle.script.specs.Command.{withOne, afterNumber, verbOf, spoken, commandOf, ackWord, toldWord, delWord, upWord, downWord, insWord}
-use Rattle.script.specs.Text.{wordsOf}
+use Rattle.text.specs.declared.parse.Command.{Command}
+use Rattle.text.specs.declared.parse.Command.the-variants.{Bad, Insert}
+use Rattle.text.specs.Sink.{Sink, sink, puts}
+use Rattle.text.specs.Text.{before, linesOf, same}
+use Rattle.text.specs.Decimal.{numberOf, tooWide}
+use Rattle.text.specs.Command.{withOne, afterNumber, verbOf, spoken, commandOf, ackWord, toldWord, delWord, upWord, downWord, insWord}
+use Rattle.text.specs.Text.{wordsOf}
 use Rattle.script.specs.Bench.{Bench, SoundBench, step, clientOf}
-use Rattle.script.specs.Output.{replies, clientList, clientLists, lists, ran}
+use Rattle.text.specs.Lines.{clientList}
+use Rattle.script.specs.Output.{replies, clientLists, lists, ran}
 use Rattle.script.specs.Ends.{viewEnds, storeEnds, Whole, placeOf, upward, atClient, atServer}
-use Rattle.script.proofs.Sinks.{both, and-left, and-right, puts-append}
-use Rattle.script.proofs.Texts.{lines-next, lines-none}
+use Rattle.text.proofs.Sinks.{both, and-left, and-right, puts-append}
+use Rattle.text.proofs.Texts.{lines-next, lines-none}
 use Rattle.script.proofs.Benches.{step-sound}
 use Rattle.script.proofs.Structs.{Within, Done, storeStep, clientDone, serverDone, client-is, client-sound, server-is, place-few, at-client-is, at-server-is}
 
@@ -59,9 +60,9 @@ module _ (n l : ℕ) (low : 1 ≤ l) (high : l ≤ n) where
 
 spoken-within : (n : ℕ) (ws : List (List ℕ)) → Within n (spoken n ws)
 spoken-within n [] = tt
-spoken-within n (w ∷ ws) = go (between 1 n (numberOf w)) refl
+spoken-within n (w ∷ ws) = go (leb 1 (numberOf w) && leb (numberOf w) n) refl
   where
-    go : (t : Bool) → between 1 n (numberOf w) ≡ t → Within n (cond t (verbOf (numberOf w) ws) Bad)
+    go : (t : Bool) → (leb 1 (numberOf w) && leb (numberOf w) n) ≡ t → Within n (cond t (verbOf (numberOf w) ws) Bad)
     go true e = let b = between-true 1 n (numberOf w) e in verb-within n (numberOf w) (b .0) (b .1) ws
     go false e = tt
 

@@ -1,8 +1,8 @@
 // A server and its clients, and what a command does to them.
-use crate::parse::Command;
 use client::Client;
 use endpoint::Sent;
 use server::Server;
+use text::Command;
 ghost use mathlib.Core.Path.{_≡_};
 ghost use Prim.Native.Nat.{_-_, _≤_};
 ghost use lib.ListN.{length};

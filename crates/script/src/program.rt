@@ -6,23 +6,24 @@ use crate::ends::goes_up;
 use crate::ends::place;
 use crate::opening::First;
 use crate::opening::read_first;
-use crate::parse::Command;
-use crate::parse::end;
-use crate::parse::read_command;
-use crate::print::client_list;
-use crate::print::reply;
-use crate::print::server_list;
-use crate::print::text;
-use crate::print::unknown;
 use client::Client;
 use server::Server;
+use text::Command;
+use text::client_list;
+use text::end;
+use text::puts;
+use text::read_command;
+use text::reply;
+use text::server_list;
+use text::unknown;
 ghost use mathlib.Core.Path.{_≡_};
 ghost use Prim.Native.Nat.{_≤_};
 ghost use lib.ListN.{length, take, drop};
-ghost use Rattle.script.specs.Sink.{sink, puts, Printed};
-ghost use Rattle.script.specs.Text.{linesOf};
+ghost use Rattle.text.specs.Sink.{sink, puts as Sink·puts, Printed};
+ghost use Rattle.text.specs.Text.{linesOf};
 ghost use Rattle.script.specs.Opening.{maxHeld, held};
-ghost use Rattle.script.specs.Output.{understood, replies, clientList, clientLists, lists as Output·lists, ran, started as Output·started, output};
+ghost use Rattle.text.specs.Lines.{clientList};
+ghost use Rattle.script.specs.Output.{understood, replies, clientLists, lists as Output·lists, ran, started as Output·started, output};
 ghost use Rattle.script.specs.Ends.{Whole, viewEnds, opening};
 
 // Whether a line was understood.
@@ -42,7 +43,7 @@ fn known(c: Command) -> bool
 
 // The answer to a line.
 fn answer(out: &mut [u8], at: usize, c: Command, r: u8) -> usize
-    ensures { λ r′. ⌜ sink (now (out .exit)) r′ ≡ puts (replies c r) (sink (now (out .entry)) at) ⌝ }
+    ensures { λ r′. ⌜ sink (now (out .exit)) r′ ≡ Sink·puts (replies c r) (sink (now (out .entry)) at) ⌝ }
 {
     if known(c) {
         return reply(out, at, r);
@@ -53,7 +54,7 @@ fn answer(out: &mut [u8], at: usize, c: Command, r: u8) -> usize
 // The list of the client on a line.
 fn one_list(out: &mut [u8], at: usize, line: u8, c: Client) -> usize
     requires { ⌜ c .len ≤ length (c .items) ⌝ }
-    ensures { λ r. ⌜ sink (now (out .exit)) r ≡ puts (clientList line (take (c .len) (c .items))) (sink (now (out .entry)) at) ⌝ }
+    ensures { λ r. ⌜ sink (now (out .exit)) r ≡ Sink·puts (clientList line (take (c .len) (c .items))) (sink (now (out .entry)) at) ⌝ }
 {
     let items = c.items;
     let len = c.len as usize;
@@ -63,7 +64,7 @@ fn one_list(out: &mut [u8], at: usize, line: u8, c: Client) -> usize
 // The lists of the clients, in line order.
 fn client_lists(out: &mut [u8], at: usize, ends: Ends) -> usize
     requires { ⌜ Whole ends ⌝ }
-    ensures { λ r. ⌜ sink (now (out .exit)) r ≡ puts (clientLists 1 (viewEnds ends .clients)) (sink (now (out .entry)) at) ⌝ }
+    ensures { λ r. ⌜ sink (now (out .exit)) r ≡ Sink·puts (clientLists 1 (viewEnds ends .clients)) (sink (now (out .entry)) at) ⌝ }
 {
     let mut to = at;
     let mut i = 0;
@@ -79,7 +80,7 @@ fn client_lists(out: &mut [u8], at: usize, ends: Ends) -> usize
 // All lists.
 fn lists(out: &mut [u8], at: usize, ends: Ends) -> usize
     requires { ⌜ Whole ends ⌝ }
-    ensures { λ r. ⌜ sink (now (out .exit)) r ≡ puts (Output·lists (viewEnds ends)) (sink (now (out .entry)) at) ⌝ }
+    ensures { λ r. ⌜ sink (now (out .exit)) r ≡ Sink·puts (Output·lists (viewEnds ends)) (sink (now (out .entry)) at) ⌝ }
 {
     let items = ends.server.items;
     let len = ends.server.len as usize;
@@ -90,7 +91,7 @@ fn lists(out: &mut [u8], at: usize, ends: Ends) -> usize
 // The lines from a place of the input on, and the lists.
 fn commands(input: &[u8], from: usize, out: &mut [u8], at: usize, ends: Ends) -> usize
     requires { ⌜ Whole ends ⌝ }
-    ensures { λ r. ⌜ sink (now (out .exit)) r ≡ puts (ran (viewEnds ends) (linesOf (drop from (now (input .entry))))) (sink (now (out .entry)) at) ⌝ }
+    ensures { λ r. ⌜ sink (now (out .exit)) r ≡ Sink·puts (ran (viewEnds ends) (linesOf (drop from (now (input .entry))))) (sink (now (out .entry)) at) ⌝ }
 {
     let mut now = ends;
     let mut i = from;
@@ -140,7 +141,7 @@ fn open_clients(n: u8, items: &[u32]) -> [Client; 8]
 // What the first line opens, and the lines after it.
 fn started(input: &[u8], from: usize, out: &mut [u8], f: First) -> usize
     requires { ⌜ f .count ≤ maxHeld ⌝ }
-    ensures { λ r. ⌜ sink (now (out .exit)) r ≡ puts (Output·started (held f) (linesOf (drop from (now (input .entry))))) (sink (now (out .entry)) 0) ⌝ }
+    ensures { λ r. ⌜ sink (now (out .exit)) r ≡ Sink·puts (Output·started (held f) (linesOf (drop from (now (input .entry))))) (sink (now (out .entry)) 0) ⌝ }
 {
     if f.ok {
         let list = f.list;
@@ -162,7 +163,7 @@ pub fn run(input: &[u8], out: &mut [u8]) -> usize
     ensures { λ r. ⌜ Printed (output (now (input .entry))) (now (out .entry)) (now (out .exit)) r ⌝ }
 {
     if 65536 < input.len() {
-        return text(out, 0, b"long\n");
+        return puts(out, 0, b"long\n");
     }
     let e = end(input, 10);
     let f = read_first(&input[..e]);

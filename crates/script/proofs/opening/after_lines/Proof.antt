@@ -1,4 +1,4 @@
-use Rattle.script.proofs.Texts.{taken-length}
+use Rattle.text.proofs.Texts.{taken-length}
 use Rattle.script.proofs.Openings.{number-alone, number-wide, number-fits, likewise}
 use borrow.Author.Needs.{needs}
 use Rattle.script.proofs.opening.after_lines.Statement.{statement}

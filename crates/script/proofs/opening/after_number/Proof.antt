@@ -1,7 +1,7 @@
 use mathlib.Core.Path.{sym, _∙_, subst}
 use Rattle.script.specs.Opening.{Reads, withItems}
 use mathlib.Core.List.{[]}
-use Rattle.script.proofs.Texts.{taken-length}
+use Rattle.text.proofs.Texts.{taken-length}
 use Rattle.script.proofs.Openings.{items-alone, items-alone-no, items-more, items-no, filled-none, likewise}
 use borrow.Author.Needs.{needs}
 use Rattle.script.proofs.opening.after_number.Statement.{statement}

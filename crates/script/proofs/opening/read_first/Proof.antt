@@ -1,5 +1,5 @@
 use mathlib.Core.Path.{sym, _∙_}
-use Rattle.script.proofs.Texts.{taken-length}
+use Rattle.text.proofs.Texts.{taken-length}
 use Rattle.script.proofs.Openings.{lines-alone, lines-yes, lines-no, likewise}
 use borrow.Author.Needs.{needs}
 use Rattle.script.proofs.opening.read_first.Statement.{statement}

@@ -4,11 +4,11 @@ use mathlib.Core.Logic.{⊎-elim}
 use native.Mathlib.Omega.{arith}
 use borrow.Author.Needs.{needs}
 use lib.ListN.{length, drop}
-use Rattle.script.specs.Sink.{sink, puts}
-use Rattle.script.specs.Text.{linesOf}
+use Rattle.text.specs.Sink.{sink, puts}
+use Rattle.text.specs.Text.{linesOf}
 use Rattle.script.specs.Output.{ran}
 use Rattle.script.specs.Ends.{viewEnds}
-use Rattle.script.proofs.Texts.{line-within}
+use Rattle.text.proofs.Texts.{line-within}
 use Rattle.script.proofs.Turns.{Running, place-small, server-did, client-did, running-on, running-end}
 use Rattle.script.proofs.program.commands.Statement.{statement}
 use Rattle.script.proofs.program.commands.Tie as tie

@@ -2,8 +2,8 @@ use mathlib.Core.Path.{_≡_, sym}
 use native.Mathlib.Omega.{arith}
 use lib.ListN.{length, take, drop}
 use lib.Seq.{length-take-le}
-use Rattle.script.specs.Sink.{sink}
-use Rattle.script.specs.Text.{linesOf}
+use Rattle.text.specs.Sink.{sink}
+use Rattle.text.specs.Text.{linesOf}
 use Rattle.script.proofs.Opened.{opened-whole, started-on, started-off}
 use borrow.Author.Needs.{needs}
 use Rattle.script.proofs.program.started.Statement.{statement}

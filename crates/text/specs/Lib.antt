@@ -1,0 +1,5 @@
+pub mod Sink
+pub mod Decimal
+pub mod Text
+pub mod Command
+pub mod Lines
