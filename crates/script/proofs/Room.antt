@@ -18,8 +18,8 @@ use Rattle.model.specs.Client.{Client, soundClient, editQuestions, editClient, 
 use Rattle.model.specs.Server.{Server, soundServer, openServerQuestions, openServer, sendServerQuestions, tellServerQuestions, serverEditQuestions, serverAckQuestions, sendServer, tellServer, takeServer, serverReads, serverTakes, serverTakesEdit, serverTakesAck}
 use Rattle.model.proofs.SoundClient.{client-facts}
 use Rattle.model.proofs.SoundServer.{server-facts}
-use Rattle.text.specs.declared.parse.Command.{Command}
-use Rattle.text.specs.declared.parse.Command.the-variants as command
+use Rattle.text.specs.Command.{Command}
+use Rattle.text.specs.Command as command
 use Rattle.ot.specs.declared.Edit.{Edit}
 use Rattle.ot.specs.declared.Edit.the-variants.{Nothing, Delete, Insert}
 use Rattle.text.specs.Text.{joined, parts, linesOf}

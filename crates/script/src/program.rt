@@ -1,18 +1,18 @@
 // The run program over a text: reads lines, makes the calls they name, and prints.
 use crate::ends::Ends;
-use crate::ends::at_client;
-use crate::ends::at_server;
-use crate::ends::goes_up;
-use crate::ends::place;
+use crate::ends::edited;
+use crate::ends::sent;
 use crate::opening::First;
 use crate::opening::read_first;
 use client::Client;
 use server::Server;
-use text::Command;
+use text::DOWN;
+use text::INS;
+use text::UP;
 use text::client_list;
 use text::end;
+use text::line_at;
 use text::puts;
-use text::read_command;
 use text::reply;
 use text::server_list;
 use text::unknown;
@@ -23,33 +23,8 @@ ghost use Rattle.text.specs.Sink.{sink, puts as Sink·puts, Printed};
 ghost use Rattle.text.specs.Text.{linesOf};
 ghost use Rattle.script.specs.Opening.{maxHeld, held};
 ghost use Rattle.text.specs.Lines.{clientList};
-ghost use Rattle.script.specs.Output.{understood, replies, clientLists, lists as Output·lists, ran, started as Output·started, output};
+ghost use Rattle.script.specs.Output.{clientLists, lists as Output·lists, ran, started as Output·started, output};
 ghost use Rattle.script.specs.Ends.{Whole, viewEnds, opening};
-
-// Whether a line was understood.
-fn known(c: Command) -> bool
-    ensures { λ r. ⌜ r ≡ understood c ⌝ }
-{
-    match c {
-        Command::Bad => false,
-        Command::Insert(_, _, _) => true,
-        Command::Delete(_, _) => true,
-        Command::Up(_, _) => true,
-        Command::Down(_, _) => true,
-        Command::Ack(_) => true,
-        Command::Told(_) => true,
-    }
-}
-
-// The answer to a line.
-fn answer(out: &mut [u8], at: usize, c: Command, r: u8) -> usize
-    ensures { λ r′. ⌜ sink (now (out .exit)) r′ ≡ Sink·puts (replies c r) (sink (now (out .entry)) at) ⌝ }
-{
-    if known(c) {
-        return reply(out, at, r);
-    }
-    unknown(out, at)
-}
 
 // The list of the client on a line.
 fn one_list(out: &mut [u8], at: usize, line: u8, c: Client) -> usize
@@ -97,25 +72,39 @@ fn commands(input: &[u8], from: usize, out: &mut [u8], at: usize, ends: Ends) ->
     let mut i = from;
     let mut to = at;
     while i < input.len() {
-        let b = i + end(&input[i..], 10);
-        let c = read_command(now.server.n, &input[i..b]);
-        let k = place(c);
-        let s = now.server;
-        let e = now.clients[k];
-        let mut r = 0;
-        if goes_up(c) {
-            let a = at_server(s, e, c);
-            r = a.refusal;
-            let t = a.server;
-            now.server = t;
-        } else {
-            let a = at_client(s, e, c);
-            r = a.refusal;
+        let line = line_at(input, i, now.server.n);
+        let o = line.order;
+        i = line.after;
+        if o.verb < INS {
+            to = unknown(out, to);
+            continue;
+        }
+        let k = (o.line - 1) as usize;
+        if o.verb < DOWN {
+            let a = edited(now.clients[k], o);
+            to = reply(out, to, a.refusal);
             let t = a.client;
             now.clients[k] = t;
+            continue;
         }
-        to = answer(out, to, c, r);
-        i = b + 1;
+        let mut m = [0u8; 14];
+        let b = sent(now.server, now.clients[k], o, &mut m);
+        if b.refusal != 0 {
+            to = reply(out, to, b.refusal);
+            continue;
+        }
+        let n = b.written;
+        if UP <= o.verb {
+            let a = now.server.take(&m[..n]);
+            to = reply(out, to, a.refusal);
+            let t = a.server;
+            now.server = t;
+            continue;
+        }
+        let a = now.clients[k].take(&m[..n]);
+        to = reply(out, to, a.refusal);
+        let t = a.client;
+        now.clients[k] = t;
     }
     lists(out, to, now)
 }

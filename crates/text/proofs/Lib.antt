@@ -1,5 +1,5 @@
 pub mod Sinks
 pub mod Texts
 pub mod Numbers
-pub mod Commands
+pub mod Orders
 pub mod Digits

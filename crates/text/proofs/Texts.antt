@@ -109,14 +109,20 @@ words-some P h [] = h [] []
 words-some P h (b ∷ s) =
     both P (eqb b 32) ([] ∷ wordsOf s) (joined b (wordsOf s)) (h [] (wordsOf s)) (joined-some P h b (wordsOf s))
 
-pub taken-length : (s : List ℕ) (e sep : ℕ) → e ≡ length (before sep s) → e < length s → e ≡ length (take e s)
-taken-length s e sep p h = sym (length-take-le e s (omega arith))
-
 pub before-le : (sep : ℕ) (s : List ℕ) → length (before sep s) ≤ length s
 unfolding before
 before-le sep [] = omega arith
 before-le sep (b ∷ s) =
     both (λ (l : List ℕ). length l ≤ suc (length s)) (eqb b sep) [] (b ∷ before sep s) (omega arith) (let h = before-le sep s in omega arith)
+
+pub taken-length : (s : List ℕ) (e sep : ℕ) → e ≡ length (before sep s) → e ≡ length (take e s)
+taken-length s e sep p = sym (length-take-le e s (let h = before-le sep s in omega arith))
+
+pub take-before : (sep : ℕ) (s : List ℕ) → take (length (before sep s)) s ≡ before sep s
+unfolding before
+take-before sep [] = refl
+take-before sep (b ∷ s) =
+    both (λ (l : List ℕ). take (length l) (b ∷ s) ≡ l) (eqb b sep) [] (b ∷ before sep s) refl (ap (λ l. b ∷ l) (take-before sep s))
 
 -- The words of a text from a place on; past its end there are none.
 abbrev pub wordsFrom : ℕ → List ℕ → List (List ℕ)
@@ -190,6 +196,11 @@ module _ (s : List ℕ) (i e : ℕ) (h : i < length s) (p : e ≡ length (before
       let large = ltb-false e (length (drop i s)) q in
       lines-whole (drop i s) e line-found (omega arith) large
       ∙ rw (lines-none s (i + e + 1) (omega arith)) (ap (λ l. l ∷ []) (sym (take-all (i + e - i) (drop i s) (omega arith))))
+
+  pub line-is : take (i + e - i) (drop i s) ≡ before 10 (drop i s)
+  line-is =
+      let f : i + e - i ≡ length (before 10 (drop i s)) = (let k = line-found in omega arith) in
+      ap (λ k. take k (drop i s)) f ∙ take-before 10 (drop i s)
 
   pub lines-next : linesOf (drop i s) ≡ take (i + e - i) (drop i s) ∷ linesOf (drop (i + e + 1) s)
   lines-next = line-at (ltb e (length (drop i s))) refl

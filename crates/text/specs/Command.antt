@@ -3,10 +3,25 @@ use Prim.Native.Nat.{ℕ}
 use mathlib.Core.Bool.{_&&_, cond}
 use mathlib.Core.List.{List, [], _∷_}
 use lib.Dec.{leb, ltb}
-use Rattle.text.specs.declared.parse.Command.{Command}
-use Rattle.text.specs.declared.parse.Command.the-variants.{Bad, Insert, Delete, Up, Down, Ack, Told}
 use Rattle.text.specs.Decimal.{numberOf, tooWide}
 use Rattle.text.specs.Text.{wordsOf, same}
+
+-- A client is named by its line (01: the bay), of 1 to the number of clients.
+pub data Command : Type 0 where
+  -- of no form below, or with a number out of its range
+  Bad : Command
+  -- line, position, item
+  Insert : ℕ → ℕ → ℕ → Command
+  -- line, position
+  Delete : ℕ → ℕ → Command
+  -- the client sends this number, and the server takes it
+  Up : ℕ → ℕ → Command
+  -- the server sends this number, and the client takes it
+  Down : ℕ → ℕ → Command
+  -- the client acknowledges
+  Ack : ℕ → Command
+  -- the server acknowledges
+  Told : ℕ → Command
 
 -- The words of the commands and of the first line, as bytes.
 abbrev pub insWord : List ℕ

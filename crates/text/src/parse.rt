@@ -1,28 +1,40 @@
 // Reading: words, numbers and commands.
 ghost use mathlib.Core.Path.{_≡_};
-ghost use mathlib.Core.List.{_∷_};
-ghost use Prim.Native.Nat.{_≤_};
+ghost use Prim.Native.Nat.{_<_, _≤_};
 ghost use lib.ListN.{length};
 ghost use Rattle.text.specs.Text.{before, wordsOf, same as Text·same};
 ghost use Rattle.text.specs.Decimal.{tooWide, withDigit, numberOf};
-ghost use Rattle.text.specs.Command.{plain as Command·plain, withOne, withTwo, afterNumber, verbOf, commandOf};
+ghost use Rattle.text.specs.Command.{verbOf, commandOf};
+ghost use Rattle.text.specs.Order.{named, ordered as Order·ordered, coded, SaysAfter, Next};
 
-// What a line of the script says. A client is named by its line (01: the bay), of 1 to the number of clients.
-pub enum Command {
-    // of no form below, or with a number out of its range
-    Bad,
-    // line, position, item
-    Insert(u8, u16, u32),
-    // line, position
-    Delete(u8, u16),
-    // the client sends this number, and the server takes it
-    Up(u8, u16),
-    // the server sends this number, and the client takes it
-    Down(u8, u16),
-    // the client acknowledges
-    Ack(u8),
-    // the server acknowledges
-    Told(u8),
+// What a line of the script orders. A client is named by its line (01: the bay), of 1 to the number of clients. What a verb has no use
+// for is 0, and so is all of a line that orders nothing.
+pub struct Order {
+    pub verb: u8,
+    pub line: u8,
+    // a position, or which message
+    pub number: u16,
+    pub item: u32,
+}
+
+// The verbs; 0 is none. From `DOWN` on one end writes a message and the other takes it: the client takes what the server sends or
+// acknowledges (`down`, `told`), the server what the client does (`up`, `ack`).
+pub const INS: u8 = 1;
+
+pub const DEL: u8 = 2;
+
+pub const DOWN: u8 = 3;
+
+pub const TOLD: u8 = 4;
+
+pub const UP: u8 = 5;
+
+pub const ACK: u8 = 6;
+
+// The line at a place of the input, and where the next one begins.
+pub struct Line {
+    pub order: Order,
+    pub after: usize,
 }
 
 // How many bytes stand before the first separator.
@@ -98,101 +110,99 @@ pub fn number(w: &[u8]) -> u64
     n
 }
 
-fn plain(l: u8, w: &[u8]) -> Command
-    ensures { λ r. ⌜ r ≡ Command·plain l (now (w .entry)) ⌝ }
+// The verb that a word names.
+fn verb(w: &[u8]) -> u8
+    ensures { λ r. ⌜ r ≡ named (now (w .entry)) ⌝ }
 {
-    if same(w, b"ack") {
-        return Command::Ack(l);
+    if same(w, b"ins") {
+        return INS;
     }
-    if same(w, b"told") {
-        return Command::Told(l);
-    }
-    Command::Bad
-}
-
-fn with_one(l: u8, w: &[u8], k: u64) -> Command
-    ensures { λ r. ⌜ r ≡ withOne l (now (w .entry)) k ⌝ }
-{
-    if 65536 <= k {
-        return Command::Bad;
-    }
-    let n = k as u16;
     if same(w, b"del") {
-        return Command::Delete(l, n);
+        return DEL;
     }
     if same(w, b"up") {
-        return Command::Up(l, n);
+        return UP;
     }
     if same(w, b"down") {
-        return Command::Down(l, n);
+        return DOWN;
     }
-    Command::Bad
+    if same(w, b"ack") {
+        return ACK;
+    }
+    if same(w, b"told") {
+        return TOLD;
+    }
+    0
 }
 
-fn with_two(l: u8, w: &[u8], p: u64, x: u64) -> Command
-    ensures { λ r. ⌜ r ≡ withTwo l (now (w .entry)) p x ⌝ }
+// The order, if the verb goes with so many numbers and each is in its range.
+fn ordered(l: u8, v: u8, right: bool, p: u64, x: u64) -> Order
+    ensures { λ r. ⌜ r ≡ Order·ordered l v right p x ⌝ }
 {
-    if 65536 <= p {
-        return Command::Bad;
+    if right & (p < 65536) & (x < TOO_WIDE) {
+        return Order {
+            verb: v,
+            line: l,
+            number: p as u16,
+            item: x as u32,
+        };
     }
-    if TOO_WIDE <= x {
-        return Command::Bad;
+    Order {
+        verb: 0,
+        line: 0,
+        number: 0,
+        item: 0,
     }
-    if same(w, b"ins") {
-        return Command::Insert(l, p as u16, x as u32);
-    }
-    Command::Bad
 }
 
-// The words after a command's first number.
-fn after_number(l: u8, w: &[u8], p: u64, s: &[u8]) -> Command
-    ensures { λ r. ⌜ r ≡ afterNumber l (now (w .entry)) p (wordsOf (now (s .entry))) ⌝ }
-{
-    if end(s, 32) < s.len() {
-        return Command::Bad;
-    }
-    with_two(l, w, p, number(s))
-}
-
-// The words after a command's name.
-fn after_name(l: u8, w: &[u8], s: &[u8]) -> Command
-    ensures { λ r. ⌜ r ≡ verbOf l (now (w .entry) ∷ wordsOf (now (s .entry))) ⌝ }
+// The words after a verb: one number, or two. A space in the second makes it none.
+fn after_verb(l: u8, v: u8, s: &[u8]) -> Order
+    ensures { λ r. ⌜ SaysAfter l v (now (s .entry)) r ⌝ }
 {
     let e = end(s, 32);
-    if e < s.len() {
-        let next = e + 1;
-        return after_number(l, w, number(&s[..e]), &s[next..]);
+    let p = number(&s[..e]);
+    if s.len() <= e {
+        return ordered(l, v, (v == DEL) | (v == UP) | (v == DOWN), p, 0);
     }
-    with_one(l, w, number(s))
+    let next = e + 1;
+    ordered(l, v, v == INS, p, number(&s[next..]))
 }
 
 // The words after the client's line.
-fn verb(l: u8, s: &[u8]) -> Command
-    ensures { λ r. ⌜ r ≡ verbOf l (wordsOf (now (s .entry))) ⌝ }
+fn after_line(l: u8, s: &[u8]) -> Order
+    ensures { λ r. ⌜ r ≡ coded (verbOf l (wordsOf (now (s .entry)))) ⌝ }
 {
     let e = end(s, 32);
-    if e < s.len() {
-        let next = e + 1;
-        return after_name(l, &s[..e], &s[next..]);
-    }
-    plain(l, s)
-}
-
-// What a line says, of a sheet with n clients.
-pub fn read_command(n: u8, line: &[u8]) -> Command
-    ensures { λ r. ⌜ r ≡ commandOf n (now (line .entry)) ⌝ }
-{
-    let e = end(line, 32);
-    if line.len() <= e {
-        return Command::Bad;
-    }
-    let l = number(&line[..e]);
-    if l < 1 {
-        return Command::Bad;
-    }
-    if wide(n) < l {
-        return Command::Bad;
+    let v = verb(&s[..e]);
+    if s.len() <= e {
+        return ordered(l, v, (v == ACK) | (v == TOLD), 0, 0);
     }
     let next = e + 1;
-    verb(l as u8, &line[next..])
+    after_verb(l, v, &s[next..])
+}
+
+// What a line orders, of a sheet with n clients.
+fn read_order(n: u8, line: &[u8]) -> Order
+    ensures { λ r. ⌜ r ≡ coded (commandOf n (now (line .entry))) ⌝ }
+{
+    let e = end(line, 32);
+    let l = number(&line[..e]);
+    if (e < line.len()) & (1 <= l) & (l <= wide(n)) {
+        let next = e + 1;
+        return after_line(l as u8, &line[next..]);
+    }
+    ordered(0, 0, false, 0, 0)
+}
+
+// What the line at a place orders.
+pub fn line_at(input: &[u8], i: usize, n: u8) -> Line
+    requires { ⌜ i < length (now input) ⌝ }
+    ensures { λ r. ⌜ Next (now (input .entry)) i n r ⌝ }
+{
+    let e = i + end(&input[i..], 10);
+    let order = read_order(n, &input[i..e]);
+    Line {
+        order,
+        after: e + 1,
+    }
 }

@@ -29,7 +29,7 @@ returns-2 : tie.Need-returns-2
 returns-2 c = likewise (items-alone-no _ _ (c .before .before .before .before .before .end .ensures) (c .before .before .before .before .before .before .before .args .n) (c .before .before .before .before .if1 .taken) (sym (c .before .before .same .ensures) ∙ c .before .if2 .left)) (c .failed .ensures)
 
 slice-aggregate-same-2 : tie.Need-slice-aggregate-same-2
-slice-aggregate-same-2 c = taken-length _ _ 32 (c .before .before .end .ensures) (c .before .if1 .left)
+slice-aggregate-same-2 c = taken-length _ _ 32 (c .before .before .end .ensures)
 
 slice-aggregate-same-3 : tie.Need-slice-aggregate-same-3
 slice-aggregate-same-3 c = search needs

@@ -15,7 +15,7 @@ returns : tie.Need-returns
 returns c = likewise (lines-alone _ _ (c .before .before .end .ensures) (c .before .if1 .taken)) (c .failed .ensures)
 
 slice-aggregate-same : tie.Need-slice-aggregate-same
-slice-aggregate-same c = taken-length _ _ 32 (c .before .before .end .ensures) (c .before .if1 .left)
+slice-aggregate-same c = taken-length _ _ 32 (c .before .before .end .ensures)
 
 slice-aggregate-same-2 : tie.Need-slice-aggregate-same-2
 slice-aggregate-same-2 c = search needs
