@@ -22,7 +22,7 @@ use Rattle.pending.proofs.Pad.{pad-length}
 use Rattle.client.specs.declared.Client.{Client}
 use Rattle.client.specs.declared.Answer as clientAnswer
 use Rattle.client.specs.Store as client
-use Rattle.client.specs.Answers.{guarded, given, refusedWith, guardedSending, taken}
+use Rattle.client.specs.Answers.{guarded, given, refusedWith, guardedSending}
 use Rattle.server.specs.declared.Server.{Server}
 use Rattle.server.specs.declared.Answer as serverAnswer
 use Rattle.server.specs.View as server
@@ -36,7 +36,7 @@ use Rattle.text.specs.declared.parse.Order.{Order}
 use Rattle.text.specs.Order.{coded}
 use Rattle.text.specs.Command.{Command, Bad, Insert, Delete, Up, Down, Ack, Told}
 use Rattle.script.specs.Bench.{Bench, Step, clientOf, onClient, onServer, delivered, room, step}
-use Rattle.script.specs.Ends.{viewEnds, storeEnds, Whole, sentBy, editedBy}
+use Rattle.script.specs.Ends.{viewEnds, storeEnds, Whole, sentBy, changedBy}
 use Rattle.text.proofs.Sinks.{both}
 use Rattle.script.proofs.Benches.{every-at}
 
@@ -246,28 +246,16 @@ module _ (e : Ends) (w : Whole e) where
   told-sent : (l : ℕ) → tells (e .server) l room ≡ serverModels.tellServer (B .server) l room
   told-sent l = ap (λ (x : Server). tells x l room) server-is ∙ server-tells (B .server) l room (w .sound .server)
 
-  -- What the calls of an order leave is what the command's step leaves, stored: of an edit,
-  pub edit-is : (c : Command) → Within (e .server .n) c → (x d : Client) → x ≡ getD (e .clients) (coded c .line - 1) d → 1 ≤ coded c .verb → coded c .verb < 3
-      → clientDone e (coded c .line - 1) (editedBy x (coded c)) ≡ storeStep (step B c)
-  unfolding coded editedBy step
-  edit-is Bad h x d p low high = absurd (omega arith)
-  edit-is (Insert l q y) h x d p low high = client-call l (h .0) (h .1) x d p (λ m. models.insertClient m q y) (edit-keeps (clientOf B l) _)
-  edit-is (Delete l q) h x d p low high = client-call l (h .0) (h .1) x d p (λ m. models.deleteClient m q) (edit-keeps (clientOf B l) _)
-  edit-is (Up l k) h x d p low high = absurd (omega arith)
-  edit-is (Down l k) h x d p low high = absurd (omega arith)
-  edit-is (Ack l) h x d p low high = absurd (omega arith)
-  edit-is (Told l) h x d p low high = absurd (omega arith)
-
   abbrev wrote : Client → Command → Sent
   wrote x c = sentBy (e .server) x (coded c) room
 
-  -- of a sending that is refused,
-  pub unsent-is : (c : Command) → Within (e .server .n) c → (x d : Client) → x ≡ getD (e .clients) (coded c .line - 1) d → 3 ≤ coded c .verb → (wrote x c .refusal ≡ 0 → ⊥)
+  -- What the calls of an order leave is what the command's step leaves, stored: of a sending that is refused,
+  pub unsent-is : (c : Command) → Within (e .server .n) c → (x d : Client) → x ≡ getD (e .clients) (coded c .line - 1) d → 1 ≤ coded c .verb → (wrote x c .refusal ≡ 0 → ⊥)
       → _≡_ {A = Done} (record { refusal = wrote x c .refusal; ends = e }) (storeStep (step B c))
   unfolding coded sentBy step
   unsent-is Bad h x d p low r = absurd (omega arith)
-  unsent-is (Insert l q y) h x d p low r = absurd (omega arith)
-  unsent-is (Delete l q) h x d p low r = absurd (omega arith)
+  unsent-is (Insert l q y) h x d p low r = absurd (r refl)
+  unsent-is (Delete l q) h x d p low r = absurd (r refl)
   unsent-is (Up l k) h x d p low r = unsent _ _ (λ m. onServer B (serverModels.takeServer (B .server) m)) (client-sent l (h .0) (h .1) x d p (λ v. models.sendClient v l k room)) r
   unsent-is (Down l k) h x d p low r = unsent _ _ (λ m. onClient B l (models.takeClient (clientOf B l) m)) (down-sent l k) r
   unsent-is (Ack l) h x d p low r = unsent _ _ (λ m. onServer B (serverModels.takeServer (B .server) m)) (client-sent l (h .0) (h .1) x d p (λ v. models.tellClient v l room)) r
@@ -285,17 +273,17 @@ module _ (e : Ends) (w : Whole e) where
   up-is (Ack l) h x d p low z = server-gets _ _ (client-sent l (h .0) (h .1) x d p (λ v. models.tellClient v l room)) z
   up-is (Told l) h x d p low z = absurd (omega arith)
 
-  -- and of what the client takes.
-  pub down-is : (c : Command) → Within (e .server .n) c → (x d : Client) → x ≡ getD (e .clients) (coded c .line - 1) d → 3 ≤ coded c .verb → coded c .verb < 5 → wrote x c .refusal ≡ 0
-      → clientDone e (coded c .line - 1) (taken x (take (wrote x c .written) (wrote x c .buffer))) ≡ storeStep (step B c)
-  unfolding coded sentBy step
-  down-is Bad h x d p low high z = absurd (omega arith)
-  down-is (Insert l q y) h x d p low high z = absurd (omega arith)
-  down-is (Delete l q) h x d p low high z = absurd (omega arith)
-  down-is (Up l k) h x d p low high z = absurd (omega arith)
-  down-is (Down l k) h x d p low high z = client-gets l (h .0) (h .1) x d p _ _ (down-sent l k) z
-  down-is (Ack l) h x d p low high z = absurd (omega arith)
-  down-is (Told l) h x d p low high z = client-gets l (h .0) (h .1) x d p _ _ (told-sent l) z
+  -- and of what the client edits or takes.
+  pub changed-is : (c : Command) → Within (e .server .n) c → (x d : Client) → x ≡ getD (e .clients) (coded c .line - 1) d → 1 ≤ coded c .verb → coded c .verb < 5 → wrote x c .refusal ≡ 0
+      → clientDone e (coded c .line - 1) (changedBy x (coded c) (take (wrote x c .written) (wrote x c .buffer))) ≡ storeStep (step B c)
+  unfolding coded sentBy changedBy step
+  changed-is Bad h x d p low high z = absurd (omega arith)
+  changed-is (Insert l q y) h x d p low high z = client-call l (h .0) (h .1) x d p (λ m. models.insertClient m q y) (edit-keeps (clientOf B l) _)
+  changed-is (Delete l q) h x d p low high z = client-call l (h .0) (h .1) x d p (λ m. models.deleteClient m q) (edit-keeps (clientOf B l) _)
+  changed-is (Up l k) h x d p low high z = absurd (omega arith)
+  changed-is (Down l k) h x d p low high z = client-gets l (h .0) (h .1) x d p _ _ (down-sent l k) z
+  changed-is (Ack l) h x d p low high z = absurd (omega arith)
+  changed-is (Told l) h x d p low high z = client-gets l (h .0) (h .1) x d p _ _ (told-sent l) z
 
 -- Any sending writes within its buffer.
 sent-within : (r : ℕ) (bytes lent : List ℕ) → sent r bytes lent .written ≤ length (sent r bytes lent .buffer)

@@ -29,7 +29,6 @@ use Rattle.text.specs.declared.parse.Line.{Line}
 use Rattle.text.specs.Order.{coded, Next}
 use Rattle.endpoint.specs.declared.Sent as endpoint
 use Rattle.endpoint.specs.Sending.{answered}
-use Rattle.client.specs.Answers.{taken as takenBy}
 use Rattle.server.specs.Calls.{takes}
 use Rattle.text.specs.Sink.{Sink, sink, puts}
 use Rattle.text.specs.Text.{before, linesOf, wordsOf, same}
@@ -38,11 +37,11 @@ use Rattle.text.specs.Command.{Command, Bad, Insert, Delete, Up, Down, Ack, Tol
 use Rattle.script.specs.Bench.{Bench, SoundBench, room, step, clientOf}
 use Rattle.text.specs.Lines.{unknown, replied, clientList}
 use Rattle.script.specs.Output.{understood, replies, clientLists, lists, ran}
-use Rattle.script.specs.Ends.{viewEnds, storeEnds, Whole, sentBy, editedBy}
+use Rattle.script.specs.Ends.{viewEnds, storeEnds, Whole, sentBy, changedBy}
 use Rattle.text.proofs.Sinks.{both, and-left, and-right, puts-append}
 use Rattle.text.proofs.Texts.{lines-none}
 use Rattle.script.proofs.Benches.{step-sound}
-use Rattle.script.proofs.Structs.{Within, Done, storeStep, clientDone, serverDone, lines-few, client-is, client-sound, server-is, edit-is, unsent-is, up-is, down-is, wrote-within}
+use Rattle.script.proofs.Structs.{Within, Done, storeStep, clientDone, serverDone, lines-few, client-is, client-sound, server-is, unsent-is, up-is, changed-is, wrote-within}
 
 -- ---- the line of a command that was read is one of 1 to n
 
@@ -191,17 +190,9 @@ module _ (s out : List ℕ) (i to : ℕ) (e : Ends) (z : Sink) (g : Running s ou
         standing : x ≡ getD (e .clients) (coded said .line - 1) d
         standing = px ∙ ap (λ (y : Order). getD (e .clients) (y .line - 1) d) said-so
 
-        pub running-edit : o .verb < 3 → (a : clientAnswer.Answer) → a ≡ editedBy x o → (out′ : List ℕ) (to′ : ℕ) → sink out′ to′ ≡ puts (replied (a .refusal)) (sink out to)
-            → Running s out′ (r .after) to′ (clientDone e (o .line - 1) a .ends) z
-        running-edit high a pa out′ to′ q =
-            replying (clientDone e (o .line - 1) a)
-            (ap (clientDone e (o .line - 1)) pa ∙ ap (λ (y : Order). clientDone e (y .line - 1) (editedBy x y)) said-so
-            ∙ edit-is e (g .whole) said within x d standing (subst (λ (y : Order). 1 ≤ y .verb) said-so low) (subst (λ (y : Order). y .verb < 3) said-so high))
-            out′ to′ q
-
-        module _ (far : 3 ≤ o .verb) (b : endpoint.Sent) (m : List ℕ) (pb : answered b m ≡ sentBy (e .server) x o room) where
-          far′ : 3 ≤ coded said .verb
-          far′ = subst (λ (y : Order). 3 ≤ y .verb) said-so far
+        module _ (b : endpoint.Sent) (m : List ℕ) (pb : answered b m ≡ sentBy (e .server) x o room) where
+          low′ : 1 ≤ coded said .verb
+          low′ = subst (λ (y : Order). 1 ≤ y .verb) said-so low
 
           sends-as : answered b m ≡ sentBy (e .server) x (coded said) room
           sends-as = pb ∙ ap (λ (y : Order). sentBy (e .server) x y room) said-so
@@ -213,7 +204,7 @@ module _ (s out : List ℕ) (i to : ℕ) (e : Ends) (z : Sink) (g : Running s ou
           running-unsent h out′ to′ q =
               let k = ap (λ (y : Sent). y .refusal) sends-as in
               replying (record { refusal = b .refusal; ends = e })
-              (ap (λ j. record { refusal = j; ends = e }) k ∙ unsent-is e (g .whole) said within x d standing far′ (λ z′. h (k ∙ z′))) out′ to′ q
+              (ap (λ j. record { refusal = j; ends = e }) k ∙ unsent-is e (g .whole) said within x d standing low′ (λ z′. h (k ∙ z′))) out′ to′ q
 
           module _ (ok : b .refusal ≡ 0) where
             ok′ : sentBy (e .server) x (coded said) room .refusal ≡ 0
@@ -227,12 +218,13 @@ module _ (s out : List ℕ) (i to : ℕ) (e : Ends) (z : Sink) (g : Running s ou
                 ∙ up-is e (g .whole) said within x d standing (subst (λ (y : Order). 5 ≤ y .verb) said-so high) ok′)
                 out′ to′ q
 
-            pub running-down : o .verb < 5 → (a : clientAnswer.Answer) → a ≡ takenBy x (take (b .written) m) → (out′ : List ℕ) (to′ : ℕ)
+            pub running-client : o .verb < 5 → (a : clientAnswer.Answer) → a ≡ changedBy x o (take (b .written) m) → (out′ : List ℕ) (to′ : ℕ)
                 → sink out′ to′ ≡ puts (replied (a .refusal)) (sink out to) → Running s out′ (r .after) to′ (clientDone e (o .line - 1) a .ends) z
-            running-down high a pa out′ to′ q =
+            running-client high a pa out′ to′ q =
                 replying (clientDone e (o .line - 1) a)
-                (ap (clientDone e (o .line - 1)) pa ∙ ap₂ (λ (y : Sent) (w : Order). clientDone e (w .line - 1) (takenBy x (take (y .written) (y .buffer)))) sends-as said-so
-                ∙ down-is e (g .whole) said within x d standing far′ (subst (λ (y : Order). y .verb < 5) said-so high) ok′)
+                (ap (clientDone e (o .line - 1)) pa
+                ∙ ap₂ (λ (y : Sent) (w : Order). clientDone e (w .line - 1) (changedBy x w (take (y .written) (y .buffer)))) sends-as said-so
+                ∙ changed-is e (g .whole) said within x d standing low′ (subst (λ (y : Order). y .verb < 5) said-so high) ok′)
                 out′ to′ q
 
   pub running-end : length s ≤ i → puts (lists (viewEnds e)) (sink out to) ≡ z

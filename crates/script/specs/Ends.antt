@@ -12,7 +12,7 @@ use Rattle.model.specs.Client.{noClient, openClient}
 use Rattle.client.specs.declared.Client.{Client}
 use Rattle.client.specs.declared.Answer as clientAnswer
 use Rattle.client.specs.Store as client
-use Rattle.client.specs.Answers.{inserted, deleted, sentEdit, sentAck}
+use Rattle.client.specs.Answers.{inserted, deleted, taken, sentEdit, sentAck}
 use Rattle.server.specs.declared.Server.{Server}
 use Rattle.server.specs.View as server
 use Rattle.server.specs.Calls.{sends, tells}
@@ -42,9 +42,9 @@ sentBy s c o lent =
     (cond (eqb (o .verb) 3) (sends s (o .line) (o .number) lent)
     (cond (eqb (o .verb) 4) (tells s (o .line) lent) (record { refusal = 0; written = 0; buffer = lent }))))
 
--- a client's own edit
-unfoldable pub editedBy : Client → Order → clientAnswer.Answer
-editedBy c o = cond (eqb (o .verb) 1) (inserted c (o .number) (o .item)) (deleted c (o .number))
+-- the client's own edit, or what it takes
+unfoldable pub changedBy : Client → Order → List ℕ → clientAnswer.Answer
+changedBy c o bytes = cond (eqb (o .verb) 1) (inserted c (o .number) (o .item)) (cond (eqb (o .verb) 2) (deleted c (o .number)) (taken c bytes))
 
 -- k clients, from line l on, of a sheet of n; opening refuses a line past n, and then gives an end that is all zeros
 abbrev pub opening : ℕ → List ℕ → ℕ → ℕ → List Client

@@ -3,6 +3,7 @@ use client::Client;
 use endpoint::Sent;
 use server::Server;
 use text::ACK;
+use text::DEL;
 use text::DOWN;
 use text::INS;
 use text::Order;
@@ -10,7 +11,7 @@ use text::TOLD;
 use text::UP;
 ghost use mathlib.Core.Path.{_≡_};
 ghost use Rattle.endpoint.specs.Sending.{answered};
-ghost use Rattle.script.specs.Ends.{sentBy, editedBy};
+ghost use Rattle.script.specs.Ends.{sentBy, changedBy};
 
 // The server, and the clients of lines 1 to n in the first n places.
 pub struct Ends {
@@ -40,12 +41,15 @@ pub fn sent(server: Server, client: Client, o: Order, m: &mut [u8]) -> Sent
     }
 }
 
-// A client's own edit.
-pub fn edited(client: Client, o: Order) -> client::Answer
-    ensures { λ r. ⌜ r ≡ editedBy client o ⌝ }
+// The client's own edit, or what it takes.
+pub fn at_client(client: Client, o: Order, bytes: &[u8]) -> client::Answer
+    ensures { λ r. ⌜ r ≡ changedBy client o (now (bytes .entry)) ⌝ }
 {
     if o.verb == INS {
         return client.insert(o.number, o.item);
     }
-    client.delete(o.number)
+    if o.verb == DEL {
+        return client.delete(o.number);
+    }
+    client.take(bytes)
 }

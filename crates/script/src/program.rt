@@ -1,12 +1,11 @@
 // The run program over a text: reads lines, makes the calls they name, and prints.
 use crate::ends::Ends;
-use crate::ends::edited;
+use crate::ends::at_client;
 use crate::ends::sent;
 use crate::opening::First;
 use crate::opening::read_first;
 use client::Client;
 use server::Server;
-use text::DOWN;
 use text::INS;
 use text::UP;
 use text::client_list;
@@ -80,13 +79,6 @@ fn commands(input: &[u8], from: usize, out: &mut [u8], at: usize, ends: Ends) ->
             continue;
         }
         let k = (o.line - 1) as usize;
-        if o.verb < DOWN {
-            let a = edited(now.clients[k], o);
-            to = reply(out, to, a.refusal);
-            let t = a.client;
-            now.clients[k] = t;
-            continue;
-        }
         let mut m = [0u8; 14];
         let b = sent(now.server, now.clients[k], o, &mut m);
         if b.refusal != 0 {
@@ -101,7 +93,7 @@ fn commands(input: &[u8], from: usize, out: &mut [u8], at: usize, ends: Ends) ->
             now.server = t;
             continue;
         }
-        let a = now.clients[k].take(&m[..n]);
+        let a = at_client(now.clients[k], o, &m[..n]);
         to = reply(out, to, a.refusal);
         let t = a.client;
         now.clients[k] = t;

@@ -8,7 +8,7 @@ use Rattle.text.specs.Sink.{sink, puts}
 use Rattle.text.specs.Text.{linesOf}
 use Rattle.script.specs.Output.{ran}
 use Rattle.script.specs.Ends.{viewEnds}
-use Rattle.script.proofs.Turns.{Running, order-line, written-within, running-bad, running-edit, running-unsent, running-up, running-down, running-end}
+use Rattle.script.proofs.Turns.{Running, order-line, written-within, running-bad, running-unsent, running-up, running-client, running-end}
 use Rattle.script.proofs.program.commands.Statement.{statement}
 use Rattle.script.proofs.program.commands.Tie as tie
 
@@ -29,7 +29,7 @@ unknown-requires : tie.Need-unknown-requires Inv-loop μ-loop
 unknown-requires c κs = tt
 
 loop-less : tie.Need-loop-less Inv-loop μ-loop
-loop-less c = let h = c .before .before .before .before .before .before .before .line-at .ensures .later in omega arith
+loop-less c = let h = c .before .before .before .before .before .before .before .line-at .ensures .later in let t = c .before .before .before .before .before .before .before .before .loop-test .taken in omega arith
 
 loop-again : tie.Need-loop-again Inv-loop μ-loop
 loop-again c = (c .before .before .unknown .kept .0 ∙ c .before .before .before .before .before .before .before .before .before .loop .inv .0, running-bad _ _ (c .before .before .before .before .before .before .before .before .before .loop .i) _ _ _ (c .before .before .before .before .before .before .before .before .before .loop .inv .1) (c .before .before .before .before .before .before .before .line-at .result) (c .before .before .before .before .before .before .before .line-at .ensures) (c .before .before .before .before .if1 .taken) _ _ (c .before .before .unknown .ensures))
@@ -40,35 +40,11 @@ sub-k c = let h = order-line _ _ (c .before .before .before .before .before .bef
 cast-k : tie.Need-cast-k Inv-loop μ-loop
 cast-k c = let h = order-line _ _ (c .before .before .before .before .before .before .loop .i) _ _ _ (c .before .before .before .before .before .before .loop .inv .1) (c .before .before .before .before .line-at .result) (c .before .before .before .before .line-at .ensures) _ refl (c .before .if1 .left) in search needs
 
-mul-edited : tie.Need-mul-edited Inv-loop μ-loop
-mul-edited c = let h = order-line _ _ (c .before .before .before .before .before .before .before .before .loop .i) _ _ _ (c .before .before .before .before .before .before .before .before .loop .inv .1) (c .before .before .before .before .before .before .line-at .result) (c .before .before .before .before .before .before .line-at .ensures) _ refl (c .before .before .before .if1 .left) in search needs
-
-element-copy-out-edited : tie.Need-element-copy-out-edited Inv-loop μ-loop
-element-copy-out-edited c = let h = order-line _ _ (c .before .before .before .before .before .before .before .before .loop .i) _ _ _ (c .before .before .before .before .before .before .before .before .loop .inv .1) (c .before .before .before .before .before .before .line-at .result) (c .before .before .before .before .before .before .line-at .ensures) _ refl (c .before .before .before .if1 .left) in search needs
-
-edited-requires : tie.Need-edited-requires Inv-loop μ-loop
-edited-requires c κs = tt
-
-reply-requires : tie.Need-reply-requires Inv-loop μ-loop
-reply-requires c κs = tt
-
-mul-t : tie.Need-mul-t Inv-loop μ-loop
-mul-t c = let h = order-line _ _ (c .before .before .before .before .before .before .before .before .before .before .before .before .before .before .before .loop .i) _ _ _ (c .before .before .before .before .before .before .before .before .before .before .before .before .before .before .before .loop .inv .1) (c .before .before .before .before .before .before .before .before .before .before .before .before .before .line-at .result) (c .before .before .before .before .before .before .before .before .before .before .before .before .before .line-at .ensures) _ refl (c .before .before .before .before .before .before .before .before .before .before .if1 .left) in search needs
-
-element-set-from-t : tie.Need-element-set-from-t Inv-loop μ-loop
-element-set-from-t c = let h = order-line _ _ (c .before .before .before .before .before .before .before .before .before .before .before .before .before .before .before .loop .i) _ _ _ (c .before .before .before .before .before .before .before .before .before .before .before .before .before .before .before .loop .inv .1) (c .before .before .before .before .before .before .before .before .before .before .before .before .before .line-at .result) (c .before .before .before .before .before .before .before .before .before .before .before .before .before .line-at .ensures) _ refl (c .before .before .before .before .before .before .before .before .before .before .if1 .left) in search needs
-
-loop-less-2 : tie.Need-loop-less-2 Inv-loop μ-loop
-loop-less-2 c = let h = c .before .before .before .before .before .before .before .before .before .before .before .before .before .line-at .ensures .later in omega arith
-
-loop-again-2 : tie.Need-loop-again-2 Inv-loop μ-loop
-loop-again-2 c = (c .before .before .before .reply .kept .0 ∙ c .before .before .before .before .before .before .before .before .before .before .before .before .before .before .before .loop .inv .0, running-edit _ _ (c .before .before .before .before .before .before .before .before .before .before .before .before .before .before .before .loop .i) _ _ _ (c .before .before .before .before .before .before .before .before .before .before .before .before .before .before .before .loop .inv .1) (c .before .before .before .before .before .before .before .before .before .before .before .before .before .line-at .result) (c .before .before .before .before .before .before .before .before .before .before .before .before .before .line-at .ensures) _ refl (c .before .before .before .before .before .before .before .before .before .before .if1 .left) _ _ refl (c .before .before .before .before .before .before .before .if2 .taken) (c .before .before .before .before .before .edited .result) (c .before .before .before .before .before .edited .ensures) _ _ (c .before .before .before .reply .ensures))
-
 mul-sent : tie.Need-mul-sent Inv-loop μ-loop
-mul-sent c = let h = order-line _ _ (c .before .before .before .before .before .before .before .before .before .loop .i) _ _ _ (c .before .before .before .before .before .before .before .before .before .loop .inv .1) (c .before .before .before .before .before .before .before .line-at .result) (c .before .before .before .before .before .before .before .line-at .ensures) _ refl (c .before .before .before .before .if1 .left) in search needs
+mul-sent c = let h = order-line _ _ (c .before .before .before .before .before .before .before .loop .i) _ _ _ (c .before .before .before .before .before .before .before .loop .inv .1) (c .before .before .before .before .before .line-at .result) (c .before .before .before .before .before .line-at .ensures) _ refl (c .before .before .if1 .left) in search needs
 
 element-copy-out-sent : tie.Need-element-copy-out-sent Inv-loop μ-loop
-element-copy-out-sent c = let h = order-line _ _ (c .before .before .before .before .before .before .before .before .before .loop .i) _ _ _ (c .before .before .before .before .before .before .before .before .before .loop .inv .1) (c .before .before .before .before .before .before .before .line-at .result) (c .before .before .before .before .before .before .before .line-at .ensures) _ refl (c .before .before .before .before .if1 .left) in search needs
+element-copy-out-sent c = let h = order-line _ _ (c .before .before .before .before .before .before .before .loop .i) _ _ _ (c .before .before .before .before .before .before .before .loop .inv .1) (c .before .before .before .before .before .line-at .result) (c .before .before .before .before .before .line-at .ensures) _ refl (c .before .before .if1 .left) in search needs
 
 slice-aggregate-sent : tie.Need-slice-aggregate-sent Inv-loop μ-loop
 slice-aggregate-sent c = search needs
@@ -76,62 +52,62 @@ slice-aggregate-sent c = search needs
 sent-requires : tie.Need-sent-requires Inv-loop μ-loop
 sent-requires c κs = tt
 
-reply-requires-2 : tie.Need-reply-requires-2 Inv-loop μ-loop
-reply-requires-2 c κs = tt
+reply-requires : tie.Need-reply-requires Inv-loop μ-loop
+reply-requires c κs = tt
 
-loop-less-3 : tie.Need-loop-less-3 Inv-loop μ-loop
-loop-less-3 c = let h = c .before .before .before .before .before .before .before .before .before .before .before .before .before .before .before .before .before .line-at .ensures .later in omega arith
+loop-less-2 : tie.Need-loop-less-2 Inv-loop μ-loop
+loop-less-2 c = let h = c .before .before .before .before .before .before .before .before .before .before .before .before .before .before .before .line-at .ensures .later in let t = c .before .before .before .before .before .before .before .before .before .before .before .before .before .before .before .before .loop-test .taken in omega arith
 
-loop-again-3 : tie.Need-loop-again-3 Inv-loop μ-loop
-loop-again-3 c = (c .before .before .reply2 .kept .0 ∙ c .before .before .before .before .before .before .before .before .before .before .before .before .before .before .before .before .before .before .before .loop .inv .0, running-unsent _ _ (c .before .before .before .before .before .before .before .before .before .before .before .before .before .before .before .before .before .before .before .loop .i) _ _ _ (c .before .before .before .before .before .before .before .before .before .before .before .before .before .before .before .before .before .before .before .loop .inv .1) (c .before .before .before .before .before .before .before .before .before .before .before .before .before .before .before .before .before .line-at .result) (c .before .before .before .before .before .before .before .before .before .before .before .before .before .before .before .before .before .line-at .ensures) _ refl (c .before .before .before .before .before .before .before .before .before .before .before .before .before .before .if1 .left) _ _ refl (c .before .before .before .before .before .before .before .before .before .before .before .if2 .left) (c .before .before .before .before .before .before .before .sent .result) _ (c .before .before .before .before .before .before .before .sent .ensures) (c .before .before .before .before .if3 .taken) _ _ (c .before .before .reply2 .ensures))
+loop-again-2 : tie.Need-loop-again-2 Inv-loop μ-loop
+loop-again-2 c = (c .before .before .reply .kept .0 ∙ c .before .before .before .before .before .before .before .before .before .before .before .before .before .before .before .before .before .loop .inv .0, running-unsent _ _ (c .before .before .before .before .before .before .before .before .before .before .before .before .before .before .before .before .before .loop .i) _ _ _ (c .before .before .before .before .before .before .before .before .before .before .before .before .before .before .before .before .before .loop .inv .1) (c .before .before .before .before .before .before .before .before .before .before .before .before .before .before .before .line-at .result) (c .before .before .before .before .before .before .before .before .before .before .before .before .before .before .before .line-at .ensures) _ refl (c .before .before .before .before .before .before .before .before .before .before .before .before .if1 .left) _ _ refl (c .before .before .before .before .before .before .before .sent .result) _ (c .before .before .before .before .before .before .before .sent .ensures) (c .before .before .before .before .if2 .taken) _ _ (c .before .before .reply .ensures))
 
 array-share-prefix-m : tie.Need-array-share-prefix-m Inv-loop μ-loop
-array-share-prefix-m c = written-within _ _ (c .before .before .before .before .before .before .before .before .before .before .before .before .before .before .before .before .before .before .loop .i) _ _ _ (c .before .before .before .before .before .before .before .before .before .before .before .before .before .before .before .before .before .before .loop .inv .1) (c .before .before .before .before .before .before .before .before .before .before .before .before .before .before .before .before .line-at .result) (c .before .before .before .before .before .before .before .before .before .before .before .before .before .before .before .before .line-at .ensures) _ refl (c .before .before .before .before .before .before .before .before .before .before .before .before .before .if1 .left) _ _ refl (c .before .before .before .before .before .before .before .before .before .before .if2 .left) (c .before .before .before .before .before .before .sent .result) _ (c .before .before .before .before .before .before .sent .ensures)
+array-share-prefix-m c = written-within _ _ (c .before .before .before .before .before .before .before .before .before .before .before .before .before .before .before .before .loop .i) _ _ _ (c .before .before .before .before .before .before .before .before .before .before .before .before .before .before .before .before .loop .inv .1) (c .before .before .before .before .before .before .before .before .before .before .before .before .before .before .line-at .result) (c .before .before .before .before .before .before .before .before .before .before .before .before .before .before .line-at .ensures) _ refl (c .before .before .before .before .before .before .before .before .before .before .before .if1 .left) _ _ refl (c .before .before .before .before .before .before .sent .result) _ (c .before .before .before .before .before .before .sent .ensures)
 
 slice-aggregate-take : tie.Need-slice-aggregate-take Inv-loop μ-loop
-slice-aggregate-take c = sym (length-take-le _ _ (written-within _ _ (c .before .before .before .before .before .before .before .before .before .before .before .before .before .before .before .before .before .before .before .loop .i) _ _ _ (c .before .before .before .before .before .before .before .before .before .before .before .before .before .before .before .before .before .before .before .loop .inv .1) (c .before .before .before .before .before .before .before .before .before .before .before .before .before .before .before .before .before .line-at .result) (c .before .before .before .before .before .before .before .before .before .before .before .before .before .before .before .before .before .line-at .ensures) _ refl (c .before .before .before .before .before .before .before .before .before .before .before .before .before .before .if1 .left) _ _ refl (c .before .before .before .before .before .before .before .before .before .before .before .if2 .left) (c .before .before .before .before .before .before .before .sent .result) _ (c .before .before .before .before .before .before .before .sent .ensures)))
+slice-aggregate-take c = sym (length-take-le _ _ (written-within _ _ (c .before .before .before .before .before .before .before .before .before .before .before .before .before .before .before .before .before .loop .i) _ _ _ (c .before .before .before .before .before .before .before .before .before .before .before .before .before .before .before .before .before .loop .inv .1) (c .before .before .before .before .before .before .before .before .before .before .before .before .before .before .before .line-at .result) (c .before .before .before .before .before .before .before .before .before .before .before .before .before .before .before .line-at .ensures) _ refl (c .before .before .before .before .before .before .before .before .before .before .before .before .if1 .left) _ _ refl (c .before .before .before .before .before .before .before .sent .result) _ (c .before .before .before .before .before .before .before .sent .ensures)))
 
 take-requires : tie.Need-take-requires Inv-loop μ-loop
 take-requires c κs = tt
 
+reply-requires-2 : tie.Need-reply-requires-2 Inv-loop μ-loop
+reply-requires-2 c κs = tt
+
+loop-less-3 : tie.Need-loop-less-3 Inv-loop μ-loop
+loop-less-3 c = let h = c .before .before .before .before .before .before .before .before .before .before .before .before .before .before .before .before .before .before .before .before .before .line-at .ensures .later in let t = c .before .before .before .before .before .before .before .before .before .before .before .before .before .before .before .before .before .before .before .before .before .before .loop-test .taken in omega arith
+
+loop-again-3 : tie.Need-loop-again-3 Inv-loop μ-loop
+loop-again-3 c = (c .before .before .before .reply2 .kept .0 ∙ c .before .before .before .before .before .before .before .before .before .before .before .before .before .before .before .before .before .before .before .before .before .before .before .loop .inv .0, running-up _ _ (c .before .before .before .before .before .before .before .before .before .before .before .before .before .before .before .before .before .before .before .before .before .before .before .loop .i) _ _ _ (c .before .before .before .before .before .before .before .before .before .before .before .before .before .before .before .before .before .before .before .before .before .before .before .loop .inv .1) (c .before .before .before .before .before .before .before .before .before .before .before .before .before .before .before .before .before .before .before .before .before .line-at .result) (c .before .before .before .before .before .before .before .before .before .before .before .before .before .before .before .before .before .before .before .before .before .line-at .ensures) _ refl (c .before .before .before .before .before .before .before .before .before .before .before .before .before .before .before .before .before .before .if1 .left) _ _ refl (c .before .before .before .before .before .before .before .before .before .before .before .before .before .sent .result) _ (c .before .before .before .before .before .before .before .before .before .before .before .before .before .sent .ensures) (c .before .before .before .before .before .before .before .before .before .before .if2 .left) (c .before .before .before .before .before .before .before .before .if3 .taken) (c .before .before .before .before .before .take .result) (c .before .before .before .before .before .take .ensures) _ _ (c .before .before .before .reply2 .ensures))
+
+mul-at-client : tie.Need-mul-at-client Inv-loop μ-loop
+mul-at-client c = let h = order-line _ _ (c .before .before .before .before .before .before .before .before .before .before .before .before .before .before .before .loop .i) _ _ _ (c .before .before .before .before .before .before .before .before .before .before .before .before .before .before .before .loop .inv .1) (c .before .before .before .before .before .before .before .before .before .before .before .before .before .line-at .result) (c .before .before .before .before .before .before .before .before .before .before .before .before .before .line-at .ensures) _ refl (c .before .before .before .before .before .before .before .before .before .before .if1 .left) in search needs
+
+element-copy-out-at-client : tie.Need-element-copy-out-at-client Inv-loop μ-loop
+element-copy-out-at-client c = let h = order-line _ _ (c .before .before .before .before .before .before .before .before .before .before .before .before .before .before .before .loop .i) _ _ _ (c .before .before .before .before .before .before .before .before .before .before .before .before .before .before .before .loop .inv .1) (c .before .before .before .before .before .before .before .before .before .before .before .before .before .line-at .result) (c .before .before .before .before .before .before .before .before .before .before .before .before .before .line-at .ensures) _ refl (c .before .before .before .before .before .before .before .before .before .before .if1 .left) in search needs
+
+array-share-prefix-m-2 : tie.Need-array-share-prefix-m-2 Inv-loop μ-loop
+array-share-prefix-m-2 c = written-within _ _ (c .before .before .before .before .before .before .before .before .before .before .before .before .before .before .before .before .loop .i) _ _ _ (c .before .before .before .before .before .before .before .before .before .before .before .before .before .before .before .before .loop .inv .1) (c .before .before .before .before .before .before .before .before .before .before .before .before .before .before .line-at .result) (c .before .before .before .before .before .before .before .before .before .before .before .before .before .before .line-at .ensures) _ refl (c .before .before .before .before .before .before .before .before .before .before .before .if1 .left) _ _ refl (c .before .before .before .before .before .before .sent .result) _ (c .before .before .before .before .before .before .sent .ensures)
+
+slice-aggregate-at-client : tie.Need-slice-aggregate-at-client Inv-loop μ-loop
+slice-aggregate-at-client c = sym (length-take-le _ _ (written-within _ _ (c .before .before .before .before .before .before .before .before .before .before .before .before .before .before .before .before .before .loop .i) _ _ _ (c .before .before .before .before .before .before .before .before .before .before .before .before .before .before .before .before .before .loop .inv .1) (c .before .before .before .before .before .before .before .before .before .before .before .before .before .before .before .line-at .result) (c .before .before .before .before .before .before .before .before .before .before .before .before .before .before .before .line-at .ensures) _ refl (c .before .before .before .before .before .before .before .before .before .before .before .before .if1 .left) _ _ refl (c .before .before .before .before .before .before .before .sent .result) _ (c .before .before .before .before .before .before .before .sent .ensures)))
+
+at-client-requires : tie.Need-at-client-requires Inv-loop μ-loop
+at-client-requires c κs = tt
+
 reply-requires-3 : tie.Need-reply-requires-3 Inv-loop μ-loop
 reply-requires-3 c κs = tt
 
+mul-t : tie.Need-mul-t Inv-loop μ-loop
+mul-t c = let h = order-line _ _ (c .before .before .before .before .before .before .before .before .before .before .before .before .before .before .before .before .before .before .before .before .before .before .before .loop .i) _ _ _ (c .before .before .before .before .before .before .before .before .before .before .before .before .before .before .before .before .before .before .before .before .before .before .before .loop .inv .1) (c .before .before .before .before .before .before .before .before .before .before .before .before .before .before .before .before .before .before .before .before .before .line-at .result) (c .before .before .before .before .before .before .before .before .before .before .before .before .before .before .before .before .before .before .before .before .before .line-at .ensures) _ refl (c .before .before .before .before .before .before .before .before .before .before .before .before .before .before .before .before .before .before .if1 .left) in search needs
+
+element-set-from-t : tie.Need-element-set-from-t Inv-loop μ-loop
+element-set-from-t c = let h = order-line _ _ (c .before .before .before .before .before .before .before .before .before .before .before .before .before .before .before .before .before .before .before .before .before .before .before .loop .i) _ _ _ (c .before .before .before .before .before .before .before .before .before .before .before .before .before .before .before .before .before .before .before .before .before .before .before .loop .inv .1) (c .before .before .before .before .before .before .before .before .before .before .before .before .before .before .before .before .before .before .before .before .before .line-at .result) (c .before .before .before .before .before .before .before .before .before .before .before .before .before .before .before .before .before .before .before .before .before .line-at .ensures) _ refl (c .before .before .before .before .before .before .before .before .before .before .before .before .before .before .before .before .before .before .if1 .left) in search needs
+
 loop-less-4 : tie.Need-loop-less-4 Inv-loop μ-loop
-loop-less-4 c = let h = c .before .before .before .before .before .before .before .before .before .before .before .before .before .before .before .before .before .before .before .before .before .before .before .line-at .ensures .later in let t = c .before .before .before .before .before .before .before .before .before .before .before .before .before .before .before .before .before .before .before .before .before .before .before .before .loop-test .taken in omega arith
+loop-less-4 c = let h = c .before .before .before .before .before .before .before .before .before .before .before .before .before .before .before .before .before .before .before .before .before .line-at .ensures .later in let t = c .before .before .before .before .before .before .before .before .before .before .before .before .before .before .before .before .before .before .before .before .before .before .loop-test .taken in omega arith
 
 loop-again-4 : tie.Need-loop-again-4 Inv-loop μ-loop
-loop-again-4 c = (c .before .before .before .reply3 .kept .0 ∙ c .before .before .before .before .before .before .before .before .before .before .before .before .before .before .before .before .before .before .before .before .before .before .before .before .before .loop .inv .0, running-up _ _ (c .before .before .before .before .before .before .before .before .before .before .before .before .before .before .before .before .before .before .before .before .before .before .before .before .before .loop .i) _ _ _ (c .before .before .before .before .before .before .before .before .before .before .before .before .before .before .before .before .before .before .before .before .before .before .before .before .before .loop .inv .1) (c .before .before .before .before .before .before .before .before .before .before .before .before .before .before .before .before .before .before .before .before .before .before .before .line-at .result) (c .before .before .before .before .before .before .before .before .before .before .before .before .before .before .before .before .before .before .before .before .before .before .before .line-at .ensures) _ refl (c .before .before .before .before .before .before .before .before .before .before .before .before .before .before .before .before .before .before .before .before .if1 .left) _ _ refl (c .before .before .before .before .before .before .before .before .before .before .before .before .before .before .before .before .before .if2 .left) (c .before .before .before .before .before .before .before .before .before .before .before .before .before .sent .result) _ (c .before .before .before .before .before .before .before .before .before .before .before .before .before .sent .ensures) (c .before .before .before .before .before .before .before .before .before .before .if3 .left) (c .before .before .before .before .before .before .before .before .if4 .taken) (c .before .before .before .before .before .take .result) (c .before .before .before .before .before .take .ensures) _ _ (c .before .before .before .reply3 .ensures))
-
-mul-take : tie.Need-mul-take Inv-loop μ-loop
-mul-take c = let h = order-line _ _ (c .before .before .before .before .before .before .before .before .before .before .before .before .before .before .before .before .before .loop .i) _ _ _ (c .before .before .before .before .before .before .before .before .before .before .before .before .before .before .before .before .before .loop .inv .1) (c .before .before .before .before .before .before .before .before .before .before .before .before .before .before .before .line-at .result) (c .before .before .before .before .before .before .before .before .before .before .before .before .before .before .before .line-at .ensures) _ refl (c .before .before .before .before .before .before .before .before .before .before .before .before .if1 .left) in search needs
-
-element-copy-out-take : tie.Need-element-copy-out-take Inv-loop μ-loop
-element-copy-out-take c = let h = order-line _ _ (c .before .before .before .before .before .before .before .before .before .before .before .before .before .before .before .before .before .loop .i) _ _ _ (c .before .before .before .before .before .before .before .before .before .before .before .before .before .before .before .before .before .loop .inv .1) (c .before .before .before .before .before .before .before .before .before .before .before .before .before .before .before .line-at .result) (c .before .before .before .before .before .before .before .before .before .before .before .before .before .before .before .line-at .ensures) _ refl (c .before .before .before .before .before .before .before .before .before .before .before .before .if1 .left) in search needs
-
-array-share-prefix-m-2 : tie.Need-array-share-prefix-m-2 Inv-loop μ-loop
-array-share-prefix-m-2 c = written-within _ _ (c .before .before .before .before .before .before .before .before .before .before .before .before .before .before .before .before .before .before .loop .i) _ _ _ (c .before .before .before .before .before .before .before .before .before .before .before .before .before .before .before .before .before .before .loop .inv .1) (c .before .before .before .before .before .before .before .before .before .before .before .before .before .before .before .before .line-at .result) (c .before .before .before .before .before .before .before .before .before .before .before .before .before .before .before .before .line-at .ensures) _ refl (c .before .before .before .before .before .before .before .before .before .before .before .before .before .if1 .left) _ _ refl (c .before .before .before .before .before .before .before .before .before .before .if2 .left) (c .before .before .before .before .before .before .sent .result) _ (c .before .before .before .before .before .before .sent .ensures)
-
-slice-aggregate-take-2 : tie.Need-slice-aggregate-take-2 Inv-loop μ-loop
-slice-aggregate-take-2 c = sym (length-take-le _ _ (written-within _ _ (c .before .before .before .before .before .before .before .before .before .before .before .before .before .before .before .before .before .before .before .loop .i) _ _ _ (c .before .before .before .before .before .before .before .before .before .before .before .before .before .before .before .before .before .before .before .loop .inv .1) (c .before .before .before .before .before .before .before .before .before .before .before .before .before .before .before .before .before .line-at .result) (c .before .before .before .before .before .before .before .before .before .before .before .before .before .before .before .before .before .line-at .ensures) _ refl (c .before .before .before .before .before .before .before .before .before .before .before .before .before .before .if1 .left) _ _ refl (c .before .before .before .before .before .before .before .before .before .before .before .if2 .left) (c .before .before .before .before .before .before .before .sent .result) _ (c .before .before .before .before .before .before .before .sent .ensures)))
-
-take-requires-2 : tie.Need-take-requires-2 Inv-loop μ-loop
-take-requires-2 c κs = tt
-
-reply-requires-4 : tie.Need-reply-requires-4 Inv-loop μ-loop
-reply-requires-4 c κs = tt
-
-mul-t-2 : tie.Need-mul-t-2 Inv-loop μ-loop
-mul-t-2 c = let h = order-line _ _ (c .before .before .before .before .before .before .before .before .before .before .before .before .before .before .before .before .before .before .before .before .before .before .before .before .before .loop .i) _ _ _ (c .before .before .before .before .before .before .before .before .before .before .before .before .before .before .before .before .before .before .before .before .before .before .before .before .before .loop .inv .1) (c .before .before .before .before .before .before .before .before .before .before .before .before .before .before .before .before .before .before .before .before .before .before .before .line-at .result) (c .before .before .before .before .before .before .before .before .before .before .before .before .before .before .before .before .before .before .before .before .before .before .before .line-at .ensures) _ refl (c .before .before .before .before .before .before .before .before .before .before .before .before .before .before .before .before .before .before .before .before .if1 .left) in search needs
-
-element-set-from-t-2 : tie.Need-element-set-from-t-2 Inv-loop μ-loop
-element-set-from-t-2 c = let h = order-line _ _ (c .before .before .before .before .before .before .before .before .before .before .before .before .before .before .before .before .before .before .before .before .before .before .before .before .before .loop .i) _ _ _ (c .before .before .before .before .before .before .before .before .before .before .before .before .before .before .before .before .before .before .before .before .before .before .before .before .before .loop .inv .1) (c .before .before .before .before .before .before .before .before .before .before .before .before .before .before .before .before .before .before .before .before .before .before .before .line-at .result) (c .before .before .before .before .before .before .before .before .before .before .before .before .before .before .before .before .before .before .before .before .before .before .before .line-at .ensures) _ refl (c .before .before .before .before .before .before .before .before .before .before .before .before .before .before .before .before .before .before .before .before .if1 .left) in search needs
-
-loop-less-5 : tie.Need-loop-less-5 Inv-loop μ-loop
-loop-less-5 c = let h = c .before .before .before .before .before .before .before .before .before .before .before .before .before .before .before .before .before .before .before .before .before .before .before .line-at .ensures .later in let t = c .before .before .before .before .before .before .before .before .before .before .before .before .before .before .before .before .before .before .before .before .before .before .before .before .loop-test .taken in omega arith
-
-loop-again-5 : tie.Need-loop-again-5 Inv-loop μ-loop
-loop-again-5 c = (c .before .before .before .reply4 .kept .0 ∙ c .before .before .before .before .before .before .before .before .before .before .before .before .before .before .before .before .before .before .before .before .before .before .before .before .before .loop .inv .0, running-down _ _ (c .before .before .before .before .before .before .before .before .before .before .before .before .before .before .before .before .before .before .before .before .before .before .before .before .before .loop .i) _ _ _ (c .before .before .before .before .before .before .before .before .before .before .before .before .before .before .before .before .before .before .before .before .before .before .before .before .before .loop .inv .1) (c .before .before .before .before .before .before .before .before .before .before .before .before .before .before .before .before .before .before .before .before .before .before .before .line-at .result) (c .before .before .before .before .before .before .before .before .before .before .before .before .before .before .before .before .before .before .before .before .before .before .before .line-at .ensures) _ refl (c .before .before .before .before .before .before .before .before .before .before .before .before .before .before .before .before .before .before .before .before .if1 .left) _ _ refl (c .before .before .before .before .before .before .before .before .before .before .before .before .before .before .before .before .before .if2 .left) (c .before .before .before .before .before .before .before .before .before .before .before .before .before .sent .result) _ (c .before .before .before .before .before .before .before .before .before .before .before .before .before .sent .ensures) (c .before .before .before .before .before .before .before .before .before .before .if3 .left) (c .before .before .before .before .before .before .before .before .if4 .left) (c .before .before .before .before .before .take2 .result) (c .before .before .before .before .before .take2 .ensures) _ _ (c .before .before .before .reply4 .ensures))
+loop-again-4 c = (c .before .before .before .reply3 .kept .0 ∙ c .before .before .before .before .before .before .before .before .before .before .before .before .before .before .before .before .before .before .before .before .before .before .before .loop .inv .0, running-client _ _ (c .before .before .before .before .before .before .before .before .before .before .before .before .before .before .before .before .before .before .before .before .before .before .before .loop .i) _ _ _ (c .before .before .before .before .before .before .before .before .before .before .before .before .before .before .before .before .before .before .before .before .before .before .before .loop .inv .1) (c .before .before .before .before .before .before .before .before .before .before .before .before .before .before .before .before .before .before .before .before .before .line-at .result) (c .before .before .before .before .before .before .before .before .before .before .before .before .before .before .before .before .before .before .before .before .before .line-at .ensures) _ refl (c .before .before .before .before .before .before .before .before .before .before .before .before .before .before .before .before .before .before .if1 .left) _ _ refl (c .before .before .before .before .before .before .before .before .before .before .before .before .before .sent .result) _ (c .before .before .before .before .before .before .before .before .before .before .before .before .before .sent .ensures) (c .before .before .before .before .before .before .before .before .before .before .if2 .left) (c .before .before .before .before .before .before .before .before .if3 .left) (c .before .before .before .before .before .at-client .result) (c .before .before .before .before .before .at-client .ensures) _ _ (c .before .before .before .reply3 .ensures))
 
 lists-requires : tie.Need-lists-requires Inv-loop μ-loop
 lists-requires c κs = c .before .before .loop .inv .1 .whole
@@ -155,37 +131,29 @@ commands-spec =
     loop-again
     sub-k
     cast-k
-    mul-edited
-    element-copy-out-edited
-    edited-requires
-    reply-requires
-    mul-t
-    element-set-from-t
-    loop-less-2
-    loop-again-2
     mul-sent
     element-copy-out-sent
     slice-aggregate-sent
     sent-requires
-    reply-requires-2
-    loop-less-3
-    loop-again-3
+    reply-requires
+    loop-less-2
+    loop-again-2
     array-share-prefix-m
     slice-aggregate-take
     take-requires
+    reply-requires-2
+    loop-less-3
+    loop-again-3
+    mul-at-client
+    element-copy-out-at-client
+    array-share-prefix-m-2
+    slice-aggregate-at-client
+    at-client-requires
     reply-requires-3
+    mul-t
+    element-set-from-t
     loop-less-4
     loop-again-4
-    mul-take
-    element-copy-out-take
-    array-share-prefix-m-2
-    slice-aggregate-take-2
-    take-requires-2
-    reply-requires-4
-    mul-t-2
-    element-set-from-t-2
-    loop-less-5
-    loop-again-5
     lists-requires
     same-length
     returns)
