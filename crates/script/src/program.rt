@@ -63,42 +63,40 @@ fn lists(out: &mut [u8], at: usize, ends: Ends) -> usize
 }
 
 // The lines from a place of the input on, and the lists.
-fn commands(input: &[u8], from: usize, out: &mut [u8], at: usize, ends: Ends) -> usize
+fn commands(input: &[u8], mut i: usize, out: &mut [u8], mut at: usize, mut ends: Ends) -> usize
     requires { ⌜ Whole ends ⌝ }
-    ensures { λ r. ⌜ sink (now (out .exit)) r ≡ Sink·puts (ran (viewEnds ends) (linesOf (drop from (now (input .entry))))) (sink (now (out .entry)) at) ⌝ }
+    ensures { λ r. ⌜ sink (now (out .exit)) r ≡ Sink·puts (ran (viewEnds ends) (linesOf (drop i (now (input .entry))))) (sink (now (out .entry)) at) ⌝ }
 {
-    let mut now = ends;
-    let mut i = from;
-    let mut to = at;
     while i < input.len() {
-        let line = line_at(input, i, now.server.n);
+        let line = line_at(input, i, ends.server.n);
         let o = line.order;
         i = line.after;
         if o.verb < INS {
-            to = unknown(out, to);
+            at = unknown(out, at);
             continue;
         }
         let k = (o.line - 1) as usize;
         let mut m = [0u8; 14];
-        let b = sent(now.server, now.clients[k], o, &mut m);
+        let b = sent(ends.server, ends.clients[k], o, &mut m);
         if b.refusal != 0 {
-            to = reply(out, to, b.refusal);
+            at = reply(out, at, b.refusal);
             continue;
         }
         let n = b.written;
+        let bytes = &m[..n];
         if UP <= o.verb {
-            let a = now.server.take(&m[..n]);
-            to = reply(out, to, a.refusal);
+            let a = ends.server.take(bytes);
+            at = reply(out, at, a.refusal);
             let t = a.server;
-            now.server = t;
+            ends.server = t;
             continue;
         }
-        let a = at_client(now.clients[k], o, &m[..n]);
-        to = reply(out, to, a.refusal);
+        let a = at_client(ends.clients[k], o, bytes);
+        at = reply(out, at, a.refusal);
         let t = a.client;
-        now.clients[k] = t;
+        ends.clients[k] = t;
     }
-    lists(out, to, now)
+    lists(out, at, ends)
 }
 
 // The clients of lines 1 to n. Opening refuses a line past n, and then gives an end that is all zeros.

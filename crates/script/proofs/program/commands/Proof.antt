@@ -13,11 +13,11 @@ use Rattle.script.proofs.program.commands.Statement.{statement}
 use Rattle.script.proofs.program.commands.Tie as tie
 
 abbrev Inv-loop : tie.InvT-loop
-Inv-loop input from out₀ at now₀ i₀ to₀ out now i to =
-    (length out ≡ length out₀) × Running input out i to now (puts (ran (viewEnds now₀) (linesOf (drop from input))) (sink out₀ at))
+Inv-loop input i₀ out₀ at₀ ends₀ i out at ends =
+    (length out ≡ length out₀) × Running input out i at ends (puts (ran (viewEnds ends₀) (linesOf (drop i₀ input))) (sink out₀ at₀))
 
 abbrev μ-loop : tie.MeasureT-loop
-μ-loop input from out₀ at now₀ i₀ to₀ out now i to = length input - i
+μ-loop input i₀ out₀ at₀ ends₀ i out at ends = length input - i
 
 loop-holds : tie.Need-loop-holds Inv-loop μ-loop
 loop-holds c = (refl, record { whole = c .before .before .pre; rest = refl })
@@ -62,10 +62,10 @@ loop-again-2 : tie.Need-loop-again-2 Inv-loop μ-loop
 loop-again-2 c = (c .before .before .reply .kept .0 ∙ c .before .before .before .before .before .before .before .before .before .before .before .before .before .before .before .before .before .loop .inv .0, running-unsent _ _ (c .before .before .before .before .before .before .before .before .before .before .before .before .before .before .before .before .before .loop .i) _ _ _ (c .before .before .before .before .before .before .before .before .before .before .before .before .before .before .before .before .before .loop .inv .1) (c .before .before .before .before .before .before .before .before .before .before .before .before .before .before .before .line-at .result) (c .before .before .before .before .before .before .before .before .before .before .before .before .before .before .before .line-at .ensures) _ refl (c .before .before .before .before .before .before .before .before .before .before .before .before .if1 .left) _ _ refl (c .before .before .before .before .before .before .before .sent .result) _ (c .before .before .before .before .before .before .before .sent .ensures) (c .before .before .before .before .if2 .taken) _ _ (c .before .before .reply .ensures))
 
 array-share-prefix-m : tie.Need-array-share-prefix-m Inv-loop μ-loop
-array-share-prefix-m c = written-within _ _ (c .before .before .before .before .before .before .before .before .before .before .before .before .before .before .before .before .loop .i) _ _ _ (c .before .before .before .before .before .before .before .before .before .before .before .before .before .before .before .before .loop .inv .1) (c .before .before .before .before .before .before .before .before .before .before .before .before .before .before .line-at .result) (c .before .before .before .before .before .before .before .before .before .before .before .before .before .before .line-at .ensures) _ refl (c .before .before .before .before .before .before .before .before .before .before .before .if1 .left) _ _ refl (c .before .before .before .before .before .before .sent .result) _ (c .before .before .before .before .before .before .sent .ensures)
+array-share-prefix-m c = written-within _ _ (c .before .before .before .before .before .before .before .before .before .before .before .before .before .loop .i) _ _ _ (c .before .before .before .before .before .before .before .before .before .before .before .before .before .loop .inv .1) (c .before .before .before .before .before .before .before .before .before .before .before .line-at .result) (c .before .before .before .before .before .before .before .before .before .before .before .line-at .ensures) _ refl (c .before .before .before .before .before .before .before .before .if1 .left) _ _ refl (c .before .before .before .sent .result) _ (c .before .before .before .sent .ensures)
 
-slice-aggregate-take : tie.Need-slice-aggregate-take Inv-loop μ-loop
-slice-aggregate-take c = sym (length-take-le _ _ (written-within _ _ (c .before .before .before .before .before .before .before .before .before .before .before .before .before .before .before .before .before .loop .i) _ _ _ (c .before .before .before .before .before .before .before .before .before .before .before .before .before .before .before .before .before .loop .inv .1) (c .before .before .before .before .before .before .before .before .before .before .before .before .before .before .before .line-at .result) (c .before .before .before .before .before .before .before .before .before .before .before .before .before .before .before .line-at .ensures) _ refl (c .before .before .before .before .before .before .before .before .before .before .before .before .if1 .left) _ _ refl (c .before .before .before .before .before .before .before .sent .result) _ (c .before .before .before .before .before .before .before .sent .ensures)))
+slice-aggregate-bytes : tie.Need-slice-aggregate-bytes Inv-loop μ-loop
+slice-aggregate-bytes c = sym (length-take-le _ _ (written-within _ _ (c .before .before .before .before .before .before .before .before .before .before .before .before .before .before .loop .i) _ _ _ (c .before .before .before .before .before .before .before .before .before .before .before .before .before .before .loop .inv .1) (c .before .before .before .before .before .before .before .before .before .before .before .before .line-at .result) (c .before .before .before .before .before .before .before .before .before .before .before .before .line-at .ensures) _ refl (c .before .before .before .before .before .before .before .before .before .if1 .left) _ _ refl (c .before .before .before .before .sent .result) _ (c .before .before .before .before .sent .ensures)))
 
 take-requires : tie.Need-take-requires Inv-loop μ-loop
 take-requires c κs = tt
@@ -77,19 +77,13 @@ loop-less-3 : tie.Need-loop-less-3 Inv-loop μ-loop
 loop-less-3 c = let h = c .before .before .before .before .before .before .before .before .before .before .before .before .before .before .before .before .before .before .before .before .before .line-at .ensures .later in let t = c .before .before .before .before .before .before .before .before .before .before .before .before .before .before .before .before .before .before .before .before .before .before .loop-test .taken in omega arith
 
 loop-again-3 : tie.Need-loop-again-3 Inv-loop μ-loop
-loop-again-3 c = (c .before .before .before .reply2 .kept .0 ∙ c .before .before .before .before .before .before .before .before .before .before .before .before .before .before .before .before .before .before .before .before .before .before .before .loop .inv .0, running-up _ _ (c .before .before .before .before .before .before .before .before .before .before .before .before .before .before .before .before .before .before .before .before .before .before .before .loop .i) _ _ _ (c .before .before .before .before .before .before .before .before .before .before .before .before .before .before .before .before .before .before .before .before .before .before .before .loop .inv .1) (c .before .before .before .before .before .before .before .before .before .before .before .before .before .before .before .before .before .before .before .before .before .line-at .result) (c .before .before .before .before .before .before .before .before .before .before .before .before .before .before .before .before .before .before .before .before .before .line-at .ensures) _ refl (c .before .before .before .before .before .before .before .before .before .before .before .before .before .before .before .before .before .before .if1 .left) _ _ refl (c .before .before .before .before .before .before .before .before .before .before .before .before .before .sent .result) _ (c .before .before .before .before .before .before .before .before .before .before .before .before .before .sent .ensures) (c .before .before .before .before .before .before .before .before .before .before .if2 .left) (c .before .before .before .before .before .before .before .before .if3 .taken) (c .before .before .before .before .before .take .result) (c .before .before .before .before .before .take .ensures) _ _ (c .before .before .before .reply2 .ensures))
+loop-again-3 c = (c .before .before .before .reply2 .kept .0 ∙ c .before .before .before .before .before .before .before .before .before .before .before .before .before .before .before .before .before .before .before .before .before .before .before .loop .inv .0, running-up _ _ (c .before .before .before .before .before .before .before .before .before .before .before .before .before .before .before .before .before .before .before .before .before .before .before .loop .i) _ _ _ (c .before .before .before .before .before .before .before .before .before .before .before .before .before .before .before .before .before .before .before .before .before .before .before .loop .inv .1) (c .before .before .before .before .before .before .before .before .before .before .before .before .before .before .before .before .before .before .before .before .before .line-at .result) (c .before .before .before .before .before .before .before .before .before .before .before .before .before .before .before .before .before .before .before .before .before .line-at .ensures) _ refl (c .before .before .before .before .before .before .before .before .before .before .before .before .before .before .before .before .before .before .if1 .left) _ _ refl (c .before .before .before .before .before .before .before .before .before .before .before .before .before .sent .result) _ (c .before .before .before .before .before .before .before .before .before .before .before .before .before .sent .ensures) (c .before .before .before .before .before .before .before .before .before .before .if2 .left) (c .before .before .before .before .before .before .before .if3 .taken) (c .before .before .before .before .before .take .result) (c .before .before .before .before .before .take .ensures) _ _ (c .before .before .before .reply2 .ensures))
 
 mul-at-client : tie.Need-mul-at-client Inv-loop μ-loop
-mul-at-client c = let h = order-line _ _ (c .before .before .before .before .before .before .before .before .before .before .before .before .before .before .before .loop .i) _ _ _ (c .before .before .before .before .before .before .before .before .before .before .before .before .before .before .before .loop .inv .1) (c .before .before .before .before .before .before .before .before .before .before .before .before .before .line-at .result) (c .before .before .before .before .before .before .before .before .before .before .before .before .before .line-at .ensures) _ refl (c .before .before .before .before .before .before .before .before .before .before .if1 .left) in search needs
+mul-at-client c = let h = order-line _ _ (c .before .before .before .before .before .before .before .before .before .before .before .before .before .before .before .before .loop .i) _ _ _ (c .before .before .before .before .before .before .before .before .before .before .before .before .before .before .before .before .loop .inv .1) (c .before .before .before .before .before .before .before .before .before .before .before .before .before .before .line-at .result) (c .before .before .before .before .before .before .before .before .before .before .before .before .before .before .line-at .ensures) _ refl (c .before .before .before .before .before .before .before .before .before .before .before .if1 .left) in search needs
 
 element-copy-out-at-client : tie.Need-element-copy-out-at-client Inv-loop μ-loop
-element-copy-out-at-client c = let h = order-line _ _ (c .before .before .before .before .before .before .before .before .before .before .before .before .before .before .before .loop .i) _ _ _ (c .before .before .before .before .before .before .before .before .before .before .before .before .before .before .before .loop .inv .1) (c .before .before .before .before .before .before .before .before .before .before .before .before .before .line-at .result) (c .before .before .before .before .before .before .before .before .before .before .before .before .before .line-at .ensures) _ refl (c .before .before .before .before .before .before .before .before .before .before .if1 .left) in search needs
-
-array-share-prefix-m-2 : tie.Need-array-share-prefix-m-2 Inv-loop μ-loop
-array-share-prefix-m-2 c = written-within _ _ (c .before .before .before .before .before .before .before .before .before .before .before .before .before .before .before .before .loop .i) _ _ _ (c .before .before .before .before .before .before .before .before .before .before .before .before .before .before .before .before .loop .inv .1) (c .before .before .before .before .before .before .before .before .before .before .before .before .before .before .line-at .result) (c .before .before .before .before .before .before .before .before .before .before .before .before .before .before .line-at .ensures) _ refl (c .before .before .before .before .before .before .before .before .before .before .before .if1 .left) _ _ refl (c .before .before .before .before .before .before .sent .result) _ (c .before .before .before .before .before .before .sent .ensures)
-
-slice-aggregate-at-client : tie.Need-slice-aggregate-at-client Inv-loop μ-loop
-slice-aggregate-at-client c = sym (length-take-le _ _ (written-within _ _ (c .before .before .before .before .before .before .before .before .before .before .before .before .before .before .before .before .before .loop .i) _ _ _ (c .before .before .before .before .before .before .before .before .before .before .before .before .before .before .before .before .before .loop .inv .1) (c .before .before .before .before .before .before .before .before .before .before .before .before .before .before .before .line-at .result) (c .before .before .before .before .before .before .before .before .before .before .before .before .before .before .before .line-at .ensures) _ refl (c .before .before .before .before .before .before .before .before .before .before .before .before .if1 .left) _ _ refl (c .before .before .before .before .before .before .before .sent .result) _ (c .before .before .before .before .before .before .before .sent .ensures)))
+element-copy-out-at-client c = let h = order-line _ _ (c .before .before .before .before .before .before .before .before .before .before .before .before .before .before .before .before .loop .i) _ _ _ (c .before .before .before .before .before .before .before .before .before .before .before .before .before .before .before .before .loop .inv .1) (c .before .before .before .before .before .before .before .before .before .before .before .before .before .before .line-at .result) (c .before .before .before .before .before .before .before .before .before .before .before .before .before .before .line-at .ensures) _ refl (c .before .before .before .before .before .before .before .before .before .before .before .if1 .left) in search needs
 
 at-client-requires : tie.Need-at-client-requires Inv-loop μ-loop
 at-client-requires c κs = tt
@@ -107,7 +101,7 @@ loop-less-4 : tie.Need-loop-less-4 Inv-loop μ-loop
 loop-less-4 c = let h = c .before .before .before .before .before .before .before .before .before .before .before .before .before .before .before .before .before .before .before .before .before .line-at .ensures .later in let t = c .before .before .before .before .before .before .before .before .before .before .before .before .before .before .before .before .before .before .before .before .before .before .loop-test .taken in omega arith
 
 loop-again-4 : tie.Need-loop-again-4 Inv-loop μ-loop
-loop-again-4 c = (c .before .before .before .reply3 .kept .0 ∙ c .before .before .before .before .before .before .before .before .before .before .before .before .before .before .before .before .before .before .before .before .before .before .before .loop .inv .0, running-client _ _ (c .before .before .before .before .before .before .before .before .before .before .before .before .before .before .before .before .before .before .before .before .before .before .before .loop .i) _ _ _ (c .before .before .before .before .before .before .before .before .before .before .before .before .before .before .before .before .before .before .before .before .before .before .before .loop .inv .1) (c .before .before .before .before .before .before .before .before .before .before .before .before .before .before .before .before .before .before .before .before .before .line-at .result) (c .before .before .before .before .before .before .before .before .before .before .before .before .before .before .before .before .before .before .before .before .before .line-at .ensures) _ refl (c .before .before .before .before .before .before .before .before .before .before .before .before .before .before .before .before .before .before .if1 .left) _ _ refl (c .before .before .before .before .before .before .before .before .before .before .before .before .before .sent .result) _ (c .before .before .before .before .before .before .before .before .before .before .before .before .before .sent .ensures) (c .before .before .before .before .before .before .before .before .before .before .if2 .left) (c .before .before .before .before .before .before .before .before .if3 .left) (c .before .before .before .before .before .at-client .result) (c .before .before .before .before .before .at-client .ensures) _ _ (c .before .before .before .reply3 .ensures))
+loop-again-4 c = (c .before .before .before .reply3 .kept .0 ∙ c .before .before .before .before .before .before .before .before .before .before .before .before .before .before .before .before .before .before .before .before .before .before .before .loop .inv .0, running-client _ _ (c .before .before .before .before .before .before .before .before .before .before .before .before .before .before .before .before .before .before .before .before .before .before .before .loop .i) _ _ _ (c .before .before .before .before .before .before .before .before .before .before .before .before .before .before .before .before .before .before .before .before .before .before .before .loop .inv .1) (c .before .before .before .before .before .before .before .before .before .before .before .before .before .before .before .before .before .before .before .before .before .line-at .result) (c .before .before .before .before .before .before .before .before .before .before .before .before .before .before .before .before .before .before .before .before .before .line-at .ensures) _ refl (c .before .before .before .before .before .before .before .before .before .before .before .before .before .before .before .before .before .before .if1 .left) _ _ refl (c .before .before .before .before .before .before .before .before .before .before .before .before .before .sent .result) _ (c .before .before .before .before .before .before .before .before .before .before .before .before .before .sent .ensures) (c .before .before .before .before .before .before .before .before .before .before .if2 .left) (c .before .before .before .before .before .before .before .if3 .left) (c .before .before .before .before .before .at-client .result) (c .before .before .before .before .before .at-client .ensures) _ _ (c .before .before .before .reply3 .ensures))
 
 lists-requires : tie.Need-lists-requires Inv-loop μ-loop
 lists-requires c κs = c .before .before .loop .inv .1 .whole
@@ -139,15 +133,13 @@ commands-spec =
     loop-less-2
     loop-again-2
     array-share-prefix-m
-    slice-aggregate-take
+    slice-aggregate-bytes
     take-requires
     reply-requires-2
     loop-less-3
     loop-again-3
     mul-at-client
     element-copy-out-at-client
-    array-share-prefix-m-2
-    slice-aggregate-at-client
     at-client-requires
     reply-requires-3
     mul-t
