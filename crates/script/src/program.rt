@@ -85,9 +85,9 @@ fn commands(input: &[u8], mut i: usize, out: &mut [u8], mut at: usize, mut ends:
         let n = b.written;
         let bytes = &m[..n];
         if UP <= o.verb {
-            let a = ends.server.take(bytes);
-            at = reply(out, at, a.refusal);
-            let t = a.server;
+            let s = ends.server.take(bytes);
+            at = reply(out, at, s.refusal);
+            let t = s.server;
             ends.server = t;
             continue;
         }
