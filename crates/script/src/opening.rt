@@ -75,13 +75,10 @@ fn after_number(n: u8, s: &[u8]) -> First
     ensures { λ r. ⌜ Reads (Opening·afterNumber n (wordsOf (now (s .entry)))) r ⌝ }
 {
     let e = end(s, 32);
-    if s.len() <= e {
-        if same(s, b"items") {
+    if same(&s[..e], b"items") {
+        if s.len() <= e {
             return begun(n);
         }
-        return failed();
-    }
-    if same(&s[..e], b"items") {
         let next = e + 1;
         return items(n, &s[next..]);
     }

@@ -125,11 +125,12 @@ fn started(input: &[u8], from: usize, out: &mut [u8], f: First) -> usize
     if f.ok {
         let list = f.list;
         let count = f.count;
-        let a = Server::open(f.n, &list[..count]);
+        let items = &list[..count];
+        let a = Server::open(f.n, items);
         let to = reply(out, 0, a.refusal);
         if a.refusal == 0 {
             let server = a.server;
-            let clients = open_clients(f.n, &list[..count]);
+            let clients = open_clients(f.n, items);
             return commands(input, from, out, to, Ends { server, clients });
         }
         return to;

@@ -1,7 +1,7 @@
 -- Laws of orders: the verb that a word names, and a line by its words.
 use Prim.Native.Nat.{ℕ, suc, _+_, _-_, _*_, _<_, _≤_, min}
 use mathlib.Core.Path.{_≡_, refl, sym, ap, ap₂, _∙_, subst}
-use mathlib.Core.Bool.{Bool, true, false, _&&_, _||_, cond}
+use mathlib.Core.Bool.{Bool, true, false, _&&_, cond}
 use mathlib.Core.List.{List, [], _∷_}
 use native.Mathlib.Omega.{arith}
 use borrow.Author.Tests.{eqb-true, eqb-false, ltb-true, ltb-false, leb-true, le-leb, lt-leb}
@@ -12,7 +12,7 @@ use Rattle.text.specs.declared.parse.Order.{Order}
 use Rattle.text.specs.Text.{before, wordsOf, linesOf, same}
 use Rattle.text.specs.Decimal.{tooWide, withDigit, numberFrom, numberOf}
 use Rattle.text.specs.Command.{Bad, Insert, Delete, Up, Down, Ack, Told, insWord, delWord, upWord, downWord, ackWord, toldWord, plain, withOne, withTwo, afterNumber, verbOf, commandOf}
-use Rattle.text.specs.Order.{order, coded, named, ordered, Next}
+use Rattle.text.specs.Order.{order, coded, bare, named, ordered, Next}
 use Rattle.text.proofs.Sinks.{both, and-left, and-right}
 use Rattle.text.proofs.Texts.{words-some, words-one, words-cut, words-whole, lines-next, line-is}
 use Rattle.text.proofs.Numbers.{number-some}
@@ -25,15 +25,6 @@ same-true (x ∷ a) [] h = absurd (eqb-false 0 1 refl (ap (λ t. cond t 1 0) h))
 same-true (x ∷ a) (y ∷ b) h =
     ap₂ (λ k (l : List ℕ). k ∷ l) (eqb-true x y (and-left (eqb x y) (same a b) h)) (same-true a b (and-right (eqb x y) (same a b) h))
 
--- A word is one of the six, or none of them.
-pub record NoVerb (w : List ℕ) : Type 0 where
-  ins : same w insWord ≡ false
-  del : same w delWord ≡ false
-  up : same w upWord ≡ false
-  down : same w downWord ≡ false
-  ack : same w ackWord ≡ false
-  told : same w toldWord ≡ false
-
 by-word : (P : ℕ → Type 0) (w v : List ℕ) (k m : ℕ) → (w ≡ v → P k) → (same w v ≡ false → P m) → P (cond (same w v) k m)
 by-word P w v k m here there = go (same w v) refl
   where
@@ -41,8 +32,14 @@ by-word P w v k m here there = go (same w v) refl
     go true e = here (same-true w v e)
     go false e = there e
 
-module _ (P : List ℕ → ℕ → Type 0) (i : P insWord 1) (d : P delWord 2) (u : P upWord 5) (o : P downWord 3) (a : P ackWord 6) (t : P toldWord 4)
-    (none : (w : List ℕ) → NoVerb w → P w 0) (w : List ℕ) where
+-- A word is one of the four, or none of them.
+record NoVerb (w : List ℕ) : Type 0 where
+  ins : same w insWord ≡ false
+  del : same w delWord ≡ false
+  up : same w upWord ≡ false
+  down : same w downWord ≡ false
+
+module _ (P : List ℕ → ℕ → Type 0) (i : P insWord 1) (d : P delWord 2) (u : P upWord 5) (o : P downWord 3) (none : (w : List ℕ) → NoVerb w → P w 0) (w : List ℕ) where
   word-is : (v : List ℕ) (k : ℕ) → P v k → w ≡ v → P w k
   word-is v k p e = subst (λ x. P x k) (sym e) p
 
@@ -52,30 +49,31 @@ module _ (P : List ℕ → ℕ → Type 0) (i : P insWord 1) (d : P delWord 2) (
       by-word (P w) w insWord 1 _ (word-is insWord 1 i) (λ e₁.
       by-word (P w) w delWord 2 _ (word-is delWord 2 d) (λ e₂.
       by-word (P w) w upWord 5 _ (word-is upWord 5 u) (λ e₃.
-      by-word (P w) w downWord 3 _ (word-is downWord 3 o) (λ e₄.
-      by-word (P w) w ackWord 6 _ (word-is ackWord 6 a) (λ e₅.
-      by-word (P w) w toldWord 4 0 (word-is toldWord 4 t) (λ e₆.
-      none w (record { ins = e₁; del = e₂; up = e₃; down = e₄; ack = e₅; told = e₆ })))))))
+      by-word (P w) w downWord 3 0 (word-is downWord 3 o) (λ e₄.
+      none w (record { ins = e₁; del = e₂; up = e₃; down = e₄ })))))
 
 -- a verb with no number, with one, and with two
-pub no-number : (l : ℕ) (w : List ℕ) → ordered l (named w) (eqb (named w) 6 || eqb (named w) 4) 0 0 ≡ coded (plain l w)
-unfolding coded same
-no-number l w =
-    each-verb (λ x v. cond ((eqb v 6 || eqb v 4) && true && true) (order v l 0 0) (order 0 0 0 0) ≡ coded (plain l x)) refl refl refl refl refl refl
-    (λ x h. rw (h .ack, h .told)) w
+no-number : (l : ℕ) (w : List ℕ) → ordered l (bare w) (leb 2 (bare w)) 0 0 ≡ coded (plain l w)
+unfolding bare coded
+no-number l w = go (same w ackWord) (same w toldWord)
+  where
+    go : (a t : Bool) → ordered l (cond a 6 (cond t 4 0)) (leb 2 (cond a 6 (cond t 4 0))) 0 0 ≡ coded (cond a (Ack l) (cond t (Told l) Bad))
+    go true t = refl
+    go false true = refl
+    go false false = refl
 
-pub one-number : (l p : ℕ) (w : List ℕ) → ordered l (named w) (eqb (named w) 2 || eqb (named w) 5 || eqb (named w) 3) p 0 ≡ coded (withOne l w p)
+one-number : (l p : ℕ) (w : List ℕ) → ordered l (named w) (leb 2 (named w)) p 0 ≡ coded (withOne l w p)
 unfolding coded same
 one-number l p w = go (ltb p 65536)
   where
     P : Bool → List ℕ → ℕ → Type 0
     P t x v =
-        cond ((eqb v 2 || eqb v 5 || eqb v 3) && t && true) (order v l p 0) (order 0 0 0 0)
+        cond (leb 2 v && t && true) (order v l p 0) (order 0 0 0 0)
         ≡ coded (cond t (cond (same x delWord) (Delete l p) (cond (same x upWord) (Up l p) (cond (same x downWord) (Down l p) Bad))) Bad)
 
     go : (t : Bool) → P t w (named w)
-    go true = each-verb (P true) refl refl refl refl refl refl (λ x h. rw (h .del, h .up, h .down)) w
-    go false = each-verb (P false) refl refl refl refl refl refl (λ x h. refl) w
+    go true = each-verb (P true) refl refl refl refl (λ x h. rw (h .del, h .up, h .down)) w
+    go false = each-verb (P false) refl refl refl refl (λ x h. refl) w
 
 two-numbers : (l p y : ℕ) (w : List ℕ) → ordered l (named w) (eqb (named w) 1) p y ≡ coded (withTwo l w p y)
 unfolding coded same
@@ -85,9 +83,9 @@ two-numbers l p y w = go (ltb p 65536) (ltb y tooWide)
     P t u x v = cond (eqb v 1 && t && u) (order v l p y) (order 0 0 0 0) ≡ coded (cond (t && u && same x insWord) (Insert l p y) Bad)
 
     go : (t u : Bool) → P t u w (named w)
-    go true true = each-verb (P true true) refl refl refl refl refl refl (λ x h. rw (h .ins)) w
-    go true false = each-verb (P true false) refl refl refl refl refl refl (λ x h. refl) w
-    go false u = each-verb (P false u) refl refl refl refl refl refl (λ x h. refl) w
+    go true true = each-verb (P true true) refl refl refl refl (λ x h. rw (h .ins)) w
+    go true false = each-verb (P true false) refl refl refl refl (λ x h. refl) w
+    go false u = each-verb (P false u) refl refl refl refl (λ x h. refl) w
 
 -- A word with a space in it is no number.
 wide-digit : (b : ℕ) → withDigit tooWide b ≡ tooWide
@@ -132,15 +130,13 @@ second-number l p w s = go (ltb (length (before 32 s)) (length s)) refl
 
 -- What follows the client's line, by its first word, where the search for its end answered e.
 module _ (l : ℕ) (s : List ℕ) (e : ℕ) (p : e ≡ length (before 32 s)) where
-  pub after-none : (v : ℕ) → v ≡ named (take e s) → length s ≤ e → ordered l v (eqb v 6 || eqb v 4) 0 0 ≡ coded (verbOf l (wordsOf s))
-  after-none v q h =
-      ap (λ k. ordered l k (eqb k 6 || eqb k 4) 0 0) q ∙ no-number l (take e s)
-      ∙ ap (λ w. coded (plain l w)) (take-all e s h) ∙ ap (λ ws. coded (verbOf l ws)) (sym (words-whole s e p h))
+  pub after-none : (v : ℕ) → v ≡ bare s → length s ≤ e → ordered l v (leb 2 v) 0 0 ≡ coded (verbOf l (wordsOf s))
+  after-none v q h = ap (λ k. ordered l k (leb 2 k) 0 0) q ∙ no-number l s ∙ ap (λ ws. coded (verbOf l ws)) (sym (words-whole s e p h))
 
   module _ (v k : ℕ) (q : k ≡ numberOf (take e s)) (w : List ℕ) (pv : v ≡ named w) where
-    pub after-one : length s ≤ e → ordered l v (eqb v 2 || eqb v 5 || eqb v 3) k 0 ≡ coded (verbOf l (w ∷ wordsOf s))
+    pub after-one : length s ≤ e → ordered l v (leb 2 v) k 0 ≡ coded (verbOf l (w ∷ wordsOf s))
     after-one h =
-        ap₂ (λ u m. ordered l u (eqb u 2 || eqb u 5 || eqb u 3) m 0) pv (q ∙ ap numberOf (take-all e s h)) ∙ one-number l (numberOf s) w
+        ap₂ (λ u m. ordered l u (leb 2 u) m 0) pv (q ∙ ap numberOf (take-all e s h)) ∙ one-number l (numberOf s) w
         ∙ ap (λ ws. coded (verbOf l (w ∷ ws))) (sym (words-whole s e p h))
 
     pub after-two : e < length s → (x : ℕ) → x ≡ numberOf (take (length s - (e + 1)) (drop (e + 1) s)) → ordered l v (eqb v 1) k x ≡ coded (verbOf l (w ∷ wordsOf s))

@@ -24,11 +24,13 @@ coded (Down l k) = order 3 l k 0
 coded (Ack l) = order 6 l 0 0
 coded (Told l) = order 4 l 0 0
 
--- the verb that a word names, or 0
+-- the verb with no number that a word names, or 0
+unfoldable pub bare : List ℕ → ℕ
+bare w = cond (same w ackWord) 6 (cond (same w toldWord) 4 0)
+
+-- the verb with a number or two that a word names, or 0
 unfoldable pub named : List ℕ → ℕ
-named w =
-    cond (same w insWord) 1
-    (cond (same w delWord) 2 (cond (same w upWord) 5 (cond (same w downWord) 3 (cond (same w ackWord) 6 (cond (same w toldWord) 4 0)))))
+named w = cond (same w insWord) 1 (cond (same w delWord) 2 (cond (same w upWord) 5 (cond (same w downWord) 3 0)))
 
 -- a verb that goes with so many numbers, and the numbers in their ranges
 abbrev pub ordered : ℕ → ℕ → Bool → ℕ → ℕ → Order

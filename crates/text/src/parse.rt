@@ -5,7 +5,7 @@ ghost use lib.ListN.{length};
 ghost use Rattle.text.specs.Text.{before, wordsOf, same as Text·same};
 ghost use Rattle.text.specs.Decimal.{tooWide, withDigit, numberOf};
 ghost use Rattle.text.specs.Command.{verbOf, commandOf};
-ghost use Rattle.text.specs.Order.{named, ordered as Order·ordered, coded, SaysAfter, Next};
+ghost use Rattle.text.specs.Order.{bare as Order·bare, named as Order·named, ordered as Order·ordered, coded, SaysAfter, Next};
 
 // What a line of the script orders. A client is named by its line (01: the bay), of 1 to the number of clients. What a verb has no use
 // for is 0, and so is all of a line that orders nothing.
@@ -110,9 +110,22 @@ pub fn number(w: &[u8]) -> u64
     n
 }
 
-// The verb that a word names.
-fn verb(w: &[u8]) -> u8
-    ensures { λ r. ⌜ r ≡ named (now (w .entry)) ⌝ }
+// The verb with no number that a word names.
+fn bare(w: &[u8]) -> u8
+    ensures { λ r. ⌜ r ≡ Order·bare (now (w .entry)) ⌝ }
+{
+    if same(w, b"ack") {
+        return ACK;
+    }
+    if same(w, b"told") {
+        return TOLD;
+    }
+    0
+}
+
+// The verb with a number or two that a word names.
+fn named(w: &[u8]) -> u8
+    ensures { λ r. ⌜ r ≡ Order·named (now (w .entry)) ⌝ }
 {
     if same(w, b"ins") {
         return INS;
@@ -125,12 +138,6 @@ fn verb(w: &[u8]) -> u8
     }
     if same(w, b"down") {
         return DOWN;
-    }
-    if same(w, b"ack") {
-        return ACK;
-    }
-    if same(w, b"told") {
-        return TOLD;
     }
     0
 }
@@ -162,7 +169,7 @@ fn after_verb(l: u8, v: u8, s: &[u8]) -> Order
     let e = end(s, 32);
     let p = number(&s[..e]);
     if s.len() <= e {
-        return ordered(l, v, (v == DEL) | (v == UP) | (v == DOWN), p, 0);
+        return ordered(l, v, DEL <= v, p, 0);
     }
     let next = e + 1;
     ordered(l, v, v == INS, p, number(&s[next..]))
@@ -173,12 +180,12 @@ fn after_line(l: u8, s: &[u8]) -> Order
     ensures { λ r. ⌜ r ≡ coded (verbOf l (wordsOf (now (s .entry)))) ⌝ }
 {
     let e = end(s, 32);
-    let v = verb(&s[..e]);
     if s.len() <= e {
-        return ordered(l, v, (v == ACK) | (v == TOLD), 0, 0);
+        let v = bare(s);
+        return ordered(l, v, DEL <= v, 0, 0);
     }
     let next = e + 1;
-    after_verb(l, v, &s[next..])
+    after_verb(l, named(&s[..e]), &s[next..])
 }
 
 // What a line orders, of a sheet with n clients.
