@@ -19,10 +19,9 @@ use Rattle.model.specs.Limits.{maxLines, maxInitial}
 use Rattle.model.proofs.Tests.{hold, yes-all, between-true}
 use Rattle.model.proofs.Opens.{client-opens, server-opens}
 use Rattle.model.proofs.Sound.{accepted, keeps-sound}
-use Rattle.script.specs.declared.parse.Command.{Command}
-use Rattle.script.specs.declared.parse.Command.the-variants.{Bad, Insert, Delete, Up, Down, Ack, Told}
+use Rattle.text.specs.Command.{Command, Bad, Insert, Delete, Up, Down, Ack, Told}
 use Rattle.script.specs.Bench.{Bench, Step, SoundBench, clientOf, onClient, onServer, delivered, room, step, openClients, openBench}
-use Rattle.script.proofs.Sinks.{both, and-left, and-right}
+use Rattle.text.proofs.Sinks.{both, and-left, and-right}
 
 -- a property of both ends that an answer may hand back
 pub ends : {E : Type 0} (P : E → Type 0) (r : ℕ) (old new : E) (k : ℕ) → P old → P new → P (answer r old new k .end)

@@ -2,9 +2,9 @@
 use mathlib.Core.Path.{_≡_, refl}
 use mathlib.Core.List.{[], _∷_}
 use Rattle.model.proofs.Computing.{computing}
-use Rattle.script.specs.Text.{before, parts, same}
-use Rattle.script.specs.Decimal.{digitsAt, decimal, listed, numberFrom, numberOf}
-use Rattle.script.specs.Command.{commandOf}
+use Rattle.text.specs.Text.{before, parts, same}
+use Rattle.text.specs.Decimal.{digitsAt, decimal, listed, numberFrom, numberOf}
+use Rattle.text.specs.Command.{commandOf}
 use Rattle.script.specs.Opening.{openingOf}
 use Rattle.script.specs.Bench.{step}
 use Rattle.script.specs.Output.{clientLists, understood, ran, output}

@@ -1,10 +1,5 @@
 pub mod Lists
-pub mod Sinks
-pub mod Texts
-pub mod Numbers
-pub mod Commands
 pub mod Examples
-pub mod Digits
 pub mod Openings
 pub mod Benches
 pub mod Room

@@ -25,14 +25,15 @@ use Rattle.server.specs.View as server
 use Rattle.server.specs.Calls as calls
 use Rattle.script.specs.declared.ends.Ends.{Ends}
 use Rattle.script.specs.declared.opening.First.{First}
-use Rattle.script.specs.Sink.{Sink, puts}
-use Rattle.script.specs.Text.{before, linesOf, parts, same}
+use Rattle.text.specs.Sink.{Sink, puts}
+use Rattle.text.specs.Text.{before, linesOf, parts, same}
 use Rattle.script.specs.Opening.{Opening, none, sheet, openingOf, held, cut, maxHeld, Reads}
-use Rattle.script.specs.Output.{replied, ran, started, printed, long, maxInput, output}
+use Rattle.text.specs.Lines.{replied}
+use Rattle.script.specs.Output.{ran, started, printed, long, maxInput, output}
 use Rattle.script.specs.Bench.{Bench, SoundBench, openClients, openBench}
 use Rattle.script.specs.Ends.{storeEnds, viewEnds, opening, Whole}
-use Rattle.script.proofs.Sinks.{then}
-use Rattle.script.proofs.Texts.{lines-first}
+use Rattle.text.proofs.Sinks.{then}
+use Rattle.text.proofs.Texts.{lines-first}
 use Rattle.script.proofs.Benches as benches
 use Rattle.script.proofs.Structs.{open-keeps, end-stored}
 use Rattle.script.proofs.Turns.{store-whole, bench-view}

@@ -11,11 +11,11 @@ use lib.ListN.{length, take, drop, set, length-append, length-set}
 use lib.Seq.{take-all, take-append-le, take-suc-set}
 use Rattle.model.specs.Questions.{every}
 use Rattle.script.specs.declared.opening.First.{First}
-use Rattle.script.specs.Decimal.{numberOf, tooWide}
-use Rattle.script.specs.Text.{before, wordsOf, same}
-use Rattle.script.specs.Command.{linesWord, itemsWord}
-use Rattle.script.proofs.Sinks.{both}
-use Rattle.script.proofs.Texts.{words-cut, words-whole}
+use Rattle.text.specs.Decimal.{numberOf, tooWide}
+use Rattle.text.specs.Text.{before, wordsOf, same}
+use Rattle.text.specs.Command.{linesWord, itemsWord}
+use Rattle.text.proofs.Sinks.{both}
+use Rattle.text.proofs.Texts.{words-cut, words-whole}
 use Rattle.script.specs.Opening.{Opening, none, sheet, withItems, afterNumber, afterLines, openingOf, held, cut, maxHeld, Reads, begun, push}
 
 -- all items of some words, one after another
@@ -146,17 +146,20 @@ module _ (s : List ℕ) (e : ℕ) (p : e ≡ length (before 32 s)) where
   abbrev rest : List ℕ
   rest = take (length s - (e + 1)) (drop (e + 1) s)
 
-  pub items-alone : (n : ℕ) → length s ≤ e → same s itemsWord ≡ true → withItems n [] ≡ afterNumber n (wordsOf s)
-  items-alone n h t = rw (words-whole s e p h, t)
+  pub items-alone : (n : ℕ) → same (take e s) itemsWord ≡ true → length s ≤ e → withItems n [] ≡ afterNumber n (wordsOf s)
+  items-alone n t h = rw (words-whole s e p h, sym (ap (λ l. same l itemsWord) (take-all e s h)) ∙ t)
 
-  pub items-alone-no : (n : ℕ) → length s ≤ e → same s itemsWord ≡ false → none ≡ afterNumber n (wordsOf s)
-  items-alone-no n h t = rw (words-whole s e p h, t)
+  pub items-more : (n : ℕ) → same (take e s) itemsWord ≡ true → e < length s → withItems n (wordsOf rest) ≡ afterNumber n (wordsOf s)
+  items-more n t h = rw (words-cut s e p h, t)
 
-  pub items-more : (n : ℕ) → e < length s → same (take e s) itemsWord ≡ true → withItems n (wordsOf rest) ≡ afterNumber n (wordsOf s)
-  items-more n h t = rw (words-cut s e p h, t)
-
-  pub items-no : (n : ℕ) → e < length s → same (take e s) itemsWord ≡ false → none ≡ afterNumber n (wordsOf s)
-  items-no n h t = rw (words-cut s e p h, t)
+  pub items-no : (n : ℕ) → same (take e s) itemsWord ≡ false → none ≡ afterNumber n (wordsOf s)
+  items-no n t = go (ltb e (length s)) refl
+    where
+      go : (u : Bool) → ltb e (length s) ≡ u → none ≡ afterNumber n (wordsOf s)
+      go true q = rw (words-cut s e p (ltb-true e (length s) q), t)
+      go false q =
+          let h = ltb-false e (length s) q in
+          rw (words-whole s e p h, sym (ap (λ l. same l itemsWord) (take-all e s h)) ∙ t)
 
   pub number-alone : length s ≤ e → none ≡ afterLines (wordsOf s)
   number-alone h = rw (words-whole s e p h) (both (λ t. none ≡ t) (ltb (numberOf s) 256) none none refl refl)

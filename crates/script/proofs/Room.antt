@@ -18,17 +18,18 @@ use Rattle.model.specs.Client.{Client, soundClient, editQuestions, editClient, 
 use Rattle.model.specs.Server.{Server, soundServer, openServerQuestions, openServer, sendServerQuestions, tellServerQuestions, serverEditQuestions, serverAckQuestions, sendServer, tellServer, takeServer, serverReads, serverTakes, serverTakesEdit, serverTakesAck}
 use Rattle.model.proofs.SoundClient.{client-facts}
 use Rattle.model.proofs.SoundServer.{server-facts}
-use Rattle.script.specs.declared.parse.Command.{Command}
-use Rattle.script.specs.declared.parse.Command.the-variants as command
+use Rattle.text.specs.Command.{Command}
+use Rattle.text.specs.Command as command
 use Rattle.ot.specs.declared.Edit.{Edit}
 use Rattle.ot.specs.declared.Edit.the-variants.{Nothing, Delete, Insert}
-use Rattle.script.specs.Text.{joined, parts, linesOf}
-use Rattle.script.specs.Decimal.{powers, digitsAt, decimal, listed}
-use Rattle.script.specs.Command.{commandOf}
+use Rattle.text.specs.Text.{joined, parts, linesOf}
+use Rattle.text.specs.Decimal.{powers, digitsAt, decimal, listed}
+use Rattle.text.specs.Command.{commandOf}
 use Rattle.script.specs.Opening.{Opening, none, sheet, openingOf}
 use Rattle.script.specs.Bench.{Bench, Step, SoundBench, clientOf, onClient, onServer, delivered, room, step, openBench}
-use Rattle.script.specs.Output.{unknown, long, serverWord, clientWord, replied, understood, replies, serverList, clientList, clientLists, lists, ran, started, printed, output, maxInput, maxOutput, OutputFits, AllPrinted}
-use Rattle.script.proofs.Sinks.{both, and-left, and-right}
+use Rattle.text.specs.Lines.{unknown, serverWord, clientWord, replied, serverList, clientList}
+use Rattle.script.specs.Output.{long, understood, replies, clientLists, lists, ran, started, printed, output, maxInput, maxOutput, OutputFits, AllPrinted}
+use Rattle.text.proofs.Sinks.{both, and-left, and-right}
 use Rattle.script.proofs.Benches.{step-sound, opened, open-sound}
 
 -- A number has at most ten digits, a list eleven bytes an item.

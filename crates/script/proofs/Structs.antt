@@ -4,7 +4,7 @@ use mathlib.Core.Path.{_≡_, refl, sym, ap, ap₂, _∙_, subst}
 use mathlib.Core.Bool.{Bool, true, false, cond}
 use mathlib.Core.List.{List, [], _∷_, _++_, map}
 use native.Mathlib.Omega.{arith}
-use borrow.Author.Tests.{eqb-false}
+use borrow.Author.Tests.{eqb-true, eqb-false, eq-eqb}
 use lib.Dec.{eqb}
 use lib.ListN.{length, getD, take, drop, set, length-map, length-append, List·getD-append, List·getD-map}
 use Rattle.ot.specs.declared.Edit.{Edit}
@@ -19,12 +19,10 @@ use Rattle.model.specs.Client as models
 use Rattle.model.specs.Server as serverModels
 use Rattle.model.proofs.SoundServer.{server-facts}
 use Rattle.pending.proofs.Pad.{pad-length}
-use Rattle.endpoint.specs.declared.Sent as endpoint
-use Rattle.endpoint.specs.Sending.{answered as sentAs}
 use Rattle.client.specs.declared.Client.{Client}
 use Rattle.client.specs.declared.Answer as clientAnswer
 use Rattle.client.specs.Store as client
-use Rattle.client.specs.Answers.{guarded, given, refusedWith, guardedSending, sentEdit, sentAck}
+use Rattle.client.specs.Answers.{guarded, given, refusedWith, guardedSending}
 use Rattle.server.specs.declared.Server.{Server}
 use Rattle.server.specs.declared.Answer as serverAnswer
 use Rattle.server.specs.View as server
@@ -34,11 +32,12 @@ use Rattle.script.proofs.Lists.{getD-default, pad-set, set-map}
 use Rattle.server.proofs.Stored.{view-store, store-sound}
 use Rattle.client.proofs.Stored.{client-view, client-stored}
 use Rattle.script.specs.declared.ends.Ends.{Ends}
-use Rattle.script.specs.declared.parse.Command.{Command}
-use Rattle.script.specs.declared.parse.Command.the-variants.{Bad, Insert, Delete, Up, Down, Ack, Told}
+use Rattle.text.specs.declared.parse.Order.{Order}
+use Rattle.text.specs.Order.{coded}
+use Rattle.text.specs.Command.{Command, Bad, Insert, Delete, Up, Down, Ack, Told}
 use Rattle.script.specs.Bench.{Bench, Step, clientOf, onClient, onServer, delivered, room, step}
-use Rattle.script.specs.Ends.{viewEnds, storeEnds, Whole, placeOf, upward, clientGets, serverGets, atClient, atServer}
-use Rattle.script.proofs.Sinks.{both}
+use Rattle.script.specs.Ends.{viewEnds, storeEnds, Whole, sentBy, changedBy}
+use Rattle.text.proofs.Sinks.{both}
 use Rattle.script.proofs.Benches.{every-at}
 
 -- the line of a command is one of 1 to n
@@ -64,9 +63,6 @@ clientDone e i a = record { refusal = a .refusal; ends = record { server = e .se
 
 abbrev pub serverDone : Ends → serverAnswer.Answer → Done
 serverDone e a = record { refusal = a .refusal; ends = record { server = a .server; clients = e .clients } }
-
-true-false : true ≡ false → ⊥
-true-false h = eqb-false 0 1 refl (ap (λ (t : Bool). cond t 1 0) (sym h))
 
 -- A refusal hands back the end as it came.
 abbrev pub Keeps : {E : Type 0} → E → Answer E → Type 0
@@ -158,11 +154,6 @@ done-path : {r r′ : ℕ} {s s′ : Server} {c c′ : List Client} → r ≡ r�
     → _≡_ {A = Done} (record { refusal = r; ends = record { server = s; clients = c } }) (record { refusal = r′; ends = record { server = s′; clients = c′ } })
 done-path p q r = λ i. record { refusal = p i; ends = record { server = q i; clients = r i } }
 
-set-same : {A : Type 0} (l : List A) (i : ℕ) (d : A) → set l i (getD l i d) ≡ l
-set-same [] i d = refl
-set-same (x ∷ l) zero d = refl
-set-same (x ∷ l) (suc i) d = ap (λ m. x ∷ m) (set-same l i d)
-
 module _ (e : Ends) (w : Whole e) where
   abbrev B : Bench
   B = viewEnds e
@@ -187,11 +178,6 @@ module _ (e : Ends) (w : Whole e) where
   -- the ends as they were
   as-were : (r : ℕ) → _≡_ {A = Done} (record { refusal = r; ends = e }) (storeStep (record { refusal = r; bench = B }))
   as-were r = ap (λ (x : Ends). record { refusal = r; ends = x }) (w .whole)
-
-  -- one client as it was
-  same-client : (r i : ℕ) (c d : Client) → c ≡ getD (e .clients) i d → clientDone e i (refusedWith r c) ≡ storeStep (record { refusal = r; bench = B })
-  same-client r i c d p =
-      ap (λ (l : List Client). record { refusal = r; ends = record { server = e .server; clients = l } }) (ap (set (e .clients) i) p ∙ set-same (e .clients) i d) ∙ as-were r
 
   server-call : (bytes : List ℕ) → serverDone e (takes (e .server) bytes) ≡ storeStep (onServer B (serverModels.takeServer (B .server) bytes))
   server-call bytes =
@@ -226,28 +212,33 @@ module _ (e : Ends) (w : Whole e) where
         ∙ ap (padded (client.store models.noClient) maxLines) (set-map client.store (B .clients) (l - 1) (call m .end)))
 
     -- what the server sent, taken by the client
-    client-gets : (x m : Sent) → x ≡ m → clientDone e (l - 1) (clientGets x c) ≡ storeStep (delivered B m (λ bytes. onClient B l (models.takeClient (clientOf B l) bytes)))
-    client-gets x m p = ap (λ (y : Sent). clientDone e (l - 1) (clientGets y c)) p ∙ go (eqb (m .refusal) 0)
-      where
-        go : (t : Bool)
-            → clientDone e (l - 1) (cond t (guarded c (models.takeClient (client.view c) (take (m .written) (m .buffer)))) (refusedWith (m .refusal) c))
-            ≡ storeStep (cond t (onClient B l (models.takeClient (clientOf B l) (take (m .written) (m .buffer)))) (record { refusal = m .refusal; bench = B }))
-        go true = client-call (λ v. models.takeClient v (take (m .written) (m .buffer))) (client-keeps (clientOf B l) (take (m .written) (m .buffer)))
-        go false = same-client (m .refusal) (l - 1) c d pc
+    client-gets : (x m : Sent) → x ≡ m → x .refusal ≡ 0
+        → clientDone e (l - 1) (guarded c (models.takeClient (client.view c) (take (x .written) (x .buffer))))
+        ≡ storeStep (delivered B m (λ bytes. onClient B l (models.takeClient (clientOf B l) bytes)))
+    client-gets x m p z =
+        ap (λ (y : Sent). clientDone e (l - 1) (guarded c (models.takeClient (client.view c) (take (y .written) (y .buffer))))) p
+        ∙ client-call (λ v. models.takeClient v (take (m .written) (m .buffer))) (client-keeps (clientOf B l) (take (m .written) (m .buffer)))
+        ∙ rw (eq-eqb (m .refusal) 0 (sym (ap (λ (y : Sent). y .refusal) p) ∙ z))
 
     client-sent : (call : models.Client → Sent) → guardedSending c (call (client.view c)) room ≡ call (clientOf B l)
     client-sent call =
         ap (λ (x : Client). guardedSending x (call (client.view x)) room) client-is ∙ client-sends (clientOf B l) call room client-sound
 
   -- what a client sent, taken by the server
-  server-gets : (x m : Sent) → x ≡ m → serverDone e (serverGets x (e .server)) ≡ storeStep (delivered B m (λ bytes. onServer B (serverModels.takeServer (B .server) bytes)))
-  server-gets x m p = ap (λ (y : Sent). serverDone e (serverGets y (e .server))) p ∙ go (eqb (m .refusal) 0)
+  server-gets : (x m : Sent) → x ≡ m → x .refusal ≡ 0
+      → serverDone e (takes (e .server) (take (x .written) (x .buffer))) ≡ storeStep (delivered B m (λ bytes. onServer B (serverModels.takeServer (B .server) bytes)))
+  server-gets x m p z =
+      ap (λ (y : Sent). serverDone e (takes (e .server) (take (y .written) (y .buffer)))) p ∙ server-call (take (m .written) (m .buffer))
+      ∙ rw (eq-eqb (m .refusal) 0 (sym (ap (λ (y : Sent). y .refusal) p) ∙ z))
+
+  -- a sending that was refused
+  unsent : (x m : Sent) (taking : List ℕ → Step) → x ≡ m → (x .refusal ≡ 0 → ⊥) → _≡_ {A = Done} (record { refusal = x .refusal; ends = e }) (storeStep (delivered B m taking))
+  unsent x m taking p h = ap (λ (y : Sent). record { refusal = y .refusal; ends = e }) p ∙ go (eqb (m .refusal) 0) refl
     where
-      go : (t : Bool)
-          → serverDone e (cond t (takes (e .server) (take (m .written) (m .buffer))) (refused (e .server) (m .refusal)))
-          ≡ storeStep (cond t (onServer B (serverModels.takeServer (B .server) (take (m .written) (m .buffer)))) (record { refusal = m .refusal; bench = B }))
-      go true = server-call (take (m .written) (m .buffer))
-      go false = as-were (m .refusal)
+      go : (t : Bool) → eqb (m .refusal) 0 ≡ t
+          → _≡_ {A = Done} (record { refusal = m .refusal; ends = e }) (storeStep (cond t (taking (take (m .written) (m .buffer))) (record { refusal = m .refusal; bench = B })))
+      go true f = absurd (h (ap (λ (y : Sent). y .refusal) p ∙ eqb-true (m .refusal) 0 f))
+      go false f = as-were (m .refusal)
 
   down-sent : (l k : ℕ) → sends (e .server) l k room ≡ serverModels.sendServer (B .server) l k room
   down-sent l k = ap (λ (x : Server). sends x l k room) server-is ∙ server-sends (B .server) l k room (w .sound .server)
@@ -255,39 +246,44 @@ module _ (e : Ends) (w : Whole e) where
   told-sent : (l : ℕ) → tells (e .server) l room ≡ serverModels.tellServer (B .server) l room
   told-sent l = ap (λ (x : Server). tells x l room) server-is ∙ server-tells (B .server) l room (w .sound .server)
 
-  -- The place of a command's client is one of the eight.
-  pub place-few : (c : Command) → Within (e .server .n) c → placeOf c < 8
-  unfolding placeOf
-  place-few Bad h = omega arith
-  place-few (Insert l p x) h = let k = lines-few in omega arith
-  place-few (Delete l p) h = let k = lines-few in omega arith
-  place-few (Up l k) h = let k′ = lines-few in omega arith
-  place-few (Down l k) h = let k′ = lines-few in omega arith
-  place-few (Ack l) h = let k = lines-few in omega arith
-  place-few (Told l) h = let k = lines-few in omega arith
+  abbrev wrote : Client → Command → Sent
+  wrote x c = sentBy (e .server) x (coded c) room
 
-  -- What the calls leave is what the step leaves, stored.
-  pub at-client-is : (c : Command) → Within (e .server .n) c → upward c ≡ false → (x d : Client) → x ≡ getD (e .clients) (placeOf c) d
-      → clientDone e (placeOf c) (atClient (e .server) x c) ≡ storeStep (step B c)
-  unfolding placeOf upward atClient step
-  at-client-is Bad h u x d p = same-client 0 0 x d p
-  at-client-is (Insert l q y) h u x d p = client-call l (h .0) (h .1) x d p (λ m. models.insertClient m q y) (edit-keeps (clientOf B l) _)
-  at-client-is (Delete l q) h u x d p = client-call l (h .0) (h .1) x d p (λ m. models.deleteClient m q) (edit-keeps (clientOf B l) _)
-  at-client-is (Up l k) h u x d p = absurd (true-false u)
-  at-client-is (Down l k) h u x d p = client-gets l (h .0) (h .1) x d p _ _ (down-sent l k)
-  at-client-is (Ack l) h u x d p = absurd (true-false u)
-  at-client-is (Told l) h u x d p = client-gets l (h .0) (h .1) x d p _ _ (told-sent l)
+  -- What the calls of an order leave is what the command's step leaves, stored: of a sending that is refused,
+  pub unsent-is : (c : Command) → Within (e .server .n) c → (x d : Client) → x ≡ getD (e .clients) (coded c .line - 1) d → 1 ≤ coded c .verb → (wrote x c .refusal ≡ 0 → ⊥)
+      → _≡_ {A = Done} (record { refusal = wrote x c .refusal; ends = e }) (storeStep (step B c))
+  unfolding coded sentBy step
+  unsent-is Bad h x d p low r = absurd (omega arith)
+  unsent-is (Insert l q y) h x d p low r = absurd (r refl)
+  unsent-is (Delete l q) h x d p low r = absurd (r refl)
+  unsent-is (Up l k) h x d p low r = unsent _ _ (λ m. onServer B (serverModels.takeServer (B .server) m)) (client-sent l (h .0) (h .1) x d p (λ v. models.sendClient v l k room)) r
+  unsent-is (Down l k) h x d p low r = unsent _ _ (λ m. onClient B l (models.takeClient (clientOf B l) m)) (down-sent l k) r
+  unsent-is (Ack l) h x d p low r = unsent _ _ (λ m. onServer B (serverModels.takeServer (B .server) m)) (client-sent l (h .0) (h .1) x d p (λ v. models.tellClient v l room)) r
+  unsent-is (Told l) h x d p low r = unsent _ _ (λ m. onClient B l (models.takeClient (clientOf B l) m)) (told-sent l) r
 
-  pub at-server-is : (c : Command) → Within (e .server .n) c → upward c ≡ true → (x d : Client) → x ≡ getD (e .clients) (placeOf c) d
-      → serverDone e (atServer (e .server) x c) ≡ storeStep (step B c)
-  unfolding placeOf upward atServer step
-  at-server-is Bad h u x d p = absurd (true-false (sym u))
-  at-server-is (Insert l q y) h u x d p = absurd (true-false (sym u))
-  at-server-is (Delete l q) h u x d p = absurd (true-false (sym u))
-  at-server-is (Up l k) h u x d p = server-gets _ _ (client-sent l (h .0) (h .1) x d p (λ v. models.sendClient v l k room))
-  at-server-is (Down l k) h u x d p = absurd (true-false (sym u))
-  at-server-is (Ack l) h u x d p = server-gets _ _ (client-sent l (h .0) (h .1) x d p (λ v. models.tellClient v l room))
-  at-server-is (Told l) h u x d p = absurd (true-false (sym u))
+  -- of what the server takes,
+  pub up-is : (c : Command) → Within (e .server .n) c → (x d : Client) → x ≡ getD (e .clients) (coded c .line - 1) d → 5 ≤ coded c .verb → wrote x c .refusal ≡ 0
+      → serverDone e (takes (e .server) (take (wrote x c .written) (wrote x c .buffer))) ≡ storeStep (step B c)
+  unfolding coded sentBy step
+  up-is Bad h x d p low z = absurd (omega arith)
+  up-is (Insert l q y) h x d p low z = absurd (omega arith)
+  up-is (Delete l q) h x d p low z = absurd (omega arith)
+  up-is (Up l k) h x d p low z = server-gets _ _ (client-sent l (h .0) (h .1) x d p (λ v. models.sendClient v l k room)) z
+  up-is (Down l k) h x d p low z = absurd (omega arith)
+  up-is (Ack l) h x d p low z = server-gets _ _ (client-sent l (h .0) (h .1) x d p (λ v. models.tellClient v l room)) z
+  up-is (Told l) h x d p low z = absurd (omega arith)
+
+  -- and of what the client edits or takes.
+  pub changed-is : (c : Command) → Within (e .server .n) c → (x d : Client) → x ≡ getD (e .clients) (coded c .line - 1) d → 1 ≤ coded c .verb → coded c .verb < 5 → wrote x c .refusal ≡ 0
+      → clientDone e (coded c .line - 1) (changedBy x (coded c) (take (wrote x c .written) (wrote x c .buffer))) ≡ storeStep (step B c)
+  unfolding coded sentBy changedBy step
+  changed-is Bad h x d p low high z = absurd (omega arith)
+  changed-is (Insert l q y) h x d p low high z = client-call l (h .0) (h .1) x d p (λ m. models.insertClient m q y) (edit-keeps (clientOf B l) _)
+  changed-is (Delete l q) h x d p low high z = client-call l (h .0) (h .1) x d p (λ m. models.deleteClient m q) (edit-keeps (clientOf B l) _)
+  changed-is (Up l k) h x d p low high z = absurd (omega arith)
+  changed-is (Down l k) h x d p low high z = client-gets l (h .0) (h .1) x d p _ _ (down-sent l k) z
+  changed-is (Ack l) h x d p low high z = absurd (omega arith)
+  changed-is (Told l) h x d p low high z = client-gets l (h .0) (h .1) x d p _ _ (told-sent l) z
 
 -- Any sending writes within its buffer.
 sent-within : (r : ℕ) (bytes lent : List ℕ) → sent r bytes lent .written ≤ length (sent r bytes lent .buffer)
@@ -296,32 +292,25 @@ sent-within r bytes lent =
     both (λ (x : Sent). x .written ≤ length (x .buffer)) (eqb r 0) (record { refusal = 0; written = length bytes; buffer = bytes ++ drop (length bytes) lent })
     (record { refusal = r; written = 0; buffer = lent }) (let l = length-append bytes (drop (length bytes) lent) in omega arith) (omega arith)
 
-module _ (s : endpoint.Sent) (out : List ℕ) (l : ℕ) where
-  written-within : (x : Sent) → x .written ≤ length (x .buffer) → sentAs s out ≡ x → s .written ≤ length out
-  written-within x h p = subst (λ (y : Sent). y .written ≤ length (y .buffer)) (sym p) h
+abbrev Written : Sent → Type 0
+Written x = x .written ≤ length (x .buffer)
 
-  guarded-within : (c : Client) (a : Sent) → a .written ≤ length (a .buffer) → sentAs s out ≡ guardedSending c a room → s .written ≤ length out
-  unfolding guardedSending
-  guarded-within c a h p =
-      written-within (guardedSending c a room)
-      (both (λ (x : Sent). x .written ≤ length (x .buffer)) (client.sound c) a (record { refusal = 2; written = 0; buffer = room }) h (omega arith)) p
+guarded-within : (c : Client) (a : Sent) (lent : List ℕ) → Written a → Written (guardedSending c a lent)
+unfolding guardedSending
+guarded-within c a lent h = both Written (client.sound c) a (record { refusal = 2; written = 0; buffer = lent }) h (omega arith)
 
-  pub up-within : (c : Client) (k : ℕ) → sentAs s out ≡ sentEdit c l k room → s .written ≤ length out
-  unfolding models.sendClient
-  up-within c k p = guarded-within c (models.sendClient (client.view c) l k room) (sent-within _ _ room) p
+send-within : (s : Server) (l k : ℕ) (lent : List ℕ) → Written (sends s l k lent)
+unfolding sends serverModels.sendServer
+send-within s l k lent = both Written (soundStruct s) (serverModels.sendServer (server.view s) l k lent) (sent 2 [] lent) (sent-within _ _ lent) (sent-within 2 [] lent)
 
-  pub ack-within : (c : Client) → sentAs s out ≡ sentAck c l room → s .written ≤ length out
-  unfolding models.tellClient
-  ack-within c p = guarded-within c (models.tellClient (client.view c) l room) (sent-within _ _ room) p
+tell-within : (s : Server) (l : ℕ) (lent : List ℕ) → Written (tells s l lent)
+unfolding tells serverModels.tellServer
+tell-within s l lent = both Written (soundStruct s) (serverModels.tellServer (server.view s) l lent) (sent 2 [] lent) (sent-within _ _ lent) (sent-within 2 [] lent)
 
-  pub down-within : (e : Server) (k : ℕ) → sentAs s out ≡ sends e l k room → s .written ≤ length out
-  unfolding sends serverModels.sendServer
-  down-within e k p =
-      written-within (sends e l k room)
-      (both (λ (x : Sent). x .written ≤ length (x .buffer)) (soundStruct e) (serverModels.sendServer (server.view e) l k room) (sent 2 [] room) (sent-within _ _ room) (sent-within 2 [] room)) p
-
-  pub told-within : (e : Server) → sentAs s out ≡ tells e l room → s .written ≤ length out
-  unfolding tells serverModels.tellServer
-  told-within e p =
-      written-within (tells e l room)
-      (both (λ (x : Sent). x .written ≤ length (x .buffer)) (soundStruct e) (serverModels.tellServer (server.view e) l room) (sent 2 [] room) (sent-within _ _ room) (sent-within 2 [] room)) p
+pub wrote-within : (s : Server) (c : Client) (o : Order) (lent : List ℕ) → Written (sentBy s c o lent)
+unfolding sentBy models.sendClient models.tellClient
+wrote-within s c o lent =
+    both Written (eqb (o .verb) 5) _ _ (guarded-within c (models.sendClient (client.view c) (o .line) (o .number) lent) lent (sent-within _ _ lent))
+    (both Written (eqb (o .verb) 6) _ _ (guarded-within c (models.tellClient (client.view c) (o .line) lent) lent (sent-within _ _ lent))
+    (both Written (eqb (o .verb) 3) _ _ (send-within s (o .line) (o .number) lent)
+    (both Written (eqb (o .verb) 4) _ _ (tell-within s (o .line) lent) (omega arith))))

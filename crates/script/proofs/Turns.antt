@@ -7,10 +7,10 @@ use native.Mathlib.Numerals.{add-one}
 use native.Mathlib.Omega.{arith}
 use lib.ListN.{length, getD, take, drop, replicate, length-append, length-map, drop-of-length-le}
 use lib.Seq.{drop-cons}
-use lib.Dec.{ltb}
+use lib.Dec.{leb, ltb}
 use Rattle.ot.specs.Items.{padded}
 use Rattle.model.specs.Limits.{maxLines}
-use Rattle.model.specs.Questions.{every, between}
+use Rattle.model.specs.Questions.{every, Sent}
 use Rattle.model.specs.Client as models
 use Rattle.model.specs.Server as serverModels
 use Rattle.model.proofs.Tests.{between-true}
@@ -24,20 +24,24 @@ use Rattle.server.specs.View as server
 use Rattle.server.proofs.Stored.{view-store}
 use Rattle.client.proofs.Stored.{client-view}
 use Rattle.script.specs.declared.ends.Ends.{Ends}
-use Rattle.script.specs.declared.parse.Command.{Command}
-use Rattle.script.specs.declared.parse.Command.the-variants.{Bad, Insert}
-use Rattle.script.specs.Sink.{Sink, sink, puts}
-use Rattle.script.specs.Text.{before, linesOf, same}
-use Rattle.script.specs.Decimal.{numberOf, tooWide}
-use Rattle.script.specs.Command.{withOne, afterNumber, verbOf, spoken, commandOf, ackWord, toldWord, delWord, upWord, downWord, insWord}
-use Rattle.script.specs.Text.{wordsOf}
-use Rattle.script.specs.Bench.{Bench, SoundBench, step, clientOf}
-use Rattle.script.specs.Output.{replies, clientList, clientLists, lists, ran}
-use Rattle.script.specs.Ends.{viewEnds, storeEnds, Whole, placeOf, upward, atClient, atServer}
-use Rattle.script.proofs.Sinks.{both, and-left, and-right, puts-append}
-use Rattle.script.proofs.Texts.{lines-next, lines-none}
+use Rattle.text.specs.declared.parse.Order.{Order}
+use Rattle.text.specs.declared.parse.Line.{Line}
+use Rattle.text.specs.Order.{coded, Next}
+use Rattle.endpoint.specs.declared.Sent as endpoint
+use Rattle.endpoint.specs.Sending.{answered}
+use Rattle.server.specs.Calls.{takes}
+use Rattle.text.specs.Sink.{Sink, sink, puts}
+use Rattle.text.specs.Text.{before, linesOf, wordsOf, same}
+use Rattle.text.specs.Decimal.{numberOf, tooWide}
+use Rattle.text.specs.Command.{Command, Bad, Insert, Delete, Up, Down, Ack, Told, withOne, afterNumber, verbOf, spoken, commandOf, ackWord, toldWord, delWord, upWord, downWord, insWord}
+use Rattle.script.specs.Bench.{Bench, SoundBench, room, step, clientOf}
+use Rattle.text.specs.Lines.{unknown, replied, clientList}
+use Rattle.script.specs.Output.{understood, replies, clientLists, lists, ran}
+use Rattle.script.specs.Ends.{viewEnds, storeEnds, Whole, sentBy, changedBy}
+use Rattle.text.proofs.Sinks.{both, and-left, and-right, puts-append}
+use Rattle.text.proofs.Texts.{lines-none}
 use Rattle.script.proofs.Benches.{step-sound}
-use Rattle.script.proofs.Structs.{Within, Done, storeStep, clientDone, serverDone, client-is, client-sound, server-is, place-few, at-client-is, at-server-is}
+use Rattle.script.proofs.Structs.{Within, Done, storeStep, clientDone, serverDone, lines-few, client-is, client-sound, server-is, unsent-is, up-is, changed-is, wrote-within}
 
 -- ---- the line of a command that was read is one of 1 to n
 
@@ -59,15 +63,15 @@ module _ (n l : ℕ) (low : 1 ≤ l) (high : l ≤ n) where
 
 spoken-within : (n : ℕ) (ws : List (List ℕ)) → Within n (spoken n ws)
 spoken-within n [] = tt
-spoken-within n (w ∷ ws) = go (between 1 n (numberOf w)) refl
+spoken-within n (w ∷ ws) = go (leb 1 (numberOf w) && leb (numberOf w) n) refl
   where
-    go : (t : Bool) → between 1 n (numberOf w) ≡ t → Within n (cond t (verbOf (numberOf w) ws) Bad)
+    go : (t : Bool) → (leb 1 (numberOf w) && leb (numberOf w) n) ≡ t → Within n (cond t (verbOf (numberOf w) ws) Bad)
     go true e = let b = between-true 1 n (numberOf w) e in verb-within n (numberOf w) (b .0) (b .1) ws
     go false e = tt
 
-pub command-within : (n : ℕ) (line : List ℕ) (c : Command) → c ≡ commandOf n line → Within n c
+command-within : (n : ℕ) (line : List ℕ) → Within n (commandOf n line)
 unfolding commandOf
-command-within n line c e = subst (Within n) (sym e) (spoken-within n (wordsOf line))
+command-within n line = spoken-within n (wordsOf line)
 
 -- ---- the struct of a sound bench
 
@@ -100,56 +104,128 @@ pub record Running (s out : List ℕ) (i to : ℕ) (e : Ends) (z : Sink) : Type 
   pub whole : Whole e
   pub rest : puts (ran (viewEnds e) (linesOf (drop i s))) (sink out to) ≡ z
 
+heard : (c : Command) → 1 ≤ coded c .verb → understood c ≡ true
+unfolding coded understood
+heard Bad h = absurd (omega arith)
+heard (Insert l p x) h = refl
+heard (Delete l p) h = refl
+heard (Up l k) h = refl
+heard (Down l k) h = refl
+heard (Ack l) h = refl
+heard (Told l) h = refl
+
+unheard : (c : Command) → coded c .verb < 1 → c ≡ Bad
+unfolding coded
+unheard Bad h = refl
+unheard (Insert l p x) h = absurd (omega arith)
+unheard (Delete l p) h = absurd (omega arith)
+unheard (Up l k) h = absurd (omega arith)
+unheard (Down l k) h = absurd (omega arith)
+unheard (Ack l) h = absurd (omega arith)
+unheard (Told l) h = absurd (omega arith)
+
+line-few : (n : ℕ) (c : Command) → Within n c → 1 ≤ coded c .verb → (1 ≤ coded c .line) × (coded c .line ≤ n)
+unfolding coded
+line-few n Bad h low = absurd (omega arith)
+line-few n (Insert l p x) h low = h
+line-few n (Delete l p) h low = h
+line-few n (Up l k) h low = h
+line-few n (Down l k) h low = h
+line-few n (Ack l) h low = h
+line-few n (Told l) h low = h
+
 module _ (s out : List ℕ) (i to : ℕ) (e : Ends) (z : Sink) (g : Running s out i to e z) where
-  module _ (k : ℕ) (h : i < length s) (p : k ≡ length (before 10 (take (length s - i) (drop i s)))) (c : Command)
-      (pc : c ≡ commandOf (e .server .n) (take (i + k - i) (drop i s))) where
-    pub running-within : Within (e .server .n) c
-    running-within = command-within (e .server .n) (take (i + k - i) (drop i s)) c pc
+  module _ (r : Line) (p : Next s i (e .server .n) r) where
+    abbrev said : Command
+    said = commandOf (e .server .n) (before 10 (drop i s))
 
-    ran-line : ran (viewEnds e) (linesOf (drop i s))
-        ≡ replies c (step (viewEnds e) c .refusal) ++ ran (step (viewEnds e) c .bench) (linesOf (drop (i + k + 1) s))
+    within : Within (e .server .n) said
+    within = command-within (e .server .n) (before 10 (drop i s))
+
+    ran-line : ran (viewEnds e) (linesOf (drop i s)) ≡ replies said (step (viewEnds e) said .refusal) ++ ran (step (viewEnds e) said .bench) (linesOf (drop (r .after) s))
     unfolding ran server.view
-    ran-line =
-        ap (ran (viewEnds e)) (lines-next s i k h p)
-        ∙ ap (λ (x : Command). replies x (step (viewEnds e) x .refusal) ++ ran (step (viewEnds e) x .bench) (linesOf (drop (i + k + 1) s))) (sym pc)
+    ran-line = ap (ran (viewEnds e)) (p .lines)
 
-    sound : SoundBench (step (viewEnds e) c .bench)
-    sound = step-sound (viewEnds e) (g .whole .sound) c
+    sound : SoundBench (step (viewEnds e) said .bench)
+    sound = step-sound (viewEnds e) (g .whole .sound) said
 
-    stepped : (out′ : List ℕ) (to′ : ℕ) → sink out′ to′ ≡ puts (replies c (step (viewEnds e) c .refusal)) (sink out to)
-        → Running s out′ (i + k + 1) to′ (storeEnds (step (viewEnds e) c .bench)) z
+    stepped : (out′ : List ℕ) (to′ : ℕ) → sink out′ to′ ≡ puts (replies said (step (viewEnds e) said .refusal)) (sink out to)
+        → Running s out′ (r .after) to′ (storeEnds (step (viewEnds e) said .bench)) z
     stepped out′ to′ q =
         record {
-          whole = store-whole (step (viewEnds e) c .bench) sound;
+          whole = store-whole (step (viewEnds e) said .bench) sound;
           rest =
-              ap₂ (λ (b : Bench) (x : Sink). puts (ran b (linesOf (drop (i + k + 1) s))) x) (bench-view (step (viewEnds e) c .bench) sound) q
-              ∙ sym (puts-append (replies c (step (viewEnds e) c .refusal)) (ran (step (viewEnds e) c .bench) (linesOf (drop (i + k + 1) s))) (sink out to))
+              ap₂ (λ (b : Bench) (x : Sink). puts (ran b (linesOf (drop (r .after) s))) x) (bench-view (step (viewEnds e) said .bench) sound) q
+              ∙ sym (puts-append (replies said (step (viewEnds e) said .refusal)) (ran (step (viewEnds e) said .bench) (linesOf (drop (r .after) s))) (sink out to))
               ∙ ap (λ l. puts l (sink out to)) (sym ran-line) ∙ g .rest;
         }
 
-    pub running-on : (d : Done) → d ≡ storeStep (step (viewEnds e) c) → (out′ : List ℕ) (to′ : ℕ) → sink out′ to′ ≡ puts (replies c (d .refusal)) (sink out to)
-        → Running s out′ (i + k + 1) to′ (d .ends) z
-    running-on d pd out′ to′ q =
-        subst (λ (x : Ends). Running s out′ (i + k + 1) to′ x z) (sym (ap (λ (x : Done). x .ends) pd))
-        (stepped out′ to′ (q ∙ ap (λ (x : Done). puts (replies c (x .refusal)) (sink out to)) pd))
+    pub running-bad : r .order .verb < 1 → (out′ : List ℕ) (to′ : ℕ) → sink out′ to′ ≡ puts unknown (sink out to) → Running s out′ (r .after) to′ e z
+    unfolding understood step
+    running-bad h out′ to′ q =
+        let b : said ≡ Bad = unheard said (subst (λ (o : Order). o .verb < 1) (p .order) h) in
+        subst (λ (x : Ends). Running s out′ (r .after) to′ x z) (ap (λ (c : Command). storeEnds (step (viewEnds e) c .bench)) b ∙ sym (g .whole .whole))
+        (stepped out′ to′ (q ∙ ap (λ (c : Command). puts (replies c (step (viewEnds e) c .refusal)) (sink out to)) (sym b)))
 
-    pub place-small : (j : ℕ) → j ≡ placeOf c → j < 8
-    place-small j pj = let h = place-few e (g .whole) c running-within in omega arith
+    module _ (o : Order) (po : o ≡ r .order) (low : 1 ≤ o .verb) where
+      said-so : o ≡ coded said
+      said-so = po ∙ p .order
 
-    module _ (j : ℕ) (pj : j ≡ placeOf c) (u : Bool) (pu : u ≡ upward c) (x d : Client) (px : x ≡ getD (e .clients) j d) where
-      placed : x ≡ getD (e .clients) (placeOf c) d
-      placed = px ∙ ap (λ m. getD (e .clients) m d) pj
+      pub order-line : (1 ≤ o .line) × (o .line - 1 < 8)
+      order-line =
+          let f = line-few (e .server .n) said within (subst (λ (y : Order). 1 ≤ y .verb) said-so low) in
+          let n = lines-few e (g .whole) in
+          let q = ap (λ (y : Order). y .line) said-so in
+          (omega arith, omega arith)
 
-      -- by the arm of the server, and by that of the client
-      pub server-did : (a : serverAnswer.Answer) → u ≡ true → a ≡ atServer (e .server) x c → {r : ℕ} {e″ : Ends} → e″ ≡ serverDone e a .ends → r ≡ a .refusal
-          → _≡_ {A = Done} (record { refusal = r; ends = e″ }) (storeStep (step (viewEnds e) c))
-      server-did a t pa q₁ q₂ =
-          (λ i. record { refusal = q₂ i; ends = q₁ i }) ∙ ap (serverDone e) pa ∙ at-server-is e (g .whole) c running-within (sym pu ∙ t) x d placed
+      replying : (d : Done) → d ≡ storeStep (step (viewEnds e) said) → (out′ : List ℕ) (to′ : ℕ) → sink out′ to′ ≡ puts (replied (d .refusal)) (sink out to)
+          → Running s out′ (r .after) to′ (d .ends) z
+      replying d pd out′ to′ q =
+          subst (λ (x : Ends). Running s out′ (r .after) to′ x z) (sym (ap (λ (x : Done). x .ends) pd))
+          (stepped out′ to′
+          (q ∙ ap (λ (t : Bool). puts (cond t (replied (d .refusal)) unknown) (sink out to)) (sym (heard said (subst (λ (y : Order). 1 ≤ y .verb) said-so low)))
+          ∙ ap (λ (x : Done). puts (replies said (x .refusal)) (sink out to)) pd))
 
-      pub client-did : (a : clientAnswer.Answer) → u ≡ false → a ≡ atClient (e .server) x c → {r : ℕ} {e″ : Ends} → e″ ≡ clientDone e j a .ends → r ≡ a .refusal
-          → _≡_ {A = Done} (record { refusal = r; ends = e″ }) (storeStep (step (viewEnds e) c))
-      client-did a t pa q₁ q₂ =
-          (λ i. record { refusal = q₂ i; ends = q₁ i }) ∙ ap₂ (clientDone e) pj pa ∙ at-client-is e (g .whole) c running-within (sym pu ∙ t) x d placed
+      module _ (x d : Client) (px : x ≡ getD (e .clients) (o .line - 1) d) where
+        standing : x ≡ getD (e .clients) (coded said .line - 1) d
+        standing = px ∙ ap (λ (y : Order). getD (e .clients) (y .line - 1) d) said-so
+
+        module _ (b : endpoint.Sent) (m : List ℕ) (pb : answered b m ≡ sentBy (e .server) x o room) where
+          low′ : 1 ≤ coded said .verb
+          low′ = subst (λ (y : Order). 1 ≤ y .verb) said-so low
+
+          sends-as : answered b m ≡ sentBy (e .server) x (coded said) room
+          sends-as = pb ∙ ap (λ (y : Order). sentBy (e .server) x y room) said-so
+
+          pub written-within : b .written ≤ length m
+          written-within = subst (λ (y : Sent). y .written ≤ length (y .buffer)) (sym pb) (wrote-within (e .server) x o room)
+
+          pub running-unsent : (b .refusal ≡ 0 → ⊥) → (out′ : List ℕ) (to′ : ℕ) → sink out′ to′ ≡ puts (replied (b .refusal)) (sink out to) → Running s out′ (r .after) to′ e z
+          running-unsent h out′ to′ q =
+              let k = ap (λ (y : Sent). y .refusal) sends-as in
+              replying (record { refusal = b .refusal; ends = e })
+              (ap (λ j. record { refusal = j; ends = e }) k ∙ unsent-is e (g .whole) said within x d standing low′ (λ z′. h (k ∙ z′))) out′ to′ q
+
+          module _ (ok : b .refusal ≡ 0) where
+            ok′ : sentBy (e .server) x (coded said) room .refusal ≡ 0
+            ok′ = sym (ap (λ (y : Sent). y .refusal) sends-as) ∙ ok
+
+            pub running-up : 5 ≤ o .verb → (a : serverAnswer.Answer) → a ≡ takes (e .server) (take (b .written) m) → (out′ : List ℕ) (to′ : ℕ)
+                → sink out′ to′ ≡ puts (replied (a .refusal)) (sink out to) → Running s out′ (r .after) to′ (serverDone e a .ends) z
+            running-up high a pa out′ to′ q =
+                replying (serverDone e a)
+                (ap (serverDone e) (pa ∙ ap (λ (y : Sent). takes (e .server) (take (y .written) (y .buffer))) sends-as)
+                ∙ up-is e (g .whole) said within x d standing (subst (λ (y : Order). 5 ≤ y .verb) said-so high) ok′)
+                out′ to′ q
+
+            pub running-client : o .verb < 5 → (a : clientAnswer.Answer) → a ≡ changedBy x o (take (b .written) m) → (out′ : List ℕ) (to′ : ℕ)
+                → sink out′ to′ ≡ puts (replied (a .refusal)) (sink out to) → Running s out′ (r .after) to′ (clientDone e (o .line - 1) a .ends) z
+            running-client high a pa out′ to′ q =
+                replying (clientDone e (o .line - 1) a)
+                (ap (clientDone e (o .line - 1)) pa
+                ∙ ap₂ (λ (y : Sent) (w : Order). clientDone e (w .line - 1) (changedBy x w (take (y .written) (y .buffer)))) sends-as said-so
+                ∙ changed-is e (g .whole) said within x d standing low′ (subst (λ (y : Order). y .verb < 5) said-so high) ok′)
+                out′ to′ q
 
   pub running-end : length s ≤ i → puts (lists (viewEnds e)) (sink out to) ≡ z
   unfolding ran

@@ -8,8 +8,7 @@ use lib.ListN.{length, getD, set, take, replicate}
 use Rattle.model.specs.Questions.{every, Answer, Sent}
 use Rattle.model.specs.Client.{Client, noClient, soundClient, openClient, insertClient, deleteClient, sendClient, tellClient, takeClient}
 use Rattle.model.specs.Server.{Server, soundServer, openServer, sendServer, tellServer, takeServer}
-use Rattle.script.specs.declared.parse.Command.{Command}
-use Rattle.script.specs.declared.parse.Command.the-variants.{Bad, Insert, Delete, Up, Down, Ack, Told}
+use Rattle.text.specs.Command.{Command, Bad, Insert, Delete, Up, Down, Ack, Told}
 
 pub record Bench : Type 0 where
   pub server : Server

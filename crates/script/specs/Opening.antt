@@ -7,9 +7,9 @@ use lib.Dec.{ltb}
 use lib.ListN.{take, set, replicate}
 use Rattle.model.specs.Questions.{every}
 use Rattle.script.specs.declared.opening.First.{First}
-use Rattle.script.specs.Decimal.{numberOf, tooWide}
-use Rattle.script.specs.Text.{wordsOf, same}
-use Rattle.script.specs.Command.{linesWord, itemsWord}
+use Rattle.text.specs.Decimal.{numberOf, tooWide}
+use Rattle.text.specs.Text.{wordsOf, same}
+use Rattle.text.specs.Command.{linesWord, itemsWord}
 
 pub data Opening : Type 0 where
   -- another form, or a number too wide

@@ -7,31 +7,16 @@ use lib.Dec.{ltb, eqb}
 use lib.ListN.{length, take}
 use Rattle.model.specs.Client.{Client}
 use Rattle.model.specs.Server.{openServer}
-use Rattle.script.specs.declared.parse.Command.{Command}
-use Rattle.script.specs.declared.parse.Command.the-variants.{Bad, Insert, Delete, Up, Down, Ack, Told}
-use Rattle.script.specs.Sink.{Printed}
-use Rattle.script.specs.Text.{linesOf}
-use Rattle.script.specs.Decimal.{decimal, listed}
-use Rattle.script.specs.Command.{commandOf}
+use Rattle.text.specs.Sink.{Printed}
+use Rattle.text.specs.Text.{linesOf}
+use Rattle.text.specs.Lines.{unknown, replied, serverList, clientList}
+use Rattle.text.specs.Command.{Command, Bad, Insert, Delete, Up, Down, Ack, Told, commandOf}
 use Rattle.script.specs.Opening.{Opening, none, sheet, openingOf}
 use Rattle.script.specs.Bench.{Bench, step, openBench}
 
--- `?`, `long`, `server` and `client`, as bytes
-abbrev pub unknown : List ℕ
-unknown = 63 ∷ 10 ∷ []
-
+-- `long`, as bytes
 abbrev pub long : List ℕ
 long = 108 ∷ 111 ∷ 110 ∷ 103 ∷ 10 ∷ []
-
-abbrev pub serverWord : List ℕ
-serverWord = 115 ∷ 101 ∷ 114 ∷ 118 ∷ 101 ∷ 114 ∷ []
-
-abbrev pub clientWord : List ℕ
-clientWord = 99 ∷ 108 ∷ 105 ∷ 101 ∷ 110 ∷ 116 ∷ 32 ∷ []
-
--- a refusal's number, or 0, on a line
-abbrev pub replied : ℕ → List ℕ
-replied r = decimal r ++ (10 ∷ [])
 
 -- whether a line was understood
 unfoldable pub understood : Command → Bool
@@ -46,12 +31,6 @@ understood (Told l) = true
 -- the answer to a command
 abbrev pub replies : Command → ℕ → List ℕ
 replies c r = cond (understood c) (replied r) unknown
-
-abbrev pub serverList : List ℕ → List ℕ
-serverList items = serverWord ++ listed items
-
-abbrev pub clientList : ℕ → List ℕ → List ℕ
-clientList l items = (clientWord ++ decimal l) ++ listed items
 
 -- the lists of the clients from line l on
 unfoldable pub clientLists : ℕ → List Client → List ℕ

@@ -1,8 +1,6 @@
 // The run program's interpreter: reads lines, makes the calls they name on a server and its clients, and prints.
 mod ends;
 mod opening;
-mod parse;
-mod print;
 mod program;
 
 pub use program::run;

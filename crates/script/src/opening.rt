@@ -1,10 +1,10 @@
 // Reading the first line: how many clients, and the initial items.
-use crate::parse::TOO_WIDE;
-use crate::parse::end;
-use crate::parse::number;
-use crate::parse::same;
+use text::TOO_WIDE;
+use text::end;
+use text::number;
+use text::same;
 ghost use mathlib.Core.Path.{_≡_};
-ghost use Rattle.script.specs.Text.{wordsOf};
+ghost use Rattle.text.specs.Text.{wordsOf};
 ghost use Rattle.script.specs.Opening.{none, withItems, afterNumber as Opening·afterNumber, afterLines, openingOf, begun as Opening·begun, push, Reads};
 
 // What a first line says. Of its items it holds at most 129, one more than an opening may have, so that opening still refuses.
@@ -75,13 +75,10 @@ fn after_number(n: u8, s: &[u8]) -> First
     ensures { λ r. ⌜ Reads (Opening·afterNumber n (wordsOf (now (s .entry)))) r ⌝ }
 {
     let e = end(s, 32);
-    if s.len() <= e {
-        if same(s, b"items") {
+    if same(&s[..e], b"items") {
+        if s.len() <= e {
             return begun(n);
         }
-        return failed();
-    }
-    if same(&s[..e], b"items") {
         let next = e + 1;
         return items(n, &s[next..]);
     }

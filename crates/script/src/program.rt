@@ -1,59 +1,34 @@
 // The run program over a text: reads lines, makes the calls they name, and prints.
 use crate::ends::Ends;
 use crate::ends::at_client;
-use crate::ends::at_server;
-use crate::ends::goes_up;
-use crate::ends::place;
+use crate::ends::sent;
 use crate::opening::First;
 use crate::opening::read_first;
-use crate::parse::Command;
-use crate::parse::end;
-use crate::parse::read_command;
-use crate::print::client_list;
-use crate::print::reply;
-use crate::print::server_list;
-use crate::print::text;
-use crate::print::unknown;
 use client::Client;
 use server::Server;
+use text::INS;
+use text::UP;
+use text::client_list;
+use text::end;
+use text::line_at;
+use text::puts;
+use text::reply;
+use text::server_list;
+use text::unknown;
 ghost use mathlib.Core.Path.{_≡_};
 ghost use Prim.Native.Nat.{_≤_};
 ghost use lib.ListN.{length, take, drop};
-ghost use Rattle.script.specs.Sink.{sink, puts, Printed};
-ghost use Rattle.script.specs.Text.{linesOf};
+ghost use Rattle.text.specs.Sink.{sink, puts as Sink·puts, Printed};
+ghost use Rattle.text.specs.Text.{linesOf};
 ghost use Rattle.script.specs.Opening.{maxHeld, held};
-ghost use Rattle.script.specs.Output.{understood, replies, clientList, clientLists, lists as Output·lists, ran, started as Output·started, output};
+ghost use Rattle.text.specs.Lines.{clientList};
+ghost use Rattle.script.specs.Output.{clientLists, lists as Output·lists, ran, started as Output·started, output};
 ghost use Rattle.script.specs.Ends.{Whole, viewEnds, opening};
-
-// Whether a line was understood.
-fn known(c: Command) -> bool
-    ensures { λ r. ⌜ r ≡ understood c ⌝ }
-{
-    match c {
-        Command::Bad => false,
-        Command::Insert(_, _, _) => true,
-        Command::Delete(_, _) => true,
-        Command::Up(_, _) => true,
-        Command::Down(_, _) => true,
-        Command::Ack(_) => true,
-        Command::Told(_) => true,
-    }
-}
-
-// The answer to a line.
-fn answer(out: &mut [u8], at: usize, c: Command, r: u8) -> usize
-    ensures { λ r′. ⌜ sink (now (out .exit)) r′ ≡ puts (replies c r) (sink (now (out .entry)) at) ⌝ }
-{
-    if known(c) {
-        return reply(out, at, r);
-    }
-    unknown(out, at)
-}
 
 // The list of the client on a line.
 fn one_list(out: &mut [u8], at: usize, line: u8, c: Client) -> usize
     requires { ⌜ c .len ≤ length (c .items) ⌝ }
-    ensures { λ r. ⌜ sink (now (out .exit)) r ≡ puts (clientList line (take (c .len) (c .items))) (sink (now (out .entry)) at) ⌝ }
+    ensures { λ r. ⌜ sink (now (out .exit)) r ≡ Sink·puts (clientList line (take (c .len) (c .items))) (sink (now (out .entry)) at) ⌝ }
 {
     let items = c.items;
     let len = c.len as usize;
@@ -63,7 +38,7 @@ fn one_list(out: &mut [u8], at: usize, line: u8, c: Client) -> usize
 // The lists of the clients, in line order.
 fn client_lists(out: &mut [u8], at: usize, ends: Ends) -> usize
     requires { ⌜ Whole ends ⌝ }
-    ensures { λ r. ⌜ sink (now (out .exit)) r ≡ puts (clientLists 1 (viewEnds ends .clients)) (sink (now (out .entry)) at) ⌝ }
+    ensures { λ r. ⌜ sink (now (out .exit)) r ≡ Sink·puts (clientLists 1 (viewEnds ends .clients)) (sink (now (out .entry)) at) ⌝ }
 {
     let mut to = at;
     let mut i = 0;
@@ -79,7 +54,7 @@ fn client_lists(out: &mut [u8], at: usize, ends: Ends) -> usize
 // All lists.
 fn lists(out: &mut [u8], at: usize, ends: Ends) -> usize
     requires { ⌜ Whole ends ⌝ }
-    ensures { λ r. ⌜ sink (now (out .exit)) r ≡ puts (Output·lists (viewEnds ends)) (sink (now (out .entry)) at) ⌝ }
+    ensures { λ r. ⌜ sink (now (out .exit)) r ≡ Sink·puts (Output·lists (viewEnds ends)) (sink (now (out .entry)) at) ⌝ }
 {
     let items = ends.server.items;
     let len = ends.server.len as usize;
@@ -88,35 +63,40 @@ fn lists(out: &mut [u8], at: usize, ends: Ends) -> usize
 }
 
 // The lines from a place of the input on, and the lists.
-fn commands(input: &[u8], from: usize, out: &mut [u8], at: usize, ends: Ends) -> usize
+fn commands(input: &[u8], mut i: usize, out: &mut [u8], mut at: usize, mut ends: Ends) -> usize
     requires { ⌜ Whole ends ⌝ }
-    ensures { λ r. ⌜ sink (now (out .exit)) r ≡ puts (ran (viewEnds ends) (linesOf (drop from (now (input .entry))))) (sink (now (out .entry)) at) ⌝ }
+    ensures { λ r. ⌜ sink (now (out .exit)) r ≡ Sink·puts (ran (viewEnds ends) (linesOf (drop i (now (input .entry))))) (sink (now (out .entry)) at) ⌝ }
 {
-    let mut now = ends;
-    let mut i = from;
-    let mut to = at;
     while i < input.len() {
-        let b = i + end(&input[i..], 10);
-        let c = read_command(now.server.n, &input[i..b]);
-        let k = place(c);
-        let s = now.server;
-        let e = now.clients[k];
-        let mut r = 0;
-        if goes_up(c) {
-            let a = at_server(s, e, c);
-            r = a.refusal;
-            let t = a.server;
-            now.server = t;
-        } else {
-            let a = at_client(s, e, c);
-            r = a.refusal;
-            let t = a.client;
-            now.clients[k] = t;
+        let line = line_at(input, i, ends.server.n);
+        let o = line.order;
+        i = line.after;
+        if o.verb < INS {
+            at = unknown(out, at);
+            continue;
         }
-        to = answer(out, to, c, r);
-        i = b + 1;
+        let k = (o.line - 1) as usize;
+        let mut m = [0u8; 14];
+        let b = sent(ends.server, ends.clients[k], o, &mut m);
+        if b.refusal != 0 {
+            at = reply(out, at, b.refusal);
+            continue;
+        }
+        let n = b.written;
+        let bytes = &m[..n];
+        if UP <= o.verb {
+            let s = ends.server.take(bytes);
+            at = reply(out, at, s.refusal);
+            let t = s.server;
+            ends.server = t;
+            continue;
+        }
+        let a = at_client(ends.clients[k], o, bytes);
+        at = reply(out, at, a.refusal);
+        let t = a.client;
+        ends.clients[k] = t;
     }
-    lists(out, to, now)
+    lists(out, at, ends)
 }
 
 // The clients of lines 1 to n. Opening refuses a line past n, and then gives an end that is all zeros.
@@ -140,16 +120,17 @@ fn open_clients(n: u8, items: &[u32]) -> [Client; 8]
 // What the first line opens, and the lines after it.
 fn started(input: &[u8], from: usize, out: &mut [u8], f: First) -> usize
     requires { ⌜ f .count ≤ maxHeld ⌝ }
-    ensures { λ r. ⌜ sink (now (out .exit)) r ≡ puts (Output·started (held f) (linesOf (drop from (now (input .entry))))) (sink (now (out .entry)) 0) ⌝ }
+    ensures { λ r. ⌜ sink (now (out .exit)) r ≡ Sink·puts (Output·started (held f) (linesOf (drop from (now (input .entry))))) (sink (now (out .entry)) 0) ⌝ }
 {
     if f.ok {
         let list = f.list;
         let count = f.count;
-        let a = Server::open(f.n, &list[..count]);
+        let items = &list[..count];
+        let a = Server::open(f.n, items);
         let to = reply(out, 0, a.refusal);
         if a.refusal == 0 {
             let server = a.server;
-            let clients = open_clients(f.n, &list[..count]);
+            let clients = open_clients(f.n, items);
             return commands(input, from, out, to, Ends { server, clients });
         }
         return to;
@@ -162,7 +143,7 @@ pub fn run(input: &[u8], out: &mut [u8]) -> usize
     ensures { λ r. ⌜ Printed (output (now (input .entry))) (now (out .entry)) (now (out .exit)) r ⌝ }
 {
     if 65536 < input.len() {
-        return text(out, 0, b"long\n");
+        return puts(out, 0, b"long\n");
     }
     let e = end(input, 10);
     let f = read_first(&input[..e]);

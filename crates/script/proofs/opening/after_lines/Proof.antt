@@ -1,4 +1,4 @@
-use Rattle.script.proofs.Texts.{taken-length}
+use Rattle.text.proofs.Texts.{taken-length}
 use Rattle.script.proofs.Openings.{number-alone, number-wide, number-fits, likewise}
 use borrow.Author.Needs.{needs}
 use Rattle.script.proofs.opening.after_lines.Statement.{statement}
@@ -14,7 +14,7 @@ returns : tie.Need-returns
 returns c = likewise (number-alone _ _ (c .before .before .end .ensures) (c .before .if1 .taken)) (c .failed .ensures)
 
 slice-aggregate-number : tie.Need-slice-aggregate-number
-slice-aggregate-number c = taken-length _ _ 32 (c .before .before .end .ensures) (c .before .if1 .left)
+slice-aggregate-number c = taken-length _ _ 32 (c .before .before .end .ensures)
 
 number-requires : tie.Need-number-requires
 number-requires c κs = search needs

@@ -3,9 +3,9 @@ use mathlib.Core.Path.{_≡_, sym, ap, subst}
 use native.Mathlib.Omega.{arith}
 use borrow.Author.Needs.{needs}
 use lib.ListN.{length}
-use Rattle.script.specs.Text.{wordsOf}
+use Rattle.text.specs.Text.{wordsOf}
 use Rattle.script.specs.Opening.{withItems, begun, Reads}
-use Rattle.script.proofs.Texts.{wordsFrom, next-within, words-next, words-all, words-none}
+use Rattle.text.proofs.Texts.{wordsFrom, next-within, words-next, words-all, words-none}
 use Rattle.script.proofs.Openings.{fill, filled, fill-turn, fill-end}
 use Rattle.script.proofs.opening.items.Statement.{statement}
 use Rattle.script.proofs.opening.items.Tie as tie

@@ -1,5 +1,5 @@
 use mathlib.Core.Path.{sym, _∙_}
-use Rattle.script.proofs.Texts.{taken-length}
+use Rattle.text.proofs.Texts.{taken-length}
 use Rattle.script.proofs.Openings.{lines-alone, lines-yes, lines-no, likewise}
 use borrow.Author.Needs.{needs}
 use Rattle.script.proofs.opening.read_first.Statement.{statement}
@@ -15,7 +15,7 @@ returns : tie.Need-returns
 returns c = likewise (lines-alone _ _ (c .before .before .end .ensures) (c .before .if1 .taken)) (c .failed .ensures)
 
 slice-aggregate-same : tie.Need-slice-aggregate-same
-slice-aggregate-same c = taken-length _ _ 32 (c .before .before .end .ensures) (c .before .if1 .left)
+slice-aggregate-same c = taken-length _ _ 32 (c .before .before .end .ensures)
 
 slice-aggregate-same-2 : tie.Need-slice-aggregate-same-2
 slice-aggregate-same-2 c = search needs

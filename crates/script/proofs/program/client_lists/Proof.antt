@@ -3,7 +3,7 @@ use mathlib.Core.Path.{_≡_, refl, sym, _∙_}
 use native.Mathlib.Omega.{arith}
 use borrow.Author.Needs.{needs}
 use lib.ListN.{length, drop}
-use Rattle.script.specs.Sink.{sink, puts}
+use Rattle.text.specs.Sink.{sink, puts}
 use Rattle.script.specs.Output.{clientLists}
 use Rattle.script.specs.Ends.{viewEnds}
 use Rattle.script.proofs.Structs.{eight, lines-few}

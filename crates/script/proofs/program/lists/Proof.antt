@@ -1,10 +1,11 @@
 use mathlib.Core.Path.{sym}
 use lib.Seq.{length-take-le}
 use Rattle.server.specs.View as server
-use Rattle.script.specs.Sink.{sink}
-use Rattle.script.specs.Output.{serverList, clientLists}
+use Rattle.text.specs.Sink.{sink}
+use Rattle.text.specs.Lines.{serverList}
+use Rattle.script.specs.Output.{clientLists}
 use Rattle.script.specs.Ends.{viewEnds}
-use Rattle.script.proofs.Sinks.{then}
+use Rattle.text.proofs.Sinks.{then}
 use Rattle.script.proofs.Turns.{server-fits}
 use borrow.Author.Needs.{needs}
 use Rattle.script.proofs.program.lists.Statement.{statement}

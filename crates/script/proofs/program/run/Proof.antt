@@ -1,25 +1,25 @@
 use mathlib.Core.Path.{sym, ap, _∙_}
 use native.Mathlib.Omega.{arith}
 use lib.Seq.{length-take-le}
-use Rattle.script.specs.Sink.{sink, puts}
-use Rattle.script.proofs.Sinks.{printed}
-use Rattle.script.proofs.Texts.{before-le}
+use Rattle.text.specs.Sink.{sink, puts}
+use Rattle.text.proofs.Sinks.{printed}
+use Rattle.text.proofs.Texts.{before-le}
 use Rattle.script.proofs.Opened.{output-long, output-is}
 use borrow.Author.Needs.{needs}
 use Rattle.script.proofs.program.run.Statement.{statement}
 use Rattle.script.proofs.program.run.Tie as tie
 
-slice-aggregate-text : tie.Need-slice-aggregate-text
-slice-aggregate-text c = search needs
+slice-aggregate-puts : tie.Need-slice-aggregate-puts
+slice-aggregate-puts c = search needs
 
-text-requires : tie.Need-text-requires
-text-requires c κs = search needs
+puts-requires : tie.Need-puts-requires
+puts-requires c κs = search needs
 
 same-length : tie.Need-same-length
 same-length c = search needs
 
 returns : tie.Need-returns
-returns c = printed _ _ _ _ (c .before .before .text .ensures ∙ ap (λ l. puts l (sink (c .before .before .before .before .before .before .before .before .args .out .now) 0)) (output-long (c .before .before .before .before .before .before .before .before .args .input .now) (c .before .before .before .before .before .if1 .taken)))
+returns c = printed _ _ _ _ (c .before .before .puts .ensures ∙ ap (λ l. puts l (sink (c .before .before .before .before .before .before .before .before .args .out .now) 0)) (output-long (c .before .before .before .before .before .before .before .before .args .input .now) (c .before .before .before .before .before .if1 .taken)))
 
 end-requires : tie.Need-end-requires
 end-requires c κs = search needs
@@ -46,8 +46,8 @@ pub run-spec : {M : Type 1} → statement M
 run-spec =
     tie.close
     (tie.spec
-    slice-aggregate-text
-    text-requires
+    slice-aggregate-puts
+    puts-requires
     same-length
     returns
     end-requires

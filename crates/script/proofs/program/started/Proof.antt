@@ -2,8 +2,8 @@ use mathlib.Core.Path.{_≡_, sym}
 use native.Mathlib.Omega.{arith}
 use lib.ListN.{length, take, drop}
 use lib.Seq.{length-take-le}
-use Rattle.script.specs.Sink.{sink}
-use Rattle.script.specs.Text.{linesOf}
+use Rattle.text.specs.Sink.{sink}
+use Rattle.text.specs.Text.{linesOf}
 use Rattle.script.proofs.Opened.{opened-whole, started-on, started-off}
 use borrow.Author.Needs.{needs}
 use Rattle.script.proofs.program.started.Statement.{statement}
@@ -12,8 +12,8 @@ use Rattle.script.proofs.program.started.Tie as tie
 array-share-prefix-list : tie.Need-array-share-prefix-list
 array-share-prefix-list c = let l : length (c .before .before .before .before .args .f .list) ≡ 129 = search needs in omega (arith, c .before .before .before .before .pre)
 
-slice-aggregate-open : tie.Need-slice-aggregate-open
-slice-aggregate-open c = let l : length (c .before .before .before .before .before .args .f .list) ≡ 129 = search needs in sym (length-take-le (c .before .before .before .before .before .args .f .count) (c .before .before .before .before .before .args .f .list) (omega (arith, c .before .before .before .before .before .pre)))
+slice-aggregate-items : tie.Need-slice-aggregate-items
+slice-aggregate-items c = let l : length (c .before .before .before .before .before .args .f .list) ≡ 129 = search needs in sym (length-take-le (c .before .before .before .before .before .args .f .count) (c .before .before .before .before .before .args .f .list) (omega (arith, c .before .before .before .before .before .pre)))
 
 open-requires : tie.Need-open-requires
 open-requires c κs = search needs
@@ -21,23 +21,17 @@ open-requires c κs = search needs
 reply-requires : tie.Need-reply-requires
 reply-requires c κs = search needs
 
-array-share-prefix-list-2 : tie.Need-array-share-prefix-list-2
-array-share-prefix-list-2 c = array-share-prefix-list (c .before .before .before .before .before .before .before .before .before)
-
-slice-aggregate-open-clients : tie.Need-slice-aggregate-open-clients
-slice-aggregate-open-clients c = slice-aggregate-open (c .before .before .before .before .before .before .before .before .before)
-
 open-clients-requires : tie.Need-open-clients-requires
 open-clients-requires c κs = search needs
 
 commands-requires : tie.Need-commands-requires
-commands-requires c κs = opened-whole (c .before .before .before .before .before .before .before .before .before .before .before .before .before .before .before .before .args .f .n) (take (c .before .before .before .before .before .before .before .before .before .before .before .before .before .before .before .before .args .f .count) (c .before .before .before .before .before .before .before .before .before .before .before .before .before .before .before .before .args .f .list)) (c .before .before .before .before .before .before .before .before .before .before .«open» .result) (c .before .before .before .before .before .before .before .before .before .before .«open» .ensures) (c .before .before .before .before .if2 .taken) _ (c .before .open-clients .ensures)
+commands-requires c κs = opened-whole (c .before .before .before .before .before .before .before .before .before .before .before .before .before .before .before .args .f .n) (take (c .before .before .before .before .before .before .before .before .before .before .before .before .before .before .before .args .f .count) (c .before .before .before .before .before .before .before .before .before .before .before .before .before .before .before .args .f .list)) (c .before .before .before .before .before .before .before .before .before .«open» .result) (c .before .before .before .before .before .before .before .before .before .«open» .ensures) (c .before .before .before .if2 .taken) _ (c .before .open-clients .ensures)
 
 same-length : tie.Need-same-length
 same-length c = search needs
 
 returns : tie.Need-returns
-returns c = rw (c .before .before .before .before .before .before .before .before .before .before .before .before .before .before .before .before .if1 .taken) (started-on (c .before .before .before .before .before .before .before .before .before .before .before .before .before .before .before .before .before .before .before .args .f .n) (take (c .before .before .before .before .before .before .before .before .before .before .before .before .before .before .before .before .before .before .before .args .f .count) (c .before .before .before .before .before .before .before .before .before .before .before .before .before .before .before .before .before .before .before .args .f .list)) (c .before .before .before .before .before .before .before .before .before .before .before .before .before .«open» .result) (c .before .before .before .before .before .before .before .before .before .before .before .before .before .«open» .ensures) (c .before .before .before .before .before .before .before .if2 .taken) _ (c .before .before .before .before .open-clients .ensures) (linesOf (drop (c .before .before .before .before .before .before .before .before .before .before .before .before .before .before .before .before .before .before .before .args .from) (c .before .before .before .before .before .before .before .before .before .before .before .before .before .before .before .before .before .before .before .args .input .now))) (sink (c .before .before .before .before .before .before .before .before .before .before .before .before .before .before .before .before .before .before .before .args .out .now) 0) (c .before .before .before .before .before .before .before .before .before .before .before .reply .ensures) (c .before .before .commands .ensures))
+returns c = rw (c .before .before .before .before .before .before .before .before .before .before .before .before .before .before .before .if1 .taken) (started-on (c .before .before .before .before .before .before .before .before .before .before .before .before .before .before .before .before .before .before .args .f .n) (take (c .before .before .before .before .before .before .before .before .before .before .before .before .before .before .before .before .before .before .args .f .count) (c .before .before .before .before .before .before .before .before .before .before .before .before .before .before .before .before .before .before .args .f .list)) (c .before .before .before .before .before .before .before .before .before .before .before .before .«open» .result) (c .before .before .before .before .before .before .before .before .before .before .before .before .«open» .ensures) (c .before .before .before .before .before .before .if2 .taken) _ (c .before .before .before .before .open-clients .ensures) (linesOf (drop (c .before .before .before .before .before .before .before .before .before .before .before .before .before .before .before .before .before .before .args .from) (c .before .before .before .before .before .before .before .before .before .before .before .before .before .before .before .before .before .before .args .input .now))) (sink (c .before .before .before .before .before .before .before .before .before .before .before .before .before .before .before .before .before .before .args .out .now) 0) (c .before .before .before .before .before .before .before .before .before .before .reply .ensures) (c .before .before .commands .ensures))
 
 same-length-2 : tie.Need-same-length-2
 same-length-2 c = search needs
@@ -59,11 +53,9 @@ started-spec =
     tie.close
     (tie.spec
     array-share-prefix-list
-    slice-aggregate-open
+    slice-aggregate-items
     open-requires
     reply-requires
-    array-share-prefix-list-2
-    slice-aggregate-open-clients
     open-clients-requires
     commands-requires
     same-length

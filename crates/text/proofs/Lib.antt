@@ -1,0 +1,5 @@
+pub mod Sinks
+pub mod Texts
+pub mod Numbers
+pub mod Orders
+pub mod Digits
