@@ -1,0 +1,17 @@
+use borrow.Author.Needs.{needs}
+use Rattle.probe.proofs.probe_run.Statement.{statement}
+use Rattle.probe.proofs.probe_run.Tie as tie
+use Rattle.probe.proofs.probe_run.Reads as reads
+use Rattle.probe.proofs.probe_run.Lts as lts
+
+run-requires : tie.Need-run-requires
+run-requires c κs = search needs
+
+same-length : tie.Need-same-length
+same-length c = search needs
+
+returns : tie.Need-returns
+returns c = c .before .before .run .ensures
+
+pub probe-run-spec : {M : Type 1} → statement M
+probe-run-spec = tie.close (tie.spec run-requires same-length returns)
