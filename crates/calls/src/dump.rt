@@ -3,7 +3,7 @@ ghost use mathlib.Core.Path.{_≡_};
 ghost use Prim.Native.Nat.{_+_, _*_, _≤_};
 ghost use lib.ListN.{length};
 ghost use Rattle.wire.specs.Bytes.{two, four};
-ghost use Rattle.calls.specs.Dump.{Put, each, headBytes, countBytes, twosBytes, foursBytes, clientBytes, serverBytes, answerBytes, slotBytes};
+ghost use Rattle.calls.specs.Dump.{Put, each, twosBytes, foursBytes, clientBytes, serverBytes, answerBytes, slotBytes};
 use client::Client;
 use server::Server;
 
@@ -19,13 +19,11 @@ fn put_four(out: &mut [u8], at: usize, x: u32)
     requires { ⌜ at + 4 ≤ length (now out) ⌝ }
     ensures { λ _. ⌜ Put at 4 (four x) (now (out .entry)) (now (out .exit)) ⌝ }
 {
-    out[at] = (x / 65536 / 256) as u8;
-    out[at + 1] = (x / 65536 % 256) as u8;
-    out[at + 2] = (x % 65536 / 256) as u8;
-    out[at + 3] = (x % 65536 % 256) as u8;
+    put_two(out, at, (x / 65536) as u16);
+    put_two(out, at + 2, (x % 65536) as u16);
 }
 
-// The answer of a call.
+// The answer of a call. An end's dump begins alike: two bytes, and a number of two.
 pub fn put_answer(out: &mut [u8], at: usize, refusal: u8, written: u8, passed: u16)
     requires { ⌜ at + 4 ≤ length (now out) ⌝ }
     ensures { λ _. ⌜ Put at 4 (answerBytes refusal written passed) (now (out .entry)) (now (out .exit)) ⌝ }
@@ -94,31 +92,13 @@ fn put_arrays<'a>(
 
 // ---- ends
 
-fn put_head(out: &mut [u8], at: usize, n: u8, line: u8, len: u16)
-    requires { ⌜ at + 4 ≤ length (now out) ⌝ }
-    ensures { λ _. ⌜ Put at 4 (headBytes n line len) (now (out .entry)) (now (out .exit)) ⌝ }
-{
-    out[at] = n;
-    out[at + 1] = line;
-    put_two(out, at + 2, len);
-}
-
-fn put_counts(out: &mut [u8], at: usize, made: u16, taken: u16, acked: u16, inserts: u16)
-    requires { ⌜ at + 8 ≤ length (now out) ⌝ }
-    ensures { λ _. ⌜ Put at 8 (countBytes made taken acked inserts) (now (out .entry)) (now (out .exit)) ⌝ }
-{
-    put_two(out, at, made);
-    put_two(out, at + 2, taken);
-    put_two(out, at + 4, acked);
-    put_two(out, at + 6, inserts);
-}
-
 pub fn put_client(out: &mut [u8], at: usize, c: Client)
     requires { ⌜ at + 2572 ≤ length (now out) ⌝ }
     ensures { λ _. ⌜ Put at 2572 (clientBytes c) (now (out .entry)) (now (out .exit)) ⌝ }
 {
-    put_head(out, at, c.n, c.line, c.len);
-    put_counts(out, at + 4, c.made, c.taken, c.acked, c.inserts);
+    put_answer(out, at, c.n, c.line, c.len);
+    let counts = [c.made, c.taken, c.acked, c.inserts];
+    put_twos(out, at + 4, &counts);
     put_arrays(out, at + 12, &c.pending_places, &c.pending_items, &c.items);
 }
 
@@ -126,7 +106,7 @@ pub fn put_server(out: &mut [u8], at: usize, s: Server)
     requires { ⌜ at + 6214 ≤ length (now out) ⌝ }
     ensures { λ _. ⌜ Put at 6214 (serverBytes s) (now (out .entry)) (now (out .exit)) ⌝ }
 {
-    put_head(out, at, s.n, 0, s.len);
+    put_answer(out, at, s.n, 0, s.len);
     put_two(out, at + 4, s.initial);
     put_lines(out, at + 6, &s.made, &s.taken, &s.acked, &s.inserts);
     put_arrays(out, at + 70, &s.pending_places, &s.pending_items, &s.items);

@@ -6,13 +6,13 @@ use Rattle.calls.proofs.dump.put_server.Tie as tie
 use Rattle.calls.proofs.dump.put_server.Reads as reads
 use Rattle.calls.proofs.dump.put_server.Lts as lts
 use Rattle.calls.proofs.dump.put_arrays.Reads as put-arrays-reads
-use Rattle.calls.proofs.dump.put_head.Reads as put-head-reads
+use Rattle.calls.proofs.dump.put_answer.Reads as put-answer-reads
 use Rattle.calls.proofs.dump.put_lines.Reads as put-lines-reads
 use Rattle.calls.proofs.dump.put_two.Reads as put-two-reads
 
 -- src/dump.rt:116:5
-put-head-requires : tie.Need-put-head-requires
-put-head-requires c κs = search needs
+put-answer-requires : tie.Need-put-answer-requires
+put-answer-requires c κs = search needs
 
 -- src/dump.rt:117:18
 add-put-two : tie.Need-add-put-two
@@ -45,13 +45,13 @@ same-length c = search needs
 -- src/dump.rt:112:1
 returns : tie.Need-returns
 unfolding serverBytes
-returns c = put-more (put-more (put-more (c .before .before .before .before .before .before .before .before .before .before .before .before .before .before .before .before .before .before .before .before .before .before .before .before .before .before .before .before .before .before .put-head .ensures) (c .before .before .before .before .before .before .before .before .before .before .before .before .before .before .before .before .before .before .before .before .before .before .before .before .before .before .put-two .ensures)) (put-size 64 (search needs) (c .before .before .before .before .before .before .before .before .before .before .before .before .before .put-lines .ensures))) (put-size 6144 (search needs) (c .before .before .put-arrays .ensures))
+returns c = put-more (put-more (put-more (c .before .before .before .before .before .before .before .before .before .before .before .before .before .before .before .before .before .before .before .before .before .before .before .before .before .before .before .before .before .before .put-answer .ensures) (c .before .before .before .before .before .before .before .before .before .before .before .before .before .before .before .before .before .before .before .before .before .before .before .before .before .before .put-two .ensures)) (put-size 64 (search needs) (c .before .before .before .before .before .before .before .before .before .before .before .before .before .put-lines .ensures))) (put-size 6144 (search needs) (c .before .before .put-arrays .ensures))
 
 pub put-server-spec : {M : Type 1} → statement M
 put-server-spec =
     tie.close
     (tie.spec
-    put-head-requires
+    put-answer-requires
     add-put-two
     put-two-requires
     add-put-lines

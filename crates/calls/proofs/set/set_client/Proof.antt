@@ -1,4 +1,4 @@
-use Rattle.calls.specs.Set.{clientSet}
+use Rattle.calls.proofs.Sets.{client-set}
 use borrow.Author.Needs.{needs}
 use Rattle.calls.proofs.set.set_client.Statement.{statement}
 use Rattle.calls.proofs.set.set_client.Tie as tie
@@ -60,8 +60,7 @@ set-in-64-requires-2 c κs = search needs
 
 -- src/set.rt:76:1
 returns : tie.Need-returns
-unfolding clientSet
-returns c = rw (c .set-in-642 .ensures, c .before .before .set-in-64 .ensures, c .before .before .before .before .before .set-in-512 .ensures, c .before .before .before .before .before .before .before .set-count5 .ensures, c .before .before .before .before .before .before .before .before .set-count4 .ensures, c .before .before .before .before .before .before .before .before .before .set-count3 .ensures, c .before .before .before .before .before .before .before .before .before .before .set-count2 .ensures, c .before .before .before .before .before .before .before .before .before .before .before .set-count .ensures, c .before .before .before .before .before .before .before .before .before .before .before .before .set-byte2 .ensures, c .before .before .before .before .before .before .before .before .before .before .before .before .before .set-byte .ensures, c .before .before .before .slot-place .ensures)
+returns c = client-set (c .before .before .before .before .before .before .before .before .before .before .before .before .before .before .before .before .before .before .args .k) (c .before .before .before .before .before .before .before .before .before .before .before .before .before .before .before .before .before .before .args .c) (c .before .before .before .slot-place .ensures) (c .before .before .before .before .before .before .before .before .before .before .before .before .before .set-byte .ensures) (c .before .before .before .before .before .before .before .before .before .before .before .before .set-byte2 .ensures) (c .before .before .before .before .before .before .before .before .before .before .before .set-count .ensures) (c .before .before .before .before .before .before .before .before .before .before .set-count2 .ensures) (c .before .before .before .before .before .before .before .before .before .set-count3 .ensures) (c .before .before .before .before .before .before .before .before .set-count4 .ensures) (c .before .before .before .before .before .before .before .set-count5 .ensures) (c .before .before .before .before .before .set-in-512 .ensures) (c .before .before .set-in-64 .ensures) (c .set-in-642 .ensures)
 
 pub set-client-spec : {M : Type 1} → statement M
 set-client-spec =

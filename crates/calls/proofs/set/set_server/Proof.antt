@@ -1,4 +1,4 @@
-use Rattle.calls.specs.Set.{serverSet}
+use Rattle.calls.proofs.Sets.{server-set}
 use borrow.Author.Needs.{needs}
 use Rattle.calls.proofs.set.set_server.Statement.{statement}
 use Rattle.calls.proofs.set.set_server.Tie as tie
@@ -77,8 +77,7 @@ set-in-512-requires-3 c κs = search needs
 
 -- src/set.rt:97:1
 returns : tie.Need-returns
-unfolding serverSet
-returns c = rw (c .set-in-5123 .ensures, c .before .before .set-in-5122 .ensures, c .before .before .before .before .before .set-in-84 .ensures, c .before .before .before .before .before .before .before .set-in-83 .ensures, c .before .before .before .before .before .before .before .before .before .set-in-82 .ensures, c .before .before .before .before .before .before .before .before .before .before .before .set-in-8 .ensures, c .before .before .before .before .before .before .before .before .before .before .before .before .before .set-in-512 .ensures, c .before .before .before .before .before .before .before .before .before .before .before .before .before .before .before .set-count2 .ensures, c .before .before .before .before .before .before .before .before .before .before .before .before .before .before .before .before .set-count .ensures, c .before .before .before .before .before .before .before .before .before .before .before .before .before .before .before .before .before .set-byte .ensures, c .before .before .before .slot-place .ensures, c .before .before .before .before .before .before .before .before .before .before .before .before .before .before .before .before .before .before .before .before .before .before .before .before .before .before .before .line-index .ensures)
+returns c = server-set (c .before .before .before .before .before .before .before .before .before .before .before .before .before .before .before .before .before .before .before .before .before .before .before .before .before .before .before .before .args .k) (c .before .before .before .before .before .before .before .before .before .before .before .before .before .before .before .before .before .before .before .before .before .before .before .before .before .before .before .before .args .s) (c .before .before .before .before .before .before .before .before .before .before .before .before .before .before .before .before .before .before .before .before .before .before .before .before .before .before .before .line-index .ensures) (c .before .before .before .slot-place .ensures) (c .before .before .before .before .before .before .before .before .before .before .before .before .before .before .before .before .before .set-byte .ensures) (c .before .before .before .before .before .before .before .before .before .before .before .before .before .before .before .before .set-count .ensures) (c .before .before .before .before .before .before .before .before .before .before .before .before .before .before .before .set-count2 .ensures) (c .before .before .before .before .before .before .before .before .before .before .before .before .before .set-in-512 .ensures) (c .before .before .before .before .before .before .before .before .before .before .before .set-in-8 .ensures) (c .before .before .before .before .before .before .before .before .before .set-in-82 .ensures) (c .before .before .before .before .before .before .before .set-in-83 .ensures) (c .before .before .before .before .before .set-in-84 .ensures) (c .before .before .set-in-5122 .ensures) (c .set-in-5123 .ensures)
 
 pub set-server-spec : {M : Type 1} → statement M
 set-server-spec =
