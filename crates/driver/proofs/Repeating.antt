@@ -125,12 +125,14 @@ module _ (k : Call) (w : World) (j n : ℕ) (slot : List ℕ) (h : isCall k ≡ 
   pub at-server : {b : List ℕ} → k .end ≡ 0 → b ≡ serverReply k (take n slot) (take (min (k .size) 20) slot) (w .server) → Replied k w b
   unfolding turnOf
   at-server z p =
-      record { answer = λ initial. p
-          ∙ ap (λ (f : List ℕ). serverReply k f (take (min (k .size) 20) slot) (w .server)) (front-of slot (lengthIn k (w .lengths)) n twenty m)
-          ∙ ap (λ (f : List ℕ). serverReply k (front (lengthIn k (w .lengths)) slot) f (w .server)) (front-of slot (k .size) (min (k .size) 20) twenty refl)
-          ∙ server-front k (front (k .number) initial) (lengthIn k (w .lengths)) slot o (w .server)
-          ∙ ap (λ (t : List ℕ). take 4 (serverTurn k (front (k .number) initial) (lengthIn k (w .lengths)) t (w .server) .bytes)) slot-is
-          ∙ ap (λ (t : Turn). take 4 (t .bytes)) (turn initial) }
+      record {
+        answer = λ initial. p
+            ∙ ap (λ (f : List ℕ). serverReply k f (take (min (k .size) 20) slot) (w .server)) (front-of slot (lengthIn k (w .lengths)) n twenty m)
+            ∙ ap (λ (f : List ℕ). serverReply k (front (lengthIn k (w .lengths)) slot) f (w .server)) (front-of slot (k .size) (min (k .size) 20) twenty refl)
+            ∙ server-front k (front (k .number) initial) (lengthIn k (w .lengths)) slot o (w .server)
+            ∙ ap (λ (t : List ℕ). take 4 (serverTurn k (front (k .number) initial) (lengthIn k (w .lengths)) t (w .server) .bytes)) slot-is
+            ∙ ap (λ (t : Turn). take 4 (t .bytes)) (turn initial);
+      }
     where
       turn : (initial : List ℕ) → serverTurn k (front (k .number) initial) (lengthIn k (w .lengths)) (slotIn k (w .slots)) (w .server) ≡ turnOf initial k w
       turn initial = sym (ap (λ (n : ℕ). turnAt n (front (k .number) initial) k (lengthIn k (w .lengths)) (slotIn k (w .slots)) w) (place-is k h q ∙ z))
@@ -139,12 +141,14 @@ module _ (k : Call) (w : World) (j n : ℕ) (slot : List ℕ) (h : isCall k ≡ 
       → Replied k w b
   unfolding turnOf
   at-client z p =
-      record { answer = λ initial. p
-          ∙ ap (λ (f : List ℕ). clientReply k f (take (min (k .size) 20) slot) (getD (w .clients) (k .end - 1) noClient)) (front-of slot (lengthIn k (w .lengths)) n twenty m)
-          ∙ ap (λ (f : List ℕ). clientReply k (front (lengthIn k (w .lengths)) slot) f (getD (w .clients) (k .end - 1) noClient)) (front-of slot (k .size) (min (k .size) 20) twenty refl)
-          ∙ client-front k (front (k .number) initial) (lengthIn k (w .lengths)) slot o (getD (w .clients) (k .end - 1) noClient)
-          ∙ ap (λ (t : List ℕ). take 4 (clientTurn k (front (k .number) initial) (lengthIn k (w .lengths)) t (getD (w .clients) (k .end - 1) noClient) .bytes)) slot-is
-          ∙ ap (λ (t : Turn). take 4 (t .bytes)) (turn initial) }
+      record {
+        answer = λ initial. p
+            ∙ ap (λ (f : List ℕ). clientReply k f (take (min (k .size) 20) slot) (getD (w .clients) (k .end - 1) noClient)) (front-of slot (lengthIn k (w .lengths)) n twenty m)
+            ∙ ap (λ (f : List ℕ). clientReply k (front (lengthIn k (w .lengths)) slot) f (getD (w .clients) (k .end - 1) noClient)) (front-of slot (k .size) (min (k .size) 20) twenty refl)
+            ∙ client-front k (front (k .number) initial) (lengthIn k (w .lengths)) slot o (getD (w .clients) (k .end - 1) noClient)
+            ∙ ap (λ (t : List ℕ). take 4 (clientTurn k (front (k .number) initial) (lengthIn k (w .lengths)) t (getD (w .clients) (k .end - 1) noClient) .bytes)) slot-is
+            ∙ ap (λ (t : Turn). take 4 (t .bytes)) (turn initial);
+      }
     where
       turn : (initial : List ℕ) → clientTurn k (front (k .number) initial) (lengthIn k (w .lengths)) (slotIn k (w .slots)) (getD (w .clients) (k .end - 1) noClient) ≡ turnOf initial k w
       turn initial =

@@ -6,10 +6,10 @@ ghost use mathlib.Core.List.{[]};
 ghost use lib.ListN.{length};
 ghost use Rattle.driver.specs.Answers.{answers, Wrote};
 ghost use Rattle.driver.specs.Drive.{start, run, afterAll, callsOf, Drove};
+use crate::turn;
 use calls::call;
 use calls::header;
 use client::Client;
-use crate::turn;
 use server::Server;
 
 // Every end, the bytes of all slots, and the slots' lengths.

@@ -9,14 +9,14 @@ ghost use Rattle.calls.specs.Dump.{answerBytes};
 ghost use Rattle.driver.specs.Answers.{repeated, Wrote};
 ghost use Rattle.driver.specs.Drive.{Replied};
 ghost use Rattle.driver.specs.Turn.{clientReply, serverReply};
+use crate::drive;
+use crate::drive::World;
+use crate::turn;
 use calls::call;
 use calls::call::Call;
 use calls::dump;
 use calls::header;
 use client::Client;
-use crate::drive;
-use crate::drive::World;
-use crate::turn;
 use endpoint::Sent;
 use server::Server;
 

@@ -64,7 +64,14 @@ fn put_sent(s: Sent, k: Call, lengths: &mut [u8], out: &mut [u8], at: usize)
     dump::put_answer(out, at, s.refusal, (s.written % 256) as u8, 0);
 }
 
-pub fn send_client(c: Client, k: Call, slots: &mut [u8], lengths: &mut [u8], out: &mut [u8], at: usize)
+pub fn send_client(
+    c: Client,
+    k: Call,
+    slots: &mut [u8],
+    lengths: &mut [u8],
+    out: &mut [u8],
+    at: usize,
+)
     requires { ⌜ (length (now slots) ≡ 1280) × (length (now lengths) ≡ 64) × (at + 4 ≤ length (now out)) ⌝ }
     ensures { λ _. ⌜ Turned k (clientSends k (lengthIn k (now (lengths .entry))) (slotIn k (now (slots .entry))) c) at 4 (now (slots .entry)) (now (slots .exit)) (now (lengths .entry)) (now (lengths .exit)) (now (out .entry)) (now (out .exit)) ⌝ }
 {
@@ -79,7 +86,14 @@ pub fn send_client(c: Client, k: Call, slots: &mut [u8], lengths: &mut [u8], out
     put_sent(s, k, lengths, out, at);
 }
 
-pub fn send_server(v: Server, k: Call, slots: &mut [u8], lengths: &mut [u8], out: &mut [u8], at: usize)
+pub fn send_server(
+    v: Server,
+    k: Call,
+    slots: &mut [u8],
+    lengths: &mut [u8],
+    out: &mut [u8],
+    at: usize,
+)
     requires { ⌜ (length (now slots) ≡ 1280) × (length (now lengths) ≡ 64) × (at + 4 ≤ length (now out)) ⌝ }
     ensures { λ _. ⌜ Turned k (serverSends k (lengthIn k (now (lengths .entry))) (slotIn k (now (slots .entry))) v) at 4 (now (slots .entry)) (now (slots .exit)) (now (lengths .entry)) (now (lengths .exit)) (now (out .entry)) (now (out .exit)) ⌝ }
 {
@@ -129,7 +143,15 @@ fn changed_client(c: Client, k: Call, initial: &[u32], bytes: &[u8]) -> client::
     }
 }
 
-pub fn change_client(c: Client, k: Call, initial: &[u32], slots: &[u8], lengths: &[u8], out: &mut [u8], at: usize) -> Client
+pub fn change_client(
+    c: Client,
+    k: Call,
+    initial: &[u32],
+    slots: &[u8],
+    lengths: &[u8],
+    out: &mut [u8],
+    at: usize,
+) -> Client
     requires { ⌜ (length (now slots) ≡ 1280) × (length (now lengths) ≡ 64) × (at + clientSize k ≤ length (now out)) ⌝ }
     ensures end { λ r. ⌜ r ≡ clientChanged k (front (k .number) (now (initial .entry))) (front (lengthIn k (now (lengths .entry))) (slotIn k (now (slots .entry)))) c .client ⌝ }
     ensures answer { λ _. ⌜ Put at (clientSize k) (clientAnswer k (clientChanged k (front (k .number) (now (initial .entry))) (front (lengthIn k (now (lengths .entry))) (slotIn k (now (slots .entry)))) c)) (now (out .entry)) (now (out .exit)) ⌝ }
@@ -176,7 +198,15 @@ fn changed_server(s: Server, k: Call, initial: &[u32], bytes: &[u8]) -> server::
     }
 }
 
-pub fn change_server(s: Server, k: Call, initial: &[u32], slots: &[u8], lengths: &[u8], out: &mut [u8], at: usize) -> Server
+pub fn change_server(
+    s: Server,
+    k: Call,
+    initial: &[u32],
+    slots: &[u8],
+    lengths: &[u8],
+    out: &mut [u8],
+    at: usize,
+) -> Server
     requires { ⌜ (length (now slots) ≡ 1280) × (length (now lengths) ≡ 64) × (at + serverSize k ≤ length (now out)) ⌝ }
     ensures end { λ r. ⌜ r ≡ serverChanged k (front (k .number) (now (initial .entry))) (front (lengthIn k (now (lengths .entry))) (slotIn k (now (slots .entry)))) s .server ⌝ }
     ensures answer { λ _. ⌜ Put at (serverSize k) (serverAnswer k (serverChanged k (front (k .number) (now (initial .entry))) (front (lengthIn k (now (lengths .entry))) (slotIn k (now (slots .entry)))) s)) (now (out .entry)) (now (out .exit)) ⌝ }
@@ -220,7 +250,14 @@ fn slot_turn(k: Call, place: usize, len: u8, slot: &mut [u8], out: &mut [u8], at
     len
 }
 
-pub fn turn_slot(k: Call, place: usize, slots: &mut [u8], lengths: &mut [u8], out: &mut [u8], at: usize)
+pub fn turn_slot(
+    k: Call,
+    place: usize,
+    slots: &mut [u8],
+    lengths: &mut [u8],
+    out: &mut [u8],
+    at: usize,
+)
     requires { ⌜ (length (now slots) ≡ 1280) × (length (now lengths) ≡ 64) × (at + slotSize k place ≤ length (now out)) ⌝ }
     ensures { λ _. ⌜ Turned k (slotTurn k place (lengthIn k (now (lengths .entry))) (slotIn k (now (slots .entry)))) at (slotSize k place) (now (slots .entry)) (now (slots .exit)) (now (lengths .entry)) (now (lengths .exit)) (now (out .entry)) (now (out .exit)) ⌝ }
 {
