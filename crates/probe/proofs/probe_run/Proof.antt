@@ -1,115 +1,17 @@
-use native.Mathlib.Omega.{arith}
-use mathlib.Core.Path.{sym, _∙_}
-use lib.ListN.{length}
-use lib.Seq.{length-take-le}
-use Rattle.probe.proofs.Answering.{headed-items, headed-length, wrote-answers, no-answers}
 use borrow.Author.Needs.{needs}
 use Rattle.probe.proofs.probe_run.Statement.{statement}
 use Rattle.probe.proofs.probe_run.Tie as tie
 use Rattle.probe.proofs.probe_run.Reads as reads
 use Rattle.probe.proofs.probe_run.Lts as lts
-use Rattle.probe.proofs.call.two_at.Reads as two-at-reads
-use Rattle.probe.proofs.drive.drive.Reads as drive-reads
-use Rattle.probe.proofs.drive.start.Reads as start-reads
-use Rattle.probe.proofs.header.is_headed.Reads as is-headed-reads
-use Rattle.probe.proofs.header.items_in.Reads as items-in-reads
 
--- src/lib.rt:17:13
-two-at-requires : tie.Need-two-at-requires
-two-at-requires c κs = search needs
+run-requires : tie.Need-run-requires
+run-requires c κs = search needs
 
--- src/lib.rt:17:13
-cast-c : tie.Need-cast-c
-cast-c c = search needs
-
--- src/lib.rt:18:8
-is-headed-requires : tie.Need-is-headed-requires
-is-headed-requires c κs = search needs
-
--- src/lib.rt:19:24
-mul-from : tie.Need-mul-from
-mul-from c = search needs
-
--- src/lib.rt:19:20
-add-from : tie.Need-add-from
-add-from c = search needs
-
--- src/lib.rt:20:22
-sub-count : tie.Need-sub-count
-sub-count c = headed-length (c .before .before .two-at .result) (length (c .before .before .before .before .before .args .calls .now)) (sym (c .before .is-headed .ensures) ∙ c .if1 .taken)
-
--- src/lib.rt:21:21
-items-in-requires : tie.Need-items-in-requires
-items-in-requires c κs = headed-items (c .before .before .two-at .result) (length (c .before .before .before .before .before .args .calls .now)) (sym (c .before .is-headed .ensures) ∙ c .if1 .taken)
-
--- src/lib.rt:22:30
-array-share-prefix-items : tie.Need-array-share-prefix-items
-array-share-prefix-items c = search needs
-
--- src/lib.rt:22:30
-slice-aggregate-start : tie.Need-slice-aggregate-start
-slice-aggregate-start c = search needs
-
--- src/lib.rt:22:13
-start-requires : tie.Need-start-requires
-start-requires c κs = search needs
-
--- src/lib.rt:23:33
-sub-drive : tie.Need-sub-drive
-sub-drive c = headed-length (c .before .before .before .before .before .two-at .result) (length (c .before .before .before .before .before .before .before .before .args .calls .now)) (sym (c .before .before .before .before .is-headed .ensures) ∙ c .before .before .before .if1 .taken)
-
--- src/lib.rt:23:33
-part-drive-start : tie.Need-part-drive-start
-part-drive-start c = headed-length (c .before .before .before .before .before .two-at .result) (length (c .before .before .before .before .before .before .before .before .args .calls .now)) (sym (c .before .before .before .before .is-headed .ensures) ∙ c .before .before .before .if1 .taken)
-
--- src/lib.rt:23:33
-part-drive-end : tie.Need-part-drive-end
-part-drive-end c = search needs
-
--- src/lib.rt:23:56
-array-share-prefix-items-2 : tie.Need-array-share-prefix-items-2
-array-share-prefix-items-2 c = omega (arith, headed-items (c .before .before .before .before .before .before .two-at .result) (length (c .before .before .before .before .before .before .before .before .before .args .calls .now)) (sym (c .before .before .before .before .before .is-headed .ensures) ∙ c .before .before .before .before .if1 .taken))
-
--- src/lib.rt:23:56
-slice-aggregate-drive : tie.Need-slice-aggregate-drive
-slice-aggregate-drive c = sym (length-take-le (c .before .before .before .before .before .before .before .two-at .result) (c .before .before .before .before .items-in .result) (omega (arith, headed-items (c .before .before .before .before .before .before .before .two-at .result) (length (c .before .before .before .before .before .before .before .before .before .before .args .calls .now)) (sym (c .before .before .before .before .before .before .is-headed .ensures) ∙ c .before .before .before .before .before .if1 .taken))))
-
--- src/lib.rt:23:13
-drive-requires : tie.Need-drive-requires
-drive-requires c κs = search needs
-
--- src/lib.rt:24:9
 same-length : tie.Need-same-length
 same-length c = search needs
 
--- src/lib.rt:24:9
 returns : tie.Need-returns
-returns c = wrote-answers (c .before .before .before .before .before .before .before .before .before .before .before .before .before .before .args .calls .now) (c .before .before .before .before .before .before .before .before .before .before .before .two-at .result) (c .before .before .before .before .before .before .before .before .items-in .result) (c .before .before .before .before .before .before .start .result) (c .before .before .before .before .before .before .before .before .before .before .before .two-at .ensures) (c .before .before .before .before .before .before .before .before .items-in .ensures) (c .before .before .before .before .before .before .start .ensures) (c .before .before .before .before .before .before .before .before .before .before .before .before .before .before .args .out .now) _ (c .before .before .drive .result) (sym (c .before .before .before .before .before .before .before .before .before .before .is-headed .ensures) ∙ c .before .before .before .before .before .before .before .before .before .if1 .taken) (c .before .before .drive .ensures)
-
--- src/lib.rt:13:1
-returns-2 : tie.Need-returns-2
-returns-2 c = no-answers (c .before .before .before .before .before .args .calls .now) (c .before .before .two-at .result) (c .before .before .before .before .before .args .out .now) (c .before .before .two-at .ensures) (sym (c .before .is-headed .ensures) ∙ c .if1 .left)
+returns c = c .before .before .run .ensures
 
 pub probe-run-spec : {M : Type 1} → statement M
-probe-run-spec =
-    tie.close
-    (tie.spec
-    two-at-requires
-    cast-c
-    is-headed-requires
-    mul-from
-    add-from
-    sub-count
-    items-in-requires
-    array-share-prefix-items
-    slice-aggregate-start
-    start-requires
-    sub-drive
-    part-drive-start
-    part-drive-end
-    array-share-prefix-items-2
-    slice-aggregate-drive
-    drive-requires
-    same-length
-    returns
-    returns-2)
+probe-run-spec = tie.close (tie.spec run-requires same-length returns)

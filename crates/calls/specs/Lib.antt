@@ -1,0 +1,4 @@
+pub mod Calls
+pub mod Dump
+pub mod Header
+pub mod Set

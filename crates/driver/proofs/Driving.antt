@@ -1,0 +1,284 @@
+-- The driver's loop: what one call leaves, what holds before each call, and that a call keeps it.
+use Prim.Native.Nat.{ℕ, zero, suc, _+_, _-_, _*_, _%_, _≤_, _<_}
+use native.Mathlib.Omega.{arith}
+use native.Mathlib.Nat.{zero-add, sub-zero}
+use mathlib.Core.Path.{_≡_, refl, ap, _∙_, sym, subst}
+use mathlib.Core.Bool.{Bool, true, false, _||_, cond}
+use mathlib.Core.List.{List, [], _∷_, _++_, append-assoc, append-nil}
+use lib.Dec.{leb, eqb}
+use lib.ListN.{length, getD, drop, set, replicate, length-append}
+use lib.Seq.{sets, drop-drop, set-getD}
+use borrow.Author.Tests.{eqb-true, eq-eqb, ne-eqb, le-leb, lt-leb}
+use Rattle.client.specs.declared.Client.{Client}
+use Rattle.client.specs.declared.Answer as fromClient
+use Rattle.client.specs.Answers as client
+use Rattle.server.specs.declared.Server.{Server}
+use Rattle.server.specs.declared.Answer as fromServer
+use Rattle.server.specs.Calls as server
+use Rattle.calls.specs.declared.call.Call.{Call}
+use Rattle.calls.specs.Calls.{callOf, placeOf, sizeOf, sends}
+use Rattle.calls.specs.Dump.{Put}
+use Rattle.calls.proofs.Bytes.{put-length, sets-append}
+use Rattle.driver.specs.declared.drive.World.{World}
+use Rattle.driver.specs.declared.drive.Driven.{Driven}
+use Rattle.driver.specs.Turn.{Turn, Turned, front, slotOf, slotPut, slotIn, lengthIn, clientSize, clientChanged, clientAnswer, clientSends, clientTurn, serverSize, serverChanged, serverAnswer, serverSends, serverTurn, slotSize, slotTurn}
+use Rattle.driver.specs.Drive.{start, noClient, turnAt, stepAt, turnOf, after, Run, kept, left, more, run, callsOf, Drove}
+use Rattle.driver.proofs.Slots.{slot-same}
+use Rattle.driver.proofs.Turns.{never}
+
+-- ---- how many bytes a call writes, by its place
+
+-- a sending is no dump
+sends-no-dump : (op : ℕ) → (eqb op 3 || eqb op 4) ≡ true → eqb op 8 ≡ false
+sends-no-dump op = go (eqb op 3) (eqb op 4) refl refl
+  where
+    go : (a b : Bool) → eqb op 3 ≡ a → eqb op 4 ≡ b → (a || b) ≡ true → eqb op 8 ≡ false
+    go true b p q h = rw (eqb-true op 3 p)
+    go false true p q h = rw (eqb-true op 4 q)
+    go false false p q h = never h
+
+-- ---- one call
+
+-- What a call leaves in the output, and the state after it.
+pub record Stepped (initial : List ℕ) (k : Call) (w : World) (at : ℕ) (out out₁ : List ℕ) (w₁ : World) : Type 0 where
+  pub put : Put at (sizeOf k (placeOf k)) (turnOf initial k w .bytes) out out₁
+  pub next : w₁ ≡ after initial k w
+
+world-is : {s s₁ : Server} {cs cs₁ : List Client} {b b₁ l l₁ : List ℕ} → s₁ ≡ s → cs₁ ≡ cs → b₁ ≡ b → l₁ ≡ l
+    → _≡_ {A = World} (record { server = s₁; clients = cs₁; slots = b₁; lengths = l₁ }) (record { server = s; clients = cs; slots = b; lengths = l })
+world-is p q r t = cc
+
+module _ {initial : List ℕ} {k : Call} {w : World} {at : ℕ} {out out₁ : List ℕ} {place : ℕ} (e : place ≡ placeOf k) where
+  stepped : {w₁ : World} → Put at (sizeOf k place) (turnAt place (front (k .number) initial) k (lengthIn k (w .lengths)) (slotIn k (w .slots)) w .bytes) out out₁
+      → w₁ ≡ stepAt place (front (k .number) initial) k (lengthIn k (w .lengths)) (slotIn k (w .slots)) w → Stepped initial k w at out out₁ w₁
+  unfolding turnOf after
+  stepped p q =
+      record {
+        put = subst (λ (n : ℕ). Put at (sizeOf k n) (turnAt n (front (k .number) initial) k (lengthIn k (w .lengths)) (slotIn k (w .slots)) w .bytes) out out₁) e p;
+        next = q ∙ ap (λ (n : ℕ). stepAt n (front (k .number) initial) k (lengthIn k (w .lengths)) (slotIn k (w .slots)) w) e;
+      }
+
+  module _ (z : place ≡ 0) where
+    pub step-sent-server : {slots lengths : List ℕ} → sends k ≡ true
+        → Turned k (serverSends k (lengthIn k (w .lengths)) (slotIn k (w .slots)) (w .server)) at 4 (w .slots) slots (w .lengths) lengths out out₁
+        → Stepped initial k w at out out₁ (record { server = w .server; clients = w .clients; slots = slots; lengths = lengths })
+    unfolding serverTurn
+    step-sent-server on t =
+        stepped (simp (eq-eqb place 0 z, on, sends-no-dump (k .op) on) (t .answer))
+        (simp (eq-eqb place 0 z, on) (world-is refl refl (t .slot-bytes) (t .slot-length)))
+
+    pub step-server : {v : Server} → sends k ≡ false
+        → v ≡ serverChanged k (front (k .number) initial) (front (lengthIn k (w .lengths)) (slotIn k (w .slots))) (w .server) .server
+        → Put at (serverSize k) (serverAnswer k (serverChanged k (front (k .number) initial) (front (lengthIn k (w .lengths)) (slotIn k (w .slots))) (w .server))) out out₁
+        → Stepped initial k w at out out₁ (record { server = v; clients = w .clients; slots = w .slots; lengths = w .lengths })
+    unfolding serverTurn
+    step-server off q p =
+        stepped (simp (eq-eqb place 0 z, off) p)
+        (simp (eq-eqb place 0 z, off) (world-is q refl (sym (slot-same (slotOf k) (w .slots))) (sym (set-getD (w .lengths) (slotOf k) 0))))
+
+  module _ (z : place ≡ 0 → ⊥) (y : place ≤ 8) where
+    pub step-sent-client : {slots lengths : List ℕ} → sends k ≡ true
+        → Turned k (clientSends k (lengthIn k (w .lengths)) (slotIn k (w .slots)) (getD (w .clients) (place - 1) noClient)) at 4 (w .slots) slots (w .lengths) lengths out out₁
+        → Stepped initial k w at out out₁ (record { server = w .server; clients = w .clients; slots = slots; lengths = lengths })
+    unfolding clientTurn
+    step-sent-client on t =
+        stepped (simp (ne-eqb place 0 z, le-leb place 8 y, on, sends-no-dump (k .op) on) (t .answer))
+        (simp (ne-eqb place 0 z, le-leb place 8 y, on)
+        (world-is refl (sym (set-getD (w .clients) (place - 1) noClient)) (t .slot-bytes) (t .slot-length)))
+
+    pub step-client : {v : Client} → sends k ≡ false
+        → v ≡ clientChanged k (front (k .number) initial) (front (lengthIn k (w .lengths)) (slotIn k (w .slots))) (getD (w .clients) (place - 1) noClient) .client
+        → Put at (clientSize k) (clientAnswer k (clientChanged k (front (k .number) initial) (front (lengthIn k (w .lengths)) (slotIn k (w .slots))) (getD (w .clients) (place - 1) noClient))) out out₁
+        → Stepped initial k w at out out₁ (record { server = w .server; clients = set (w .clients) (place - 1) v; slots = w .slots; lengths = w .lengths })
+    unfolding clientTurn
+    step-client off q p =
+        stepped (simp (ne-eqb place 0 z, le-leb place 8 y, off) p)
+        (simp (ne-eqb place 0 z, le-leb place 8 y, off)
+        (world-is refl (ap (set (w .clients) (place - 1)) q) (sym (slot-same (slotOf k) (w .slots))) (sym (set-getD (w .lengths) (slotOf k) 0))))
+
+  -- at the slots alone, or nowhere
+  pub step-slot : {slots lengths : List ℕ} → (place ≡ 0 → ⊥) → 8 < place
+      → Turned k (slotTurn k place (lengthIn k (w .lengths)) (slotIn k (w .slots))) at (slotSize k place) (w .slots) slots (w .lengths) lengths out out₁
+      → Stepped initial k w at out out₁ (record { server = w .server; clients = w .clients; slots = slots; lengths = lengths })
+  step-slot z y t =
+      stepped (simp (ne-eqb place 0 z, lt-leb place 8 y) (t .answer))
+      (simp (ne-eqb place 0 z, lt-leb place 8 y) (world-is refl refl (t .slot-bytes) (t .slot-length)))
+
+-- ---- the loop
+
+-- After i calls: the bytes that were kept, and that the rest of the run is what is left of it.
+pub record Going (quiet : Bool) (initial : List ℕ) (w₀ : World) (calls : List ℕ) (count : ℕ) (before : List ℕ) (i at : ℕ) (w : World) (out : List ℕ) : Type 0 where
+  pub here : i ≤ count
+  pub within : at ≤ length before
+  pub same : length out ≡ length before
+  pub slots : length (w .slots) ≡ 1280
+  pub lengths : length (w .lengths) ≡ 64
+  pub done : List ℕ
+  pub length-done : at ≡ length done
+  pub wrote : quiet ≡ false → out ≡ sets before 0 done
+  pub rest : run quiet initial (length before) w₀ (callsOf count calls)
+      ≡ more done (run quiet initial (length before - at) w (callsOf (count - i) (drop (16 * i) calls)))
+
+calls-turn : (calls : List ℕ) (count i : ℕ) → i < count
+    → callsOf (count - i) (drop (16 * i) calls) ≡ callOf (drop (16 * i) calls) ∷ callsOf (count - (i + 1)) (drop (16 * (i + 1)) calls)
+unfolding callsOf
+calls-turn calls count i h =
+    let e : count - i ≡ suc (count - (i + 1)) = omega arith in
+    let f : 16 * i + 16 ≡ 16 * (i + 1) = omega arith in
+    ap (λ (n : ℕ). callsOf n (drop (16 * i) calls)) e
+    ∙ ap (λ (r : List ℕ). callOf (drop (16 * i) calls) ∷ callsOf (count - (i + 1)) r) (drop-drop 16 (16 * i) calls ∙ ap (λ (n : ℕ). drop n calls) f)
+
+run-turn : (quiet : Bool) (initial : List ℕ) (room : ℕ) (w : World) (k : Call) (ks : List Call) → sizeOf k (placeOf k) ≤ room
+    → run quiet initial room w (k ∷ ks)
+    ≡ more (kept quiet (turnOf initial k w .bytes)) (run quiet initial (left quiet room (sizeOf k (placeOf k))) (after initial k w) ks)
+unfolding run
+run-turn quiet initial room w k ks h = rw (le-leb (sizeOf k (placeOf k)) room h)
+
+run-stop : (quiet : Bool) (initial : List ℕ) (room : ℕ) (w : World) (k : Call) (ks : List Call) → room < sizeOf k (placeOf k)
+    → run quiet initial room w (k ∷ ks) ≡ record { world = w; bytes = [] }
+unfolding run
+run-stop quiet initial room w k ks h = rw (lt-leb (sizeOf k (placeOf k)) room h)
+
+pub going-start : (quiet : Bool) (initial : List ℕ) (w : World) (calls : List ℕ) (count : ℕ) (before : List ℕ) → length (w .slots) ≡ 1280 → length (w .lengths) ≡ 64
+    → Going quiet initial w calls count before 0 0 w before
+going-start quiet initial w calls count before h t =
+    record {
+      here = omega arith;
+      within = omega arith;
+      same = refl;
+      slots = h;
+      lengths = t;
+      done = [];
+      length-done = refl;
+      wrote = λ _. refl;
+      rest = ap (λ (n : ℕ). run quiet initial n w (callsOf count calls)) (sym (sub-zero (length before)))
+          ∙ ap (λ (n : ℕ). run quiet initial (length before - 0) w (callsOf n calls)) (sym (sub-zero count));
+    }
+
+module _ (initial : List ℕ) (w₀ : World) (calls : List ℕ) (count : ℕ) (before : List ℕ) (i at : ℕ) (w : World) (out : List ℕ) where
+  -- the rest of the run by its first call
+  rest-is : (quiet : Bool) (k : Call) (g : Going quiet initial w₀ calls count before i at w out) → i < count → k ≡ callOf (drop (16 * i) calls)
+      → run quiet initial (length before) w₀ (callsOf count calls)
+      ≡ more (g .done) (run quiet initial (length before - at) w (k ∷ callsOf (count - (i + 1)) (drop (16 * (i + 1)) calls)))
+  rest-is quiet k g h e =
+      g .rest
+      ∙ ap (λ (ks : List Call). more (g .done) (run quiet initial (length before - at) w ks))
+      (calls-turn calls count i h ∙ ap (λ (c : Call). c ∷ callsOf (count - (i + 1)) (drop (16 * (i + 1)) calls)) (sym e))
+
+  module _ (k : Call) (size : ℕ) {at₁ : ℕ} {w₁ : World} {out₁ : List ℕ} where
+    going-turn : (quiet : Bool) → Going quiet initial w₀ calls count before i at w out → i < count → k ≡ callOf (drop (16 * i) calls)
+        → size ≡ sizeOf k (placeOf k) → size ≤ length out - at → Stepped initial k w at out out₁ w₁ → length (w₁ .slots) ≡ 1280 → length (w₁ .lengths) ≡ 64
+        → at₁ ≡ cond quiet at (at + size) → Going quiet initial w₀ calls count before (i + 1) at₁ w₁ out₁
+    going-turn true g h e z r s l t f =
+        record {
+          here = omega arith;
+          within = omega (arith, g .within);
+          same = put-length (s .put) ∙ g .same;
+          slots = l;
+          lengths = t;
+          done = g .done;
+          length-done = f ∙ g .length-done;
+          wrote = λ q. never (sym q);
+          rest = rest-is true k g h e
+              ∙ ap (more (g .done)) (run-turn true initial (length before - at) w k (callsOf (count - (i + 1)) (drop (16 * (i + 1)) calls)) (omega (arith, g .same)))
+              ∙ ap (λ (u : World). more (g .done) (run true initial (length before - at) u (callsOf (count - (i + 1)) (drop (16 * (i + 1)) calls)))) (sym (s .next))
+              ∙ ap (λ (n : ℕ). more (g .done) (run true initial (length before - n) w₁ (callsOf (count - (i + 1)) (drop (16 * (i + 1)) calls)))) (sym f);
+        }
+    going-turn false g h e z r s l t f =
+        let b = turnOf initial k w .bytes in
+        let p : sizeOf k (placeOf k) ≡ length b = sym (s .put .size) in
+        record {
+          here = omega arith;
+          within = omega (arith, g .within, g .same);
+          same = put-length (s .put) ∙ g .same;
+          slots = l;
+          lengths = t;
+          done = g .done ++ b;
+          length-done = f ∙ ap (λ (n : ℕ). n + size) (g .length-done) ∙ ap (λ (n : ℕ). length (g .done) + n) (z ∙ p) ∙ sym (length-append (g .done) b);
+          wrote = λ q. s .put .wrote ∙ ap (λ (l : List ℕ). sets l at b) (g .wrote q)
+              ∙ ap (λ (n : ℕ). sets (sets before 0 (g .done)) n b) (g .length-done ∙ sym (zero-add (length (g .done))))
+              ∙ sets-append (g .done) b before 0;
+          rest = rest-is false k g h e
+              ∙ ap (more (g .done)) (run-turn false initial (length before - at) w k (callsOf (count - (i + 1)) (drop (16 * (i + 1)) calls)) (omega (arith, g .same)))
+              ∙ ap (λ (u : World). more (g .done) (more b (run false initial (length before - at - sizeOf k (placeOf k)) u (callsOf (count - (i + 1)) (drop (16 * (i + 1)) calls))))) (sym (s .next))
+              ∙ ap (λ (n : ℕ). more (g .done) (more b (run false initial n w₁ (callsOf (count - (i + 1)) (drop (16 * (i + 1)) calls))))) (omega arith)
+              ∙ ap (λ (l : List ℕ). record { world = run false initial (length before - at₁) w₁ (callsOf (count - (i + 1)) (drop (16 * (i + 1)) calls)) .world; bytes = l })
+              (sym (append-assoc (g .done) b (run false initial (length before - at₁) w₁ (callsOf (count - (i + 1)) (drop (16 * (i + 1)) calls)) .bytes)));
+        }
+
+  -- the loop ends where no call is left, and where the next finds no room
+  ended : (quiet : Bool) (g : Going quiet initial w₀ calls count before i at w out)
+      → run quiet initial (length before) w₀ (callsOf count calls) ≡ more (g .done) (record { world = w; bytes = [] })
+      → (d : Driven) → d ≡ record { written = at; world = w }
+      → Drove quiet (run quiet initial (length before) w₀ (callsOf count calls)) before out d
+  ended quiet g e d f =
+      let b : run quiet initial (length before) w₀ (callsOf count calls) .bytes ≡ g .done = ap (λ (r : Run). r .bytes) e ∙ append-nil (g .done) in
+      record {
+        count = ap (λ (x : Driven). x .written) f ∙ g .length-done ∙ ap length (sym b);
+        world = ap (λ (x : Driven). x .world) f ∙ sym (ap (λ (r : Run). r .world) e);
+        wrote = λ q. g .wrote q ∙ ap (sets before 0) (sym b);
+      }
+
+  pub going-end : (quiet : Bool) → Going quiet initial w₀ calls count before i at w out → count ≤ i → (d : Driven) → d ≡ record { written = at; world = w }
+      → Drove quiet (run quiet initial (length before) w₀ (callsOf count calls)) before out d
+  unfolding run callsOf
+  going-end quiet g h d f =
+      let z : count - i ≡ 0 = omega arith in
+      ended quiet g (g .rest ∙ ap (λ (n : ℕ). more (g .done) (run quiet initial (length before - at) w (callsOf n (drop (16 * i) calls)))) z) d f
+
+  pub going-stop : (quiet : Bool) (k : Call) (size : ℕ) → Going quiet initial w₀ calls count before i at w out → i < count → k ≡ callOf (drop (16 * i) calls)
+      → size ≡ sizeOf k (placeOf k) → length out - at < size → (d : Driven) → d ≡ record { written = at; world = w }
+      → Drove quiet (run quiet initial (length before) w₀ (callsOf count calls)) before out d
+  going-stop quiet k size g h e z r d f =
+      ended quiet g
+      (rest-is quiet k g h e
+      ∙ ap (more (g .done)) (run-stop quiet initial (length before - at) w k (callsOf (count - (i + 1)) (drop (16 * (i + 1)) calls)) (omega (arith, g .same))))
+      d f
+
+-- ---- a turn of the loop, with what is known of it read off the invariant
+
+module _ {quiet : Bool} {initial : List ℕ} {w₀ : World} {calls : List ℕ} {count : ℕ} {before : List ℕ} {i at : ℕ} {w : World} {out : List ℕ}
+    (g : Going quiet initial w₀ calls count before i at w out) (k : Call) (place : ℕ) {size : ℕ} (z : size ≡ sizeOf k place) (r : size ≤ length out - at) where
+  inside : at ≤ length out
+  inside = omega (arith, g .within, g .same)
+
+  room-is : sizeOf k place ≤ length out - at
+  room-is = subst (λ (n : ℕ). n ≤ length out - at) z r
+
+  -- no call writes fewer than 4 bytes
+  pub fits-sent : at + 4 ≤ length out
+  fits-sent = go (eqb place 0) (leb place 8) (eqb place 9) (eqb (k .op) 8) (eqb (k .op) 9) room-is
+    where
+      go : (a b n d e : Bool) → cond a (cond d 6218 4) (cond b (cond d 2576 4) (cond n (cond e 25 4) 4)) ≤ length out - at → at + 4 ≤ length out
+      go true b n true e q = omega (arith, inside)
+      go true b n false e q = omega (arith, inside)
+      go false true n true e q = omega (arith, inside)
+      go false true n false e q = omega (arith, inside)
+      go false false true d true q = omega (arith, inside)
+      go false false true d false q = omega (arith, inside)
+      go false false false d e q = omega (arith, inside)
+
+  pub fits-server : place ≡ 0 → at + serverSize k ≤ length out
+  fits-server y = let q : serverSize k ≤ length out - at = simp (eq-eqb place 0 y) at room-is in omega (arith, inside)
+
+  pub fits-client : (place ≡ 0 → ⊥) → place ≤ 8 → at + clientSize k ≤ length out
+  fits-client x y = let q : clientSize k ≤ length out - at = simp (ne-eqb place 0 x, le-leb place 8 y) at room-is in omega (arith, inside)
+
+  pub fits-slot : (place ≡ 0 → ⊥) → 8 < place → at + slotSize k place ≤ length out
+  fits-slot x y = let q : slotSize k place ≤ length out - at = simp (ne-eqb place 0 x, lt-leb place 8 y) at room-is in omega (arith, inside)
+
+  pub going-on : {at₁ : ℕ} {w₁ : World} {out₁ : List ℕ} → i < count → k ≡ callOf (drop (16 * i) calls) → place ≡ placeOf k
+      → at₁ ≡ cond quiet at (at + size) → Stepped initial k w at out out₁ w₁ → length (w₁ .slots) ≡ 1280 → length (w₁ .lengths) ≡ 64
+      → Going quiet initial w₀ calls count before (i + 1) at₁ w₁ out₁
+  going-on h e p f s l t =
+      going-turn initial w₀ calls count before i at w out k size quiet g h e (z ∙ ap (sizeOf k) p) r s l t f
+
+-- ---- the state before all calls
+
+pub start-is : (s : fromServer.Answer) (c : fromClient.Answer) (none : List ℕ) → none ≡ [] → s ≡ server.opened 0 none → c ≡ client.opened 0 0 none
+    → _≡_ {A = World} (record { server = s .server; clients = replicate 8 (c .client); slots = replicate 1280 170; lengths = replicate 64 0 }) start
+unfolding start
+start-is s c none e p q =
+    world-is (ap (λ (a : fromServer.Answer). a .server) (p ∙ ap (server.opened 0) e))
+    (ap (λ (a : fromClient.Answer). replicate 8 (a .client)) (q ∙ ap (client.opened 0 0) e))
+    refl refl

@@ -1,0 +1,36 @@
+-- What the driver answers to its input (harness/PROTOCOL.md).
+use Prim.Native.Nat.{ℕ, _+_, _-_, _*_}
+use mathlib.Core.Path.{_≡_}
+use mathlib.Core.Bool.{false, _&&_, cond}
+use mathlib.Core.List.{List, []}
+use lib.Dec.{leb}
+use lib.ListN.{length, take, drop}
+use lib.Seq.{sets}
+use Rattle.wire.specs.Bytes.{twoAt}
+use Rattle.calls.specs.declared.call.Call.{Call}
+use Rattle.calls.specs.Calls.{callOf, canRepeat}
+use Rattle.calls.specs.Header.{headed, itemsIn, bodyAt, countIn}
+use Rattle.driver.specs.declared.drive.World.{World}
+use Rattle.driver.specs.Drive.{start, turnOf, run, afterAll, callsOf}
+
+unfoldable pub answers : List ℕ → ℕ → List ℕ
+answers s room =
+    cond (headed (twoAt s 0) (length s)) (run false (itemsIn s) room start (callsOf (countIn s) (drop (bodyAt s) s)) .bytes) []
+
+abbrev pub lastCall : List ℕ → Call
+lastCall s = callOf (drop (bodyAt s + 16 * (countIn s - 1)) s)
+
+abbrev pub beforeLast : List ℕ → World
+beforeLast s = afterAll (itemsIn s) start (callsOf (countIn s - 1) (drop (bodyAt s) s))
+
+-- The answer of the last call, on what the calls before it leave: it does not hang on how often the call is done.
+unfoldable pub repeated : List ℕ → ℕ → List ℕ
+repeated s room =
+    cond ((headed (twoAt s 0) (length s) && leb 1 (countIn s)) && canRepeat (lastCall s) room)
+    (take 4 (turnOf (itemsIn s) (lastCall s) (beforeLast s) .bytes))
+    []
+
+-- The bytes stand at the front of the output, whose other bytes stay, and their count is returned.
+pub record Wrote (bytes before after : List ℕ) (count : ℕ) : Type 0 where
+  pub length : count ≡ length bytes
+  pub output : after ≡ sets before 0 bytes

@@ -1,6 +1,0 @@
-pub mod Calls
-pub mod Drive
-pub mod Dump
-pub mod Probe
-pub mod Set
-pub mod Turn
