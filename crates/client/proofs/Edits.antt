@@ -23,7 +23,7 @@ use Rattle.pending.proofs.Slots.{edits-length, filled-push}
 use Rattle.endpoint.specs.Items.{stored, roomy}
 use Rattle.endpoint.proofs.Room.{roomy-model, roomy-room, room-stored, room-length}
 use Rattle.client.specs.declared.Client.{Client}
-use Rattle.client.specs.Store.{counts, pendingCount, view, store, sound, Sound}
+use Rattle.client.specs.Store.{pendingCount, view, store, sound, Sound}
 use Rattle.client.specs.Answers.{refusedWith, doneWith, guarded, editAsked, edited}
 use Rattle.client.proofs.Answers.{refused, done}
 
@@ -62,26 +62,26 @@ module _ (c : Client) (s : Sound c) (e : Edit) where
   abbrev nine : Bool
   nine = fits e (length (view c .items)) && leb (length (applied e (view c .items))) maxItems
 
-  same-questions : asks (ask 2 (soundClient (view c)) ∷ ask 9 nine ∷ later) ≡ asks (editAsked (counts c) e)
+  same-questions : asks (ask 2 (soundClient (view c)) ∷ ask 9 nine ∷ later) ≡ asks (editAsked (c .made) (c .acked) (c .inserts) (c .len) e)
   same-questions =
       ap (λ (b : Bool). asks (ask 2 b ∷ ask 9 nine ∷ later)) (s .model)
       ∙ ap (λ (b : Bool). asks (ask 9 b ∷ later))
       (sym (roomy-model e (view c .items) (facts c s .items)) ∙ ap (roomy e) (s .size))
 
-  pub edit-refused : (r : ℕ) → r ≡ asks (editAsked (counts c) e) → (r ≡ 0 → ⊥) → refusedWith r c ≡ edited c e
+  pub edit-refused : (r : ℕ) → r ≡ asks (editAsked (c .made) (c .acked) (c .inserts) (c .len) e) → (r ≡ 0 → ⊥) → refusedWith r c ≡ edited c e
   unfolding editClient
   edit-refused r er n =
       refused c r 0 (client.edited (view c) e) (s .yes) n
       ∙ ap (λ (k : ℕ). guarded c (answer k (view c) (client.edited (view c) e) 0)) (er ∙ sym same-questions)
 
-  pub edit-done : asks (editAsked (counts c) e) ≡ 0 → doneWith 0 (client.edited (view c) e) ≡ edited c e
+  pub edit-done : asks (editAsked (c .made) (c .acked) (c .inserts) (c .len) e) ≡ 0 → doneWith 0 (client.edited (view c) e) ≡ edited c e
   unfolding editClient
   edit-done z = done c (asks (ask 2 (soundClient (view c)) ∷ ask 9 nine ∷ later)) 0 (client.edited (view c) e) (s .yes) (same-questions ∙ z)
 
-  module _ (z : asks (editAsked (counts c) e) ≡ 0) where
-    answered-yes : Yes (editAsked (counts c) e)
+  module _ (z : asks (editAsked (c .made) (c .acked) (c .inserts) (c .len) e) ≡ 0) where
+    answered-yes : Yes (editAsked (c .made) (c .acked) (c .inserts) (c .len) e)
     answered-yes =
-        yes-all (editAsked (counts c) e)
+        yes-all (editAsked (c .made) (c .acked) (c .inserts) (c .len) e)
         (eqb-false 9 0 refl, (eqb-false 10 0 refl, (eqb-false 11 0 refl, (eqb-false 12 0 refl, tt)))) z
 
     pub edit-room : Room e (c .len) maxItems
@@ -105,7 +105,7 @@ module _ (c : Client) (s : Sound c) (e : Edit) where
         ∙ ap (λ (k : ℕ). set (filled word (view c .pending)) k (word e)) n
         ∙ filled-push word (view c .pending) e (omega (arith, edit-pending, n))
 
-    pub edited-is : (r k len place item : ℕ) (after : List ℕ) → r ≡ asks (editAsked (counts c) e) → k ≡ insertsOf e → place ≡ placeOf e → item ≡ itemOf e
+    pub edited-is : (r k len place item : ℕ) (after : List ℕ) → r ≡ asks (editAsked (c .made) (c .acked) (c .inserts) (c .len) e) → k ≡ insertsOf e → place ≡ placeOf e → item ≡ itemOf e
         → Edited e (c .len) (c .items) after len
         → record {
           refusal = r;

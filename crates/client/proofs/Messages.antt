@@ -21,8 +21,7 @@ use Rattle.pending.proofs.Slots.{edits-length, edits-at, filled-at}
 use Rattle.endpoint.specs.Sending.{finished}
 use Rattle.endpoint.proofs.Line.{asks-append}
 use Rattle.client.specs.declared.Client.{Client}
-use Rattle.client.specs.declared.Counts.{Counts}
-use Rattle.client.specs.Store.{counts, pendingCount, view, sound, Sound}
+use Rattle.client.specs.Store.{pendingCount, view, sound, Sound}
 use Rattle.client.specs.Answers.{guardedSending, lineQuestion, sendQuestions, messageAt, sentEdit, sentAck}
 
 pub unsound-sending : (c : Client) (a : model.Sent) (lent : List ℕ) → sound c ≡ false
@@ -50,36 +49,34 @@ slot-at c s i = go (ltb i (pendingCount c)) refl
         ap (λ (n : ℕ). editOf n (getD (c .«pending_items») i 0)) place ∙ ap (editOf 0) item ∙ zero-slot ∙ sym past
 
 -- so that any number has the model's message
-pub message-view : (c : Client) → Sound c → (k : ℕ) → messageAt (counts c) (c .«pending_places») (c .«pending_items») k ≡ clientMessage (view c) k
+pub message-view : (c : Client) → Sound c → (k : ℕ) → messageAt (c .line) (c .taken) (c .acked) (c .«pending_places») (c .«pending_items») k ≡ clientMessage (view c) k
 message-view c s k =
     ap (messageOf (record { line = c .line; direction = 0; number = k; seen = c .taken })) (slot-at c s (k - (c .acked + 1)))
 
-module _ (c : Client) (s : Sound c) (line : ℕ) (lent : List ℕ) (r : ℕ) (m : Message) where
-  pub sent-edit : (k : ℕ) → r ≡ model.asks (sendQuestions (counts c) line k) → m ≡ messageAt (counts c) (c .«pending_places») (c .«pending_items») k → finished r m lent ≡ sentEdit c line k lent
+module _ (c : Client) (s : Sound c) (line : ℕ) (lent : List ℕ) where
+  pub sent-edit : (k : ℕ) → finished (model.asks (sendQuestions (c .line) (c .made) (c .acked) line k)) (messageAt (c .line) (c .taken) (c .acked) (c .«pending_places») (c .«pending_items») k) lent ≡ sentEdit c line k lent
   unfolding sendClient guardedSending
-  sent-edit k er em =
+  sent-edit k =
+      let asked : List model.Question = sendQuestions (c .line) (c .made) (c .acked) line k in
       let fit : List model.Question = model.ask 14 (leb (length (bytesOf (clientMessage (view c) k))) (length lent)) ∷ [] in
       let bytes : List ℕ = bytesOf (clientMessage (view c) k) in
-      ap (λ (n : ℕ). finished n m lent) er
-      ∙ ap (λ (x : Message). finished (model.asks (sendQuestions (counts c) line k)) x lent) (em ∙ message-view c s k)
-      ∙ ap (λ (n : ℕ). model.sent n bytes lent)
-      (sym (asks-append (sendQuestions (counts c) line k) fit (eqb-false 4 0 refl, (eqb-false 13 0 refl, tt))))
-      ∙ ap (λ (b : Bool). model.sent (model.asks (model.ask 2 b ∷ sendQuestions (counts c) line k ++ fit)) bytes lent) (sym (s .model))
+      ap (λ (x : Message). finished (model.asks asked) x lent) (message-view c s k)
+      ∙ ap (λ (n : ℕ). model.sent n bytes lent) (sym (asks-append asked fit (eqb-false 4 0 refl, (eqb-false 13 0 refl, tt))))
+      ∙ ap (λ (b : Bool). model.sent (model.asks (model.ask 2 b ∷ asked ++ fit)) bytes lent) (sym (s .model))
       ∙ ap (λ (b : Bool). cond b (sendClient (view c) line k lent) (record { refusal = 2; written = 0; buffer = lent })) (sym (s .yes))
 
-  pub sent-ack : r ≡ model.asks (lineQuestion (c .line) line) → m ≡ message.Ack (c .line) 0 (c .taken) → finished r m lent ≡ sentAck c line lent
+  pub sent-ack : finished (model.asks (lineQuestion (c .line) line)) (message.Ack (c .line) 0 (c .taken)) lent ≡ sentAck c line lent
   unfolding tellClient guardedSending bytesOf
-  sent-ack er em =
+  sent-ack =
+      let asked : List model.Question = lineQuestion (c .line) line in
       let fit : List model.Question = model.ask 14 (leb 5 (length lent)) ∷ [] in
       let bytes : List ℕ = bytesOf (message.Ack (c .line) 0 (c .taken)) in
-      ap (λ (n : ℕ). finished n m lent) er
-      ∙ ap (λ (x : Message). finished (model.asks (lineQuestion (c .line) line)) x lent) em
-      ∙ ap (λ (n : ℕ). model.sent n bytes lent) (sym (asks-append (lineQuestion (c .line) line) fit (eqb-false 4 0 refl, tt)))
-      ∙ ap (λ (b : Bool). model.sent (model.asks (model.ask 2 b ∷ lineQuestion (c .line) line ++ fit)) bytes lent) (sym (s .model))
+      ap (λ (n : ℕ). model.sent n bytes lent) (sym (asks-append asked fit (eqb-false 4 0 refl, tt)))
+      ∙ ap (λ (b : Bool). model.sent (model.asks (model.ask 2 b ∷ asked ++ fit)) bytes lent) (sym (s .model))
       ∙ ap (λ (b : Bool). cond b (tellClient (view c) line lent) (record { refusal = 2; written = 0; buffer = lent })) (sym (s .yes))
 
-pub message-of : (c : Counts) (ps xs : List ℕ) (k d i : ℕ) (e : Edit) (m : Message) → d ≡ k - c .acked → i ≡ d - 1 → e ≡ editAt ps xs i
-    → m ≡ messageOf (record { line = c .line; direction = 0; number = k; seen = c .taken }) e → m ≡ messageAt c ps xs k
-message-of c ps xs k d i e m ed ei ee em =
-    let place : i ≡ k - (c .acked + 1) = omega arith in
-    em ∙ ap (messageOf (record { line = c .line; direction = 0; number = k; seen = c .taken })) (ee ∙ ap (editAt ps xs) place)
+pub message-of : (own taken acked : ℕ) (ps xs : List ℕ) (k d i : ℕ) (e : Edit) (m : Message) → d ≡ k - acked → i ≡ d - 1 → e ≡ editAt ps xs i
+    → m ≡ messageOf (record { line = own; direction = 0; number = k; seen = taken }) e → m ≡ messageAt own taken acked ps xs k
+message-of own taken acked ps xs k d i e m ed ei ee em =
+    let place : i ≡ k - (acked + 1) = omega arith in
+    em ∙ ap (messageOf (record { line = own; direction = 0; number = k; seen = taken })) (ee ∙ ap (editAt ps xs) place)

@@ -19,7 +19,7 @@ use Rattle.endpoint.specs.Items.{stored, allZero}
 use Rattle.endpoint.proofs.Bools.{bool-ext}
 use Rattle.endpoint.proofs.Items.{stored-of}
 use Rattle.client.specs.declared.Client.{Client}
-use Rattle.client.specs.Store.{counts, pendingCount, view, store, soundTests, countTests, sound, Sound, Sizes}
+use Rattle.client.specs.Store.{pendingCount, view, store, soundTests, countTests, sound, Sound, Sizes}
 
 -- the struct with other lists
 abbrev pub holding : Client → ℕ → List ℕ → List ℕ → List ℕ → Client
@@ -40,9 +40,12 @@ holding c len items places pending =
 abbrev slotsSound : Client → Bool
 slotsSound c = soundSlots (eqb (c .line)) 0 (pendingCount c) (c .«pending_places») (c .«pending_items»)
 
+abbrev ofCounts : Client → List Bool
+ofCounts c = countTests (c .n) (c .line) (c .made) (c .taken) (c .acked) (c .inserts) (c .len)
+
 -- what the code tests
 abbrev pub tested : Client → Bool
-tested c = (every (countTests (counts c)) && allZero (drop (c .len) (c .items))) && slotsSound c
+tested c = (every (ofCounts c) && allZero (drop (c .len) (c .items))) && slotsSound c
 
 module _ (c : Client) (sizes : Sizes (c .items) (c .«pending_places») (c .«pending_items»)) where
   view-size : c .len ≤ maxItems → length (take (c .len) (c .items)) ≡ c .len
@@ -51,10 +54,10 @@ module _ (c : Client) (sizes : Sizes (c .items) (c .«pending_places») (c .«pe
   tested-sound : tested c ≡ true → sound c ≡ true
   unfolding sound soundClient soundSlots
   tested-sound h =
-      let left = and-left (every (countTests (counts c)) && allZero (drop (c .len) (c .items))) (slotsSound c) h in
-      let right = and-right (every (countTests (counts c)) && allZero (drop (c .len) (c .items))) (slotsSound c) h in
-      let k = hold (countTests (counts c)) (and-left (every (countTests (counts c))) (allZero (drop (c .len) (c .items))) left) in
-      let z = and-right (every (countTests (counts c))) (allZero (drop (c .len) (c .items))) left in
+      let left = and-left (every (ofCounts c) && allZero (drop (c .len) (c .items))) (slotsSound c) h in
+      let right = and-right (every (ofCounts c) && allZero (drop (c .len) (c .items))) (slotsSound c) h in
+      let k = hold (ofCounts c) (and-left (every (ofCounts c)) (allZero (drop (c .len) (c .items))) left) in
+      let z = and-right (every (ofCounts c)) (allZero (drop (c .len) (c .items))) left in
       let s = hold (slots.soundTests (eqb (c .line)) 0 (pendingCount c) (c .«pending_places») (c .«pending_items»)) right in
       let len : c .len ≤ maxItems = leb-true (c .len) maxItems (k .1 .1 .1 .1 .1 .1 .1 .0) in
       let count = eq-eqb (length (view c .pending)) (pendingCount c) (edits-length (c .«pending_places») (c .«pending_items») 0 (pendingCount c)) in
@@ -97,9 +100,9 @@ module _ (c : Client) (sizes : Sizes (c .items) (c .«pending_places») (c .«pe
   sound-tested h =
       let f = hold (soundTests c) h in
       let m = hold (clientTests (view c)) (f .0) in
-      both (every (countTests (counts c)) && allZero (drop (c .len) (c .items))) (slotsSound c)
-      (both (every (countTests (counts c))) (allZero (drop (c .len) (c .items)))
-      (held (countTests (counts c)) (
+      both (every (ofCounts c) && allZero (drop (c .len) (c .items))) (slotsSound c)
+      (both (every (ofCounts c)) (allZero (drop (c .len) (c .items)))
+      (held (ofCounts c) (
         m .0,
         (
           m .1 .0,
@@ -147,13 +150,13 @@ module _ (c : Client) (sizes : Sizes (c .items) (c .«pending_places») (c .«pe
       record { yes = h; model = f .0; whole = whole; size = size; kept = kept; room = room }
 
   -- the test as the code makes it
-  pub answers : (count : ℕ) (a z s : Bool) → count ≡ pendingCount c → a ≡ every (countTests (counts c)) → z ≡ allZero (drop (c .len) (c .items))
+  pub answers : (count : ℕ) (a z s : Bool) → count ≡ pendingCount c → a ≡ every (ofCounts c) → z ≡ allZero (drop (c .len) (c .items))
       → s ≡ soundSlots (eqb (c .line)) 0 count (c .«pending_places») (c .«pending_items»)
       → (((a && z) && s) ≡ sound c) × (((a && z) && s) ≡ true → Sound c)
   answers count a z s k ea ez es =
       let is : ((a && z) && s) ≡ sound c =
-      ap (λ (b : Bool). (b && z) && s) ea ∙ ap (λ (b : Bool). (every (countTests (counts c)) && b) && s) ez
-      ∙ ap (λ (b : Bool). (every (countTests (counts c)) && allZero (drop (c .len) (c .items))) && b)
+      ap (λ (b : Bool). (b && z) && s) ea ∙ ap (λ (b : Bool). (every (ofCounts c) && b) && s) ez
+      ∙ ap (λ (b : Bool). (every (ofCounts c) && allZero (drop (c .len) (c .items))) && b)
       (es ∙ ap (λ (n : ℕ). soundSlots (eqb (c .line)) 0 n (c .«pending_places») (c .«pending_items»)) k)
       ∙ tested-is in
       (is, λ y. sound-facts (sym is ∙ y))

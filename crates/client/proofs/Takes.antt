@@ -5,40 +5,42 @@ use mathlib.Core.Path.{_≡_, refl, ap, _∙_, sym, subst}
 use mathlib.Core.Bool.{Bool, true, false, _&&_, cond}
 use mathlib.Core.List.{List, [], _∷_, _++_}
 use lib.Dec.{leb, eqb}
-use lib.ListN.{length, take, drop}
+use lib.ListN.{length, take, drop, replicate}
 use borrow.Author.Tests.{eqb-false, eqb-true, ne-eqb, eq-eqb, leb-true, le-leb}
 use Rattle.ot.specs.declared.Edit.{Edit}
 use Rattle.ot.specs.declared.Edit.the-variants.{Nothing, Delete, Insert}
-use Rattle.ot.specs.Edit.{applied, fits}
+use Rattle.ot.specs.Edit.{applied, fits, positionOf}
 use Rattle.ot.specs.Items.{padded, Room, Edited}
 use Rattle.wire.specs.declared.Header.{Header}
 use Rattle.wire.specs.declared.Message.{Message}
 use Rattle.wire.specs.declared.Message.the-variants as message
 use Rattle.wire.specs.declared.Read.{Read}
 use Rattle.wire.specs.declared.Read.the-variants as read
-use Rattle.wire.specs.Message.{inRange}
 use Rattle.wire.specs.Bytes.{parsed}
+use Rattle.wire.specs.Message.{inRange}
 use Rattle.wire.proofs.Ranges.{insert-bounds, delete-bounds}
+use Rattle.wire.proofs.Codec.{codec}
 use Rattle.model.specs.Limits.{maxItems, maxPending}
 use Rattle.model.specs.Cross.{past, over, allPlaced}
 use Rattle.model.specs.Questions.{Question, ask, asks, Answer, answer}
 use Rattle.model.specs.Client as client
 use Rattle.model.proofs.Tests.{yes-all, and-right}
 use Rattle.pending.specs.declared.Crossed.{Crossed}
-use Rattle.pending.specs.Slots.{placeOf, itemOf, editsFrom, filled, steps, crossed, Ready}
+use Rattle.pending.specs.Slots.{placeOf, itemOf, editsFrom, filled, steps, crossed, Kept, Whole, Ready}
 use Rattle.pending.proofs.Slots.{edits-length, edits-drop, kept-places, kept-items, kept-ready}
-use Rattle.pending.proofs.Crossing.{steps-length}
+use Rattle.pending.proofs.Crossing.{steps-length, filled-over}
 use Rattle.endpoint.specs.Items.{stored, roomy}
 use Rattle.endpoint.specs.Line.{thenAsked}
 use Rattle.endpoint.proofs.Line.{asks-append}
 use Rattle.endpoint.proofs.Room.{roomy-model, roomy-room, room-stored, room-length}
 use Rattle.client.specs.declared.Client.{Client}
-use Rattle.client.specs.declared.Counts.{Counts}
 use Rattle.client.specs.declared.Answer as code
+use Rattle.client.specs.declared.taking.Counts.{Counts}
+use Rattle.client.specs.declared.taking.Asked.{Asked}
 use Rattle.client.specs.declared.taking.Decision.{Decision}
-use Rattle.client.specs.Store.{counts, view, store, Sound}
-use Rattle.client.specs.Answers.{refusedWith, guarded, ackAsked, takeAsked, taken}
-use Rattle.client.specs.Taking.{Decidable, refusing, deciding, left, nine, editDone, editDecided, ackDone, ackDecided, decided}
+use Rattle.client.specs.Store.{view, store, Sound}
+use Rattle.client.specs.Answers.{guarded, taken}
+use Rattle.client.specs.Taking.{Between, takeAsked, ackAsked, askedEdit, askedAck, asked, Decidable, Decided, refusing, deciding, left, nine, editDone, editDecided, ackDone, decided, staying}
 use Rattle.client.proofs.Answers.{refused, done}
 use Rattle.client.proofs.Edits.{facts, len-few, items-stored}
 
@@ -51,7 +53,7 @@ pub asked-no : (k : ℕ) (b : Bool) (qs : List Question) → b ≡ false → k �
 asked-no k b qs f = ap (λ (x : Bool). asks (ask k x ∷ qs)) (sym f)
 
 module _ (k : Counts) (h : Header) (e : Edit) where
-  pub take-seen : asks (takeAsked k h e) ≡ 0 → (k .acked ≤ h .seen) × (h .seen ≤ k .made)
+  pub take-seen : asks (takeAsked k h e) ≡ 0 → Between k (h .seen)
   take-seen z =
       let y = yes-all (takeAsked k h e)
       (eqb-false 4 0 refl, (eqb-false 5 0 refl, (eqb-false 6 0 refl, (eqb-false 7 0 refl, (eqb-false 8 0 refl, tt))))) z in
@@ -63,7 +65,7 @@ module _ (k : Counts) (h : Header) (e : Edit) where
       asks-append (takeAsked k h e) (ask 9 b ∷ [])
       (eqb-false 4 0 refl, (eqb-false 5 0 refl, (eqb-false 6 0 refl, (eqb-false 7 0 refl, (eqb-false 8 0 refl, tt)))))
 
-pub ack-seen : (k : Counts) (line direction seen : ℕ) → asks (ackAsked k line direction seen) ≡ 0 → (k .acked ≤ seen) × (seen ≤ k .made)
+pub ack-seen : (k : Counts) (line direction seen : ℕ) → asks (ackAsked k line direction seen) ≡ 0 → Between k seen
 ack-seen k line direction seen z =
     let y = yes-all (ackAsked k line direction seen) (eqb-false 4 0 refl, (eqb-false 7 0 refl, (eqb-false 8 0 refl, tt))) z in
     (leb-true (k .acked) seen (y .1 .0), leb-true seen (k .made) (y .1 .1 .0))
@@ -78,8 +80,22 @@ pub deciding-yes : (r : ℕ) (d : Decision) → r ≡ 0 → d ≡ deciding r d
 unfolding deciding
 deciding-yes r d e = rw (eq-eqb r 0 e)
 
+-- a decision after a decision is that of the questions in a row
+pub deciding-then : (r n : ℕ) (d : Decision) → deciding r (deciding n d) ≡ deciding (thenAsked r n) d
+unfolding deciding
+deciding-then r n d = go (eqb r 0) refl
+  where
+    go : (b : Bool) → eqb r 0 ≡ b → cond (eqb r 0) (deciding n d) (refusing r) ≡ deciding (cond (eqb r 0) n r) d
+    go true t = rw t
+    go false f = rw (f, f)
+
+-- a refusal says nothing of the lent array
+pub decided-no : (d : Decision) (stay : List Edit) (r : ℕ) (x : Decision) (later : List ℕ) → (r ≡ 0 → ⊥) → x ≡ refusing r → refusing r ≡ d → Decided d stay x later
+decided-no d stay r x later n ex ed =
+    record { answer = ex ∙ ed; places = λ z. absurd (n (sym (ap (λ (y : Decision). y .refusal) ex) ∙ z)) }
+
 -- What seen leaves of the slots.
-module _ (k : Counts) (ps xs : List ℕ) (ok : Decidable k ps xs) (seen : ℕ) (low : k .acked ≤ seen) (high : seen ≤ k .made) where
+module _ (k : Counts) (ps xs : List ℕ) (kept : Kept 0 (k .made - k .acked) ps xs) (room : Whole 0 ps xs) (seen : ℕ) (between : Between k seen) where
   gone-is : 0 + (seen - k .acked) ≡ seen - k .acked
   gone-is = omega arith
 
@@ -96,7 +112,7 @@ module _ (k : Counts) (ps xs : List ℕ) (ok : Decidable k ps xs) (seen : ℕ) (
   left-ready =
       subst (λ (n : ℕ). Ready (seen - k .acked) n ps xs) count-is
       (subst (λ (i : ℕ). Ready i (k .made - k .acked - (seen - k .acked)) ps xs) gone-is
-      (kept-ready 0 (k .made - k .acked) ps xs (ok .kept) (ok .room) (seen - k .acked) (omega arith)))
+      (kept-ready 0 (k .made - k .acked) ps xs kept room (seen - k .acked) (omega arith)))
 
   moved-down : (ws after : List ℕ) → padded 0 maxPending (take (k .made - k .acked - (seen - k .acked)) (drop (0 + (seen - k .acked)) ws)) ≡ after
       → padded 0 maxPending (take (k .made - seen) (drop (seen - k .acked) ws)) ≡ after
@@ -108,121 +124,123 @@ module _ (k : Counts) (ps xs : List ℕ) (ok : Decidable k ps xs) (seen : ℕ) (
       ≡ filled placeOf (left k (editsFrom ps xs 0 (k .made - k .acked)) seen)
   left-places =
       moved-down ps (filled placeOf (left k (editsFrom ps xs 0 (k .made - k .acked)) seen))
-      (kept-places 0 (k .made - k .acked) ps xs (ok .kept) (ok .room) (seen - k .acked))
+      (kept-places 0 (k .made - k .acked) ps xs kept room (seen - k .acked))
 
   pub left-items : padded 0 maxPending (take (k .made - seen) (drop (seen - k .acked) xs))
       ≡ filled itemOf (left k (editsFrom ps xs 0 (k .made - k .acked)) seen)
   left-items =
       moved-down xs (filled itemOf (left k (editsFrom ps xs 0 (k .made - k .acked)) seen))
-      (kept-items 0 (k .made - k .acked) ps xs (ok .kept) (ok .room) (seen - k .acked))
+      (kept-items 0 (k .made - k .acked) ps xs kept room (seen - k .acked))
 
--- An acknowledgement's decision by its two ends.
-pub ack-refused : (k : Counts) (es : List Edit) (line direction seen r : ℕ) → r ≡ asks (ackAsked k line direction seen) → (r ≡ 0 → ⊥)
-    → refusing r ≡ ackDecided k es line direction seen
-ack-refused k es line direction seen r er n = deciding-no r (ackDone k es seen) n ∙ ap (λ (q : ℕ). deciding q (ackDone k es seen)) er
+-- What is right of a message that is let through so far.
+module _ (k : Counts) where
+  read-seen : (r : Read) → asked k r .refusal ≡ 0 → Between k (asked k r .seen)
+  read-seen read.Refused z = absurd (eqb-false 3 0 refl z)
+  read-seen (read.Message (message.Insert h p x r)) z = take-seen k h (Insert p x r) z
+  read-seen (read.Message (message.Delete h p)) z = take-seen k h (Delete p) z
+  read-seen (read.Message (message.Nothing h)) z = take-seen k h Nothing z
+  read-seen (read.Message (message.Ack l d s)) z = ack-seen k l d s z
 
-pub ack-done : (k : Counts) (ps xs : List ℕ) → Decidable k ps xs → (line direction seen : ℕ) → asks (ackAsked k line direction seen) ≡ 0
-    → (places items : List ℕ) → places ≡ padded 0 maxPending (take (k .made - seen) (drop (seen - k .acked) ps))
-    → items ≡ padded 0 maxPending (take (k .made - seen) (drop (seen - k .acked) xs))
-    → record { refusal = 0; passed = 0; taken = k .taken; acked = seen; edit = Nothing; places = places; items = items }
-    ≡ ackDecided k (editsFrom ps xs 0 (k .made - k .acked)) line direction seen
-ack-done k ps xs ok line direction seen z places items ep ei =
-    let t = ack-seen k line direction seen z in
-    ap (λ (a : List ℕ). record { refusal = 0; passed = 0; taken = k .taken; acked = seen; edit = Nothing; places = a; items = items })
-    (ep ∙ left-places k ps xs ok seen (t .0) (t .1))
-    ∙ ap (λ (a : List ℕ).
-    record {
-      refusal = 0;
-      passed = 0;
-      taken = k .taken;
-      acked = seen;
-      edit = Nothing;
-      places = filled placeOf (left k (editsFrom ps xs 0 (k .made - k .acked)) seen);
-      items = a;
-    }) (ei ∙ left-items k ps xs ok seen (t .0) (t .1))
-    ∙ deciding-yes (asks (ackAsked k line direction seen)) (ackDone k (editsFrom ps xs 0 (k .made - k .acked)) seen) z
+  read-position : (r : Read) → ((m : Message) → r ≡ read.Message m → inRange m ≡ true) → positionOf (asked k r .edit) ≤ maxItems
+  read-position read.Refused f = omega arith
+  read-position (read.Message (message.Insert h p x r)) f = insert-bounds h p x r (f (message.Insert h p x r) refl) .position-high
+  read-position (read.Message (message.Delete h p)) f = delete-bounds h p (f (message.Delete h p) refl) .position-high
+  read-position (read.Message (message.Nothing h)) f = omega arith
+  read-position (read.Message (message.Ack l d s)) f = omega arith
 
--- An edit's decision by its three ends.
-module _ (k : Counts) (ps xs : List ℕ) (ok : Decidable k ps xs) (h : Header) (e : Edit) where
+  module _ (q : Asked) where
+    pub asked-position : (bytes : List ℕ) → q ≡ asked k (parsed bytes) → positionOf (q .edit) ≤ maxItems
+    asked-position bytes eq =
+        subst (λ (y : Asked). positionOf (y .edit) ≤ maxItems) (sym eq) (read-position (parsed bytes) (codec .read-in-range bytes))
+
+    pub asked-seen : (r : Read) → q ≡ asked k r → q .refusal ≡ 0 → Between k (q .seen)
+    asked-seen r eq z =
+        subst (λ (y : Asked). Between k (y .seen)) (sym eq) (read-seen r (sym (ap (λ (y : Asked). y .refusal) eq) ∙ z))
+
+-- An edit's decision by its two ends.
+module _ (k : Counts) (ps xs zeros : List ℕ) (ok : Decidable k ps xs zeros) (seen : ℕ) (between : Between k seen) (e : Edit) (later : List ℕ) where
   abbrev es : List Edit
   es = editsFrom ps xs 0 (k .made - k .acked)
 
-  pub edit-refused : (r : ℕ) → r ≡ asks (takeAsked k h e) → (r ≡ 0 → ⊥) → refusing r ≡ editDecided k es h e
-  edit-refused r er n =
-      let b : Bool = nine k es (h .seen) e in
-      let stands : r ≡ asks (takeAsked k h e ++ (ask 9 b ∷ [])) =
-      sym (ap (λ (t : Bool). cond t (asks (ask 9 b ∷ [])) r) (ne-eqb r 0 n))
-      ∙ ap (λ (q : ℕ). thenAsked q (asks (ask 9 b ∷ []))) er ∙ sym (take-then k h e b) in
-      deciding-no r (editDone k es h e) n ∙ ap (λ (q : ℕ). deciding q (editDone k es h e)) stands
+  abbrev forms : List Edit
+  forms = over e (left k es seen)
 
-  module _ (z : asks (takeAsked k h e) ≡ 0) (x : Crossed) (ex : x ≡ crossed e (editsFrom ps xs (h .seen - k .acked) (k .made - h .seen))) where
-    crossed-is : x ≡ crossed e (left k es (h .seen))
-    crossed-is =
-        let t = take-seen k h e z in
-        ex ∙ ap (crossed e) (left-edits k ps xs ok (h .seen) (t .0) (t .1))
+  module _ (x : Crossed) (ex : x ≡ crossed e (editsFrom ps xs (seen - k .acked) (k .made - seen))) where
+    rest-is : editsFrom ps xs (seen - k .acked) (k .made - seen) ≡ left k es seen
+    rest-is = left-edits k ps xs (ok .kept) (ok .room) seen between
 
-    nine-is : (b : Bool) → (x .placed && roomy (x .edit) (k .len)) ≡ b → asks (takeAsked k h e ++ (ask 9 (nine k es (h .seen) e) ∷ [])) ≡ asks (ask 9 b ∷ [])
-    nine-is b t =
-        take-then k h e (nine k es (h .seen) e)
-        ∙ ap (λ (q : ℕ). thenAsked q (asks (ask 9 (nine k es (h .seen) e) ∷ []))) z
-        ∙ ap (λ (y : Bool). asks (ask 9 y ∷ [])) (sym (ap (λ (y : Crossed). y .placed && roomy (y .edit) (k .len)) crossed-is) ∙ t)
+    crossed-is : x ≡ crossed e (left k es seen)
+    crossed-is = ex ∙ ap (crossed e) rest-is
 
-    pub edit-nine : (x .placed && roomy (x .edit) (k .len)) ≡ false → refusing 9 ≡ editDecided k es h e
-    edit-nine f = deciding-no 9 (editDone k es h e) (eqb-false 9 0 refl) ∙ ap (λ (q : ℕ). deciding q (editDone k es h e)) (sym (nine-is false f))
+    nine-is : (b : Bool) → (x .placed && roomy (x .edit) (k .len)) ≡ b → asks (ask 9 (nine k es seen e) ∷ []) ≡ asks (ask 9 b ∷ [])
+    nine-is b t = ap (λ (y : Bool). asks (ask 9 y ∷ [])) (sym (ap (λ (y : Crossed). y .placed && roomy (y .edit) (k .len)) crossed-is) ∙ t)
 
-    passed-is : steps e (left k es (h .seen)) ≡ k .made - h .seen
+    pub edit-nine : (y : Decision) → (x .placed && roomy (x .edit) (k .len)) ≡ false → y ≡ refusing 9 → Decided (editDecided k es seen e) forms y later
+    edit-nine y f ey =
+        decided-no (editDecided k es seen e) forms 9 y later (eqb-false 9 0 refl) ey
+        (deciding-no 9 (editDone k es seen e) (eqb-false 9 0 refl) ∙ ap (λ (q : ℕ). deciding q (editDone k es seen e)) (sym (nine-is false f)))
+
+    passed-is : steps e (left k es seen) ≡ k .made - seen
     passed-is =
-        let t = take-seen k h e z in
-        steps-length e (left k es (h .seen)) ∙ ap length (sym (left-edits k ps xs ok (h .seen) (t .0) (t .1)))
-        ∙ edits-length ps xs (h .seen - k .acked) (k .made - h .seen)
+        steps-length e (left k es seen) ∙ ap length (sym rest-is)
+        ∙ edits-length ps xs (seen - k .acked) (k .made - seen)
 
-    pub edit-done : (x .placed && roomy (x .edit) (k .len)) ≡ true
-        → record {
-          refusal = 0;
-          passed = x .passed;
-          taken = k .taken + 1;
-          acked = h .seen;
-          edit = x .edit;
-          places = x .places;
-          items = x .items;
-        } ≡ editDecided k es h e
-    edit-done t =
-        ap (λ (y : Crossed).
+    pub edit-done : (x .placed && roomy (x .edit) (k .len)) ≡ true → later ≡ filled placeOf (over e (editsFrom ps xs (seen - k .acked) (k .made - seen)))
+        → Decided (editDecided k es seen e) forms (record { refusal = 0; passed = x .passed; taken = k .taken + 1; acked = seen; edit = x .edit }) later
+    edit-done t el =
         record {
-          refusal = 0;
-          passed = y .passed;
-          taken = k .taken + 1;
-          acked = h .seen;
-          edit = y .edit;
-          places = y .places;
-          items = y .items;
-        }) crossed-is
-        ∙ ap (λ (n : ℕ).
+          answer =
+              ap (λ (y : Crossed). record { refusal = 0; passed = y .passed; taken = k .taken + 1; acked = seen; edit = y .edit }) crossed-is
+              ∙ ap (λ (n : ℕ). record { refusal = 0; passed = n; taken = k .taken + 1; acked = seen; edit = past e (left k es seen) }) passed-is
+              ∙ deciding-yes (asks (ask 9 (nine k es seen e) ∷ [])) (editDone k es seen e) (nine-is true t);
+          places = λ _. el ∙ ap (λ (l : List Edit). filled placeOf (over e l)) rest-is;
+        }
+
+-- The decision of what was asked by its three ends.
+module _ (k : Counts) (ps xs zeros : List ℕ) (ok : Decidable k ps xs zeros) (q : Asked) (r : Read) (eq : q ≡ asked k r) (x : Decision) (later : List ℕ) where
+  abbrev all : List Edit
+  all = editsFrom ps xs 0 (k .made - k .acked)
+
+  abbrev Goal : Asked → Type 0
+  Goal y = Decided (decided k all y) (staying k all y) x later
+
+  abbrev then : Asked → Decision
+  then y = cond (y .carries) (editDecided k all (y .seen) (y .edit)) (ackDone k (y .seen))
+
+  pub asked-refused : (q .refusal ≡ 0 → ⊥) → x ≡ refusing (q .refusal) → Goal (asked k r)
+  asked-refused n ex = subst Goal eq (decided-no (decided k all q) (staying k all q) (q .refusal) x later n ex (deciding-no (q .refusal) (then q) n))
+
+  module _ (z : q .refusal ≡ 0) where
+    pub asked-edit : q .carries ≡ true → Decided (editDecided k all (q .seen) (q .edit)) (over (q .edit) (left k all (q .seen))) x later → Goal (asked k r)
+    asked-edit t v =
+        subst Goal eq (
         record {
-          refusal = 0;
-          passed = n;
-          taken = k .taken + 1;
-          acked = h .seen;
-          edit = past e (left k es (h .seen));
-          places = filled placeOf (over e (left k es (h .seen)));
-          items = filled itemOf (over e (left k es (h .seen)));
-        }) passed-is
-        ∙ deciding-yes (asks (takeAsked k h e ++ (ask 9 (nine k es (h .seen) e) ∷ []))) (editDone k es h e) (nine-is true t)
+          answer = v .answer ∙ ap (λ (b : Bool). cond b (editDecided k all (q .seen) (q .edit)) (ackDone k (q .seen))) (sym t) ∙ deciding-yes (q .refusal) (then q) z;
+          places = λ y. v .places y ∙ ap (λ (b : Bool). filled placeOf (cond b (over (q .edit) (left k all (q .seen))) (left k all (q .seen)))) (sym t);
+        }
+        )
+
+    pub asked-ack : q .carries ≡ false → x ≡ ackDone k (q .seen) → later ≡ padded 0 maxPending (take (k .made - q .seen) (drop (q .seen - k .acked) ps)) → Goal (asked k r)
+    asked-ack f ex el =
+        subst Goal eq (
+        record {
+          answer = ex ∙ ap (λ (b : Bool). cond b (editDecided k all (q .seen) (q .edit)) (ackDone k (q .seen))) (sym f) ∙ deciding-yes (q .refusal) (then q) z;
+          places =
+              λ _.
+              el ∙ left-places k ps xs (ok .kept) (ok .room) (q .seen) (asked-seen k q r eq z)
+              ∙ ap (λ (b : Bool). filled placeOf (cond b (over (q .edit) (left k all (q .seen))) (left k all (q .seen)))) (sym f);
+        }
+        )
 
 -- ---- what a decision makes of a client
 
+-- the counts that a message is held against
+abbrev pub counts : Client → Counts
+counts c = record { n = c .n; line = c .line; made = c .made; taken = c .taken; acked = c .acked; inserts = c .inserts; len = c .len }
+
 -- the decision for a client that becomes new by an edit f
 abbrev becoming : ℕ → Edit → client.Client → Decision
-becoming passed f new =
-    record {
-      refusal = 0;
-      passed = passed;
-      taken = new .taken;
-      acked = new .acked;
-      edit = f;
-      places = filled placeOf (new .pending);
-      items = filled itemOf (new .pending);
-    }
+becoming passed f new = record { refusal = 0; passed = passed; taken = new .taken; acked = new .acked; edit = f }
 
 -- what becomes of c: only these change
 abbrev changed : Client → Edit → client.Client → client.Client
@@ -254,18 +272,25 @@ moved c taken acked len items places pending =
       «pending_items» = pending;
     }
 
+-- What is right of an edit that is let through, the client that c then becomes and its pending edits.
+pub record Right (c : Client) (f : Edit) (new : client.Client) (stay : List Edit) : Type 0 where
+  pub room : roomy f (c .len) ≡ true
+  pub between : Between (counts c) (new .acked)
+  pub stays : stay ≡ new .pending
+  pub items : filled itemOf (new .pending) ≡ filled itemOf (left (counts c) (view c .pending) (new .acked))
+
 -- The model's answer by a decision.
-pub record Decides (c : Client) (d : Decision) (a : Answer client.Client) : Type 0 where
+pub record Decides (c : Client) (d : Decision) (stay : List Edit) (a : Answer client.Client) : Type 0 where
   pub asked : ℕ
   pub passed : ℕ
   pub edit : Edit
   pub new : client.Client
   pub is : d ≡ deciding asked (becoming passed edit new)
   pub same : new ≡ changed c edit new
-  pub room : asked ≡ 0 → roomy edit (c .len) ≡ true
+  pub right : asked ≡ 0 → Right c edit new stay
   pub model : a ≡ answer asked (view c) new passed
 
-module _ (c : Client) (s : Sound c) (d : Decision) (a : Answer client.Client) (v : Decides c d a) where
+module _ (c : Client) (s : Sound c) (d : Decision) (stay : List Edit) (a : Answer client.Client) (v : Decides c d stay a) where
   refusal-is : d .refusal ≡ v .asked
   refusal-is = ap (λ (x : Decision). x .refusal) (v .is) ∙ go (eqb (v .asked) 0) refl
     where
@@ -290,28 +315,50 @@ module _ (c : Client) (s : Sound c) (d : Decision) (a : Answer client.Client) (v
     pub decided-room : Room (d .edit) (c .len) maxItems
     decided-room =
         subst (λ (x : Decision). Room (x .edit) (c .len) maxItems) (sym becomes)
-        (roomy-room (v .edit) (c .len) (len-few c s) (v .room asked-none))
+        (roomy-room (v .edit) (c .len) (len-few c s) (v .right asked-none .room))
 
-    pub decided-done : (len : ℕ) (after : List ℕ) → Edited (d .edit) (c .len) (c .items) after len
-        → record { refusal = d .refusal; passed = d .passed; client = moved c (d .taken) (d .acked) len after (d .places) (d .items) } ≡ guarded c a
-    decided-done len after ed =
-        let items : after ≡ stored (applied (d .edit) (view c .items)) =
+    pub decided-seen : Between (counts c) (d .acked)
+    decided-seen = subst (λ (x : Decision). Between (counts c) (x .acked)) (sym becomes) (v .right asked-none .between)
+
+    -- the items of the edits that are not acknowledged: moved down, or all as they were
+    pub items-moved : padded 0 maxPending (take (c .made - d .acked) (drop (d .acked - c .acked) (c .«pending_items»)))
+        ≡ filled itemOf (left (counts c) (view c .pending) (d .acked))
+    items-moved = left-items (counts c) (c .«pending_places») (c .«pending_items») (s .kept) (s .room) (d .acked) decided-seen
+
+    pub items-same : d .acked ≤ c .acked → c .«pending_items» ≡ filled itemOf (left (counts c) (view c .pending) (d .acked))
+    items-same h =
+        let none : 0 ≡ d .acked - c .acked = omega arith in
+        ap (λ (x : Client). x .«pending_items») (s .whole) ∙ ap (λ (n : ℕ). filled itemOf (drop n (view c .pending))) none
+
+    pub decided-done : (len : ℕ) (after places items : List ℕ) → Edited (d .edit) (c .len) (c .items) after len → places ≡ filled placeOf stay
+        → items ≡ filled itemOf (left (counts c) (view c .pending) (d .acked))
+        → record { refusal = d .refusal; passed = d .passed; client = moved c (d .taken) (d .acked) len after places items } ≡ guarded c a
+    decided-done len after places items ed ep ei =
+        let r = v .right asked-none in
+        let after′ : after ≡ stored (applied (d .edit) (view c .items)) =
         ed .items ∙ room-stored (d .edit) (c .len) (c .items) (view c .items) (items-stored c s) (s .size) decided-room in
         let size : len ≡ length (applied (d .edit) (view c .items)) =
         ed .length ∙ room-length (d .edit) (c .len) (view c .items) (s .size) decided-room in
-        ap (λ (k : ℕ). record { refusal = d .refusal; passed = d .passed; client = moved c (d .taken) (d .acked) k after (d .places) (d .items) }) size
+        let places′ : places ≡ filled placeOf (v .new .pending) = ep ∙ ap (filled placeOf) (r .stays) in
+        let items′ : items ≡ filled itemOf (v .new .pending) =
+        ei ∙ ap (λ (x : Decision). filled itemOf (left (counts c) (view c .pending) (x .acked))) becomes ∙ sym (r .items) in
+        ap (λ (k : ℕ). record { refusal = d .refusal; passed = d .passed; client = moved c (d .taken) (d .acked) k after places items }) size
         ∙ ap (λ (l : List ℕ).
         record {
           refusal = d .refusal;
           passed = d .passed;
-          client = moved c (d .taken) (d .acked) (length (applied (d .edit) (view c .items))) l (d .places) (d .items);
-        }) items
+          client = moved c (d .taken) (d .acked) (length (applied (d .edit) (view c .items))) l places items;
+        }) after′
         ∙ ap (λ (x : Decision).
         record {
           refusal = x .refusal;
           passed = x .passed;
-          client = moved c (x .taken) (x .acked) (length (applied (x .edit) (view c .items))) (stored (applied (x .edit) (view c .items))) (x .places) (x .items);
+          client = moved c (x .taken) (x .acked) (length (applied (x .edit) (view c .items))) (stored (applied (x .edit) (view c .items))) places items;
         }) becomes
+        ∙ ap (λ (l : List ℕ).
+        record { refusal = 0; passed = v .passed; client = moved c (v .new .taken) (v .new .acked) (length (applied (v .edit) (view c .items))) (stored (applied (v .edit) (view c .items))) l items }) places′
+        ∙ ap (λ (l : List ℕ).
+        record { refusal = 0; passed = v .passed; client = moved c (v .new .taken) (v .new .acked) (length (applied (v .edit) (view c .items))) (stored (applied (v .edit) (view c .items))) (filled placeOf (v .new .pending)) l }) items′
         ∙ ap (λ (m : client.Client). record { refusal = 0; passed = v .passed; client = store m }) (sym (v .same))
         ∙ done c (v .asked) (v .passed) (v .new) (s .yes) asked-none ∙ ap (guarded c) (sym (v .model))
 
@@ -325,11 +372,12 @@ nine-order false true t = refl
 nine-order false false t = refl
 
 module _ (c : Client) (s : Sound c) where
-  pub decidable : Decidable (counts c) (c .«pending_places») (c .«pending_items»)
-  decidable = record { acked = facts c s .acked; taken = facts c s .taken; kept = s .kept; room = s .room }
+  pub decidable : (zeros : List ℕ) → zeros ≡ replicate maxPending 0 → Decidable (counts c) (c .«pending_places») (c .«pending_items») zeros
+  decidable zeros z = record { acked = facts c s .acked; taken = facts c s .taken; kept = s .kept; room = s .room; zeros = z }
 
   ack-decides : (line direction seen : ℕ)
-      → Decides c (ackDecided (counts c) (view c .pending) line direction seen) (client.clientTakesAck (view c) line direction seen)
+      → Decides c (decided (counts c) (view c .pending) (askedAck (counts c) line direction seen)) (left (counts c) (view c .pending) seen)
+      (client.clientTakesAck (view c) line direction seen)
   unfolding client.clientTakesAck applied fits
   ack-decides line direction seen =
       record {
@@ -339,32 +387,47 @@ module _ (c : Client) (s : Sound c) where
         new = client.clientAcked (view c) seen;
         is = refl;
         same = refl;
-        room = λ z. le-leb (c .len + 0) maxItems (omega (arith, len-few c s));
+        right =
+            λ z. record {
+              room = le-leb (c .len + 0) maxItems (omega (arith, len-few c s));
+              between = ack-seen (counts c) line direction seen z;
+              stays = refl;
+              items = refl;
+            };
         model =
             ap (λ (b : Bool). answer (asks (ask 2 b ∷ ackAsked (counts c) line direction seen)) (view c) (client.clientAcked (view c) seen) 0) (s .model);
       }
 
-  edit-decides : (h : Header) (e : Edit) → Decides c (editDecided (counts c) (view c .pending) h e) (client.clientTakesEdit (view c) h e)
+  edit-decides : (h : Header) (e : Edit)
+      → Decides c (decided (counts c) (view c .pending) (askedEdit (counts c) h e)) (over e (left (counts c) (view c .pending) (h .seen)))
+      (client.clientTakesEdit (view c) h e)
   unfolding client.clientTakesEdit
   edit-decides h e =
       let rest : List Edit = left (counts c) (view c .pending) (h .seen) in
-      let asked : Bool = nine (counts c) (view c .pending) (h .seen) e in
-      let nine′ : asked ≡ (fits (past e rest) (length (view c .items)) && allPlaced (over e rest) && leb (length (applied (past e rest) (view c .items))) maxItems) =
+      let good : Bool = nine (counts c) (view c .pending) (h .seen) e in
+      let nine′ : good ≡ (fits (past e rest) (length (view c .items)) && allPlaced (over e rest) && leb (length (applied (past e rest) (view c .items))) maxItems) =
       ap (λ (k : ℕ). allPlaced (over e rest) && roomy (past e rest) k) (sym (s .size))
       ∙ ap (λ (b : Bool). allPlaced (over e rest) && b) (roomy-model (past e rest) (view c .items) (facts c s .items))
       ∙ nine-order (allPlaced (over e rest)) (fits (past e rest) (length (view c .items))) (leb (length (applied (past e rest) (view c .items))) maxItems) in
       record {
-        asked = asks (takeAsked (counts c) h e ++ (ask 9 asked ∷ []));
+        asked = asks (takeAsked (counts c) h e ++ (ask 9 good ∷ []));
         passed = c .made - h .seen;
         edit = past e rest;
         new = client.clientTaken (view c) (h .seen) e;
-        is = refl;
+        is =
+            deciding-then (asks (takeAsked (counts c) h e)) (asks (ask 9 good ∷ [])) (editDone (counts c) (view c .pending) (h .seen) e)
+            ∙ ap (λ (n : ℕ). deciding n (editDone (counts c) (view c .pending) (h .seen) e)) (sym (take-then (counts c) h e good));
         same = refl;
-        room =
+        right =
             λ z.
-            and-right (allPlaced (over e rest)) (roomy (past e rest) (c .len))
-            (yes-all (takeAsked (counts c) h e ++ (ask 9 asked ∷ []))
-            (eqb-false 4 0 refl, (eqb-false 5 0 refl, (eqb-false 6 0 refl, (eqb-false 7 0 refl, (eqb-false 8 0 refl, (eqb-false 9 0 refl, tt)))))) z .1 .1 .1 .1 .1 .0);
+            let y = yes-all (takeAsked (counts c) h e ++ (ask 9 good ∷ []))
+            (eqb-false 4 0 refl, (eqb-false 5 0 refl, (eqb-false 6 0 refl, (eqb-false 7 0 refl, (eqb-false 8 0 refl, (eqb-false 9 0 refl, tt)))))) z in
+            record {
+              room = and-right (allPlaced (over e rest)) (roomy (past e rest) (c .len)) (y .1 .1 .1 .1 .1 .0);
+              between = (leb-true (c .acked) (h .seen) (y .1 .1 .1 .0), leb-true (h .seen) (c .made) (y .1 .1 .1 .1 .0));
+              stays = refl;
+              items = filled-over e rest;
+            };
         model =
             ap (λ (b : Bool).
             answer (asks (ask 2 b ∷ takeAsked (counts c) h e ++ (ask 9 (fits (past e rest) (length (view c .items)) && allPlaced (over e rest) && leb (length (applied (past e rest) (view c .items))) maxItems) ∷ []))) (view c)
@@ -372,31 +435,29 @@ module _ (c : Client) (s : Sound c) where
             ∙ ap (λ (b : Bool). answer (asks (takeAsked (counts c) h e ++ (ask 9 b ∷ []))) (view c) (client.clientTaken (view c) (h .seen) e) (c .made - h .seen)) (sym nine′);
       }
 
-  message-decides : (m : Message) → Decides c (decided (counts c) (view c .pending) m) (client.clientTakes (view c) m)
-  message-decides (message.Insert h p x r) = edit-decides h (Insert p x r)
-  message-decides (message.Delete h p) = edit-decides h (Delete p)
-  message-decides (message.Nothing h) = edit-decides h Nothing
-  message-decides (message.Ack l d n) = ack-decides l d n
+  read-decides : (r : Read)
+      → Decides c (decided (counts c) (view c .pending) (asked (counts c) r)) (staying (counts c) (view c .pending) (asked (counts c) r))
+      (client.clientReads (view c) r)
+  unfolding deciding applied
+  read-decides read.Refused =
+      record {
+        asked = 3;
+        passed = 0;
+        edit = Nothing;
+        new = view c;
+        is = refl;
+        same = refl;
+        right = λ z. absurd (eqb-false 3 0 refl z);
+        model = ap (λ (b : Bool). answer (asks (ask 2 b ∷ ask 3 false ∷ [])) (view c) (view c) 0) (s .model);
+      }
+  read-decides (read.Message (message.Insert h p x r)) = edit-decides h (Insert p x r)
+  read-decides (read.Message (message.Delete h p)) = edit-decides h (Delete p)
+  read-decides (read.Message (message.Nothing h)) = edit-decides h Nothing
+  read-decides (read.Message (message.Ack l d n)) = ack-decides l d n
 
-  pub message-decided : (m : Message) (d : Decision) → d ≡ decided (counts c) (view c .pending) m → Decides c d (client.clientTakes (view c) m)
-  message-decided m d e = subst (λ (x : Decision). Decides c x (client.clientTakes (view c) m)) (sym e) (message-decides m)
-
--- ---- the message
-
-pub insert-position : {m : Message} {h : Header} {p x r : ℕ} → m ≡ message.Insert h p x r → inRange m ≡ true → p ≤ maxItems
-insert-position {h = h} {p = p} {x = x} {r = r} q t = insert-bounds h p x r (ap inRange (sym q) ∙ t) .position-high
-
-pub delete-position : {m : Message} {h : Header} {p : ℕ} → m ≡ message.Delete h p → inRange m ≡ true → p ≤ maxItems
-delete-position {h = h} {p = p} q t = delete-bounds h p (ap inRange (sym q) ∙ t) .position-high
-
-pub read-refused : (c : Client) → Sound c → (bytes : List ℕ) → parsed bytes ≡ read.Refused → refusedWith 3 c ≡ taken c bytes
-unfolding client.takeClient
-read-refused c s bytes p =
-    refused c 3 0 (view c) (s .yes) (eqb-false 3 0 refl)
-    ∙ ap (λ (b : Bool). guarded c (answer (asks (ask 2 b ∷ ask 3 false ∷ [])) (view c) (view c) 0)) (sym (s .model))
-    ∙ ap (λ (r : Read). guarded c (client.clientReads (view c) r)) (sym p)
-
-pub read-message : (c : Client) (bytes : List ℕ) (m : Message) → parsed bytes ≡ read.Message m
-    → guarded c (client.clientTakes (view c) m) ≡ taken c bytes
-unfolding client.takeClient
-read-message c bytes m p = ap (λ (r : Read). guarded c (client.clientReads (view c) r)) (sym p)
+  pub bytes-decided : (bytes : List ℕ) (d : Decision) → d ≡ decided (counts c) (view c .pending) (asked (counts c) (parsed bytes))
+      → Decides c d (staying (counts c) (view c .pending) (asked (counts c) (parsed bytes))) (client.takeClient (view c) bytes)
+  unfolding client.takeClient
+  bytes-decided bytes d e =
+      subst (λ (x : Decision). Decides c x (staying (counts c) (view c .pending) (asked (counts c) (parsed bytes))) (client.takeClient (view c) bytes))
+      (sym e) (read-decides (parsed bytes))

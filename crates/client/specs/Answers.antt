@@ -1,21 +1,18 @@
 -- What each call of a client answers: the model's answer in structs. An end that is not sound is refused by question 2.
 use Prim.Native.Nat.{ℕ, _+_, _-_}
-use mathlib.Core.Bool.{_&&_, cond}
+use mathlib.Core.Bool.{cond}
 use mathlib.Core.List.{List, [], _∷_}
 use lib.Dec.{leb, ltb, eqb}
 use Rattle.ot.specs.declared.Edit.{Edit}
-use Rattle.wire.specs.declared.Header.{Header}
 use Rattle.wire.specs.declared.Message.{Message}
 use Rattle.wire.specs.Message.{messageOf}
 use Rattle.pending.specs.Slots.{editAt}
 use Rattle.model.specs.Limits.{maxInserts, maxEdits, maxPending}
-use Rattle.model.specs.Cross.{priority, insertsOf}
+use Rattle.model.specs.Cross.{insertsOf}
 use Rattle.model.specs.Questions as model
 use Rattle.model.specs.Client as client
 use Rattle.endpoint.specs.Items.{roomy}
-use Rattle.endpoint.specs.Line.{seenQuestions, editQuestions}
 use Rattle.client.specs.declared.Client.{Client}
-use Rattle.client.specs.declared.Counts.{Counts}
 use Rattle.client.specs.declared.Answer.{Answer}
 use Rattle.client.specs.Store.{view, store, sound}
 
@@ -64,28 +61,19 @@ sentAck c line lent = guardedSending c (client.tellClient (view c) line lent) le
 abbrev pub lineQuestion : ℕ → ℕ → List model.Question
 lineQuestion own line = model.ask 4 (eqb line own) ∷ []
 
-abbrev pub sendQuestions : Counts → ℕ → ℕ → List model.Question
-sendQuestions c line k = model.ask 4 (eqb line (c .line)) ∷ model.ask 13 (model.between (c .acked + 1) (c .made) k) ∷ []
+abbrev pub sendQuestions : ℕ → ℕ → ℕ → ℕ → ℕ → List model.Question
+sendQuestions own made acked line k = model.ask 4 (eqb line own) ∷ model.ask 13 (model.between (acked + 1) made k) ∷ []
 
 -- the message of edit number k; every slot that holds no pending edit holds nothing
-abbrev pub messageAt : Counts → List ℕ → List ℕ → ℕ → Message
-messageAt c places items k =
-    messageOf (record { line = c .line; direction = 0; number = k; seen = c .taken }) (editAt places items (k - (c .acked + 1)))
+abbrev pub messageAt : ℕ → ℕ → ℕ → List ℕ → List ℕ → ℕ → Message
+messageAt own taken acked places items k =
+    messageOf (record { line = own; direction = 0; number = k; seen = taken }) (editAt places items (k - (acked + 1)))
 
 -- questions 9 to 12 of an editing
-abbrev pub editAsked : Counts → Edit → List model.Question
-editAsked k e =
-    model.ask 9 (roomy e (k .len))
-    ∷ model.ask 10 (leb (k .inserts + insertsOf e) maxInserts)
-    ∷ model.ask 11 (ltb (k .made) maxEdits)
-    ∷ model.ask 12 (ltb (k .made - k .acked) maxPending)
+abbrev pub editAsked : ℕ → ℕ → ℕ → ℕ → Edit → List model.Question
+editAsked made acked inserts len e =
+    model.ask 9 (roomy e len)
+    ∷ model.ask 10 (leb (inserts + insertsOf e) maxInserts)
+    ∷ model.ask 11 (ltb made maxEdits)
+    ∷ model.ask 12 (ltb (made - acked) maxPending)
     ∷ []
-
--- questions 4 to 8 of a taking; of an acknowledgement 4, 7 and 8
-abbrev pub takeAsked : Counts → Header → Edit → List model.Question
-takeAsked k h e =
-    model.ask 4 (eqb (h .direction) 1 && eqb (h .line) (k .line) && priority (client.other (k .n) (k .line)) e)
-    ∷ editQuestions (h .number) (h .seen) (k .taken) (k .acked) (k .made)
-
-abbrev pub ackAsked : Counts → ℕ → ℕ → ℕ → List model.Question
-ackAsked k line direction seen = model.ask 4 (eqb direction 1 && eqb line (k .line)) ∷ seenQuestions seen (k .acked) (k .made)

@@ -11,22 +11,18 @@ use Rattle.model.specs.Client as model
 use Rattle.pending.specs.Slots.{placeOf, itemOf, editsFrom, filled, soundSlots, Kept, Whole}
 use Rattle.endpoint.specs.Items.{stored, allZero}
 use Rattle.client.specs.declared.Client.{Client}
-use Rattle.client.specs.declared.Counts.{Counts}
 
--- the numbers of a client, and a client of its parts
-abbrev pub counts : Client → Counts
-counts c = record { n = c .n; line = c .line; made = c .made; taken = c .taken; acked = c .acked; inserts = c .inserts; len = c .len }
-
-abbrev pub clientOf : Counts → List ℕ → List ℕ → List ℕ → Client
-clientOf k items places pending =
+-- a client of its parts
+abbrev pub clientOf : ℕ → ℕ → ℕ → ℕ → ℕ → ℕ → ℕ → List ℕ → List ℕ → List ℕ → Client
+clientOf n line made taken acked inserts len items places pending =
     record {
-      n = k .n;
-      line = k .line;
-      made = k .made;
-      taken = k .taken;
-      acked = k .acked;
-      inserts = k .inserts;
-      len = k .len;
+      n = n;
+      line = line;
+      made = made;
+      taken = taken;
+      acked = acked;
+      inserts = inserts;
+      len = len;
       items = items;
       «pending_places» = places;
       «pending_items» = pending;
@@ -92,16 +88,16 @@ soundTests c =
     ∷ []
 
 -- the part of it that the counts alone decide
-abbrev pub countTests : Counts → List Bool
-countTests k =
-    between 1 maxLines (k .n)
-    ∷ between 1 (k .n) (k .line)
-    ∷ leb (k .made) maxEdits
-    ∷ leb (k .taken) maxOthers
-    ∷ leb (k .acked) (k .made)
-    ∷ leb (k .inserts) maxInserts
-    ∷ leb (k .inserts) (k .made)
-    ∷ leb (k .len) maxItems
+abbrev pub countTests : ℕ → ℕ → ℕ → ℕ → ℕ → ℕ → ℕ → List Bool
+countTests n line made taken acked inserts len =
+    between 1 maxLines n
+    ∷ between 1 n line
+    ∷ leb made maxEdits
+    ∷ leb taken maxOthers
+    ∷ leb acked made
+    ∷ leb inserts maxInserts
+    ∷ leb inserts made
+    ∷ leb len maxItems
     ∷ []
 
 unfoldable pub sound : Client → Bool

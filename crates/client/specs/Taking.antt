@@ -1,33 +1,74 @@
 -- What a message makes of a client, before anything is written: a decision by the counts and the pending edits.
 use Prim.Native.Nat.{ℕ, _+_, _-_, _≤_}
-use mathlib.Core.Bool.{Bool, _&&_, cond}
-use mathlib.Core.List.{List, [], _∷_, _++_}
+use mathlib.Core.Path.{_≡_}
+use mathlib.Core.Bool.{Bool, true, false, _&&_, cond}
+use mathlib.Core.List.{List, [], _∷_}
 use lib.Dec.{eqb}
-use lib.ListN.{drop}
+use lib.ListN.{drop, replicate}
 use Rattle.ot.specs.declared.Edit.{Edit}
 use Rattle.ot.specs.declared.Edit.the-variants.{Nothing, Delete, Insert}
 use Rattle.wire.specs.declared.Header.{Header}
 use Rattle.wire.specs.declared.Message.{Message}
 use Rattle.wire.specs.declared.Message.the-variants as message
-use Rattle.model.specs.Limits.{maxOthers}
-use Rattle.model.specs.Cross.{past, over, allPlaced}
-use Rattle.model.specs.Questions.{ask, asks}
-use Rattle.pending.specs.Slots.{placeOf, itemOf, filled, Kept, Whole}
+use Rattle.wire.specs.declared.Read.{Read}
+use Rattle.wire.specs.declared.Read.the-variants as read
+use Rattle.model.specs.Limits.{maxOthers, maxPending}
+use Rattle.model.specs.Cross.{past, over, allPlaced, priority}
+use Rattle.model.specs.Questions.{Question, ask, asks}
+use Rattle.model.specs.Client.{other}
+use Rattle.pending.specs.Slots.{placeOf, filled, Kept, Whole}
 use Rattle.endpoint.specs.Items.{roomy}
-use Rattle.client.specs.declared.Counts.{Counts}
+use Rattle.endpoint.specs.Line.{seenQuestions, editQuestions}
+use Rattle.client.specs.declared.taking.Counts.{Counts}
+use Rattle.client.specs.declared.taking.Asked.{Asked}
 use Rattle.client.specs.declared.taking.Decision.{Decision}
-use Rattle.client.specs.Answers.{takeAsked, ackAsked}
 
--- what deciding asks: question 2 has been answered yes
-pub record Decidable (k : Counts) (ps xs : List ℕ) : Type 0 where
+-- ---- the questions, by the counts
+
+-- questions 4 to 8 of an edit; of an acknowledgement 4, 7 and 8
+abbrev pub takeAsked : Counts → Header → Edit → List Question
+takeAsked k h e =
+    ask 4 (eqb (h .direction) 1 && eqb (h .line) (k .line) && priority (other (k .n) (k .line)) e)
+    ∷ editQuestions (h .number) (h .seen) (k .taken) (k .acked) (k .made)
+
+abbrev pub ackAsked : Counts → ℕ → ℕ → ℕ → List Question
+ackAsked k line direction seen = ask 4 (eqb direction 1 && eqb line (k .line)) ∷ seenQuestions seen (k .acked) (k .made)
+
+-- what was read, with its first refusal
+abbrev pub askedEdit : Counts → Header → Edit → Asked
+askedEdit k h e = record { refusal = asks (takeAsked k h e); seen = h .seen; carries = true; edit = e }
+
+abbrev pub askedAck : Counts → ℕ → ℕ → ℕ → Asked
+askedAck k line direction seen = record { refusal = asks (ackAsked k line direction seen); seen = seen; carries = false; edit = Nothing }
+
+abbrev pub asked : Counts → Read → Asked
+asked k read.Refused = record { refusal = 3; seen = 0; carries = false; edit = Nothing }
+asked k (read.Message (message.Insert h p x r)) = askedEdit k h (Insert p x r)
+asked k (read.Message (message.Delete h p)) = askedEdit k h (Delete p)
+asked k (read.Message (message.Nothing h)) = askedEdit k h Nothing
+asked k (read.Message (message.Ack l d s)) = askedAck k l d s
+
+-- ---- the decision
+
+-- seen is a count between those acknowledged and those made
+abbrev pub Between : Counts → ℕ → Type 0
+Between k seen = (k .acked ≤ seen) × (seen ≤ k .made)
+
+-- what deciding asks: question 2 has been answered yes, and the lent array is zero
+pub record Decidable (k : Counts) (ps xs later : List ℕ) : Type 0 where
   pub acked : k .acked ≤ k .made
   pub taken : k .taken ≤ maxOthers
   pub kept : Kept 0 (k .made - k .acked) ps xs
   pub room : Whole 0 ps xs
+  pub zeros : later ≡ replicate maxPending 0
+
+-- What deciding gives: the decision d, and where it refuses nothing the places of the pending edits that stay, in the lent array.
+pub record Decided (d : Decision) (stay : List Edit) (r : Decision) (later : List ℕ) : Type 0 where
+  pub answer : r ≡ d
+  pub places : r .refusal ≡ 0 → later ≡ filled placeOf stay
 
 abbrev pub refusing : ℕ → Decision
-refusing r =
-    record { refusal = r; passed = 0; taken = 0; acked = 0; edit = Nothing; places = filled placeOf []; items = filled itemOf [] }
+refusing r = record { refusal = r; passed = 0; taken = 0; acked = 0; edit = Nothing }
 
 -- d, where no question says no
 unfoldable pub deciding : ℕ → Decision → Decision
@@ -41,40 +82,21 @@ left k es seen = drop (seen - k .acked) es
 abbrev pub nine : Counts → List Edit → ℕ → Edit → Bool
 nine k es seen e = allPlaced (over e (left k es seen)) && roomy (past e (left k es seen)) (k .len)
 
--- what an edit does: it is transformed past what is left, which is kept in its forms after it
-abbrev pub editDone : Counts → List Edit → Header → Edit → Decision
-editDone k es h e =
-    record {
-      refusal = 0;
-      passed = k .made - h .seen;
-      taken = k .taken + 1;
-      acked = h .seen;
-      edit = past e (left k es (h .seen));
-      places = filled placeOf (over e (left k es (h .seen)));
-      items = filled itemOf (over e (left k es (h .seen)));
-    }
+-- what an edit does: it is transformed past what is left
+abbrev pub editDone : Counts → List Edit → ℕ → Edit → Decision
+editDone k es seen e =
+    record { refusal = 0; passed = k .made - seen; taken = k .taken + 1; acked = seen; edit = past e (left k es seen) }
 
-abbrev pub editDecided : Counts → List Edit → Header → Edit → Decision
-editDecided k es h e = deciding (asks (takeAsked k h e ++ (ask 9 (nine k es (h .seen) e) ∷ []))) (editDone k es h e)
+abbrev pub editDecided : Counts → List Edit → ℕ → Edit → Decision
+editDecided k es seen e = deciding (asks (ask 9 (nine k es seen e) ∷ [])) (editDone k es seen e)
 
 -- what an acknowledgement does: it only drops
-abbrev pub ackDone : Counts → List Edit → ℕ → Decision
-ackDone k es seen =
-    record {
-      refusal = 0;
-      passed = 0;
-      taken = k .taken;
-      acked = seen;
-      edit = Nothing;
-      places = filled placeOf (left k es seen);
-      items = filled itemOf (left k es seen);
-    }
+abbrev pub ackDone : Counts → ℕ → Decision
+ackDone k seen = record { refusal = 0; passed = 0; taken = k .taken; acked = seen; edit = Nothing }
 
-abbrev pub ackDecided : Counts → List Edit → ℕ → ℕ → ℕ → Decision
-ackDecided k es line direction seen = deciding (asks (ackAsked k line direction seen)) (ackDone k es seen)
+abbrev pub decided : Counts → List Edit → Asked → Decision
+decided k es q = deciding (q .refusal) (cond (q .carries) (editDecided k es (q .seen) (q .edit)) (ackDone k (q .seen)))
 
-abbrev pub decided : Counts → List Edit → Message → Decision
-decided k es (message.Insert h p x r) = editDecided k es h (Insert p x r)
-decided k es (message.Delete h p) = editDecided k es h (Delete p)
-decided k es (message.Nothing h) = editDecided k es h Nothing
-decided k es (message.Ack l d s) = ackDecided k es l d s
+-- the pending edits that stay, in their forms after an edit
+abbrev pub staying : Counts → List Edit → Asked → List Edit
+staying k es q = cond (q .carries) (over (q .edit) (left k es (q .seen))) (left k es (q .seen))

@@ -6,22 +6,21 @@ ghost use Rattle.model.specs.Questions.{asks};
 ghost use Rattle.client.specs.Answers.{editAsked, edited, inserted, deleted};
 use crate::Answer;
 use crate::Client;
-use crate::Counts;
 use ot::Edit;
 
 // Questions 9 to 12.
-fn ask_editing(k: Counts, e: Edit) -> u8
-    requires { ⌜ (k .inserts ≤ maxInserts) × (k .acked ≤ k .made) ⌝ }
-    ensures { λ r. ⌜ r ≡ asks (editAsked k e) ⌝ }
+fn ask_editing(made: u16, acked: u16, inserts: u16, len: u16, e: Edit) -> u8
+    requires { ⌜ (inserts ≤ maxInserts) × (acked ≤ made) ⌝ }
+    ensures { λ r. ⌜ r ≡ asks (editAsked made acked inserts len e) ⌝ }
 {
-    if endpoint::has_room(e, k.len) {
-        if Client::INSERTS < k.inserts + endpoint::inserts_of(e) {
+    if endpoint::has_room(e, len) {
+        if Client::INSERTS < inserts + endpoint::inserts_of(e) {
             return 10;
         }
-        if Client::EDITS <= k.made {
+        if Client::EDITS <= made {
             return 11;
         }
-        if Client::PENDING <= (k.made - k.acked) as usize {
+        if Client::PENDING <= (made - acked) as usize {
             return 12;
         }
         return 0;
@@ -34,24 +33,27 @@ impl Client {
     fn edit(mut self, e: Edit) -> Answer
         ensures { λ r. ⌜ r ≡ edited self e ⌝ }
     {
-        let k = Counts {
-            n: self.n,
-            line: self.line,
-            made: self.made,
-            taken: self.taken,
-            acked: self.acked,
-            inserts: self.inserts,
-            len: self.len,
-        };
-        if crate::is_sound(k, &self.items, &self.pending_places, &self.pending_items) {
-            let refusal = ask_editing(k, e);
+        if crate::is_sound(
+            self.n,
+            self.line,
+            self.made,
+            self.taken,
+            self.acked,
+            self.inserts,
+            self.len,
+            &self.items,
+            &self.pending_places,
+            &self.pending_items,
+        ) {
+            let refusal = ask_editing(self.made, self.acked, self.inserts, self.len, e);
             if refusal == 0 {
-                let count = (k.made - k.acked) as usize;
+                let count = (self.made - self.acked) as usize;
+                let len = self.len;
                 self.pending_places[count] = pending::place_of(e);
                 self.pending_items[count] = pending::item_of(e);
-                self.len = ot::apply(&mut self.items, k.len, e);
-                self.made = k.made + 1;
-                self.inserts = k.inserts + endpoint::inserts_of(e);
+                self.len = ot::apply(&mut self.items, len, e);
+                self.made = self.made + 1;
+                self.inserts = self.inserts + endpoint::inserts_of(e);
             }
             return Answer {
                 refusal,

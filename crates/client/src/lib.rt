@@ -29,17 +29,6 @@ pub struct Client {
     pub pending_items: [u32; Client::PENDING],
 }
 
-// The numbers of a client. Functions that only ask get these and lent arrays, since a client by value is copied at each call.
-struct Counts {
-    n: u8,
-    line: u8,
-    made: u16,
-    taken: u16,
-    acked: u16,
-    inserts: u16,
-    len: u16,
-}
-
 // What a call answers: 0 or the number of the question that said no, how many pending edits the edit was transformed past, and
 // the client.
 pub struct Answer {
@@ -56,26 +45,38 @@ fn less(a: u16, b: u16) -> u16
 }
 
 // Question 2, what the counts say of it.
-fn counts_sound(k: Counts) -> bool
-    ensures { λ r. ⌜ r ≡ every (countTests k) ⌝ }
+fn counts_sound(n: u8, line: u8, made: u16, taken: u16, acked: u16, inserts: u16, len: u16) -> bool
+    ensures { λ r. ⌜ r ≡ every (countTests n line made taken acked inserts len) ⌝ }
 {
-    let lines = (1 <= k.n) & (k.n <= Client::LINES);
-    let line = (1 <= k.line) & (k.line <= k.n);
-    let counts = (k.made <= Client::EDITS) & (k.taken <= Client::OTHERS) & (k.acked <= k.made);
-    let inserts = (k.inserts <= Client::INSERTS) & (k.inserts <= k.made);
-    lines & line & counts & inserts & (k.len as usize <= Client::ITEMS)
+    let lines = (1 <= n) & (n <= Client::LINES);
+    let own = (1 <= line) & (line <= n);
+    let counts = (made <= Client::EDITS) & (taken <= Client::OTHERS) & (acked <= made);
+    let few = (inserts <= Client::INSERTS) & (inserts <= made);
+    lines & own & counts & few & (len as usize <= Client::ITEMS)
 }
 
-// Question 2. Every test is made whatever the others find.
-fn is_sound<'a>(k: Counts, items: &'a [u32], places: &'a [u32], pending: &'a [u32]) -> bool
+// Question 2. Every test is made whatever the others find. The parts of a client come one by one: a client by value would be copied,
+// and a struct of the numbers makes the processor wait for each of them to be written.
+fn is_sound<'a>(
+    n: u8,
+    line: u8,
+    made: u16,
+    taken: u16,
+    acked: u16,
+    inserts: u16,
+    len: u16,
+    items: &'a [u32],
+    places: &'a [u32],
+    pending: &'a [u32],
+) -> bool
     requires { ⌜ Sizes (now items) (now places) (now pending) ⌝ }
-    ensures answer { λ r. ⌜ r ≡ sound (clientOf k (now (items .entry)) (now (places .entry)) (now (pending .entry))) ⌝ }
-    ensures facts { λ r. ⌜ (r ≡ true → Sound (clientOf k (now (items .entry)) (now (places .entry)) (now (pending .entry)))) ⌝ }
+    ensures answer { λ r. ⌜ r ≡ sound (clientOf n line made taken acked inserts len (now (items .entry)) (now (places .entry)) (now (pending .entry))) ⌝ }
+    ensures facts { λ r. ⌜ (r ≡ true → Sound (clientOf n line made taken acked inserts len (now (items .entry)) (now (places .entry)) (now (pending .entry)))) ⌝ }
 {
-    let count = less(k.made, k.acked) as usize;
-    counts_sound(k)
-        & endpoint::zero_from(items, k.len as usize)
-        & pending::sound(places, pending, 0, count, k.n, k.line, true)
+    let count = less(made, acked) as usize;
+    counts_sound(n, line, made, taken, acked, inserts, len)
+        & endpoint::zero_from(items, len as usize)
+        & pending::sound(places, pending, 0, count, n, line, true)
 }
 
 impl Client {

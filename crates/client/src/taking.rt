@@ -1,34 +1,50 @@
 // Taking: a message from the server, an edit of another client or an acknowledgement.
 ghost use mathlib.Core.Path.{_≡_};
-ghost use mathlib.Core.Bool.{true};
 ghost use Prim.Native.Nat.{_≤_, _-_};
 ghost use Rattle.ot.specs.Edit.{positionOf};
-ghost use Rattle.wire.specs.Message.{inRange};
+ghost use Rattle.wire.specs.Bytes.{parsed};
 ghost use Rattle.model.specs.Limits.{maxItems};
-ghost use Rattle.model.specs.Cross.{priority};
+ghost use Rattle.model.specs.Cross.{priority, over};
 ghost use Rattle.model.specs.Questions.{asks};
 ghost use Rattle.model.specs.Client as client;
 ghost use Rattle.pending.specs.Slots.{editsFrom};
-ghost use Rattle.client.specs.Answers.{takeAsked, ackAsked, taken};
-ghost use Rattle.client.specs.Taking.{refusing, editDecided, ackDecided, decided, Decidable};
+ghost use Rattle.client.specs.Answers.{taken};
+ghost use Rattle.client.specs.Taking.{Between, takeAsked, ackAsked, askedEdit, askedAck, asked, refusing, left, editDecided, decided, staying, Decidable, Decided};
 use crate::Answer;
 use crate::Client;
-use crate::Counts;
 use ot::Edit;
 use wire::Header;
 use wire::Message;
 use wire::Read;
 
+// The numbers of a client, which a message is held against.
+struct Counts {
+    n: u8,
+    line: u8,
+    made: u16,
+    taken: u16,
+    acked: u16,
+    inserts: u16,
+    len: u16,
+}
+
+// What was read, once it has been asked: 0 or the first of questions 3 to 8 that says no, the edits that the message says were seen,
+// whether it carries an edit, and that edit.
+struct Asked {
+    refusal: u8,
+    seen: u16,
+    carries: bool,
+    edit: Edit,
+}
+
 // What a message makes of a client: 0 or the number of the question that says no, how many pending edits the edit was transformed
-// past, the counts that change, the edit to apply, and the pending edits.
+// past, the counts that change, and the edit to apply. The places of the pending edits that stay go into a lent array beside it.
 struct Decision {
     refusal: u8,
     passed: u16,
     taken: u16,
     acked: u16,
     edit: Edit,
-    places: [u32; 64],
-    items: [u32; 64],
 }
 
 // Is an insert's priority another client's, of 1 to n?
@@ -62,6 +78,48 @@ fn ask_ack(k: Counts, line: u8, direction: u8, seen: u16) -> u8
     4
 }
 
+fn asked_edit(k: Counts, h: Header, e: Edit) -> Asked
+    ensures { λ r. ⌜ r ≡ askedEdit k h e ⌝ }
+{
+    Asked {
+        refusal: ask_taking(k, h, e),
+        seen: h.seen,
+        carries: true,
+        edit: e,
+    }
+}
+
+fn asked_ack(k: Counts, line: u8, direction: u8, seen: u16) -> Asked
+    ensures { λ r. ⌜ r ≡ askedAck k line direction seen ⌝ }
+{
+    Asked {
+        refusal: ask_ack(k, line, direction, seen),
+        seen,
+        carries: false,
+        edit: Edit::Nothing,
+    }
+}
+
+// Questions 3 to 8. Bytes that are no message end there.
+fn ask(k: Counts, bytes: &[u8]) -> Asked
+    ensures { λ r. ⌜ r ≡ asked k (parsed (now (bytes .entry))) ⌝ }
+{
+    let Read::Message(m) = wire::parse(bytes) else {
+        return Asked {
+            refusal: 3,
+            seen: 0,
+            carries: false,
+            edit: Edit::Nothing,
+        };
+    };
+    match m {
+        Message::Insert(h, p, x, r) => asked_edit(k, h, Edit::Insert(p, x, r)),
+        Message::Delete(h, p) => asked_edit(k, h, Edit::Delete(p)),
+        Message::Nothing(h) => asked_edit(k, h, Edit::Nothing),
+        Message::Ack(l, d, s) => asked_ack(k, l, d, s),
+    }
+}
+
 fn refusing(refusal: u8) -> Decision
     ensures { λ r. ⌜ r ≡ refusing refusal ⌝ }
 {
@@ -71,77 +129,66 @@ fn refusing(refusal: u8) -> Decision
         taken: 0,
         acked: 0,
         edit: Edit::Nothing,
-        places: [0; 64],
-        items: [0; 64],
     }
 }
 
-// An acknowledgement drops the pending edits up to seen.
-fn decide_ack<'a>(
+// Question 9: the edit is transformed past the pending edits after seen, and these past it.
+fn decide_edit<'a>(
     k: Counts,
     places: &'a [u32],
     items: &'a [u32],
-    line: u8,
-    direction: u8,
     seen: u16,
+    e: Edit,
+    later: &mut [u32; 64],
 ) -> Decision
-    requires { ⌜ Decidable k (now places) (now items) ⌝ }
-    ensures { λ r. ⌜ r ≡ ackDecided k (editsFrom (now (places .entry)) (now (items .entry)) 0 (k .made - k .acked)) line direction seen ⌝ }
+    requires { ⌜ (positionOf e ≤ maxItems) × (Between k seen × Decidable k (now places) (now items) (now later)) ⌝ }
+    ensures { λ r. ⌜ Decided (editDecided k (editsFrom (now (places .entry)) (now (items .entry)) 0 (k .made - k .acked)) seen e) (over e (left k (editsFrom (now (places .entry)) (now (items .entry)) 0 (k .made - k .acked)) seen)) r (now (later .exit)) ⌝ }
 {
-    let refusal = ask_ack(k, line, direction, seen);
-    if refusal == 0 {
-        let gone = (seen - k.acked) as usize;
-        let count = (k.made - seen) as usize;
+    let gone = (seen - k.acked) as usize;
+    let x = pending::cross(places, items, gone, (k.made - seen) as usize, e, later);
+    let form = x.edit;
+    if x.placed & endpoint::has_room(form, k.len) {
         return Decision {
             refusal: 0,
-            passed: 0,
-            taken: k.taken,
+            passed: x.passed,
+            taken: k.taken + 1,
             acked: seen,
-            edit: Edit::Nothing,
-            places: pending::acked(places, gone, count),
-            items: pending::acked(items, gone, count),
+            edit: form,
         };
     }
-    refusing(refusal)
+    refusing(9)
 }
 
-// An edit drops the pending edits up to seen, is transformed past the others, and these past it.
-fn decide_edit<'a>(k: Counts, places: &'a [u32], items: &'a [u32], h: Header, e: Edit) -> Decision
-    requires { ⌜ (positionOf e ≤ maxItems) × Decidable k (now places) (now items) ⌝ }
-    ensures { λ r. ⌜ r ≡ editDecided k (editsFrom (now (places .entry)) (now (items .entry)) 0 (k .made - k .acked)) h e ⌝ }
+// What the bytes make of a client. An acknowledgement only drops the pending edits up to seen.
+fn decide<'a>(
+    k: Counts,
+    places: &'a [u32],
+    items: &'a [u32],
+    bytes: &[u8],
+    later: &mut [u32; 64],
+) -> Decision
+    requires { ⌜ Decidable k (now places) (now items) (now later) ⌝ }
+    ensures { λ r. ⌜ Decided (decided k (editsFrom (now (places .entry)) (now (items .entry)) 0 (k .made - k .acked)) (asked k (parsed (now (bytes .entry))))) (staying k (editsFrom (now (places .entry)) (now (items .entry)) 0 (k .made - k .acked)) (asked k (parsed (now (bytes .entry))))) r (now (later .exit)) ⌝ }
 {
-    let refusal = ask_taking(k, h, e);
-    if refusal == 0 {
-        let gone = (h.seen - k.acked) as usize;
-        let x = pending::cross(places, items, gone, (k.made - h.seen) as usize, e);
-        let form = x.edit;
-        if x.placed & endpoint::has_room(form, k.len) {
-            let later_places = x.places;
-            let later_items = x.items;
-            return Decision {
-                refusal: 0,
-                passed: x.passed,
-                taken: k.taken + 1,
-                acked: h.seen,
-                edit: form,
-                places: later_places,
-                items: later_items,
-            };
-        }
-        return refusing(9);
+    let q = ask(k, bytes);
+    if q.refusal != 0 {
+        return refusing(q.refusal);
     }
-    refusing(refusal)
-}
-
-fn decide<'a>(k: Counts, places: &'a [u32], items: &'a [u32], m: Message) -> Decision
-    requires { ⌜ (inRange m ≡ true) × Decidable k (now places) (now items) ⌝ }
-    ensures { λ r. ⌜ r ≡ decided k (editsFrom (now (places .entry)) (now (items .entry)) 0 (k .made - k .acked)) m ⌝ }
-{
-    match m {
-        Message::Insert(h, p, x, r) => decide_edit(k, places, items, h, Edit::Insert(p, x, r)),
-        Message::Delete(h, p) => decide_edit(k, places, items, h, Edit::Delete(p)),
-        Message::Nothing(h) => decide_edit(k, places, items, h, Edit::Nothing),
-        Message::Ack(l, d, s) => decide_ack(k, places, items, l, d, s),
+    if q.carries {
+        let e = q.edit;
+        return decide_edit(k, places, items, q.seen, e, later);
+    }
+    *later = pending::acked(
+        places,
+        (q.seen - k.acked) as usize,
+        (k.made - q.seen) as usize,
+    );
+    Decision {
+        refusal: 0,
+        passed: 0,
+        taken: k.taken,
+        acked: q.seen,
+        edit: Edit::Nothing,
     }
 }
 
@@ -159,24 +206,42 @@ impl Client {
             inserts: self.inserts,
             len: self.len,
         };
-        if crate::is_sound(k, &self.items, &self.pending_places, &self.pending_items) {
-            let Read::Message(m) = wire::parse(bytes) else {
-                return Answer {
-                    refusal: 3,
-                    passed: 0,
-                    client: self,
-                };
-            };
-            let d = decide(k, &self.pending_places, &self.pending_items, m);
+        if crate::is_sound(
+            k.n,
+            k.line,
+            k.made,
+            k.taken,
+            k.acked,
+            k.inserts,
+            k.len,
+            &self.items,
+            &self.pending_places,
+            &self.pending_items,
+        ) {
+            let mut later = [0u32; 64];
+            let d = decide(
+                k,
+                &self.pending_places,
+                &self.pending_items,
+                bytes,
+                &mut later,
+            );
             if d.refusal == 0 {
-                let places = d.places;
-                let items = d.items;
                 let e = d.edit;
-                self.pending_places = places;
-                self.pending_items = items;
                 self.len = ot::apply(&mut self.items, k.len, e);
+                self.pending_places = later;
                 self.taken = d.taken;
                 self.acked = d.acked;
+                // where nothing new is acknowledged the items stay as they are
+                if k.acked < d.acked {
+                    let gone = (d.acked - k.acked) as usize;
+                    let items = pending::acked(
+                        &self.pending_items,
+                        gone,
+                        (k.made - d.acked) as usize,
+                    );
+                    self.pending_items = items;
+                }
             }
             return Answer {
                 refusal: d.refusal,

@@ -1,13 +1,9 @@
 use Rattle.endpoint.proofs.Bools.{and-true, and-assoc}
-use borrow.Author.Needs.{needs}
 use Rattle.client.proofs.counts_sound.Statement.{statement}
 use Rattle.client.proofs.counts_sound.Tie as tie
-
-cast-result : tie.Need-cast-result
-cast-result c = search needs
 
 returns : tie.Need-returns
 returns c = simp (and-assoc, and-true)
 
 pub counts-sound-spec : {M : Type 1} → statement M
-counts-sound-spec = tie.close (tie.spec cast-result returns)
+counts-sound-spec = tie.close (tie.spec returns)

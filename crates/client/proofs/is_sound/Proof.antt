@@ -14,9 +14,6 @@ cast-count c = search needs
 counts-sound-requires : tie.Need-counts-sound-requires
 counts-sound-requires c κs = search needs
 
-cast-zero-from : tie.Need-cast-zero-from
-cast-zero-from c = search needs
-
 zero-from-requires : tie.Need-zero-from-requires
 zero-from-requires c κs = search needs
 
@@ -24,7 +21,7 @@ sound-requires : tie.Need-sound-requires
 sound-requires c κs = search needs
 
 returns : tie.Need-returns
-returns c = answers (clientOf (c .before .before .before .before .before .before .before .before .args .k) (now (c .before .before .before .before .before .before .before .before .args .items)) (now (c .before .before .before .before .before .before .before .before .args .places)) (now (c .before .before .before .before .before .before .before .before .args .pending))) (c .before .before .before .before .before .before .before .before .pre) (c .before .before .before .before .less .result) (c .before .before .before .counts-sound .result) (c .before .zero-from .result) (c .sound .result) (c .before .before .before .before .less .ensures) (c .before .before .before .counts-sound .ensures) (c .before .zero-from .ensures) (c .sound .ensures .answer)
+returns c = answers (clientOf (c .before .before .before .before .before .before .before .args .n) (c .before .before .before .before .before .before .before .args .line) (c .before .before .before .before .before .before .before .args .made) (c .before .before .before .before .before .before .before .args .taken) (c .before .before .before .before .before .before .before .args .acked) (c .before .before .before .before .before .before .before .args .inserts) (c .before .before .before .before .before .before .before .args .len) (now (c .before .before .before .before .before .before .before .args .items)) (now (c .before .before .before .before .before .before .before .args .places)) (now (c .before .before .before .before .before .before .before .args .pending))) (c .before .before .before .before .before .before .before .pre) (c .before .before .before .less .result) (c .before .before .counts-sound .result) (c .before .zero-from .result) (c .sound .result) (c .before .before .before .less .ensures) (c .before .before .counts-sound .ensures) (c .before .zero-from .ensures) (c .sound .ensures .answer)
 
 pub is-sound-spec : {M : Type 1} → statement M
 is-sound-spec =
@@ -33,7 +30,6 @@ is-sound-spec =
     less-requires
     cast-count
     counts-sound-requires
-    cast-zero-from
     zero-from-requires
     sound-requires
     returns)

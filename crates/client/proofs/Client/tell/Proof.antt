@@ -1,8 +1,7 @@
 use Rattle.client.proofs.Messages.{unsound-sending, sent-ack}
 use Rattle.client.specs.Store.{view}
 use Rattle.model.specs.Client.{tellClient}
-use Rattle.wire.specs.declared.Message.the-variants as message
-use mathlib.Core.Path.{_∙_, sym, refl}
+use mathlib.Core.Path.{_∙_, sym}
 use denote.Ref.{now}
 use borrow.Author.Needs.{needs}
 use Rattle.client.proofs.Client.tell.Statement.{statement}
@@ -11,22 +10,17 @@ use Rattle.client.proofs.Client.tell.Tie as tie
 is-sound-requires : tie.Need-is-sound-requires
 is-sound-requires c κs = search needs
 
-ask-line-requires : tie.Need-ask-line-requires
-ask-line-requires c κs = search needs
-
-finish-requires : tie.Need-finish-requires
-finish-requires c κs = search needs
+write-ack-requires : tie.Need-write-ack-requires
+write-ack-requires c κs = search needs
 
 same-length : tie.Need-same-length
 same-length c = search needs
 
 returns : tie.Need-returns
-returns c = c .before .before .finish .ensures ∙ sent-ack (c .before .before .before .before .before .before .before .before .before .before .before .before .before .before .before .args .t1) (c .before .before .before .before .before .before .is-sound .ensures .1 (c .before .before .before .before .before .if1 .taken)) (c .before .before .before .before .before .before .before .before .before .before .before .before .before .before .before .args .line) (now (c .before .before .before .before .before .before .before .before .before .before .before .before .before .before .before .args .out)) (c .before .before .before .before .ask-line .result) (message.Ack (c .before .before .before .before .before .before .before .before .before .before .before .before .before .before .before .args .t1 .line) 0 (c .before .before .before .before .before .before .before .before .before .before .before .before .before .before .before .args .t1 .taken)) (c .before .before .before .before .ask-line .ensures) refl
+returns c = c .before .before .write-ack .ensures ∙ sent-ack (c .before .before .before .before .before .before .before .before .before .before .before .before .before .before .args .t1) (c .before .before .before .before .before .is-sound .ensures .1 (c .before .before .before .before .if1 .taken)) (c .before .before .before .before .before .before .before .before .before .before .before .before .before .before .args .line) (now (c .before .before .before .before .before .before .before .before .before .before .before .before .before .before .args .out))
 
 returns-2 : tie.Need-returns-2
 returns-2 c = unsound-sending (c .before .before .before .before .before .before .before .before .before .before .args .t1) (tellClient (view (c .before .before .before .before .before .before .before .before .before .before .args .t1)) (c .before .before .before .before .before .before .before .before .before .before .args .line) (now (c .before .before .before .before .before .before .before .before .before .before .args .out))) (now (c .before .before .before .before .before .before .before .before .before .before .args .out)) (sym (c .before .is-sound .ensures .0) ∙ c .if1 .left)
 
 pub tell-spec : {M : Type 1} → statement M
-tell-spec =
-    tie.close
-    (tie.spec is-sound-requires ask-line-requires finish-requires same-length returns returns-2)
+tell-spec = tie.close (tie.spec is-sound-requires write-ack-requires same-length returns returns-2)

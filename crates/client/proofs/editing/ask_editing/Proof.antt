@@ -17,16 +17,16 @@ inserts-of-requires : tie.Need-inserts-of-requires
 inserts-of-requires c κs = search needs
 
 add-if2 : tie.Need-add-if2
-add-if2 c = omega (arith, c .before .before .before .before .pre .0, inserts-few (c .before .before .before .before .args .e), c .before .inserts-of .ensures)
+add-if2 c = omega (arith, c .before .before .before .pre .0, inserts-few (c .before .before .before .args .e), c .inserts-of .ensures)
 
 returns : tie.Need-returns
-returns c = let r : roomy (c .before .before .before .before .before .args .e) (c .before .before .before .before .before .args .k .len) ≡ true = sym (c .before .before .before .before .has-room .ensures) ∙ c .before .before .before .if1 .taken in
-    let k : 48 < c .before .before .before .before .before .args .k .inserts + insertsOf (c .before .before .before .before .before .args .e) = omega (arith, c .before .before .inserts-of .ensures) in
+returns c = let r : roomy (c .before .before .before .before .args .e) (c .before .before .before .before .args .len) ≡ true = sym (c .before .before .before .has-room .ensures) ∙ c .before .before .if1 .taken in
+    let k : 48 < c .before .before .before .before .args .inserts + insertsOf (c .before .before .before .before .args .e) = omega (arith, c .before .inserts-of .ensures) in
     simp (r, lt-leb _ _ k)
 
 returns-2 : tie.Need-returns-2
-returns-2 c = let r : roomy (c .before .before .before .before .before .before .before .args .e) (c .before .before .before .before .before .before .before .args .k .len) ≡ true = sym (c .before .before .before .before .before .before .has-room .ensures) ∙ c .before .before .before .before .before .if1 .taken in
-    let k : c .before .before .before .before .before .before .before .args .k .inserts + insertsOf (c .before .before .before .before .before .before .before .args .e) ≤ 48 = omega (arith, c .before .before .before .before .inserts-of .ensures) in
+returns-2 c = let r : roomy (c .before .before .before .before .before .args .e) (c .before .before .before .before .before .args .len) ≡ true = sym (c .before .before .before .before .has-room .ensures) ∙ c .before .before .before .if1 .taken in
+    let k : c .before .before .before .before .before .args .inserts + insertsOf (c .before .before .before .before .before .args .e) ≤ 48 = omega (arith, c .before .before .inserts-of .ensures) in
     simp (r, le-leb _ _ k, le-ltb _ _ (c .if3 .taken))
 
 sub-if4 : tie.Need-sub-if4
@@ -36,17 +36,17 @@ cast-if4 : tie.Need-cast-if4
 cast-if4 c = search needs
 
 returns-3 : tie.Need-returns-3
-returns-3 c = let r : roomy (c .before .before .before .before .before .before .before .before .before .args .e) (c .before .before .before .before .before .before .before .before .before .args .k .len) ≡ true = sym (c .before .before .before .before .before .before .before .before .has-room .ensures) ∙ c .before .before .before .before .before .before .before .if1 .taken in
-    let k : c .before .before .before .before .before .before .before .before .before .args .k .inserts + insertsOf (c .before .before .before .before .before .before .before .before .before .args .e) ≤ 48 = omega (arith, c .before .before .before .before .before .before .inserts-of .ensures) in
-    simp (r, le-leb _ _ k, lt-ltb _ _ (c .before .before .if3 .left), le-ltb _ _ (c .if4 .taken))
+returns-3 c = let r : roomy (c .before .before .before .before .before .before .args .e) (c .before .before .before .before .before .before .args .len) ≡ true = sym (c .before .before .before .before .before .has-room .ensures) ∙ c .before .before .before .before .if1 .taken in
+    let k : c .before .before .before .before .before .before .args .inserts + insertsOf (c .before .before .before .before .before .before .args .e) ≤ 48 = omega (arith, c .before .before .before .inserts-of .ensures) in
+    simp (r, le-leb _ _ k, lt-ltb _ _ (c .before .if3 .left), le-ltb _ _ (c .if4 .taken))
 
 returns-4 : tie.Need-returns-4
-returns-4 c = let r : roomy (c .before .before .before .before .before .before .before .before .before .args .e) (c .before .before .before .before .before .before .before .before .before .args .k .len) ≡ true = sym (c .before .before .before .before .before .before .before .before .has-room .ensures) ∙ c .before .before .before .before .before .before .before .if1 .taken in
-    let k : c .before .before .before .before .before .before .before .before .before .args .k .inserts + insertsOf (c .before .before .before .before .before .before .before .before .before .args .e) ≤ 48 = omega (arith, c .before .before .before .before .before .before .inserts-of .ensures) in
-    simp (r, le-leb _ _ k, lt-ltb _ _ (c .before .before .if3 .left), lt-ltb _ _ (c .if4 .left))
+returns-4 c = let r : roomy (c .before .before .before .before .before .before .args .e) (c .before .before .before .before .before .before .args .len) ≡ true = sym (c .before .before .before .before .before .has-room .ensures) ∙ c .before .before .before .before .if1 .taken in
+    let k : c .before .before .before .before .before .before .args .inserts + insertsOf (c .before .before .before .before .before .before .args .e) ≤ 48 = omega (arith, c .before .before .before .inserts-of .ensures) in
+    simp (r, le-leb _ _ k, lt-ltb _ _ (c .before .if3 .left), lt-ltb _ _ (c .if4 .left))
 
 returns-5 : tie.Need-returns-5
-returns-5 c = let r : roomy (c .before .before .args .e) (c .before .before .args .k .len) ≡ false = sym (c .before .has-room .ensures) ∙ c .if1 .left in
+returns-5 c = let r : roomy (c .before .before .args .e) (c .before .before .args .len) ≡ false = sym (c .before .has-room .ensures) ∙ c .if1 .left in
     simp r
 
 pub ask-editing-spec : {M : Type 1} → statement M

@@ -20,7 +20,7 @@ of-edit-requires : tie.Need-of-edit-requires
 of-edit-requires c κs = search needs
 
 returns : tie.Need-returns
-returns c = message-of (c .before .before .before .before .before .before .args .c) (now (c .before .before .before .before .before .before .args .places)) (now (c .before .before .before .before .before .before .args .items)) (c .before .before .before .before .before .before .args .k) (c .before .before .before .less .result) (c .before .before .less2 .result) (c .before .at .result) (c .of-edit .result) (c .before .before .before .less .ensures) (c .before .before .less2 .ensures) (c .before .at .ensures) (c .of-edit .ensures)
+returns c = message-of (c .before .before .before .before .before .before .args .own) (c .before .before .before .before .before .before .args .taken) (c .before .before .before .before .before .before .args .acked) (now (c .before .before .before .before .before .before .args .places)) (now (c .before .before .before .before .before .before .args .items)) (c .before .before .before .before .before .before .args .k) (c .before .before .before .less .result) (c .before .before .less2 .result) (c .before .at .result) (c .of-edit .result) (c .before .before .before .less .ensures) (c .before .before .less2 .ensures) (c .before .at .ensures) (c .of-edit .ensures)
 
 pub message-spec : {M : Type 1} → statement M
 message-spec =

@@ -1,62 +1,59 @@
-use Rattle.client.proofs.Takes.{insert-position, delete-position}
-use Rattle.client.specs.Taking.{decided}
-use Rattle.pending.specs.Slots.{editsFrom}
-use mathlib.Core.Path.{ap, sym, _∙_}
+use Rattle.client.proofs.Takes.{left-ready, asked-position, asked-seen, asked-refused, asked-edit, asked-ack}
+use Rattle.client.specs.Taking.{ackDone}
+use Rattle.wire.specs.Bytes.{parsed}
+use mathlib.Core.Path.{refl}
 use denote.Ref.{now}
-use Prim.Native.Nat.{_-_}
+use native.Mathlib.Omega.{arith}
 use borrow.Author.Needs.{needs}
 use Rattle.client.proofs.taking.decide.Statement.{statement}
 use Rattle.client.proofs.taking.decide.Tie as tie
 
-enum-known-m : tie.Need-enum-known-m
-enum-known-m c = search needs
+ask-requires : tie.Need-ask-requires
+ask-requires c κs = search needs
 
-decide-edit-requires : tie.Need-decide-edit-requires
-decide-edit-requires c κs = (insert-position (c .before .m .given .1) (c .before .before .before .before .before .pre .0), c .before .before .before .before .before .pre .1)
-
-enum-known-m-2 : tie.Need-enum-known-m-2
-enum-known-m-2 c = search needs
-
-decide-edit-requires-2 : tie.Need-decide-edit-requires-2
-decide-edit-requires-2 c κs = (delete-position (c .before .m2 .given .1) (c .before .before .before .before .before .pre .0), c .before .before .before .before .before .pre .1)
-
-enum-known-m-3 : tie.Need-enum-known-m-3
-enum-known-m-3 c = search needs
-
-decide-edit-requires-3 : tie.Need-decide-edit-requires-3
-decide-edit-requires-3 c κs = search needs
-
-enum-known-m-4 : tie.Need-enum-known-m-4
-enum-known-m-4 c = search needs
-
-decide-ack-requires : tie.Need-decide-ack-requires
-decide-ack-requires c κs = search needs
+refusing-requires : tie.Need-refusing-requires
+refusing-requires c κs = search needs
 
 returns : tie.Need-returns
-returns c = c .decide-edit .ensures ∙ ap (decided (c .before .before .before .before .before .before .args .k) (editsFrom (now (c .before .before .before .before .before .before .args .places)) (now (c .before .before .before .before .before .before .args .items)) 0 (c .before .before .before .before .before .before .args .k .made - c .before .before .before .before .before .before .args .k .acked))) (sym (c .before .before .m .given .1))
+returns c = asked-refused (c .before .before .before .before .before .before .before .args .k) (now (c .before .before .before .before .before .before .before .args .places)) (now (c .before .before .before .before .before .before .before .args .items)) (now (c .before .before .before .before .before .before .before .args .later)) (c .before .before .before .before .before .before .before .pre) (c .before .before .before .ask .result) (parsed (now (c .before .before .before .before .before .before .before .args .bytes))) (c .before .before .before .ask .ensures) (c .refusing .result) _ (c .before .if1 .taken) (c .refusing .ensures)
+
+decide-edit-requires : tie.Need-decide-edit-requires
+decide-edit-requires c κs = (asked-position (c .before .before .before .before .before .before .before .before .args .k) (c .before .before .before .before .ask .result) (now (c .before .before .before .before .before .before .before .before .args .bytes)) (c .before .before .before .before .ask .ensures), ((asked-seen (c .before .before .before .before .before .before .before .before .args .k) (c .before .before .before .before .ask .result) (parsed (now (c .before .before .before .before .before .before .before .before .args .bytes))) (c .before .before .before .before .ask .ensures) (c .before .before .if1 .left)), (c .before .before .before .before .before .before .before .before .pre)))
 
 returns-2 : tie.Need-returns-2
-returns-2 c = c .decide-edit2 .ensures ∙ ap (decided (c .before .before .before .before .before .before .args .k) (editsFrom (now (c .before .before .before .before .before .before .args .places)) (now (c .before .before .before .before .before .before .args .items)) 0 (c .before .before .before .before .before .before .args .k .made - c .before .before .before .before .before .before .args .k .acked))) (sym (c .before .before .m2 .given .1))
+returns-2 c = asked-edit (c .before .before .before .before .before .before .before .before .before .args .k) (now (c .before .before .before .before .before .before .before .before .before .args .places)) (now (c .before .before .before .before .before .before .before .before .before .args .items)) (now (c .before .before .before .before .before .before .before .before .before .args .later)) (c .before .before .before .before .before .before .before .before .before .pre) (c .before .before .before .before .before .ask .result) (parsed (now (c .before .before .before .before .before .before .before .before .before .args .bytes))) (c .before .before .before .before .before .ask .ensures) (c .decide-edit .result) _ (c .before .before .before .if1 .left) (c .before .before .if2 .taken) (c .decide-edit .ensures)
+
+sub-acked : tie.Need-sub-acked
+sub-acked c = omega (arith, (asked-seen (c .before .before .before .before .before .before .before .before .before .args .k) (c .before .before .before .before .before .ask .result) (parsed (now (c .before .before .before .before .before .before .before .before .before .args .bytes))) (c .before .before .before .before .before .ask .ensures) (c .before .before .before .if1 .left)))
+
+cast-acked : tie.Need-cast-acked
+cast-acked c = search needs
+
+sub-acked-2 : tie.Need-sub-acked-2
+sub-acked-2 c = omega (arith, (asked-seen (c .before .before .before .before .before .before .before .before .before .before .before .args .k) (c .before .before .before .before .before .before .before .ask .result) (parsed (now (c .before .before .before .before .before .before .before .before .before .before .before .args .bytes))) (c .before .before .before .before .before .before .before .ask .ensures) (c .before .before .before .before .before .if1 .left)))
+
+cast-acked-2 : tie.Need-cast-acked-2
+cast-acked-2 c = search needs
+
+acked-requires : tie.Need-acked-requires
+acked-requires c κs = let t = left-ready (c .before .before .before .before .before .before .before .before .before .before .before .args .k) (now (c .before .before .before .before .before .before .before .before .before .before .before .args .places)) (now (c .before .before .before .before .before .before .before .before .before .before .before .args .items)) (c .before .before .before .before .before .before .before .before .before .before .before .pre .kept) (c .before .before .before .before .before .before .before .before .before .before .before .pre .room) (c .before .before .before .before .before .before .before .ask .result .seen) (asked-seen (c .before .before .before .before .before .before .before .before .before .before .before .args .k) (c .before .before .before .before .before .before .before .ask .result) (parsed (now (c .before .before .before .before .before .before .before .before .before .before .before .args .bytes))) (c .before .before .before .before .before .before .before .ask .ensures) (c .before .before .before .before .before .if1 .left)) in
+    (t .few, t .places)
 
 returns-3 : tie.Need-returns-3
-returns-3 c = c .decide-edit3 .ensures ∙ ap (decided (c .before .before .before .before .before .before .args .k) (editsFrom (now (c .before .before .before .before .before .before .args .places)) (now (c .before .before .before .before .before .before .args .items)) 0 (c .before .before .before .before .before .before .args .k .made - c .before .before .before .before .before .before .args .k .acked))) (sym (c .before .before .m3 .given .1))
-
-returns-4 : tie.Need-returns-4
-returns-4 c = c .decide-ack .ensures ∙ ap (decided (c .before .before .before .before .before .before .args .k) (editsFrom (now (c .before .before .before .before .before .before .args .places)) (now (c .before .before .before .before .before .before .args .items)) 0 (c .before .before .before .before .before .before .args .k .made - c .before .before .before .before .before .before .args .k .acked))) (sym (c .before .before .m4 .given .1))
+returns-3 c = asked-ack (c .before .before .before .before .before .before .before .before .before .before .before .before .args .k) (now (c .before .before .before .before .before .before .before .before .before .before .before .before .args .places)) (now (c .before .before .before .before .before .before .before .before .before .before .before .before .args .items)) (now (c .before .before .before .before .before .before .before .before .before .before .before .before .args .later)) (c .before .before .before .before .before .before .before .before .before .before .before .before .pre) (c .before .before .before .before .before .before .before .before .ask .result) (parsed (now (c .before .before .before .before .before .before .before .before .before .before .before .before .args .bytes))) (c .before .before .before .before .before .before .before .before .ask .ensures) (ackDone (c .before .before .before .before .before .before .before .before .before .before .before .before .args .k) (c .before .before .before .before .before .before .before .before .ask .result .seen)) (c .acked .result) (c .before .before .before .before .before .before .if1 .left) (c .before .before .before .before .before .if2 .left) refl (c .acked .ensures)
 
 pub decide-spec : {M : Type 1} → statement M
 decide-spec =
     tie.close
     (tie.spec
-    enum-known-m
-    decide-edit-requires
-    enum-known-m-2
-    decide-edit-requires-2
-    enum-known-m-3
-    decide-edit-requires-3
-    enum-known-m-4
-    decide-ack-requires
+    ask-requires
+    refusing-requires
     returns
+    decide-edit-requires
     returns-2
-    returns-3
-    returns-4)
+    sub-acked
+    cast-acked
+    sub-acked-2
+    cast-acked-2
+    acked-requires
+    returns-3)
