@@ -53,34 +53,34 @@ module _ (P : List ℕ → ℕ → Type 0) (i : P insWord 1) (d : P delWord 2) (
       none w (record { ins = e₁; del = e₂; up = e₃; down = e₄ })))))
 
 -- a verb with no number, with one, and with two
-no-number : (l : ℕ) (w : List ℕ) → ordered l (bare w) (leb 2 (bare w)) 0 0 ≡ coded (plain l w)
+no-number : (l : ℕ) (w : List ℕ) → ordered l (bare w) 0 0 (leb 2 (bare w)) ≡ coded (plain l w)
 unfolding bare coded
 no-number l w = go (same w ackWord) (same w toldWord)
   where
-    go : (a t : Bool) → ordered l (cond a 6 (cond t 4 0)) (leb 2 (cond a 6 (cond t 4 0))) 0 0 ≡ coded (cond a (Ack l) (cond t (Told l) Bad))
+    go : (a t : Bool) → ordered l (cond a 6 (cond t 4 0)) 0 0 (leb 2 (cond a 6 (cond t 4 0))) ≡ coded (cond a (Ack l) (cond t (Told l) Bad))
     go true t = refl
     go false true = refl
     go false false = refl
 
-one-number : (l p : ℕ) (w : List ℕ) → ordered l (named w) (leb 2 (named w)) p 0 ≡ coded (withOne l w p)
+one-number : (l p : ℕ) (w : List ℕ) → ordered l (named w) p 0 (leb 2 (named w)) ≡ coded (withOne l w p)
 unfolding coded same
 one-number l p w = go (ltb p 65536)
   where
     P : Bool → List ℕ → ℕ → Type 0
     P t x v =
-        cond (leb 2 v && t && true) (order v l p 0) (order 0 0 0 0)
+        cond (t && true && leb 2 v) (order v l p 0) (order 0 0 0 0)
         ≡ coded (cond t (cond (same x delWord) (Delete l p) (cond (same x upWord) (Up l p) (cond (same x downWord) (Down l p) Bad))) Bad)
 
     go : (t : Bool) → P t w (named w)
     go true = each-verb (P true) refl refl refl refl (λ x h. rw (h .del, h .up, h .down)) w
     go false = each-verb (P false) refl refl refl refl (λ x h. refl) w
 
-two-numbers : (l p y : ℕ) (w : List ℕ) → ordered l (named w) (eqb (named w) 1) p y ≡ coded (withTwo l w p y)
+two-numbers : (l p y : ℕ) (w : List ℕ) → ordered l (named w) p y (eqb (named w) 1) ≡ coded (withTwo l w p y)
 unfolding coded same
 two-numbers l p y w = go (ltb p 65536) (ltb y tooWide)
   where
     P : Bool → Bool → List ℕ → ℕ → Type 0
-    P t u x v = cond (eqb v 1 && t && u) (order v l p y) (order 0 0 0 0) ≡ coded (cond (t && u && same x insWord) (Insert l p y) Bad)
+    P t u x v = cond (t && u && eqb v 1) (order v l p y) (order 0 0 0 0) ≡ coded (cond (t && u && same x insWord) (Insert l p y) Bad)
 
     go : (t u : Bool) → P t u w (named w)
     go true true = each-verb (P true true) refl refl refl refl (λ x h. rw (h .ins)) w
@@ -109,39 +109,39 @@ spaced (b ∷ s) n h = go (eqb b 32) refl h (λ small. spaced s (withDigit n b) 
 spaced-number : (s : List ℕ) → length (before 32 s) < length s → numberOf s ≡ tooWide
 spaced-number s h = number-some s (λ e. omega arith) ∙ spaced s 0 h
 
-too-wide : (t : Bool) (x y : Order) → cond (t && false) x y ≡ y
-too-wide true x y = refl
-too-wide false x y = refl
+too-wide : (t r : Bool) (x y : Order) → cond (t && false && r) x y ≡ y
+too-wide true r x y = refl
+too-wide false r x y = refl
 
 too-many : (l : ℕ) (w : List ℕ) (k : ℕ) (x s : List ℕ) → Bad ≡ afterNumber l w k (x ∷ wordsOf s)
 too-many l w k x s = words-some (λ vs. Bad ≡ afterNumber l w k (x ∷ vs)) (λ v vs. refl) s
 
-pub second-number : (l p : ℕ) (w s : List ℕ) → ordered l (named w) (eqb (named w) 1) p (numberOf s) ≡ coded (afterNumber l w p (wordsOf s))
+pub second-number : (l p : ℕ) (w s : List ℕ) → ordered l (named w) p (numberOf s) (eqb (named w) 1) ≡ coded (afterNumber l w p (wordsOf s))
 unfolding coded
 second-number l p w s = go (ltb (length (before 32 s)) (length s)) refl
   where
-    go : (t : Bool) → ltb (length (before 32 s)) (length s) ≡ t → ordered l (named w) (eqb (named w) 1) p (numberOf s) ≡ coded (afterNumber l w p (wordsOf s))
+    go : (t : Bool) → ltb (length (before 32 s)) (length s) ≡ t → ordered l (named w) p (numberOf s) (eqb (named w) 1) ≡ coded (afterNumber l w p (wordsOf s))
     go true e =
         let h = ltb-true (length (before 32 s)) (length s) e in
-        ap (ordered l (named w) (eqb (named w) 1) p) (spaced-number s h) ∙ too-wide (eqb (named w) 1 && ltb p 65536) _ _
+        ap (λ k. ordered l (named w) p k (eqb (named w) 1)) (spaced-number s h) ∙ too-wide (ltb p 65536) (eqb (named w) 1) _ _
         ∙ ap coded (too-many l w p (take (length (before 32 s)) s) (take (length s - (length (before 32 s) + 1)) (drop (length (before 32 s) + 1) s))
         ∙ ap (afterNumber l w p) (sym (words-cut s (length (before 32 s)) refl h)))
     go false e = two-numbers l p (numberOf s) w ∙ ap (λ vs. coded (afterNumber l w p vs)) (sym (words-one s (ltb-false (length (before 32 s)) (length s) e)))
 
 -- What follows the client's line, by its first word, where the search for its end answered e.
 module _ (l : ℕ) (s : List ℕ) (e : ℕ) (p : e ≡ length (before 32 s)) where
-  pub after-none : (v : ℕ) → v ≡ bare s → length s ≤ e → ordered l v (leb 2 v) 0 0 ≡ coded (verbOf l (wordsOf s))
-  after-none v q h = ap (λ k. ordered l k (leb 2 k) 0 0) q ∙ no-number l s ∙ ap (λ ws. coded (verbOf l ws)) (sym (words-whole s e p h))
+  pub after-none : (v : ℕ) → v ≡ bare s → length s ≤ e → ordered l v 0 0 (leb 2 v) ≡ coded (verbOf l (wordsOf s))
+  after-none v q h = ap (λ k. ordered l k 0 0 (leb 2 k)) q ∙ no-number l s ∙ ap (λ ws. coded (verbOf l ws)) (sym (words-whole s e p h))
 
   module _ (v k : ℕ) (q : k ≡ numberOf (take e s)) (w : List ℕ) (pv : v ≡ named w) where
-    pub after-one : length s ≤ e → ordered l v (leb 2 v) k 0 ≡ coded (verbOf l (w ∷ wordsOf s))
+    pub after-one : length s ≤ e → ordered l v k 0 (leb 2 v) ≡ coded (verbOf l (w ∷ wordsOf s))
     after-one h =
-        ap₂ (λ u m. ordered l u (leb 2 u) m 0) pv (q ∙ ap numberOf (take-all e s h)) ∙ one-number l (numberOf s) w
+        ap₂ (λ u m. ordered l u m 0 (leb 2 u)) pv (q ∙ ap numberOf (take-all e s h)) ∙ one-number l (numberOf s) w
         ∙ ap (λ ws. coded (verbOf l (w ∷ ws))) (sym (words-whole s e p h))
 
-    pub after-two : e < length s → (x : ℕ) → x ≡ numberOf (take (length s - (e + 1)) (drop (e + 1) s)) → ordered l v (eqb v 1) k x ≡ coded (verbOf l (w ∷ wordsOf s))
+    pub after-two : e < length s → (x : ℕ) → x ≡ numberOf (take (length s - (e + 1)) (drop (e + 1) s)) → ordered l v k x (eqb v 1) ≡ coded (verbOf l (w ∷ wordsOf s))
     after-two h x r =
-        ap₂ (λ u m. ordered l u (eqb u 1) m x) pv q ∙ ap (ordered l (named w) (eqb (named w) 1) (numberOf (take e s))) r
+        ap₂ (λ u m. ordered l u m x (eqb u 1)) pv q ∙ ap (λ y. ordered l (named w) (numberOf (take e s)) y (eqb (named w) 1)) r
         ∙ second-number l (numberOf (take e s)) w (take (length s - (e + 1)) (drop (e + 1) s)) ∙ ap (λ ws. coded (verbOf l (w ∷ ws))) (sym (words-cut s e p h))
 
 -- A line by its first word, where the search for its end answered e.

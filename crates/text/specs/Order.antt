@@ -32,9 +32,9 @@ bare w = cond (same w ackWord) 6 (cond (same w toldWord) 4 0)
 unfoldable pub named : List ℕ → ℕ
 named w = cond (same w insWord) 1 (cond (same w delWord) 2 (cond (same w upWord) 5 (cond (same w downWord) 3 0)))
 
--- a verb that goes with so many numbers, and the numbers in their ranges
-abbrev pub ordered : ℕ → ℕ → Bool → ℕ → ℕ → Order
-ordered l v right p x = cond (right && ltb p 65536 && ltb x tooWide) (order v l p x) (order 0 0 0 0)
+-- numbers in their ranges, and a verb that goes with so many
+abbrev pub ordered : ℕ → ℕ → ℕ → ℕ → Bool → Order
+ordered l v p x right = cond (ltb p 65536 && ltb x tooWide && right) (order v l p x) (order 0 0 0 0)
 
 -- what follows the client's line: a word that names the verb v, and the words of s
 abbrev pub SaysAfter : ℕ → ℕ → List ℕ → Order → Type 0

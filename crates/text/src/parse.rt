@@ -5,7 +5,7 @@ ghost use lib.ListN.{length};
 ghost use Rattle.text.specs.Text.{before, wordsOf, same as Text·same};
 ghost use Rattle.text.specs.Decimal.{tooWide, withDigit, numberOf};
 ghost use Rattle.text.specs.Command.{verbOf, commandOf};
-ghost use Rattle.text.specs.Order.{bare as Order·bare, named as Order·named, ordered as Order·ordered, coded, SaysAfter, Next};
+ghost use Rattle.text.specs.Order.{bare as Order·bare, order, named as Order·named, ordered as Order·ordered, coded, SaysAfter, Next};
 
 // What a line of the script orders. A client is named by its line (01: the bay), of 1 to the number of clients. What a verb has no use
 // for is 0, and so is all of a line that orders nothing.
@@ -142,11 +142,29 @@ fn named(w: &[u8]) -> u8
     0
 }
 
-// The order, if the verb goes with so many numbers and each is in its range.
-fn ordered(l: u8, v: u8, right: bool, p: u64, x: u64) -> Order
-    ensures { λ r. ⌜ r ≡ Order·ordered l v right p x ⌝ }
+// An order of nothing.
+fn nothing() -> Order
+    ensures { λ r. ⌜ r ≡ order 0 0 0 0 ⌝ }
 {
-    if right & (p < 65536) & (x < TOO_WIDE) {
+    Order {
+        verb: 0,
+        line: 0,
+        number: 0,
+        item: 0,
+    }
+}
+
+// The order, if the numbers are in their ranges and the verb goes with so many.
+fn ordered(l: u8, v: u8, p: u64, x: u64, right: bool) -> Order
+    ensures { λ r. ⌜ r ≡ Order·ordered l v p x right ⌝ }
+{
+    if 65536 <= p {
+        return nothing();
+    }
+    if TOO_WIDE <= x {
+        return nothing();
+    }
+    if right {
         return Order {
             verb: v,
             line: l,
@@ -154,12 +172,7 @@ fn ordered(l: u8, v: u8, right: bool, p: u64, x: u64) -> Order
             item: x as u32,
         };
     }
-    Order {
-        verb: 0,
-        line: 0,
-        number: 0,
-        item: 0,
-    }
+    nothing()
 }
 
 // The words after a verb: one number, or two. A space in the second makes it none.
@@ -169,10 +182,10 @@ fn after_verb(l: u8, v: u8, s: &[u8]) -> Order
     let e = end(s, 32);
     let p = number(&s[..e]);
     if s.len() <= e {
-        return ordered(l, v, DEL <= v, p, 0);
+        return ordered(l, v, p, 0, DEL <= v);
     }
     let next = e + 1;
-    ordered(l, v, v == INS, p, number(&s[next..]))
+    ordered(l, v, p, number(&s[next..]), v == INS)
 }
 
 // The words after the client's line.
@@ -182,7 +195,7 @@ fn after_line(l: u8, s: &[u8]) -> Order
     let e = end(s, 32);
     if s.len() <= e {
         let v = bare(s);
-        return ordered(l, v, DEL <= v, 0, 0);
+        return ordered(l, v, 0, 0, DEL <= v);
     }
     let next = e + 1;
     after_verb(l, named(&s[..e]), &s[next..])
@@ -198,7 +211,7 @@ fn read_order(n: u8, line: &[u8]) -> Order
         let next = e + 1;
         return after_line(l as u8, &line[next..]);
     }
-    ordered(0, 0, false, 0, 0)
+    nothing()
 }
 
 // What the line at a place orders.

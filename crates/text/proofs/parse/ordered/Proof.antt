@@ -1,23 +1,46 @@
-use mathlib.Core.Bool.{_&&_}
-use borrow.Author.Needs.{needs}
-use borrow.Author.Tests.{ltb-true}
-use lib.Dec.{ltb}
+use borrow.Author.Tests.{lt-ltb, le-ltb}
 use Rattle.text.specs.Decimal.{tooWide}
-use Rattle.text.proofs.Sinks.{and-left, and-right}
+use borrow.Author.Needs.{needs}
 use Rattle.text.proofs.parse.ordered.Statement.{statement}
 use Rattle.text.proofs.parse.ordered.Tie as tie
 
-cast-t10 : tie.Need-cast-t10
-cast-t10 c = let h = ltb-true (c .before .args .p) 65536 (and-right (c .before .args .right) (ltb (c .before .args .p) 65536) (and-left (c .before .args .right && ltb (c .before .args .p) 65536) (ltb (c .before .args .x) tooWide) (c .if1 .taken))) in search needs
-
-cast-t11 : tie.Need-cast-t11
-cast-t11 c = let h = ltb-true (c .before .args .x) tooWide (and-right (c .before .args .right && ltb (c .before .args .p) 65536) (ltb (c .before .args .x) tooWide) (c .if1 .taken)) in search needs
+nothing-requires : tie.Need-nothing-requires
+nothing-requires c κs = search needs
 
 returns : tie.Need-returns
-returns c = rw (c .if1 .taken)
+returns c = rw (le-ltb (c .before .before .args .p) 65536 (c .before .if1 .taken)) (c .nothing .ensures)
+
+nothing-requires-2 : tie.Need-nothing-requires-2
+nothing-requires-2 c κs = search needs
 
 returns-2 : tie.Need-returns-2
-returns-2 c = rw (c .if1 .left)
+returns-2 c = rw (lt-ltb (c .before .before .before .args .p) 65536 (c .before .before .if1 .left), le-ltb (c .before .before .before .args .x) tooWide (c .before .if2 .taken)) (c .nothing2 .ensures)
+
+cast-t7 : tie.Need-cast-t7
+cast-t7 c = search needs
+
+cast-t8 : tie.Need-cast-t8
+cast-t8 c = search needs
+
+returns-3 : tie.Need-returns-3
+returns-3 c = rw (lt-ltb (c .before .before .before .args .p) 65536 (c .before .before .if1 .left), lt-ltb (c .before .before .before .args .x) tooWide (c .before .if2 .left), c .if3 .taken)
+
+nothing-requires-3 : tie.Need-nothing-requires-3
+nothing-requires-3 c κs = search needs
+
+returns-4 : tie.Need-returns-4
+returns-4 c = rw (lt-ltb (c .before .before .before .before .args .p) 65536 (c .before .before .before .if1 .left), lt-ltb (c .before .before .before .before .args .x) tooWide (c .before .before .if2 .left), c .before .if3 .left) (c .nothing3 .ensures)
 
 pub ordered-spec : {M : Type 1} → statement M
-ordered-spec = tie.close (tie.spec cast-t10 cast-t11 returns returns-2)
+ordered-spec =
+    tie.close
+    (tie.spec
+    nothing-requires
+    returns
+    nothing-requires-2
+    returns-2
+    cast-t7
+    cast-t8
+    returns-3
+    nothing-requires-3
+    returns-4)

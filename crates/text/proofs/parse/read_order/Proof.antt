@@ -43,12 +43,12 @@ after-line-requires c κs = search needs
 returns : tie.Need-returns
 returns c = let h = inside (c .before .before .before .before .before .before .end .result) (length (c .before .before .before .before .before .before .before .before .args .line .now)) (c .before .before .before .before .number .result) (c .before .before .before .wide .result) (c .before .before .if1 .taken) in let e = c .before .before .before .wide .ensures in c .after-line .ensures ∙ ap coded (command-inside (c .before .before .before .before .before .before .before .before .args .n) _ _ (c .before .before .before .before .before .before .end .ensures) _ (c .before .before .before .before .number .ensures) (h .0) (h .1) (let k = h .2 in omega arith))
 
-ordered-requires : tie.Need-ordered-requires
-ordered-requires c κs = search needs
+nothing-requires : tie.Need-nothing-requires
+nothing-requires c κs = search needs
 
 returns-2 : tie.Need-returns-2
 unfolding coded
-returns-2 c = c .ordered .ensures ∙ ap coded (command-outside (c .before .before .before .before .before .before .before .args .n) _ _ (c .before .before .before .before .before .end .ensures) _ (c .before .before .before .number .ensures) (ap (λ m. ltb (c .before .before .before .before .before .end .result) (length (c .before .before .before .before .before .before .before .args .line .now)) && leb 1 (c .before .before .before .number .result) && leb (c .before .before .before .number .result) m) (sym (c .before .before .wide .ensures)) ∙ c .before .if1 .left))
+returns-2 c = c .nothing .ensures ∙ ap coded (command-outside (c .before .before .before .before .before .before .before .args .n) _ _ (c .before .before .before .before .before .end .ensures) _ (c .before .before .before .number .ensures) (ap (λ m. ltb (c .before .before .before .before .before .end .result) (length (c .before .before .before .before .before .before .before .args .line .now)) && leb 1 (c .before .before .before .number .result) && leb (c .before .before .before .number .result) m) (sym (c .before .before .wide .ensures)) ∙ c .before .if1 .left))
 
 pub read-order-spec : {M : Type 1} → statement M
 read-order-spec =
@@ -65,5 +65,5 @@ read-order-spec =
     part-after-line-end
     after-line-requires
     returns
-    ordered-requires
+    nothing-requires
     returns-2)
