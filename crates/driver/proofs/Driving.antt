@@ -21,10 +21,10 @@ use Rattle.calls.specs.Dump.{Put}
 use Rattle.calls.proofs.Bytes.{put-length, sets-append}
 use Rattle.driver.specs.declared.drive.World.{World}
 use Rattle.driver.specs.declared.drive.Driven.{Driven}
-use Rattle.driver.specs.Turn.{Turn, Turned, front, slotOf, slotPut, slotIn, lengthIn, clientSize, clientChanged, clientAnswer, clientSends, clientTurn, serverSize, serverChanged, serverAnswer, serverSends, serverTurn, slotSize, slotTurn}
+use Rattle.turns.specs.Turn.{Turn, Turned, front, slotOf, slotPut, slotIn, lengthIn, clientSize, clientChanged, clientAnswer, clientSends, clientTurn, serverSize, serverChanged, serverAnswer, serverSends, serverTurn, slotSize, slotTurn}
 use Rattle.driver.specs.Drive.{start, noClient, turnAt, stepAt, turnOf, after, Run, kept, left, more, run, callsOf, Drove}
-use Rattle.driver.proofs.Slots.{slot-same}
-use Rattle.driver.proofs.Turns.{never}
+use Rattle.turns.proofs.Slots.{slot-same}
+use Rattle.turns.proofs.Turns.{never}
 
 -- ---- how many bytes a call writes, by its place
 

@@ -21,9 +21,9 @@ use Rattle.calls.specs.declared.call.Call.{Call}
 use Rattle.calls.specs.Calls.{atEnd, canSet, isCall, placeOf, sends}
 use Rattle.calls.specs.Dump.{answerBytes}
 use Rattle.driver.specs.declared.drive.World.{World}
-use Rattle.driver.specs.Turn.{Turn, front, slotOf, slotIn, lengthIn, sentBytes, changedBytes, changedTurn, clientAnswer, clientSends, serverAnswer, serverSends, clientSent, clientChanged, clientReply, clientTurn, serverSent, serverChanged, serverReply, serverTurn}
+use Rattle.turns.specs.Turn.{Turn, front, slotOf, slotIn, lengthIn, sentBytes, changedBytes, changedTurn, clientAnswer, clientSends, serverAnswer, serverSends, clientSent, clientChanged, clientReply, clientTurn, serverSent, serverChanged, serverReply, serverTurn}
 use Rattle.driver.specs.Drive.{noClient, turnAt, turnOf, Replied}
-use Rattle.driver.proofs.Turns.{never}
+use Rattle.turns.proofs.Turns.{never}
 
 -- ---- copying 20 bytes
 

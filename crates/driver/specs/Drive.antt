@@ -14,7 +14,7 @@ use Rattle.calls.specs.declared.call.Call.{Call}
 use Rattle.driver.specs.declared.drive.World.{World}
 use Rattle.driver.specs.declared.drive.Driven.{Driven}
 use Rattle.calls.specs.Calls.{callOf, placeOf, sizeOf}
-use Rattle.driver.specs.Turn.{Turn, slotOf, slotPut, slotAt, front, clientAfter, clientTurn, serverAfter, serverTurn, slotTurn}
+use Rattle.turns.specs.Turn.{Turn, slotOf, slotPut, slotAt, front, clientAfter, clientTurn, serverAfter, serverTurn, slotTurn}
 
 -- all zeros, as refused openings return them
 unfoldable pub start : World

@@ -6,7 +6,6 @@ ghost use mathlib.Core.List.{[]};
 ghost use lib.ListN.{length};
 ghost use Rattle.driver.specs.Answers.{answers, Wrote};
 ghost use Rattle.driver.specs.Drive.{start, run, afterAll, callsOf, Drove};
-use crate::turn;
 use calls::call;
 use calls::header;
 use client::Client;
@@ -104,23 +103,23 @@ fn drive(
         at = further(quiet, at, size);
         if place == 0 {
             if call::sends(k) {
-                turn::send_server(server, k, &mut slots, &mut lengths, out, here);
+                turns::send_server(server, k, &mut slots, &mut lengths, out, here);
                 continue;
             }
-            server = turn::change_server(server, k, initial, &slots, &lengths, out, here);
+            server = turns::change_server(server, k, initial, &slots, &lengths, out, here);
             continue;
         }
         if place <= 8 {
             let c = clients[place - 1];
             if call::sends(k) {
-                turn::send_client(c, k, &mut slots, &mut lengths, out, here);
+                turns::send_client(c, k, &mut slots, &mut lengths, out, here);
                 continue;
             }
-            let c = turn::change_client(c, k, initial, &slots, &lengths, out, here);
+            let c = turns::change_client(c, k, initial, &slots, &lengths, out, here);
             clients[place - 1] = c;
             continue;
         }
-        turn::turn_slot(k, place, &mut slots, &mut lengths, out, here);
+        turns::turn_slot(k, place, &mut slots, &mut lengths, out, here);
     }
     leave(at, server, clients, slots, lengths)
 }

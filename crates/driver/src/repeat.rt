@@ -8,10 +8,9 @@ ghost use Rattle.calls.specs.Calls.{isCall};
 ghost use Rattle.calls.specs.Dump.{answerBytes};
 ghost use Rattle.driver.specs.Answers.{repeated, Wrote};
 ghost use Rattle.driver.specs.Drive.{Replied};
-ghost use Rattle.driver.specs.Turn.{clientReply, serverReply};
+ghost use Rattle.turns.specs.Turn.{clientReply, serverReply};
 use crate::drive;
 use crate::drive::World;
-use crate::turn;
 use calls::call;
 use calls::call::Call;
 use calls::dump;
@@ -94,7 +93,7 @@ fn repeat_client(c: Client, k: Call, slot: [u8; 20], n: usize, times: u32) -> Re
     requires { ⌜ (1 ≤ k .op) × (k .op ≤ 5) × (n ≤ 20) ⌝ }
     ensures { λ r. ⌜ answerBytes (r .refusal) (r .written) (r .passed) ≡ clientReply k (take n slot) (take (min (k .size) 20) slot) c ⌝ }
 {
-    let size = turn::within(k.size);
+    let size = turns::within(k.size);
     let mut i = 1;
     loop {
         let mut lent = slot;
@@ -131,7 +130,7 @@ fn repeat_server(s: Server, k: Call, slot: [u8; 20], n: usize, times: u32) -> Re
     requires { ⌜ (3 ≤ k .op) × (k .op ≤ 5) × (n ≤ 20) ⌝ }
     ensures { λ r. ⌜ answerBytes (r .refusal) (r .written) (r .passed) ≡ serverReply k (take n slot) (take (min (k .size) 20) slot) s ⌝ }
 {
-    let size = turn::within(k.size);
+    let size = turns::within(k.size);
     let mut i = 1;
     loop {
         let mut lent = slot;
@@ -151,9 +150,9 @@ fn repeat(w: World, k: Call, times: u32) -> Reply
     ensures { λ r. ⌜ Replied k w (answerBytes (r .refusal) (r .written) (r .passed)) ⌝ }
 {
     let lengths = w.lengths;
-    let n = turn::held(k, &lengths);
+    let n = turns::held(k, &lengths);
     let slots = w.slots;
-    let slot = slot_at(&slots, 20 * turn::slot_of(k));
+    let slot = slot_at(&slots, 20 * turns::slot_of(k));
     if k.end == 0 {
         let server = w.server;
         return repeat_server(server, k, slot, n, times);

@@ -15,11 +15,11 @@ use Rattle.calls.proofs.call.sends.Reads as sends-reads
 use Rattle.calls.proofs.call.size_of.Reads as size-of-reads
 use Rattle.driver.proofs.drive.further.Reads as further-reads
 use Rattle.driver.proofs.drive.leave.Reads as leave-reads
-use Rattle.driver.proofs.turn.change_client.Reads as change-client-reads
-use Rattle.driver.proofs.turn.change_server.Reads as change-server-reads
-use Rattle.driver.proofs.turn.send_client.Reads as send-client-reads
-use Rattle.driver.proofs.turn.send_server.Reads as send-server-reads
-use Rattle.driver.proofs.turn.turn_slot.Reads as turn-slot-reads
+use Rattle.turns.proofs.change_client.Reads as change-client-reads
+use Rattle.turns.proofs.change_server.Reads as change-server-reads
+use Rattle.turns.proofs.send_client.Reads as send-client-reads
+use Rattle.turns.proofs.send_server.Reads as send-server-reads
+use Rattle.turns.proofs.turn_slot.Reads as turn-slot-reads
 
 abbrev Inv-loop : tie.InvT-loop
 Inv-loop calls count initial quiet out₀ server₀ clients₀ slots₀ lengths₀ at₀ i₀ out server clients slots lengths at i =

@@ -1,6 +1,6 @@
 use native.Mathlib.Omega.{arith}
 use mathlib.Core.Path.{_≡_, _∙_}
-use Rattle.driver.specs.Turn.{clientSent, clientChanged}
+use Rattle.turns.specs.Turn.{clientSent, clientChanged}
 use Rattle.driver.proofs.Repeating.{sent-bytes}
 use borrow.Author.Needs.{needs}
 use Rattle.driver.proofs.repeat.once_client.Statement.{statement}

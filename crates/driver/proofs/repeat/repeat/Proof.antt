@@ -10,8 +10,8 @@ use Rattle.driver.proofs.repeat.repeat.Lts as lts
 use Rattle.driver.proofs.repeat.repeat_client.Reads as repeat-client-reads
 use Rattle.driver.proofs.repeat.repeat_server.Reads as repeat-server-reads
 use Rattle.driver.proofs.repeat.slot_at.Reads as slot-at-reads
-use Rattle.driver.proofs.turn.held.Reads as held-reads
-use Rattle.driver.proofs.turn.slot_of.Reads as slot-of-reads
+use Rattle.turns.proofs.held.Reads as held-reads
+use Rattle.turns.proofs.slot_of.Reads as slot-of-reads
 
 -- src/repeat.rt:154:27
 slice-aggregate-held : tie.Need-slice-aggregate-held

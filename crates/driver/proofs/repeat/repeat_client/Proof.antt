@@ -4,13 +4,13 @@ use mathlib.Core.Path.{ap, _∙_, sym}
 use lib.ListN.{take}
 use lib.Seq.{length-take-le}
 use borrow.Author.Needs.{needs}
-use Rattle.driver.specs.Turn.{clientReply}
+use Rattle.turns.specs.Turn.{clientReply}
 use Rattle.driver.proofs.repeat.repeat_client.Statement.{statement}
 use Rattle.driver.proofs.repeat.repeat_client.Tie as tie
 use Rattle.driver.proofs.repeat.repeat_client.Reads as reads
 use Rattle.driver.proofs.repeat.repeat_client.Lts as lts
 use Rattle.driver.proofs.repeat.once_client.Reads as once-client-reads
-use Rattle.driver.proofs.turn.within.Reads as within-reads
+use Rattle.turns.proofs.within.Reads as within-reads
 
 abbrev Inv-loop : tie.InvT-loop
 Inv-loop c k n times slot size i₀ i = 1 ≤ i

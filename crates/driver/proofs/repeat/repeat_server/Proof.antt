@@ -4,13 +4,13 @@ use mathlib.Core.Path.{ap, _∙_, sym}
 use lib.ListN.{take}
 use lib.Seq.{length-take-le}
 use borrow.Author.Needs.{needs}
-use Rattle.driver.specs.Turn.{serverReply}
+use Rattle.turns.specs.Turn.{serverReply}
 use Rattle.driver.proofs.repeat.repeat_server.Statement.{statement}
 use Rattle.driver.proofs.repeat.repeat_server.Tie as tie
 use Rattle.driver.proofs.repeat.repeat_server.Reads as reads
 use Rattle.driver.proofs.repeat.repeat_server.Lts as lts
 use Rattle.driver.proofs.repeat.once_server.Reads as once-server-reads
-use Rattle.driver.proofs.turn.within.Reads as within-reads
+use Rattle.turns.proofs.within.Reads as within-reads
 
 abbrev Inv-loop : tie.InvT-loop
 Inv-loop s k n times slot size i₀ i = 1 ≤ i
