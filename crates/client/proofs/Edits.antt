@@ -2,7 +2,7 @@
 use Prim.Native.Nat.{ℕ, _+_, _≤_, _<_}
 use native.Mathlib.Omega.{arith}
 use mathlib.Core.Path.{_≡_, refl, ap, _∙_, sym}
-use mathlib.Core.Bool.{Bool, _&&_}
+use mathlib.Core.Bool.{Bool, true, false, _&&_, cond}
 use mathlib.Core.List.{List, [], _∷_, _++_}
 use lib.Dec.{leb, ltb}
 use lib.ListN.{length, set}
@@ -25,7 +25,7 @@ use Rattle.endpoint.proofs.Room.{roomy-model, roomy-room, room-stored, room-len
 use Rattle.client.specs.declared.Client.{Client}
 use Rattle.client.specs.Store.{pendingCount, view, store, sound, Sound}
 use Rattle.client.specs.Answers.{refusedWith, doneWith, guarded, editAsked, edited}
-use Rattle.client.proofs.Answers.{refused, done}
+use Rattle.client.proofs.Answers.{unsound, refused, done}
 
 -- the counts with other values
 abbrev pub counted : Client → ℕ → ℕ → ℕ → List ℕ → List ℕ → List ℕ → Client
@@ -68,13 +68,13 @@ module _ (c : Client) (s : Sound c) (e : Edit) where
       ∙ ap (λ (b : Bool). asks (ask 9 b ∷ later))
       (sym (roomy-model e (view c .items) (facts c s .items)) ∙ ap (roomy e) (s .size))
 
-  pub edit-refused : (r : ℕ) → r ≡ asks (editAsked (c .made) (c .acked) (c .inserts) (c .len) e) → (r ≡ 0 → ⊥) → refusedWith r c ≡ edited c e
+  edit-refused : (r : ℕ) → r ≡ asks (editAsked (c .made) (c .acked) (c .inserts) (c .len) e) → (r ≡ 0 → ⊥) → refusedWith r c ≡ edited c e
   unfolding editClient
   edit-refused r er n =
       refused c r 0 (client.edited (view c) e) (s .yes) n
       ∙ ap (λ (k : ℕ). guarded c (answer k (view c) (client.edited (view c) e) 0)) (er ∙ sym same-questions)
 
-  pub edit-done : asks (editAsked (c .made) (c .acked) (c .inserts) (c .len) e) ≡ 0 → doneWith 0 (client.edited (view c) e) ≡ edited c e
+  edit-done : asks (editAsked (c .made) (c .acked) (c .inserts) (c .len) e) ≡ 0 → doneWith 0 (client.edited (view c) e) ≡ edited c e
   unfolding editClient
   edit-done z = done c (asks (ask 2 (soundClient (view c)) ∷ ask 9 nine ∷ later)) 0 (client.edited (view c) e) (s .yes) (same-questions ∙ z)
 
@@ -132,6 +132,25 @@ module _ (c : Client) (s : Sound c) (e : Edit) where
         ∙ ap (λ (a : List ℕ). counted c (c .made + 1) (c .inserts + insertsOf e) (length (applied e (view c .items))) (stored (applied e (view c .items))) a xs) ps′
         ∙ ap (counted c (c .made + 1) (c .inserts + insertsOf e) (length (applied e (view c .items))) (stored (applied e (view c .items))) (filled placeOf es)) xs′)
         ∙ edit-done z
+
+-- What the answer of questions 2 and 9 to 12 tells.
+module _ (c : Client) (e : Edit) (r : ℕ) (f : sound c ≡ true → Sound c) (er : r ≡ cond (sound c) (asks (editAsked (c .made) (c .acked) (c .inserts) (c .len) e)) 2) where
+  answer-is : (b : Bool) → sound c ≡ b → r ≡ cond b (asks (editAsked (c .made) (c .acked) (c .inserts) (c .len) e)) 2
+  answer-is b t = er ∙ ap (λ (x : Bool). cond x (asks (editAsked (c .made) (c .acked) (c .inserts) (c .len) e)) 2) t
+
+  pub edit-allowed : r ≡ 0 → Sound c × (asks (editAsked (c .made) (c .acked) (c .inserts) (c .len) e) ≡ 0)
+  edit-allowed z = go (sound c) refl
+    where
+      go : (b : Bool) → sound c ≡ b → Sound c × (asks (editAsked (c .made) (c .acked) (c .inserts) (c .len) e) ≡ 0)
+      go true t = (f t, sym (answer-is true t) ∙ z)
+      go false t = absurd (eqb-false 2 0 refl (sym (answer-is false t) ∙ z))
+
+  pub edit-not-allowed : (r ≡ 0 → ⊥) → refusedWith r c ≡ edited c e
+  edit-not-allowed n = go (sound c) refl
+    where
+      go : (b : Bool) → sound c ≡ b → refusedWith r c ≡ edited c e
+      go true t = edit-refused c (f t) e r (answer-is true t) n
+      go false t = ap (λ (k : ℕ). refusedWith k c) (answer-is false t) ∙ unsound c (editClient (view c) e) t
 
 pub inserts-few : (e : Edit) → insertsOf e ≤ 1
 inserts-few Nothing = omega arith

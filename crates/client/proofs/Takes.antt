@@ -27,7 +27,7 @@ use Rattle.model.specs.Client as client
 use Rattle.model.proofs.Tests.{yes-all, and-right}
 use Rattle.pending.specs.declared.Crossed.{Crossed}
 use Rattle.pending.specs.Slots.{placeOf, itemOf, editsFrom, filled, steps, crossed, Kept, Whole, Ready}
-use Rattle.pending.proofs.Slots.{edits-length, edits-drop, kept-places, kept-items, kept-ready}
+use Rattle.pending.proofs.Slots.{edits-length, edits-drop, filled-length, kept-places, kept-items, kept-ready}
 use Rattle.pending.proofs.Crossing.{steps-length, filled-over}
 use Rattle.endpoint.specs.Items.{stored, roomy}
 use Rattle.endpoint.specs.Line.{thenAsked}
@@ -35,13 +35,13 @@ use Rattle.endpoint.proofs.Line.{asks-append}
 use Rattle.endpoint.proofs.Room.{roomy-model, roomy-room, room-stored, room-length}
 use Rattle.client.specs.declared.Client.{Client}
 use Rattle.client.specs.declared.Answer as code
-use Rattle.client.specs.declared.taking.Counts.{Counts}
+use Rattle.client.specs.declared.Counts.{Counts}
 use Rattle.client.specs.declared.taking.Asked.{Asked}
 use Rattle.client.specs.declared.taking.Decision.{Decision}
-use Rattle.client.specs.Store.{view, store, Sound}
+use Rattle.client.specs.Store.{counts, view, store, sound, Sound, Sizes}
 use Rattle.client.specs.Answers.{guarded, taken}
-use Rattle.client.specs.Taking.{Between, takeAsked, ackAsked, askedEdit, askedAck, asked, Decidable, Decided, refusing, deciding, left, nine, editDone, editDecided, ackDone, decided, staying}
-use Rattle.client.proofs.Answers.{refused, done}
+use Rattle.client.specs.Taking.{Between, takeAsked, ackAsked, askedEdit, askedAck, asked, Decidable, Decided, refusing, deciding, left, nine, editDone, editDecided, ackDone, decided, staying, takeDecided, takeStaying, Droppable}
+use Rattle.client.proofs.Answers.{unsound, refused, done}
 use Rattle.client.proofs.Edits.{facts, len-few, items-stored}
 
 -- ---- questions
@@ -53,35 +53,35 @@ pub asked-no : (k : ℕ) (b : Bool) (qs : List Question) → b ≡ false → k �
 asked-no k b qs f = ap (λ (x : Bool). asks (ask k x ∷ qs)) (sym f)
 
 module _ (k : Counts) (h : Header) (e : Edit) where
-  pub take-seen : asks (takeAsked k h e) ≡ 0 → Between k (h .seen)
+  take-seen : asks (takeAsked k h e) ≡ 0 → Between k (h .seen)
   take-seen z =
       let y = yes-all (takeAsked k h e)
       (eqb-false 4 0 refl, (eqb-false 5 0 refl, (eqb-false 6 0 refl, (eqb-false 7 0 refl, (eqb-false 8 0 refl, tt))))) z in
       (leb-true (k .acked) (h .seen) (y .1 .1 .1 .0), leb-true (h .seen) (k .made) (y .1 .1 .1 .1 .0))
 
   -- 4 to 8, then 9
-  pub take-then : (b : Bool) → asks (takeAsked k h e ++ (ask 9 b ∷ [])) ≡ thenAsked (asks (takeAsked k h e)) (asks (ask 9 b ∷ []))
+  take-then : (b : Bool) → asks (takeAsked k h e ++ (ask 9 b ∷ [])) ≡ thenAsked (asks (takeAsked k h e)) (asks (ask 9 b ∷ []))
   take-then b =
       asks-append (takeAsked k h e) (ask 9 b ∷ [])
       (eqb-false 4 0 refl, (eqb-false 5 0 refl, (eqb-false 6 0 refl, (eqb-false 7 0 refl, (eqb-false 8 0 refl, tt)))))
 
-pub ack-seen : (k : Counts) (line direction seen : ℕ) → asks (ackAsked k line direction seen) ≡ 0 → Between k seen
+ack-seen : (k : Counts) (line direction seen : ℕ) → asks (ackAsked k line direction seen) ≡ 0 → Between k seen
 ack-seen k line direction seen z =
     let y = yes-all (ackAsked k line direction seen) (eqb-false 4 0 refl, (eqb-false 7 0 refl, (eqb-false 8 0 refl, tt))) z in
     (leb-true (k .acked) seen (y .1 .0), leb-true seen (k .made) (y .1 .1 .0))
 
 -- ---- deciding
 
-pub deciding-no : (r : ℕ) (d : Decision) → (r ≡ 0 → ⊥) → refusing r ≡ deciding r d
+deciding-no : (r : ℕ) (d : Decision) → (r ≡ 0 → ⊥) → refusing r ≡ deciding r d
 unfolding deciding
 deciding-no r d n = rw (ne-eqb r 0 n)
 
-pub deciding-yes : (r : ℕ) (d : Decision) → r ≡ 0 → d ≡ deciding r d
+deciding-yes : (r : ℕ) (d : Decision) → r ≡ 0 → d ≡ deciding r d
 unfolding deciding
 deciding-yes r d e = rw (eq-eqb r 0 e)
 
 -- a decision after a decision is that of the questions in a row
-pub deciding-then : (r n : ℕ) (d : Decision) → deciding r (deciding n d) ≡ deciding (thenAsked r n) d
+deciding-then : (r n : ℕ) (d : Decision) → deciding r (deciding n d) ≡ deciding (thenAsked r n) d
 unfolding deciding
 deciding-then r n d = go (eqb r 0) refl
   where
@@ -90,7 +90,7 @@ deciding-then r n d = go (eqb r 0) refl
     go false f = rw (f, f)
 
 -- a refusal says nothing of the lent array
-pub decided-no : (d : Decision) (stay : List Edit) (r : ℕ) (x : Decision) (later : List ℕ) → (r ≡ 0 → ⊥) → x ≡ refusing r → refusing r ≡ d → Decided d stay x later
+decided-no : (d : Decision) (stay : List Edit) (r : ℕ) (x : Decision) (later : List ℕ) → (r ≡ 0 → ⊥) → x ≡ refusing r → refusing r ≡ d → Decided d stay x later
 decided-no d stay r x later n ex ed =
     record { answer = ex ∙ ed; places = λ z. absurd (n (sym (ap (λ (y : Decision). y .refusal) ex) ∙ z)) }
 
@@ -102,7 +102,7 @@ module _ (k : Counts) (ps xs : List ℕ) (kept : Kept 0 (k .made - k .acked) ps 
   count-is : k .made - k .acked - (seen - k .acked) ≡ k .made - seen
   count-is = omega arith
 
-  pub left-edits : editsFrom ps xs (seen - k .acked) (k .made - seen) ≡ left k (editsFrom ps xs 0 (k .made - k .acked)) seen
+  left-edits : editsFrom ps xs (seen - k .acked) (k .made - seen) ≡ left k (editsFrom ps xs 0 (k .made - k .acked)) seen
   left-edits =
       sym (edits-drop ps xs 0 (k .made - k .acked) (seen - k .acked)
       ∙ ap (λ (i : ℕ). editsFrom ps xs i (k .made - k .acked - (seen - k .acked))) gone-is
@@ -120,13 +120,13 @@ module _ (k : Counts) (ps xs : List ℕ) (kept : Kept 0 (k .made - k .acked) ps 
       sym (ap (λ (i : ℕ). padded 0 maxPending (take (k .made - k .acked - (seen - k .acked)) (drop i ws))) gone-is
       ∙ ap (λ (n : ℕ). padded 0 maxPending (take n (drop (seen - k .acked) ws))) count-is) ∙ e
 
-  pub left-places : padded 0 maxPending (take (k .made - seen) (drop (seen - k .acked) ps))
+  left-places : padded 0 maxPending (take (k .made - seen) (drop (seen - k .acked) ps))
       ≡ filled placeOf (left k (editsFrom ps xs 0 (k .made - k .acked)) seen)
   left-places =
       moved-down ps (filled placeOf (left k (editsFrom ps xs 0 (k .made - k .acked)) seen))
       (kept-places 0 (k .made - k .acked) ps xs kept room (seen - k .acked))
 
-  pub left-items : padded 0 maxPending (take (k .made - seen) (drop (seen - k .acked) xs))
+  left-items : padded 0 maxPending (take (k .made - seen) (drop (seen - k .acked) xs))
       ≡ filled itemOf (left k (editsFrom ps xs 0 (k .made - k .acked)) seen)
   left-items =
       moved-down xs (filled itemOf (left k (editsFrom ps xs 0 (k .made - k .acked)) seen))
@@ -196,7 +196,7 @@ module _ (k : Counts) (ps xs zeros : List ℕ) (ok : Decidable k ps xs zeros) (s
           places = λ _. el ∙ ap (λ (l : List Edit). filled placeOf (over e l)) rest-is;
         }
 
--- The decision of what was asked by its three ends.
+-- The decision of what was asked of a sound client by its three ends.
 module _ (k : Counts) (ps xs zeros : List ℕ) (ok : Decidable k ps xs zeros) (q : Asked) (r : Read) (eq : q ≡ asked k r) (x : Decision) (later : List ℕ) where
   abbrev all : List Edit
   all = editsFrom ps xs 0 (k .made - k .acked)
@@ -233,10 +233,6 @@ module _ (k : Counts) (ps xs zeros : List ℕ) (ok : Decidable k ps xs zeros) (q
         )
 
 -- ---- what a decision makes of a client
-
--- the counts that a message is held against
-abbrev pub counts : Client → Counts
-counts c = record { n = c .n; line = c .line; made = c .made; taken = c .taken; acked = c .acked; inserts = c .inserts; len = c .len }
 
 -- the decision for a client that becomes new by an edit f
 abbrev becoming : ℕ → Edit → client.Client → Decision
@@ -298,7 +294,7 @@ module _ (c : Client) (s : Sound c) (d : Decision) (stay : List Edit) (a : Answe
       go true t = ap (λ (x : Decision). x .refusal) (sym (deciding-yes (v .asked) (becoming (v .passed) (v .edit) (v .new)) (eqb-true (v .asked) 0 t))) ∙ sym (eqb-true (v .asked) 0 t)
       go false f = ap (λ (x : Decision). x .refusal) (sym (deciding-no (v .asked) (becoming (v .passed) (v .edit) (v .new)) (eqb-false (v .asked) 0 f)))
 
-  pub decided-refused : (d .refusal ≡ 0 → ⊥) → record { refusal = d .refusal; passed = d .passed; client = c } ≡ guarded c a
+  decided-refused : (d .refusal ≡ 0 → ⊥) → record { refusal = d .refusal; passed = d .passed; client = c } ≡ guarded c a
   decided-refused n =
       let m : v .asked ≡ 0 → ⊥ = λ z. n (refusal-is ∙ z) in
       ap (λ (x : Decision). record { refusal = x .refusal; passed = x .passed; client = c })
@@ -312,25 +308,20 @@ module _ (c : Client) (s : Sound c) (d : Decision) (stay : List Edit) (a : Answe
     becomes : d ≡ becoming (v .passed) (v .edit) (v .new)
     becomes = v .is ∙ sym (deciding-yes (v .asked) (becoming (v .passed) (v .edit) (v .new)) asked-none)
 
-    pub decided-room : Room (d .edit) (c .len) maxItems
+    decided-room : Room (d .edit) (c .len) maxItems
     decided-room =
         subst (λ (x : Decision). Room (x .edit) (c .len) maxItems) (sym becomes)
         (roomy-room (v .edit) (c .len) (len-few c s) (v .right asked-none .room))
 
-    pub decided-seen : Between (counts c) (d .acked)
+    decided-seen : Between (counts c) (d .acked)
     decided-seen = subst (λ (x : Decision). Between (counts c) (x .acked)) (sym becomes) (v .right asked-none .between)
 
-    -- the items of the edits that are not acknowledged: moved down, or all as they were
-    pub items-moved : padded 0 maxPending (take (c .made - d .acked) (drop (d .acked - c .acked) (c .«pending_items»)))
+    -- the items of the edits that are not acknowledged
+    items-moved : padded 0 maxPending (take (c .made - d .acked) (drop (d .acked - c .acked) (c .«pending_items»)))
         ≡ filled itemOf (left (counts c) (view c .pending) (d .acked))
     items-moved = left-items (counts c) (c .«pending_places») (c .«pending_items») (s .kept) (s .room) (d .acked) decided-seen
 
-    pub items-same : d .acked ≤ c .acked → c .«pending_items» ≡ filled itemOf (left (counts c) (view c .pending) (d .acked))
-    items-same h =
-        let none : 0 ≡ d .acked - c .acked = omega arith in
-        ap (λ (x : Client). x .«pending_items») (s .whole) ∙ ap (λ (n : ℕ). filled itemOf (drop n (view c .pending))) none
-
-    pub decided-done : (len : ℕ) (after places items : List ℕ) → Edited (d .edit) (c .len) (c .items) after len → places ≡ filled placeOf stay
+    decided-done : (len : ℕ) (after places items : List ℕ) → Edited (d .edit) (c .len) (c .items) after len → places ≡ filled placeOf stay
         → items ≡ filled itemOf (left (counts c) (view c .pending) (d .acked))
         → record { refusal = d .refusal; passed = d .passed; client = moved c (d .taken) (d .acked) len after places items } ≡ guarded c a
     decided-done len after places items ed ep ei =
@@ -455,9 +446,91 @@ module _ (c : Client) (s : Sound c) where
   read-decides (read.Message (message.Nothing h)) = edit-decides h Nothing
   read-decides (read.Message (message.Ack l d n)) = ack-decides l d n
 
-  pub bytes-decided : (bytes : List ℕ) (d : Decision) → d ≡ decided (counts c) (view c .pending) (asked (counts c) (parsed bytes))
+  bytes-decided : (bytes : List ℕ) (d : Decision) → d ≡ decided (counts c) (view c .pending) (asked (counts c) (parsed bytes))
       → Decides c d (staying (counts c) (view c .pending) (asked (counts c) (parsed bytes))) (client.takeClient (view c) bytes)
   unfolding client.takeClient
   bytes-decided bytes d e =
       subst (λ (x : Decision). Decides c x (staying (counts c) (view c .pending) (asked (counts c) (parsed bytes))) (client.takeClient (view c) bytes))
       (sym e) (read-decides (parsed bytes))
+
+-- The decision with question 2.
+module _ (c : Client) (bytes : List ℕ) (x : Decision) (later : List ℕ) where
+  pub decided-sound : sound c ≡ true → Decided (decided (counts c) (view c .pending) (asked (counts c) (parsed bytes))) (takeStaying c bytes) x later
+      → Decided (takeDecided c bytes) (takeStaying c bytes) x later
+  decided-sound t v =
+      record {
+        answer = v .answer ∙ ap (λ (b : Bool). cond b (decided (counts c) (view c .pending) (asked (counts c) (parsed bytes))) (refusing 2)) (sym t);
+        places = v .places;
+      }
+
+  pub decided-unsound : sound c ≡ false → x ≡ refusing 2 → Decided (takeDecided c bytes) (takeStaying c bytes) x later
+  decided-unsound t ex =
+      decided-no (takeDecided c bytes) (takeStaying c bytes) 2 x later (eqb-false 2 0 refl) ex
+      (ap (λ (b : Bool). cond b (decided (counts c) (view c .pending) (asked (counts c) (parsed bytes))) (refusing 2)) (sym t))
+
+-- What is written by it.
+module _ (c : Client) (bytes : List ℕ) (d : Decision) (later : List ℕ) (f : sound c ≡ true → Sound c) (v : Decided (takeDecided c bytes) (takeStaying c bytes) d later) where
+  decision-is : (b : Bool) → sound c ≡ b → d ≡ cond b (decided (counts c) (view c .pending) (asked (counts c) (parsed bytes))) (refusing 2)
+  decision-is b t =
+      v .answer ∙ ap (λ (x : Bool). cond x (decided (counts c) (view c .pending) (asked (counts c) (parsed bytes))) (refusing 2)) t
+
+  abbrev Model : Type 0
+  Model = Decides c d (takeStaying c bytes) (client.takeClient (view c) bytes)
+
+  pub take-refused : (d .refusal ≡ 0 → ⊥) → record { refusal = d .refusal; passed = d .passed; client = c } ≡ taken c bytes
+  take-refused n = go (sound c) refl
+    where
+      go : (b : Bool) → sound c ≡ b → record { refusal = d .refusal; passed = d .passed; client = c } ≡ taken c bytes
+      go true t =
+          decided-refused c (f t) d (takeStaying c bytes) (client.takeClient (view c) bytes) (bytes-decided c (f t) bytes d (decision-is true t)) n
+      go false t =
+          ap (λ (x : Decision). record { refusal = x .refusal; passed = x .passed; client = c }) (decision-is false t)
+          ∙ unsound c (client.takeClient (view c) bytes) t
+
+  module _ (z : d .refusal ≡ 0) where
+    let-through : Sound c × Model
+    let-through = go (sound c) refl
+      where
+        go : (b : Bool) → sound c ≡ b → Sound c × Model
+        go true t = (f t, bytes-decided c (f t) bytes d (decision-is true t))
+        go false t = absurd (eqb-false 2 0 refl (sym (ap (λ (x : Decision). x .refusal) (decision-is false t)) ∙ z))
+
+    pub take-room : Room (d .edit) (c .len) maxItems
+    take-room = decided-room c (let-through .0) d (takeStaying c bytes) (client.takeClient (view c) bytes) (let-through .1) z
+
+    pub take-droppable : Droppable (c .made) (c .acked) (d .acked) (c .«pending_items»)
+    take-droppable =
+        let s = let-through .0 in
+        let all-left : c .made - c .acked - 0 ≡ c .made - c .acked = omega arith in
+        let between = decided-seen c s d (takeStaying c bytes) (client.takeClient (view c) bytes) (let-through .1) z in
+        record {
+          low = between .0;
+          high = between .1;
+          few = s .kept .few;
+          size =
+              ap (λ (x : Client). length (x .«pending_items»)) (s .whole)
+              ∙ filled-length itemOf (view c .pending)
+              (omega (arith, s .kept .few, edits-length (c .«pending_places») (c .«pending_items») 0 (c .made - c .acked)));
+          unused =
+              sym (ap (λ (n : ℕ). padded 0 maxPending (take n (c .«pending_items»))) all-left)
+              ∙ kept-items 0 (c .made - c .acked) (c .«pending_places») (c .«pending_items») (s .kept) (s .room) 0
+              ∙ sym (ap (λ (x : Client). x .«pending_items») (s .whole));
+        }
+
+    pub take-done : (len : ℕ) (after items : List ℕ) → Edited (d .edit) (c .len) (c .items) after len
+        → items ≡ padded 0 maxPending (take (c .made - d .acked) (drop (d .acked - c .acked) (c .«pending_items»)))
+        → record { refusal = d .refusal; passed = d .passed; client = moved c (d .taken) (d .acked) len after later items } ≡ taken c bytes
+    take-done len after items ed ei =
+        let s = let-through .0 in
+        let m = let-through .1 in
+        decided-done c s d (takeStaying c bytes) (client.takeClient (view c) bytes) m z len after later items ed (v .places z)
+        (ei ∙ items-moved c s d (takeStaying c bytes) (client.takeClient (view c) bytes) m z)
+
+-- Where nothing new is acknowledged the items are those that stay.
+pub nothing-dropped : (made acked seen : ℕ) (xs : List ℕ) → Droppable made acked seen xs → seen ≤ acked
+    → xs ≡ padded 0 maxPending (take (made - seen) (drop (seen - acked) xs))
+nothing-dropped made acked seen xs ok h =
+    let same : acked ≡ seen = omega (arith, ok .low) in
+    let none : 0 ≡ seen - acked = omega arith in
+    sym (ok .unused) ∙ ap (λ (n : ℕ). padded 0 maxPending (take (made - n) xs)) same
+    ∙ ap (λ (n : ℕ). padded 0 maxPending (take (made - seen) (drop n xs))) none

@@ -11,18 +11,26 @@ use Rattle.model.specs.Client as model
 use Rattle.pending.specs.Slots.{placeOf, itemOf, editsFrom, filled, soundSlots, Kept, Whole}
 use Rattle.endpoint.specs.Items.{stored, allZero}
 use Rattle.client.specs.declared.Client.{Client}
+use Rattle.client.specs.declared.Counts.{Counts}
 
--- a client of its parts
-abbrev pub clientOf : ℕ → ℕ → ℕ → ℕ → ℕ → ℕ → ℕ → List ℕ → List ℕ → List ℕ → Client
-clientOf n line made taken acked inserts len items places pending =
+-- the numbers of a client, and a client of its parts
+abbrev pub countsOf : ℕ → ℕ → ℕ → ℕ → ℕ → ℕ → ℕ → Counts
+countsOf n line made taken acked inserts len =
+    record { n = n; line = line; made = made; taken = taken; acked = acked; inserts = inserts; len = len }
+
+abbrev pub counts : Client → Counts
+counts c = countsOf (c .n) (c .line) (c .made) (c .taken) (c .acked) (c .inserts) (c .len)
+
+abbrev pub clientOf : Counts → List ℕ → List ℕ → List ℕ → Client
+clientOf k items places pending =
     record {
-      n = n;
-      line = line;
-      made = made;
-      taken = taken;
-      acked = acked;
-      inserts = inserts;
-      len = len;
+      n = k .n;
+      line = k .line;
+      made = k .made;
+      taken = k .taken;
+      acked = k .acked;
+      inserts = k .inserts;
+      len = k .len;
       items = items;
       «pending_places» = places;
       «pending_items» = pending;

@@ -4,14 +4,16 @@ use mathlib.Core.Path.{_≡_}
 use mathlib.Core.Bool.{Bool, true, false, _&&_, cond}
 use mathlib.Core.List.{List, [], _∷_}
 use lib.Dec.{eqb}
-use lib.ListN.{drop, replicate}
+use lib.ListN.{length, take, drop, replicate}
 use Rattle.ot.specs.declared.Edit.{Edit}
 use Rattle.ot.specs.declared.Edit.the-variants.{Nothing, Delete, Insert}
+use Rattle.ot.specs.Items.{padded}
 use Rattle.wire.specs.declared.Header.{Header}
 use Rattle.wire.specs.declared.Message.{Message}
 use Rattle.wire.specs.declared.Message.the-variants as message
 use Rattle.wire.specs.declared.Read.{Read}
 use Rattle.wire.specs.declared.Read.the-variants as read
+use Rattle.wire.specs.Bytes.{parsed}
 use Rattle.model.specs.Limits.{maxOthers, maxPending}
 use Rattle.model.specs.Cross.{past, over, allPlaced, priority}
 use Rattle.model.specs.Questions.{Question, ask, asks}
@@ -19,9 +21,11 @@ use Rattle.model.specs.Client.{other}
 use Rattle.pending.specs.Slots.{placeOf, filled, Kept, Whole}
 use Rattle.endpoint.specs.Items.{roomy}
 use Rattle.endpoint.specs.Line.{seenQuestions, editQuestions}
-use Rattle.client.specs.declared.taking.Counts.{Counts}
+use Rattle.client.specs.declared.Client.{Client}
+use Rattle.client.specs.declared.Counts.{Counts}
 use Rattle.client.specs.declared.taking.Asked.{Asked}
 use Rattle.client.specs.declared.taking.Decision.{Decision}
+use Rattle.client.specs.Store.{counts, view, sound}
 
 -- ---- the questions, by the counts
 
@@ -100,3 +104,20 @@ decided k es q = deciding (q .refusal) (cond (q .carries) (editDecided k es (q .
 -- the pending edits that stay, in their forms after an edit
 abbrev pub staying : Counts → List Edit → Asked → List Edit
 staying k es q = cond (q .carries) (over (q .edit) (left k es (q .seen))) (left k es (q .seen))
+
+-- ---- from the client and the bytes
+
+-- a client that is not sound is refused by question 2
+abbrev pub takeDecided : Client → List ℕ → Decision
+takeDecided c bytes = cond (sound c) (decided (counts c) (view c .pending) (asked (counts c) (parsed bytes))) (refusing 2)
+
+abbrev pub takeStaying : Client → List ℕ → List Edit
+takeStaying c bytes = staying (counts c) (view c .pending) (asked (counts c) (parsed bytes))
+
+-- What dropping items asks: some edits are acknowledged, and behind the items of the pending edits are zeros.
+pub record Droppable (made acked seen : ℕ) (xs : List ℕ) : Type 0 where
+  pub low : acked ≤ seen
+  pub high : seen ≤ made
+  pub few : made - acked ≤ maxPending
+  pub size : length xs ≡ maxPending
+  pub unused : padded 0 maxPending (take (made - acked) xs) ≡ xs

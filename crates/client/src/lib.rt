@@ -2,7 +2,7 @@
 ghost use mathlib.Core.Path.{_≡_};
 ghost use mathlib.Core.Bool.{true};
 ghost use Prim.Native.Nat.{_-_};
-ghost use Rattle.client.specs.Store.{fresh, countTests, clientOf, sound, Sound, Sizes};
+ghost use Rattle.client.specs.Store.{fresh, countTests, countsOf, clientOf, sound, Sound, Sizes};
 ghost use Rattle.client.specs.Answers.{opened};
 ghost use Rattle.model.specs.Questions.{every};
 
@@ -27,6 +27,17 @@ pub struct Client {
     // edits acked + 1 to made, in their present form: where each stands, position * 256 + priority, and its item
     pub pending_places: [u32; Client::PENDING],
     pub pending_items: [u32; Client::PENDING],
+}
+
+// The numbers of a client. Functions that only ask get these and lent arrays, since a client by value is copied at each call.
+struct Counts {
+    n: u8,
+    line: u8,
+    made: u16,
+    taken: u16,
+    acked: u16,
+    inserts: u16,
+    len: u16,
 }
 
 // What a call answers: 0 or the number of the question that said no, how many pending edits the edit was transformed past, and
@@ -55,8 +66,8 @@ fn counts_sound(n: u8, line: u8, made: u16, taken: u16, acked: u16, inserts: u16
     lines & own & counts & few & (len as usize <= Client::ITEMS)
 }
 
-// Question 2. Every test is made whatever the others find. The parts of a client come one by one: a client by value would be copied,
-// and a struct of the numbers makes the processor wait for each of them to be written.
+// Question 2. Every test is made whatever the others find. The numbers come one by one, since four functions call this one, and a struct
+// of them would go through memory.
 fn is_sound<'a>(
     n: u8,
     line: u8,
@@ -70,8 +81,8 @@ fn is_sound<'a>(
     pending: &'a [u32],
 ) -> bool
     requires { ⌜ Sizes (now items) (now places) (now pending) ⌝ }
-    ensures answer { λ r. ⌜ r ≡ sound (clientOf n line made taken acked inserts len (now (items .entry)) (now (places .entry)) (now (pending .entry))) ⌝ }
-    ensures facts { λ r. ⌜ (r ≡ true → Sound (clientOf n line made taken acked inserts len (now (items .entry)) (now (places .entry)) (now (pending .entry)))) ⌝ }
+    ensures answer { λ r. ⌜ r ≡ sound (clientOf (countsOf n line made taken acked inserts len) (now (items .entry)) (now (places .entry)) (now (pending .entry))) ⌝ }
+    ensures facts { λ r. ⌜ (r ≡ true → Sound (clientOf (countsOf n line made taken acked inserts len) (now (items .entry)) (now (places .entry)) (now (pending .entry)))) ⌝ }
 {
     let count = less(made, acked) as usize;
     counts_sound(n, line, made, taken, acked, inserts, len)

@@ -1,10 +1,11 @@
 // Sending, which changes no end: a pending edit in its present form, or an acknowledgement of what was taken.
 ghost use mathlib.Core.Path.{_≡_};
 ghost use Rattle.model.specs.Questions.{asks};
-ghost use Rattle.endpoint.specs.Sending.{answered, finished};
-ghost use Rattle.wire.specs.declared.Message.the-variants as message;
+ghost use Rattle.endpoint.specs.Sending.{answered};
+ghost use Rattle.client.specs.Store.{clientOf, Sizes};
 ghost use Rattle.client.specs.Answers.{lineQuestion, sendQuestions, messageAt, sentEdit, sentAck};
 use crate::Client;
+use crate::Counts;
 use endpoint::Sent;
 use wire::Header;
 use wire::Message;
@@ -53,30 +54,72 @@ fn message<'a>(
     wire::of_edit(h, pending::at(places, items, i))
 }
 
-// Writes the message of edit number k, unless a question says no.
+// Writes the message of edit number i, unless a question says no.
 fn write_edit<'a>(
-    own: u8,
-    made: u16,
-    taken: u16,
-    acked: u16,
-    places: &'a [u32],
+    k: Counts,
     items: &'a [u32],
+    places: &'a [u32],
+    pending: &'a [u32],
     line: u8,
-    k: u16,
+    i: u16,
     out: &mut [u8],
 ) -> Sent
-    ensures { λ r. ⌜ answered r (now (out .exit)) ≡ finished (asks (sendQuestions own made acked line k)) (messageAt own taken acked (now (places .entry)) (now (items .entry)) k) (now (out .entry)) ⌝ }
+    requires { ⌜ Sizes (now items) (now places) (now pending) ⌝ }
+    ensures { λ r. ⌜ answered r (now (out .exit)) ≡ sentEdit (clientOf k (now (items .entry)) (now (places .entry)) (now (pending .entry))) line i (now (out .entry)) ⌝ }
 {
-    let refusal = ask_sending(own, made, acked, line, k);
-    let m = message(own, taken, acked, places, items, k);
-    endpoint::finish(refusal, m, out)
+    if crate::is_sound(
+        k.n,
+        k.line,
+        k.made,
+        k.taken,
+        k.acked,
+        k.inserts,
+        k.len,
+        items,
+        places,
+        pending,
+    ) {
+        let refusal = ask_sending(k.line, k.made, k.acked, line, i);
+        let m = message(k.line, k.taken, k.acked, places, pending, i);
+        return endpoint::finish(refusal, m, out);
+    }
+    Sent {
+        refusal: 2,
+        written: 0,
+    }
 }
 
 // Writes an acknowledgement of the edits taken, unless a question says no.
-fn write_ack(own: u8, taken: u16, line: u8, out: &mut [u8]) -> Sent
-    ensures { λ r. ⌜ answered r (now (out .exit)) ≡ finished (asks (lineQuestion own line)) (message.Ack own 0 taken) (now (out .entry)) ⌝ }
+fn write_ack<'a>(
+    k: Counts,
+    items: &'a [u32],
+    places: &'a [u32],
+    pending: &'a [u32],
+    line: u8,
+    out: &mut [u8],
+) -> Sent
+    requires { ⌜ Sizes (now items) (now places) (now pending) ⌝ }
+    ensures { λ r. ⌜ answered r (now (out .exit)) ≡ sentAck (clientOf k (now (items .entry)) (now (places .entry)) (now (pending .entry))) line (now (out .entry)) ⌝ }
 {
-    endpoint::finish(ask_line(own, line), Message::Ack(own, 0, taken), out)
+    if crate::is_sound(
+        k.n,
+        k.line,
+        k.made,
+        k.taken,
+        k.acked,
+        k.inserts,
+        k.len,
+        items,
+        places,
+        pending,
+    ) {
+        let refusal = ask_line(k.line, line);
+        return endpoint::finish(refusal, Message::Ack(k.line, 0, k.taken), out);
+    }
+    Sent {
+        refusal: 2,
+        written: 0,
+    }
 }
 
 impl Client {
@@ -84,57 +127,46 @@ impl Client {
     pub fn send(self, line: u8, k: u16, out: &mut [u8]) -> Sent
         ensures { λ r. ⌜ answered r (now (out .exit)) ≡ sentEdit self line k (now (out .entry)) ⌝ }
     {
-        if crate::is_sound(
-            self.n,
-            self.line,
-            self.made,
-            self.taken,
-            self.acked,
-            self.inserts,
-            self.len,
+        let c = Counts {
+            n: self.n,
+            line: self.line,
+            made: self.made,
+            taken: self.taken,
+            acked: self.acked,
+            inserts: self.inserts,
+            len: self.len,
+        };
+        write_edit(
+            c,
             &self.items,
             &self.pending_places,
             &self.pending_items,
-        ) {
-            return write_edit(
-                self.line,
-                self.made,
-                self.taken,
-                self.acked,
-                &self.pending_places,
-                &self.pending_items,
-                line,
-                k,
-                out,
-            );
-        }
-        Sent {
-            refusal: 2,
-            written: 0,
-        }
+            line,
+            k,
+            out,
+        )
     }
 
     // Writes an acknowledgement of all edits taken into the lent buffer.
     pub fn tell(self, line: u8, out: &mut [u8]) -> Sent
         ensures { λ r. ⌜ answered r (now (out .exit)) ≡ sentAck self line (now (out .entry)) ⌝ }
     {
-        if crate::is_sound(
-            self.n,
-            self.line,
-            self.made,
-            self.taken,
-            self.acked,
-            self.inserts,
-            self.len,
+        let c = Counts {
+            n: self.n,
+            line: self.line,
+            made: self.made,
+            taken: self.taken,
+            acked: self.acked,
+            inserts: self.inserts,
+            len: self.len,
+        };
+        write_ack(
+            c,
             &self.items,
             &self.pending_places,
             &self.pending_items,
-        ) {
-            return write_ack(self.line, self.taken, line, out);
-        }
-        Sent {
-            refusal: 2,
-            written: 0,
-        }
+            line,
+            out,
+        )
     }
 }

@@ -1,32 +1,26 @@
 // Taking: a message from the server, an edit of another client or an acknowledgement.
 ghost use mathlib.Core.Path.{_≡_};
+ghost use mathlib.Core.Bool.{true};
 ghost use Prim.Native.Nat.{_≤_, _-_};
+ghost use lib.ListN.{take, drop, replicate};
 ghost use Rattle.ot.specs.Edit.{positionOf};
+ghost use Rattle.ot.specs.Items.{padded};
 ghost use Rattle.wire.specs.Bytes.{parsed};
-ghost use Rattle.model.specs.Limits.{maxItems};
+ghost use Rattle.model.specs.Limits.{maxItems, maxPending};
 ghost use Rattle.model.specs.Cross.{priority, over};
 ghost use Rattle.model.specs.Questions.{asks};
 ghost use Rattle.model.specs.Client as client;
 ghost use Rattle.pending.specs.Slots.{editsFrom};
 ghost use Rattle.client.specs.Answers.{taken};
-ghost use Rattle.client.specs.Taking.{Between, takeAsked, ackAsked, askedEdit, askedAck, asked, refusing, left, editDecided, decided, staying, Decidable, Decided};
+ghost use Rattle.client.specs.Store.{clientOf, sound, Sound, Sizes};
+ghost use Rattle.client.specs.Taking.{Between, takeAsked, ackAsked, askedEdit, askedAck, asked, refusing, left, editDecided, takeDecided, takeStaying, Decidable, Decided, Droppable};
 use crate::Answer;
 use crate::Client;
+use crate::Counts;
 use ot::Edit;
 use wire::Header;
 use wire::Message;
 use wire::Read;
-
-// The numbers of a client, which a message is held against.
-struct Counts {
-    n: u8,
-    line: u8,
-    made: u16,
-    taken: u16,
-    acked: u16,
-    inserts: u16,
-    len: u16,
-}
 
 // What was read, once it has been asked: 0 or the first of questions 3 to 8 that says no, the edits that the message says were seen,
 // whether it carries an edit, and that edit.
@@ -162,33 +156,60 @@ fn decide_edit<'a>(
 // What the bytes make of a client. An acknowledgement only drops the pending edits up to seen.
 fn decide<'a>(
     k: Counts,
-    places: &'a [u32],
     items: &'a [u32],
+    places: &'a [u32],
+    pending: &'a [u32],
     bytes: &[u8],
     later: &mut [u32; 64],
 ) -> Decision
-    requires { ⌜ Decidable k (now places) (now items) (now later) ⌝ }
-    ensures { λ r. ⌜ Decided (decided k (editsFrom (now (places .entry)) (now (items .entry)) 0 (k .made - k .acked)) (asked k (parsed (now (bytes .entry))))) (staying k (editsFrom (now (places .entry)) (now (items .entry)) 0 (k .made - k .acked)) (asked k (parsed (now (bytes .entry))))) r (now (later .exit)) ⌝ }
+    requires { ⌜ Sizes (now items) (now places) (now pending) × (now later ≡ replicate maxPending 0) ⌝ }
+    ensures answer { λ r. ⌜ Decided (takeDecided (clientOf k (now (items .entry)) (now (places .entry)) (now (pending .entry))) (now (bytes .entry))) (takeStaying (clientOf k (now (items .entry)) (now (places .entry)) (now (pending .entry))) (now (bytes .entry))) r (now (later .exit)) ⌝ }
+    ensures facts { λ r. ⌜ (sound (clientOf k (now (items .entry)) (now (places .entry)) (now (pending .entry))) ≡ true → Sound (clientOf k (now (items .entry)) (now (places .entry)) (now (pending .entry)))) ⌝ }
 {
-    let q = ask(k, bytes);
-    if q.refusal != 0 {
-        return refusing(q.refusal);
-    }
-    if q.carries {
-        let e = q.edit;
-        return decide_edit(k, places, items, q.seen, e, later);
-    }
-    *later = pending::acked(
+    if crate::is_sound(
+        k.n,
+        k.line,
+        k.made,
+        k.taken,
+        k.acked,
+        k.inserts,
+        k.len,
+        items,
         places,
-        (q.seen - k.acked) as usize,
-        (k.made - q.seen) as usize,
-    );
-    Decision {
-        refusal: 0,
-        passed: 0,
-        taken: k.taken,
-        acked: q.seen,
-        edit: Edit::Nothing,
+        pending,
+    ) {
+        let q = ask(k, bytes);
+        if q.refusal != 0 {
+            return refusing(q.refusal);
+        }
+        if q.carries {
+            let e = q.edit;
+            return decide_edit(k, places, pending, q.seen, e, later);
+        }
+        *later = pending::acked(
+            places,
+            (q.seen - k.acked) as usize,
+            (k.made - q.seen) as usize,
+        );
+        return Decision {
+            refusal: 0,
+            passed: 0,
+            taken: k.taken,
+            acked: q.seen,
+            edit: Edit::Nothing,
+        };
+    }
+    refusing(2)
+}
+
+// The items of the pending edits after seen. Where nothing new is acknowledged they stay where they are.
+fn drop_items(items: &mut [u32; 64], made: u16, acked: u16, seen: u16)
+    requires { ⌜ Droppable made acked seen (now items) ⌝ }
+    ensures { λ _. ⌜ now (items .exit) ≡ padded 0 maxPending (take (made - seen) (drop (seen - acked) (now (items .entry)))) ⌝ }
+{
+    if acked < seen {
+        let before = *items;
+        *items = pending::acked(&before, (seen - acked) as usize, (made - seen) as usize);
     }
 }
 
@@ -206,52 +227,26 @@ impl Client {
             inserts: self.inserts,
             len: self.len,
         };
-        if crate::is_sound(
-            k.n,
-            k.line,
-            k.made,
-            k.taken,
-            k.acked,
-            k.inserts,
-            k.len,
+        let mut later = [0u32; 64];
+        let d = decide(
+            k,
             &self.items,
             &self.pending_places,
             &self.pending_items,
-        ) {
-            let mut later = [0u32; 64];
-            let d = decide(
-                k,
-                &self.pending_places,
-                &self.pending_items,
-                bytes,
-                &mut later,
-            );
-            if d.refusal == 0 {
-                let e = d.edit;
-                self.len = ot::apply(&mut self.items, k.len, e);
-                self.pending_places = later;
-                self.taken = d.taken;
-                self.acked = d.acked;
-                // where nothing new is acknowledged the items stay as they are
-                if k.acked < d.acked {
-                    let gone = (d.acked - k.acked) as usize;
-                    let items = pending::acked(
-                        &self.pending_items,
-                        gone,
-                        (k.made - d.acked) as usize,
-                    );
-                    self.pending_items = items;
-                }
-            }
-            return Answer {
-                refusal: d.refusal,
-                passed: d.passed,
-                client: self,
-            };
+            bytes,
+            &mut later,
+        );
+        if d.refusal == 0 {
+            let e = d.edit;
+            self.len = ot::apply(&mut self.items, k.len, e);
+            drop_items(&mut self.pending_items, k.made, k.acked, d.acked);
+            self.pending_places = later;
+            self.taken = d.taken;
+            self.acked = d.acked;
         }
         Answer {
-            refusal: 2,
-            passed: 0,
+            refusal: d.refusal,
+            passed: d.passed,
             client: self,
         }
     }

@@ -1,5 +1,5 @@
 use Rattle.client.proofs.Sound.{answers}
-use Rattle.client.specs.Store.{clientOf}
+use Rattle.client.specs.Store.{countsOf, clientOf}
 use denote.Ref.{now}
 use borrow.Author.Needs.{needs}
 use Rattle.client.proofs.is_sound.Statement.{statement}
@@ -21,7 +21,7 @@ sound-requires : tie.Need-sound-requires
 sound-requires c κs = search needs
 
 returns : tie.Need-returns
-returns c = answers (clientOf (c .before .before .before .before .before .before .before .args .n) (c .before .before .before .before .before .before .before .args .line) (c .before .before .before .before .before .before .before .args .made) (c .before .before .before .before .before .before .before .args .taken) (c .before .before .before .before .before .before .before .args .acked) (c .before .before .before .before .before .before .before .args .inserts) (c .before .before .before .before .before .before .before .args .len) (now (c .before .before .before .before .before .before .before .args .items)) (now (c .before .before .before .before .before .before .before .args .places)) (now (c .before .before .before .before .before .before .before .args .pending))) (c .before .before .before .before .before .before .before .pre) (c .before .before .before .less .result) (c .before .before .counts-sound .result) (c .before .zero-from .result) (c .sound .result) (c .before .before .before .less .ensures) (c .before .before .counts-sound .ensures) (c .before .zero-from .ensures) (c .sound .ensures .answer)
+returns c = answers (clientOf (countsOf (c .before .before .before .before .before .before .before .args .n) (c .before .before .before .before .before .before .before .args .line) (c .before .before .before .before .before .before .before .args .made) (c .before .before .before .before .before .before .before .args .taken) (c .before .before .before .before .before .before .before .args .acked) (c .before .before .before .before .before .before .before .args .inserts) (c .before .before .before .before .before .before .before .args .len)) (now (c .before .before .before .before .before .before .before .args .items)) (now (c .before .before .before .before .before .before .before .args .places)) (now (c .before .before .before .before .before .before .before .args .pending))) (c .before .before .before .before .before .before .before .pre) (c .before .before .before .less .result) (c .before .before .counts-sound .result) (c .before .zero-from .result) (c .sound .result) (c .before .before .before .less .ensures) (c .before .before .counts-sound .ensures) (c .before .zero-from .ensures) (c .sound .ensures .answer)
 
 pub is-sound-spec : {M : Type 1} → statement M
 is-sound-spec =
