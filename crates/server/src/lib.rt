@@ -31,12 +31,12 @@ pub struct Server {
     pub pending_items: [u32; 512],
 }
 
-// What opening and taking answer: 0 or the number of the question that said no, how many pending edits an edit was transformed past,
-// and the end.
+// What opening and taking answer: the end, 0 or the number of the question that said no, and how many pending edits an edit was
+// transformed past. The end stands first, where copying it is fastest.
 pub struct Answer {
+    pub server: Server,
     pub refusal: u8,
     pub passed: u16,
-    pub server: Server,
 }
 
 // ---- question 2
