@@ -34,11 +34,10 @@ use Rattle.endpoint.specs.Line.{thenAsked}
 use Rattle.endpoint.proofs.Line.{asks-append}
 use Rattle.endpoint.proofs.Room.{roomy-model, roomy-room, room-stored, room-length}
 use Rattle.client.specs.declared.Client.{Client}
-use Rattle.client.specs.declared.Answer as code
 use Rattle.client.specs.declared.Counts.{Counts}
 use Rattle.client.specs.declared.taking.Asked.{Asked}
 use Rattle.client.specs.declared.taking.Decision.{Decision}
-use Rattle.client.specs.Store.{counts, view, store, sound, Sound, Sizes}
+use Rattle.client.specs.Store.{counts, view, store, sound, Sound}
 use Rattle.client.specs.Answers.{guarded, taken}
 use Rattle.client.specs.Taking.{Between, takeAsked, ackAsked, askedEdit, askedAck, asked, Decidable, Decided, refusing, deciding, left, nine, editDone, editDecided, ackDone, decided, staying, takeDecided, takeStaying, Droppable}
 use Rattle.client.proofs.Answers.{unsound, refused, done}

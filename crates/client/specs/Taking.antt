@@ -114,7 +114,7 @@ takeDecided c bytes = cond (sound c) (decided (counts c) (view c .pending) (aske
 abbrev pub takeStaying : Client → List ℕ → List Edit
 takeStaying c bytes = staying (counts c) (view c .pending) (asked (counts c) (parsed bytes))
 
--- What dropping items asks: some edits are acknowledged, and behind the items of the pending edits are zeros.
+-- What dropping items asks: seen lies between the counts, and behind the items of the pending edits are zeros.
 pub record Droppable (made acked seen : ℕ) (xs : List ℕ) : Type 0 where
   pub low : acked ≤ seen
   pub high : seen ≤ made

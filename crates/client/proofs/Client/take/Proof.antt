@@ -1,5 +1,4 @@
 use Rattle.client.proofs.Takes.{take-refused, take-room, take-droppable, take-done}
-use mathlib.Core.Path.{refl}
 use denote.Ref.{now}
 use borrow.Author.Needs.{needs}
 use Rattle.client.proofs.Client.take.Statement.{statement}
