@@ -19,7 +19,6 @@ use Rattle.wire.specs.declared.Read.the-variants as read
 use Rattle.wire.specs.Bytes.{parsed}
 use Rattle.wire.specs.Message.{inRange}
 use Rattle.wire.proofs.Ranges.{insert-bounds, delete-bounds}
-use Rattle.wire.proofs.Codec.{codec}
 use Rattle.model.specs.Limits.{maxItems, maxPending}
 use Rattle.model.specs.Cross.{past, over, allPlaced}
 use Rattle.model.specs.Questions.{Question, ask, asks, Answer, answer}
@@ -37,10 +36,10 @@ use Rattle.client.specs.declared.Client.{Client}
 use Rattle.client.specs.declared.Counts.{Counts}
 use Rattle.client.specs.declared.taking.Asked.{Asked}
 use Rattle.client.specs.declared.taking.Decision.{Decision}
-use Rattle.client.specs.Store.{counts, view, store, sound, Sound}
-use Rattle.client.specs.Answers.{guarded, taken}
-use Rattle.client.specs.Taking.{Between, takeAsked, ackAsked, askedEdit, askedAck, asked, Decidable, Decided, refusing, deciding, left, nine, editDone, editDecided, ackDone, decided, staying, takeDecided, takeStaying, Droppable}
-use Rattle.client.proofs.Answers.{unsound, refused, done}
+use Rattle.client.specs.Store.{counts, view, store, Sound}
+use Rattle.client.specs.Answers.{refusedWith, guarded, taken}
+use Rattle.client.specs.Taking.{Between, takeAsked, ackAsked, askedEdit, askedAck, asked, Decidable, Decided, refusing, deciding, left, nine, editDone, editDecided, ackDone, decided, staying, Droppable}
+use Rattle.client.proofs.Answers.{refused, done}
 use Rattle.client.proofs.Edits.{facts, len-few, items-stored}
 
 -- ---- questions
@@ -133,28 +132,24 @@ module _ (k : Counts) (ps xs : List ℕ) (kept : Kept 0 (k .made - k .acked) ps 
 
 -- What is right of a message that is let through so far.
 module _ (k : Counts) where
-  read-seen : (r : Read) → asked k r .refusal ≡ 0 → Between k (asked k r .seen)
-  read-seen read.Refused z = absurd (eqb-false 3 0 refl z)
-  read-seen (read.Message (message.Insert h p x r)) z = take-seen k h (Insert p x r) z
-  read-seen (read.Message (message.Delete h p)) z = take-seen k h (Delete p) z
-  read-seen (read.Message (message.Nothing h)) z = take-seen k h Nothing z
-  read-seen (read.Message (message.Ack l d s)) z = ack-seen k l d s z
+  message-seen : (m : Message) → asked k m .refusal ≡ 0 → Between k (asked k m .seen)
+  message-seen (message.Insert h p x r) z = take-seen k h (Insert p x r) z
+  message-seen (message.Delete h p) z = take-seen k h (Delete p) z
+  message-seen (message.Nothing h) z = take-seen k h Nothing z
+  message-seen (message.Ack l d s) z = ack-seen k l d s z
 
-  read-position : (r : Read) → ((m : Message) → r ≡ read.Message m → inRange m ≡ true) → positionOf (asked k r .edit) ≤ maxItems
-  read-position read.Refused f = omega arith
-  read-position (read.Message (message.Insert h p x r)) f = insert-bounds h p x r (f (message.Insert h p x r) refl) .position-high
-  read-position (read.Message (message.Delete h p)) f = delete-bounds h p (f (message.Delete h p) refl) .position-high
-  read-position (read.Message (message.Nothing h)) f = omega arith
-  read-position (read.Message (message.Ack l d s)) f = omega arith
+  message-position : (m : Message) → inRange m ≡ true → positionOf (asked k m .edit) ≤ maxItems
+  message-position (message.Insert h p x r) t = insert-bounds h p x r t .position-high
+  message-position (message.Delete h p) t = delete-bounds h p t .position-high
+  message-position (message.Nothing h) t = omega arith
+  message-position (message.Ack l d s) t = omega arith
 
-  module _ (q : Asked) where
-    pub asked-position : (bytes : List ℕ) → q ≡ asked k (parsed bytes) → positionOf (q .edit) ≤ maxItems
-    asked-position bytes eq =
-        subst (λ (y : Asked). positionOf (y .edit) ≤ maxItems) (sym eq) (read-position (parsed bytes) (codec .read-in-range bytes))
+  module _ (q : Asked) (m : Message) (eq : q ≡ asked k m) where
+    pub asked-position : inRange m ≡ true → positionOf (q .edit) ≤ maxItems
+    asked-position t = subst (λ (y : Asked). positionOf (y .edit) ≤ maxItems) (sym eq) (message-position m t)
 
-    pub asked-seen : (r : Read) → q ≡ asked k r → q .refusal ≡ 0 → Between k (q .seen)
-    asked-seen r eq z =
-        subst (λ (y : Asked). Between k (y .seen)) (sym eq) (read-seen r (sym (ap (λ (y : Asked). y .refusal) eq) ∙ z))
+    pub asked-seen : q .refusal ≡ 0 → Between k (q .seen)
+    asked-seen z = subst (λ (y : Asked). Between k (y .seen)) (sym eq) (message-seen m (sym (ap (λ (y : Asked). y .refusal) eq) ∙ z))
 
 -- An edit's decision by its two ends.
 module _ (k : Counts) (ps xs zeros : List ℕ) (ok : Decidable k ps xs zeros) (seen : ℕ) (between : Between k seen) (e : Edit) (later : List ℕ) where
@@ -196,7 +191,7 @@ module _ (k : Counts) (ps xs zeros : List ℕ) (ok : Decidable k ps xs zeros) (s
         }
 
 -- The decision of what was asked of a sound client by its three ends.
-module _ (k : Counts) (ps xs zeros : List ℕ) (ok : Decidable k ps xs zeros) (q : Asked) (r : Read) (eq : q ≡ asked k r) (x : Decision) (later : List ℕ) where
+module _ (k : Counts) (ps xs zeros : List ℕ) (ok : Decidable k ps xs zeros) (q : Asked) (m : Message) (eq : q ≡ asked k m) (x : Decision) (later : List ℕ) where
   abbrev all : List Edit
   all = editsFrom ps xs 0 (k .made - k .acked)
 
@@ -206,11 +201,11 @@ module _ (k : Counts) (ps xs zeros : List ℕ) (ok : Decidable k ps xs zeros) (q
   abbrev then : Asked → Decision
   then y = cond (y .carries) (editDecided k all (y .seen) (y .edit)) (ackDone k (y .seen))
 
-  pub asked-refused : (q .refusal ≡ 0 → ⊥) → x ≡ refusing (q .refusal) → Goal (asked k r)
+  pub asked-refused : (q .refusal ≡ 0 → ⊥) → x ≡ refusing (q .refusal) → Goal (asked k m)
   asked-refused n ex = subst Goal eq (decided-no (decided k all q) (staying k all q) (q .refusal) x later n ex (deciding-no (q .refusal) (then q) n))
 
   module _ (z : q .refusal ≡ 0) where
-    pub asked-edit : q .carries ≡ true → Decided (editDecided k all (q .seen) (q .edit)) (over (q .edit) (left k all (q .seen))) x later → Goal (asked k r)
+    pub asked-edit : q .carries ≡ true → Decided (editDecided k all (q .seen) (q .edit)) (over (q .edit) (left k all (q .seen))) x later → Goal (asked k m)
     asked-edit t v =
         subst Goal eq (
         record {
@@ -219,14 +214,14 @@ module _ (k : Counts) (ps xs zeros : List ℕ) (ok : Decidable k ps xs zeros) (q
         }
         )
 
-    pub asked-ack : q .carries ≡ false → x ≡ ackDone k (q .seen) → later ≡ padded 0 maxPending (take (k .made - q .seen) (drop (q .seen - k .acked) ps)) → Goal (asked k r)
+    pub asked-ack : q .carries ≡ false → x ≡ ackDone k (q .seen) → later ≡ padded 0 maxPending (take (k .made - q .seen) (drop (q .seen - k .acked) ps)) → Goal (asked k m)
     asked-ack f ex el =
         subst Goal eq (
         record {
           answer = ex ∙ ap (λ (b : Bool). cond b (editDecided k all (q .seen) (q .edit)) (ackDone k (q .seen))) (sym f) ∙ deciding-yes (q .refusal) (then q) z;
           places =
               λ _.
-              el ∙ left-places k ps xs (ok .kept) (ok .room) (q .seen) (asked-seen k q r eq z)
+              el ∙ left-places k ps xs (ok .kept) (ok .room) (q .seen) (asked-seen k q m eq z)
               ∙ ap (λ (b : Bool). filled placeOf (cond b (over (q .edit) (left k all (q .seen))) (left k all (q .seen)))) (sym f);
         }
         )
@@ -425,83 +420,45 @@ module _ (c : Client) (s : Sound c) where
             ∙ ap (λ (b : Bool). answer (asks (takeAsked (counts c) h e ++ (ask 9 b ∷ []))) (view c) (client.clientTaken (view c) (h .seen) e) (c .made - h .seen)) (sym nine′);
       }
 
-  read-decides : (r : Read)
-      → Decides c (decided (counts c) (view c .pending) (asked (counts c) r)) (staying (counts c) (view c .pending) (asked (counts c) r))
-      (client.clientReads (view c) r)
-  unfolding deciding applied
-  read-decides read.Refused =
-      record {
-        asked = 3;
-        passed = 0;
-        edit = Nothing;
-        new = view c;
-        is = refl;
-        same = refl;
-        right = λ z. absurd (eqb-false 3 0 refl z);
-        model = ap (λ (b : Bool). answer (asks (ask 2 b ∷ ask 3 false ∷ [])) (view c) (view c) 0) (s .model);
-      }
-  read-decides (read.Message (message.Insert h p x r)) = edit-decides h (Insert p x r)
-  read-decides (read.Message (message.Delete h p)) = edit-decides h (Delete p)
-  read-decides (read.Message (message.Nothing h)) = edit-decides h Nothing
-  read-decides (read.Message (message.Ack l d n)) = ack-decides l d n
+  message-decides : (m : Message)
+      → Decides c (decided (counts c) (view c .pending) (asked (counts c) m)) (staying (counts c) (view c .pending) (asked (counts c) m))
+      (client.clientTakes (view c) m)
+  message-decides (message.Insert h p x r) = edit-decides h (Insert p x r)
+  message-decides (message.Delete h p) = edit-decides h (Delete p)
+  message-decides (message.Nothing h) = edit-decides h Nothing
+  message-decides (message.Ack l d n) = ack-decides l d n
 
-  bytes-decided : (bytes : List ℕ) (d : Decision) → d ≡ decided (counts c) (view c .pending) (asked (counts c) (parsed bytes))
-      → Decides c d (staying (counts c) (view c .pending) (asked (counts c) (parsed bytes))) (client.takeClient (view c) bytes)
+  pub read-refused : (bytes : List ℕ) → parsed bytes ≡ read.Refused → refusedWith 3 c ≡ taken c bytes
   unfolding client.takeClient
-  bytes-decided bytes d e =
-      subst (λ (x : Decision). Decides c x (staying (counts c) (view c .pending) (asked (counts c) (parsed bytes))) (client.takeClient (view c) bytes))
-      (sym e) (read-decides (parsed bytes))
+  read-refused bytes p =
+      refused c 3 0 (view c) (s .yes) (eqb-false 3 0 refl)
+      ∙ ap (λ (b : Bool). guarded c (answer (asks (ask 2 b ∷ ask 3 false ∷ [])) (view c) (view c) 0)) (sym (s .model))
+      ∙ ap (λ (r : Read). guarded c (client.clientReads (view c) r)) (sym p)
 
--- The decision with question 2.
-module _ (c : Client) (bytes : List ℕ) (x : Decision) (later : List ℕ) where
-  pub decided-sound : sound c ≡ true → Decided (decided (counts c) (view c .pending) (asked (counts c) (parsed bytes))) (takeStaying c bytes) x later
-      → Decided (takeDecided c bytes) (takeStaying c bytes) x later
-  decided-sound t v =
-      record {
-        answer = v .answer ∙ ap (λ (b : Bool). cond b (decided (counts c) (view c .pending) (asked (counts c) (parsed bytes))) (refusing 2)) (sym t);
-        places = v .places;
-      }
+-- What is written by the decision of a message that was read.
+module _ (c : Client) (s : Sound c) (bytes : List ℕ) (m : Message) (p : parsed bytes ≡ read.Message m) (d : Decision) (later : List ℕ)
+    (v : Decided (decided (counts c) (view c .pending) (asked (counts c) m)) (staying (counts c) (view c .pending) (asked (counts c) m)) d later) where
+  abbrev stay : List Edit
+  stay = staying (counts c) (view c .pending) (asked (counts c) m)
 
-  pub decided-unsound : sound c ≡ false → x ≡ refusing 2 → Decided (takeDecided c bytes) (takeStaying c bytes) x later
-  decided-unsound t ex =
-      decided-no (takeDecided c bytes) (takeStaying c bytes) 2 x later (eqb-false 2 0 refl) ex
-      (ap (λ (b : Bool). cond b (decided (counts c) (view c .pending) (asked (counts c) (parsed bytes))) (refusing 2)) (sym t))
+  model : Decides c d stay (client.clientTakes (view c) m)
+  model = subst (λ (x : Decision). Decides c x stay (client.clientTakes (view c) m)) (sym (v .answer)) (message-decides c s m)
 
--- What is written by it.
-module _ (c : Client) (bytes : List ℕ) (d : Decision) (later : List ℕ) (f : sound c ≡ true → Sound c) (v : Decided (takeDecided c bytes) (takeStaying c bytes) d later) where
-  decision-is : (b : Bool) → sound c ≡ b → d ≡ cond b (decided (counts c) (view c .pending) (asked (counts c) (parsed bytes))) (refusing 2)
-  decision-is b t =
-      v .answer ∙ ap (λ (x : Bool). cond x (decided (counts c) (view c .pending) (asked (counts c) (parsed bytes))) (refusing 2)) t
-
-  abbrev Model : Type 0
-  Model = Decides c d (takeStaying c bytes) (client.takeClient (view c) bytes)
+  is-taken : guarded c (client.clientTakes (view c) m) ≡ taken c bytes
+  unfolding client.takeClient
+  is-taken = ap (λ (r : Read). guarded c (client.clientReads (view c) r)) (sym p)
 
   pub take-refused : (d .refusal ≡ 0 → ⊥) → record { refusal = d .refusal; passed = d .passed; client = c } ≡ taken c bytes
-  take-refused n = go (sound c) refl
-    where
-      go : (b : Bool) → sound c ≡ b → record { refusal = d .refusal; passed = d .passed; client = c } ≡ taken c bytes
-      go true t =
-          decided-refused c (f t) d (takeStaying c bytes) (client.takeClient (view c) bytes) (bytes-decided c (f t) bytes d (decision-is true t)) n
-      go false t =
-          ap (λ (x : Decision). record { refusal = x .refusal; passed = x .passed; client = c }) (decision-is false t)
-          ∙ unsound c (client.takeClient (view c) bytes) t
+  take-refused n = decided-refused c s d stay (client.clientTakes (view c) m) model n ∙ is-taken
 
   module _ (z : d .refusal ≡ 0) where
-    let-through : Sound c × Model
-    let-through = go (sound c) refl
-      where
-        go : (b : Bool) → sound c ≡ b → Sound c × Model
-        go true t = (f t, bytes-decided c (f t) bytes d (decision-is true t))
-        go false t = absurd (eqb-false 2 0 refl (sym (ap (λ (x : Decision). x .refusal) (decision-is false t)) ∙ z))
-
     pub take-room : Room (d .edit) (c .len) maxItems
-    take-room = decided-room c (let-through .0) d (takeStaying c bytes) (client.takeClient (view c) bytes) (let-through .1) z
+    take-room = decided-room c s d stay (client.clientTakes (view c) m) model z
 
     pub take-droppable : Droppable (c .made) (c .acked) (d .acked) (c .«pending_items»)
     take-droppable =
-        let s = let-through .0 in
         let all-left : c .made - c .acked - 0 ≡ c .made - c .acked = omega arith in
-        let between = decided-seen c s d (takeStaying c bytes) (client.takeClient (view c) bytes) (let-through .1) z in
+        let between = decided-seen c s d stay (client.clientTakes (view c) m) model z in
         record {
           low = between .0;
           high = between .1;
@@ -520,10 +477,9 @@ module _ (c : Client) (bytes : List ℕ) (d : Decision) (later : List ℕ) (f : 
         → items ≡ padded 0 maxPending (take (c .made - d .acked) (drop (d .acked - c .acked) (c .«pending_items»)))
         → record { refusal = d .refusal; passed = d .passed; client = moved c (d .taken) (d .acked) len after later items } ≡ taken c bytes
     take-done len after items ed ei =
-        let s = let-through .0 in
-        let m = let-through .1 in
-        decided-done c s d (takeStaying c bytes) (client.takeClient (view c) bytes) m z len after later items ed (v .places z)
-        (ei ∙ items-moved c s d (takeStaying c bytes) (client.takeClient (view c) bytes) m z)
+        decided-done c s d stay (client.clientTakes (view c) m) model z len after later items ed (v .places z)
+        (ei ∙ items-moved c s d stay (client.clientTakes (view c) m) model z)
+        ∙ is-taken
 
 -- Where nothing new is acknowledged the items are those that stay.
 pub nothing-dropped : (made acked seen : ℕ) (xs : List ℕ) → Droppable made acked seen xs → seen ≤ acked

@@ -11,9 +11,6 @@ use Rattle.ot.specs.Items.{padded}
 use Rattle.wire.specs.declared.Header.{Header}
 use Rattle.wire.specs.declared.Message.{Message}
 use Rattle.wire.specs.declared.Message.the-variants as message
-use Rattle.wire.specs.declared.Read.{Read}
-use Rattle.wire.specs.declared.Read.the-variants as read
-use Rattle.wire.specs.Bytes.{parsed}
 use Rattle.model.specs.Limits.{maxOthers, maxPending}
 use Rattle.model.specs.Cross.{past, over, allPlaced, priority}
 use Rattle.model.specs.Questions.{Question, ask, asks}
@@ -21,11 +18,9 @@ use Rattle.model.specs.Client.{other}
 use Rattle.pending.specs.Slots.{placeOf, filled, Kept, Whole}
 use Rattle.endpoint.specs.Items.{roomy}
 use Rattle.endpoint.specs.Line.{seenQuestions, editQuestions}
-use Rattle.client.specs.declared.Client.{Client}
 use Rattle.client.specs.declared.Counts.{Counts}
 use Rattle.client.specs.declared.taking.Asked.{Asked}
 use Rattle.client.specs.declared.taking.Decision.{Decision}
-use Rattle.client.specs.Store.{counts, view, sound}
 
 -- ---- the questions, by the counts
 
@@ -38,19 +33,18 @@ takeAsked k h e =
 abbrev pub ackAsked : Counts → ℕ → ℕ → ℕ → List Question
 ackAsked k line direction seen = ask 4 (eqb direction 1 && eqb line (k .line)) ∷ seenQuestions seen (k .acked) (k .made)
 
--- what was read, with its first refusal
+-- a message, with its first refusal
 abbrev pub askedEdit : Counts → Header → Edit → Asked
 askedEdit k h e = record { refusal = asks (takeAsked k h e); seen = h .seen; carries = true; edit = e }
 
 abbrev pub askedAck : Counts → ℕ → ℕ → ℕ → Asked
 askedAck k line direction seen = record { refusal = asks (ackAsked k line direction seen); seen = seen; carries = false; edit = Nothing }
 
-abbrev pub asked : Counts → Read → Asked
-asked k read.Refused = record { refusal = 3; seen = 0; carries = false; edit = Nothing }
-asked k (read.Message (message.Insert h p x r)) = askedEdit k h (Insert p x r)
-asked k (read.Message (message.Delete h p)) = askedEdit k h (Delete p)
-asked k (read.Message (message.Nothing h)) = askedEdit k h Nothing
-asked k (read.Message (message.Ack l d s)) = askedAck k l d s
+abbrev pub asked : Counts → Message → Asked
+asked k (message.Insert h p x r) = askedEdit k h (Insert p x r)
+asked k (message.Delete h p) = askedEdit k h (Delete p)
+asked k (message.Nothing h) = askedEdit k h Nothing
+asked k (message.Ack l d s) = askedAck k l d s
 
 -- ---- the decision
 
@@ -104,15 +98,6 @@ decided k es q = deciding (q .refusal) (cond (q .carries) (editDecided k es (q .
 -- the pending edits that stay, in their forms after an edit
 abbrev pub staying : Counts → List Edit → Asked → List Edit
 staying k es q = cond (q .carries) (over (q .edit) (left k es (q .seen))) (left k es (q .seen))
-
--- ---- from the client and the bytes
-
--- a client that is not sound is refused by question 2
-abbrev pub takeDecided : Client → List ℕ → Decision
-takeDecided c bytes = cond (sound c) (decided (counts c) (view c .pending) (asked (counts c) (parsed bytes))) (refusing 2)
-
-abbrev pub takeStaying : Client → List ℕ → List Edit
-takeStaying c bytes = staying (counts c) (view c .pending) (asked (counts c) (parsed bytes))
 
 -- What dropping items asks: seen lies between the counts, and behind the items of the pending edits are zeros.
 pub record Droppable (made acked seen : ℕ) (xs : List ℕ) : Type 0 where

@@ -2,18 +2,17 @@
 ghost use mathlib.Core.Path.{_≡_};
 ghost use mathlib.Core.Bool.{true};
 ghost use Prim.Native.Nat.{_≤_, _-_};
-ghost use lib.ListN.{take, drop, replicate};
+ghost use lib.ListN.{take, drop};
 ghost use Rattle.ot.specs.Edit.{positionOf};
 ghost use Rattle.ot.specs.Items.{padded};
-ghost use Rattle.wire.specs.Bytes.{parsed};
+ghost use Rattle.wire.specs.Message.{inRange};
 ghost use Rattle.model.specs.Limits.{maxItems, maxPending};
 ghost use Rattle.model.specs.Cross.{priority, over};
 ghost use Rattle.model.specs.Questions.{asks};
 ghost use Rattle.model.specs.Client as client;
 ghost use Rattle.pending.specs.Slots.{editsFrom};
 ghost use Rattle.client.specs.Answers.{taken};
-ghost use Rattle.client.specs.Store.{clientOf, sound, Sound, Sizes};
-ghost use Rattle.client.specs.Taking.{Between, takeAsked, ackAsked, askedEdit, askedAck, asked, refusing, left, editDecided, takeDecided, takeStaying, Decidable, Decided, Droppable};
+ghost use Rattle.client.specs.Taking.{Between, takeAsked, ackAsked, askedEdit, askedAck, asked, refusing, left, editDecided, decided, staying, Decidable, Decided, Droppable};
 use crate::Answer;
 use crate::Client;
 use crate::Counts;
@@ -22,8 +21,8 @@ use wire::Header;
 use wire::Message;
 use wire::Read;
 
-// What was read, once it has been asked: 0 or the first of questions 3 to 8 that says no, the edits that the message says were seen,
-// whether it carries an edit, and that edit.
+// A message, once it has been asked: 0 or the first of questions 4 to 8 that says no, the edits that it says were seen, whether it
+// carries an edit, and that edit.
 struct Asked {
     refusal: u8,
     seen: u16,
@@ -94,18 +93,10 @@ fn asked_ack(k: Counts, line: u8, direction: u8, seen: u16) -> Asked
     }
 }
 
-// Questions 3 to 8. Bytes that are no message end there.
-fn ask(k: Counts, bytes: &[u8]) -> Asked
-    ensures { λ r. ⌜ r ≡ asked k (parsed (now (bytes .entry))) ⌝ }
+// Questions 4 to 8.
+fn ask(k: Counts, m: Message) -> Asked
+    ensures { λ r. ⌜ r ≡ asked k m ⌝ }
 {
-    let Read::Message(m) = wire::parse(bytes) else {
-        return Asked {
-            refusal: 3,
-            seen: 0,
-            carries: false,
-            edit: Edit::Nothing,
-        };
-    };
     match m {
         Message::Insert(h, p, x, r) => asked_edit(k, h, Edit::Insert(p, x, r)),
         Message::Delete(h, p) => asked_edit(k, h, Edit::Delete(p)),
@@ -153,53 +144,37 @@ fn decide_edit<'a>(
     refusing(9)
 }
 
-// What the bytes make of a client. An acknowledgement only drops the pending edits up to seen.
+// What a message makes of a client. An acknowledgement only drops the pending edits up to seen.
 fn decide<'a>(
     k: Counts,
-    items: &'a [u32],
     places: &'a [u32],
-    pending: &'a [u32],
-    bytes: &[u8],
+    items: &'a [u32],
+    m: Message,
     later: &mut [u32; 64],
 ) -> Decision
-    requires { ⌜ Sizes (now items) (now places) (now pending) × (now later ≡ replicate maxPending 0) ⌝ }
-    ensures answer { λ r. ⌜ Decided (takeDecided (clientOf k (now (items .entry)) (now (places .entry)) (now (pending .entry))) (now (bytes .entry))) (takeStaying (clientOf k (now (items .entry)) (now (places .entry)) (now (pending .entry))) (now (bytes .entry))) r (now (later .exit)) ⌝ }
-    ensures facts { λ r. ⌜ (sound (clientOf k (now (items .entry)) (now (places .entry)) (now (pending .entry))) ≡ true → Sound (clientOf k (now (items .entry)) (now (places .entry)) (now (pending .entry)))) ⌝ }
+    requires { ⌜ (inRange m ≡ true) × Decidable k (now places) (now items) (now later) ⌝ }
+    ensures { λ r. ⌜ Decided (decided k (editsFrom (now (places .entry)) (now (items .entry)) 0 (k .made - k .acked)) (asked k m)) (staying k (editsFrom (now (places .entry)) (now (items .entry)) 0 (k .made - k .acked)) (asked k m)) r (now (later .exit)) ⌝ }
 {
-    if crate::is_sound(
-        k.n,
-        k.line,
-        k.made,
-        k.taken,
-        k.acked,
-        k.inserts,
-        k.len,
-        items,
-        places,
-        pending,
-    ) {
-        let q = ask(k, bytes);
-        if q.refusal != 0 {
-            return refusing(q.refusal);
-        }
-        if q.carries {
-            let e = q.edit;
-            return decide_edit(k, places, pending, q.seen, e, later);
-        }
-        *later = pending::acked(
-            places,
-            (q.seen - k.acked) as usize,
-            (k.made - q.seen) as usize,
-        );
-        return Decision {
-            refusal: 0,
-            passed: 0,
-            taken: k.taken,
-            acked: q.seen,
-            edit: Edit::Nothing,
-        };
+    let q = ask(k, m);
+    if q.refusal != 0 {
+        return refusing(q.refusal);
     }
-    refusing(2)
+    if q.carries {
+        let e = q.edit;
+        return decide_edit(k, places, items, q.seen, e, later);
+    }
+    *later = pending::acked(
+        places,
+        (q.seen - k.acked) as usize,
+        (k.made - q.seen) as usize,
+    );
+    Decision {
+        refusal: 0,
+        passed: 0,
+        taken: k.taken,
+        acked: q.seen,
+        edit: Edit::Nothing,
+    }
 }
 
 // The items of the pending edits after seen. Where nothing new is acknowledged they stay where they are.
@@ -227,26 +202,44 @@ impl Client {
             inserts: self.inserts,
             len: self.len,
         };
-        let mut later = [0u32; 64];
-        let d = decide(
-            k,
+        if crate::is_sound(
+            k.n,
+            k.line,
+            k.made,
+            k.taken,
+            k.acked,
+            k.inserts,
+            k.len,
             &self.items,
             &self.pending_places,
             &self.pending_items,
-            bytes,
-            &mut later,
-        );
-        if d.refusal == 0 {
-            let e = d.edit;
-            self.len = ot::apply(&mut self.items, k.len, e);
-            drop_items(&mut self.pending_items, k.made, k.acked, d.acked);
-            self.pending_places = later;
-            self.taken = d.taken;
-            self.acked = d.acked;
+        ) {
+            let Read::Message(m) = wire::parse(bytes) else {
+                return Answer {
+                    refusal: 3,
+                    passed: 0,
+                    client: self,
+                };
+            };
+            let mut later = [0u32; 64];
+            let d = decide(k, &self.pending_places, &self.pending_items, m, &mut later);
+            if d.refusal == 0 {
+                let e = d.edit;
+                self.len = ot::apply(&mut self.items, k.len, e);
+                drop_items(&mut self.pending_items, k.made, k.acked, d.acked);
+                self.pending_places = later;
+                self.taken = d.taken;
+                self.acked = d.acked;
+            }
+            return Answer {
+                refusal: d.refusal,
+                passed: d.passed,
+                client: self,
+            };
         }
         Answer {
-            refusal: d.refusal,
-            passed: d.passed,
+            refusal: 2,
+            passed: 0,
             client: self,
         }
     }
