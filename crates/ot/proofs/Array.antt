@@ -1,17 +1,19 @@
 -- An edit of a list that stands in an array: what its room says of the numbers, and that unused places stay as they should.
 use mathlib.Core.Path.{_≡_, refl, ap, sym, _∙_, subst}
 use mathlib.Core.Bool.{true}
-use Prim.Native.Nat.{ℕ, suc, _+_, _-_, _≤_}
+use Prim.Native.Nat.{ℕ, suc, _+_, _-_, _≤_, _<_}
 use native.Mathlib.Omega.{arith}
 use mathlib.Core.List.{List, _∷_, _++_}
 use lib.Dec.{leb}
 use borrow.Author.Tests.{leb-true}
-use lib.ListN.{length, take, drop, replicate, take-append-drop}
+use lib.ListN.{length, take, drop, replicate, take-append-drop, length-take, length-drop}
 use lib.Seq.{take-append-seam, drop-append-seam, drop-drop}
 use Rattle.ot.specs.declared.Edit.{Edit}
 use Rattle.ot.specs.declared.Edit.the-variants.{Nothing, Delete, Insert}
 use Rattle.ot.specs.Edit.{insertedAt, deletedAt, applied, fits}
 use Rattle.ot.specs.Items.{sizeAfter, padded, behind, edited, Room, Edited}
+use borrow.Rule.Slice.PartMut.{putMid}
+use Rattle.ot.proofs.Sweep.{raised, lowered, part-raised, part-lowered}
 use Rattle.ot.proofs.Fits.{between-true, length-inserted, length-deleted}
 
 -- the room from its tests: what `fit` and `enough` answer, and that the list stood in the places before
@@ -33,6 +35,30 @@ room-insert {n = n} {m = m} q r =
     let v = subst (λ (d : Edit). Room d n m) q r in
     let h = between-true 1 _ (n + 1) (v .fitting) in
     (h .0, h .1, v .after)
+
+-- ---- the part that the code changes, put back
+
+pub part-some : (k n : ℕ) (a : List ℕ) → k < n → n ≤ length a → 0 < length (take (n - k) (drop k a))
+part-some k n a h b = simp (length-take, length-drop) (omega arith)
+
+-- a delete changes the places from k to the last
+pub part-deleted : (k n : ℕ) (a b : List ℕ) → k < n → n ≤ length a → b ≡ lowered 0 (take (n - k) (drop k a))
+    → putMid k (n - k) a b ≡ deletedAt k (take n a) ++ 0 ∷ drop n a
+part-deleted k n a b h l e =
+    let m : n - k ≡ suc (n - (k + 1)) = omega arith in
+    ap (putMid k (n - k) a) e ∙ ap (λ (j : ℕ). putMid k j a (lowered 0 (take j (drop k a)))) m
+    ∙ part-lowered k (n - (k + 1)) n 0 a (omega arith) l
+
+-- an insert those from k to the first that is not in use
+pub part-inserted : (k n x : ℕ) (a b : List ℕ) → k ≤ n → n < length a → b ≡ raised x (take (n + 1 - k) (drop k a))
+    → putMid k (n + 1 - k) a b ≡ insertedAt k x (take n a) ++ drop (n + 1) a
+part-inserted k n x a b h l e =
+    let m : n + 1 - k ≡ suc (n - k) = omega arith in
+    let s : length (take (suc (n - k)) (drop k a)) - 1 ≡ n - k = simp (length-take, length-drop) (omega arith) in
+    ap (putMid k (n + 1 - k) a) e ∙ ap (λ (j : ℕ). putMid k j a (raised x (take j (drop k a)))) m
+    ∙ ap (λ (j : ℕ). putMid k (suc (n - k)) a (x ∷ take j (take (suc (n - k)) (drop k a)))) s
+    ∙ part-raised k (n - k) n x a (omega arith) l
+    ∙ ap (λ (j : ℕ). insertedAt k x (take n a) ++ drop j a) (let j : suc n ≡ n + 1 = omega arith in j)
 
 pub edited-nothing : {e : Edit} {n : ℕ} {a : List ℕ} → e ≡ Nothing → Edited e n a a n
 unfolding applied behind sizeAfter

@@ -1,13 +1,13 @@
--- A loop that goes up through an array and writes a target list t over what was there, a: at place i the array is `swept t a i`.
--- And the two targets: one item put in, one taken out.
+-- A loop that goes up through an array and writes a target list t over what was there, a: at place i the array is `swept t a i`; a loop
+-- that goes down leaves `swept a t i`. And the two targets: one item put in at the front, the first one taken out.
 use mathlib.Core.Path.{_≡_, refl, ap, sym, _∙_, subst}
-use Prim.Native.Nat.{ℕ, zero, suc, _+_, _≤_, _<_}
+use Prim.Native.Nat.{ℕ, zero, suc, _+_, _-_, _≤_, _<_}
 use native.Mathlib.Nat.{le-of-suc-le-suc, not-suc-le-zero}
 use native.Mathlib.Numerals.{add-one}
 use native.Mathlib.Omega.{arith}
 use mathlib.Core.List.{List, [], _∷_, _++_}
-use lib.ListN.{length, getD, set, take, drop, length-append, length-take, length-drop, length-set, take-append-drop, List·getD-append}
-use lib.Seq.{getD-take, drop-at, getD-at}
+use lib.ListN.{length, getD, set, take, drop, length-append, length-take, length-drop, length-set, take-append-drop, drop-of-length-le, List·getD-append}
+use lib.Seq.{getD-take, getD-drop, getD-at, take-take, append-snoc}
 use Rattle.ot.specs.Edit.{insertedAt, deletedAt}
 
 module _ {A : Type 0} where
@@ -40,164 +40,128 @@ module _ {A : Type 0} where
   pub swept-to : (t a : List A) (i : ℕ) → drop i t ≡ drop i a → swept t a i ≡ t
   swept-to t a i e = ap (λ (r : List A). take i t ++ r) (sym e) ∙ take-append-drop i t
 
-  -- ---- x put in before place k of the first n, with the place n given up
+  -- going down, what is not yet written is read as it was, and a turn puts the target's item to its place
+  pub swept-front : (a t : List A) (i j : ℕ) (d : A) → j < i → i ≤ length a → getD (swept a t i) j d ≡ getD a j d
+  swept-front a t i j d h b = List·getD-append (take i a) (drop i t) d j (simp length-take (omega arith)) ∙ getD-take i a j d h
 
-  abbrev pub inserting : ℕ → ℕ → A → List A → List A
-  inserting k n x a = insertedAt k x (take n a) ++ drop (suc n) a
+  pub swept-back : (a t : List A) (i : ℕ) (d : A) → length t ≡ length a → i < length a → set (swept a t (suc i)) i (getD t i d) ≡ swept a t i
+  swept-back [] t i d e h = absurd (not-suc-le-zero h)
+  swept-back (y ∷ a) [] i d e h = absurd (omega arith)
+  swept-back (y ∷ a) (x ∷ t) zero d e h = refl
+  swept-back (y ∷ a) (x ∷ t) (suc i) d e h = ap (λ (r : List A). y ∷ r) (swept-back a t i d (omega arith) (le-of-suc-le-suc h))
 
-  pub length-inserting : (k n : ℕ) (x : A) (a : List A) → n < length a → length (inserting k n x a) ≡ length a
-  length-inserting k n x a h = simp (length-append, length-take, length-drop, length-append, length-take, length-drop) (omega arith)
+-- ---- x put in at the front, with the last place given up: the loop goes down to place i
 
-  pub inserting-front : (k n : ℕ) (x : A) (a : List A) → k ≤ n → n < length a → take k (inserting k n x a) ≡ take k a
-  inserting-front k n x [] h b = absurd (not-suc-le-zero b)
-  inserting-front zero n x (y ∷ a) h b = refl
-  inserting-front (suc k) zero x (y ∷ a) h b = absurd (not-suc-le-zero h)
-  inserting-front (suc k) (suc n) x (y ∷ a) h b = ap (λ (r : List A). y ∷ r) (inserting-front k n x a (le-of-suc-le-suc h) (le-of-suc-le-suc b))
+abbrev pub raised : {A : Type 0} → A → List A → List A
+raised x a = x ∷ take (length a - 1) a
 
-  pub inserting-new : (k n : ℕ) (x d : A) (a : List A) → k ≤ n → n < length a → getD (inserting k n x a) k d ≡ x
-  inserting-new k n x d [] h b = absurd (not-suc-le-zero b)
-  inserting-new zero n x d (y ∷ a) h b = refl
-  inserting-new (suc k) zero x d (y ∷ a) h b = absurd (not-suc-le-zero h)
-  inserting-new (suc k) (suc n) x d (y ∷ a) h b = inserting-new k n x d a (le-of-suc-le-suc h) (le-of-suc-le-suc b)
-
-  pub inserting-moved : (k n i : ℕ) (x d : A) (a : List A) → k ≤ i → i < n → n < length a → getD (inserting k n x a) (suc i) d ≡ getD a i d
-  inserting-moved k n i x d [] h j b = absurd (not-suc-le-zero b)
-  inserting-moved zero n i x d (y ∷ a) h j b =
-      List·getD-append (take n (y ∷ a)) (drop n a) d i (simp length-take (omega arith)) ∙ getD-take n (y ∷ a) i d j
-  inserting-moved (suc k) n zero x d (y ∷ a) h j b = absurd (not-suc-le-zero h)
-  inserting-moved (suc k) zero (suc i) x d (y ∷ a) h j b = absurd (not-suc-le-zero j)
-  inserting-moved (suc k) (suc n) (suc i) x d (y ∷ a) h j b = inserting-moved k n i x d a (le-of-suc-le-suc h) (le-of-suc-le-suc j) (le-of-suc-le-suc b)
-
-  pub inserting-rest : (k n : ℕ) (x : A) (a : List A) → n < length a → drop (suc n) (inserting k n x a) ≡ drop (suc n) a
-  inserting-rest k n x a h = drop-at (insertedAt k x (take n a)) (drop (suc n) a) (suc n) (simp (length-append, length-take, length-drop, length-take) (omega arith))
-
-  -- ---- place k of the first n taken out, with z put in behind them
-
-  abbrev pub deleting : ℕ → ℕ → A → List A → List A
-  deleting k n z a = deletedAt k (take n a) ++ z ∷ drop n a
-
-  pub length-deleting : (k n : ℕ) (z : A) (a : List A) → k < n → n ≤ length a → length (deleting k n z a) ≡ length a
-  length-deleting k n z a h b = simp (length-append, length-take, length-drop) (omega arith)
-
-  pub deleting-front : (k n : ℕ) (z : A) (a : List A) → k < n → n ≤ length a → take k (deleting k n z a) ≡ take k a
-  deleting-front zero n z a h b = refl
-  deleting-front (suc k) zero z a h b = absurd (not-suc-le-zero h)
-  deleting-front (suc k) (suc n) z [] h b = absurd (not-suc-le-zero b)
-  deleting-front (suc k) (suc n) z (y ∷ a) h b = ap (λ (r : List A). y ∷ r) (deleting-front k n z a (le-of-suc-le-suc h) (le-of-suc-le-suc b))
-
-  pub deleting-moved : (k n i : ℕ) (z d : A) (a : List A) → k ≤ i → suc i < n → n ≤ length a → getD (deleting k n z a) i d ≡ getD a (suc i) d
-  deleting-moved k zero i z d a h j b = absurd (not-suc-le-zero j)
-  deleting-moved k (suc n) i z d [] h j b = absurd (not-suc-le-zero b)
-  deleting-moved zero (suc n) i z d (y ∷ a) h j b =
-      List·getD-append (take n a) (z ∷ drop n a) d i (simp length-take (omega arith)) ∙ getD-take n a i d (le-of-suc-le-suc j)
-  deleting-moved (suc k) (suc n) zero z d (y ∷ a) h j b = absurd (not-suc-le-zero h)
-  deleting-moved (suc k) (suc n) (suc i) z d (y ∷ a) h j b = deleting-moved k n i z d a (le-of-suc-le-suc h) (le-of-suc-le-suc j) (le-of-suc-le-suc b)
-
-  -- the places behind the one that is freed
-  drop-past : (p : List A) (z : A) (r : List A) → drop (suc (length p)) (p ++ z ∷ r) ≡ r
-  drop-past [] z r = refl
-  drop-past (x ∷ p) z r = drop-past p z r
-
-  length-short : (k n : ℕ) (a : List A) → k ≤ n → suc n ≤ length a → length (deletedAt k (take (suc n) a)) ≡ n
-  length-short k n a h b = simp (length-append, length-take, length-drop) (omega arith)
-
-  pub deleting-freed : (k n : ℕ) (z d : A) (a : List A) → k ≤ n → suc n ≤ length a → getD (deleting k (suc n) z a) n d ≡ z
-  deleting-freed k n z d a h b = getD-at (deletedAt k (take (suc n) a)) z (drop (suc n) a) d n (length-short k n a h b)
-
-  pub deleting-rest : (k n : ℕ) (z : A) (a : List A) → k ≤ n → suc n ≤ length a → drop (suc n) (deleting k (suc n) z a) ≡ drop (suc n) a
-  deleting-rest k n z a h b =
-      subst (λ (m : ℕ). drop (suc m) (deleting k (suc n) z a) ≡ drop (suc n) a) (length-short k n a h b)
-      (drop-past (deletedAt k (take (suc n) a)) z (drop (suc n) a))
-
--- ---- the loop that puts an item in: the item that belongs at place i is held in the hand
-
-module _ {A : Type 0} (d : A) (a : List A) (n k : ℕ) (x : A) where
-  pub record Rising (b : List A) (held : A) (i : ℕ) : Type 0 where
-    pub from : k ≤ i
-    pub to : i ≤ n
-    pub items : b ≡ swept (inserting k n x a) a i
-    pub hand : held ≡ getD (inserting k n x a) i d
+module _ {A : Type 0} (a : List A) (x : A) where
+  pub record Rising (b : List A) (i : ℕ) : Type 0 where
+    pub to : i < length a
+    pub items : b ≡ swept a (raised x a) (suc i)
     pub size : length b ≡ length a
 
-module _ {A : Type 0} (d : A) (a : List A) (n k : ℕ) (x : A) (room : n < length a) where
-  pub rising-start : k ≤ n → Rising d a n k x a x k
-  rising-start h =
+module _ {A : Type 0} (d : A) (a : List A) (x : A) (some : 0 < length a) where
+  length-raised : length (raised x a) ≡ length a
+  length-raised = simp length-take (omega arith)
+
+  pub rising-start : (i : ℕ) → suc i ≡ length a → Rising a x a i
+  rising-start i e =
       record {
-        from = omega arith;
-        to = h;
-        items = swept-from (inserting k n x a) a k (inserting-front k n x a h room);
-        hand = sym (inserting-new k n x d a h room);
+        to = omega arith;
+        items =
+            sym
+            (swept-to a (raised x a) (suc i)
+            (drop-of-length-le a {i = suc i} (omega arith) ∙ sym (drop-of-length-le (raised x a) {i = suc i} (omega (arith, length-raised)))));
         size = refl;
       }
 
-  stored : (b : List A) (held : A) (i : ℕ) → Rising d a n k x b held i → set b i held ≡ swept (inserting k n x a) a (suc i)
-  stored b held i v =
-      ap (λ (r : List A). set r i held) (v .items)
-      ∙ ap (λ (y : A). set (swept (inserting k n x a) a i) i y) (v .hand)
-      ∙ swept-store (inserting k n x a) a i d (length-inserting k n x a room) (omega arith)
-
-  pub rising-turn : (b : List A) (held : A) (i : ℕ) → i < n → Rising d a n k x b held i → Rising d a n k x (set b i held) (getD b i d) (i + 1)
-  rising-turn b held i h v =
+  turned : (b : List A) (j : ℕ) → Rising a x b (suc j) → Rising a x (set b (suc j) (getD b j d)) j
+  turned b j v =
+      let read : getD b j d ≡ getD (raised x a) (suc j) d =
+      ap (λ (r : List A). getD r j d) (v .items) ∙ swept-front a (raised x a) (suc (suc j)) j d (omega arith) (v .to)
+      ∙ sym (getD-take (length a - 1) a j d (let h = v .to in omega arith)) in
       record {
-        from = omega arith;
-        to = omega arith;
-        items = rw add-one (stored b held i v);
-        hand =
-            rw add-one
-            (ap (λ (r : List A). getD r i d) (v .items) ∙ swept-read (inserting k n x a) a i i d (length-inserting k n x a room) (omega arith)
-            ∙ sym (inserting-moved k n i x d a (v .from) h room));
-        size = length-set b i held ∙ v .size;
+        to = (let h = v .to in omega arith);
+        items =
+            ap (λ (y : A). set b (suc j) y) read ∙ ap (λ (r : List A). set r (suc j) (getD (raised x a) (suc j) d)) (v .items)
+            ∙ swept-back a (raised x a) (suc j) d length-raised (v .to);
+        size = length-set b (suc j) (getD b j d) ∙ v .size;
       }
 
-  pub rising-end : (b : List A) (held : A) (i : ℕ) → n ≤ i → Rising d a n k x b held i → set b n held ≡ insertedAt k x (take n a) ++ drop (n + 1) a
-  rising-end b held i h v =
-      let e : i ≡ n = omega arith in
-      let w = subst (λ (j : ℕ). Rising d a n k x b held j) e v in
-      rw add-one (stored b held n w ∙ swept-to (inserting k n x a) a (suc n) (inserting-rest k n x a room))
+  pub rising-turn : (b : List A) (i j : ℕ) → i ≡ suc j → Rising a x b i → Rising a x (set b i (getD b j d)) j
+  rising-turn b i j e v =
+      subst (λ (k : ℕ). Rising a x (set b k (getD b j d)) j) (sym e) (turned b j (subst (Rising a x b) e v))
 
--- ---- the loop that takes an item out of m; n is the last place that was used
+  pub rising-end : (b : List A) (i : ℕ) → i ≡ 0 → Rising a x b i → set b 0 x ≡ raised x a
+  rising-end b i e v =
+      let w = subst (Rising a x b) e v in
+      ap (λ (r : List A). set r 0 x) (w .items) ∙ swept-back a (raised x a) 0 d length-raised some
 
-module _ {A : Type 0} (z : A) (a : List A) (m n k : ℕ) where
+-- ---- the first item taken out, with z put in at the end: the loop goes up to place i
+
+abbrev pub lowered : {A : Type 0} → A → List A → List A
+lowered z a = drop 1 a ++ z ∷ []
+
+module _ {A : Type 0} (z : A) (a : List A) where
   pub record Falling (b : List A) (i : ℕ) : Type 0 where
-    pub from : k ≤ i
-    pub to : i ≤ n
-    pub items : b ≡ swept (deleting k m z a) a i
+    pub to : i < length a
+    pub items : b ≡ swept (lowered z a) a i
     pub size : length b ≡ length a
 
-module _ {A : Type 0} (d z : A) (a : List A) (m n k : ℕ) (last : m ≡ suc n) (front : k ≤ n) (room : m ≤ length a) where
-  same-size : length (deleting k m z a) ≡ length a
-  same-size = length-deleting k m z a (omega arith) room
+module _ {A : Type 0} (d z : A) (a : List A) (some : 0 < length a) where
+  length-lowered : length (lowered z a) ≡ length a
+  length-lowered = simp (length-append, length-drop) (omega arith)
 
-  pub falling-start : Falling z a m n k a k
-  falling-start =
-      record { from = omega arith; to = front; items = swept-from (deleting k m z a) a k (deleting-front k m z a (omega arith) room); size = refl }
+  pub falling-start : Falling z a a 0
+  falling-start = record { to = some; items = refl; size = refl }
 
-  pub falling-turn : (b : List A) (i : ℕ) → i < n → Falling z a m n k b i → Falling z a m n k (set b i (getD b (i + 1) d)) (i + 1)
+  pub falling-turn : (b : List A) (i : ℕ) → suc i < length a → Falling z a b i → Falling z a (set b i (getD b (i + 1) d)) (i + 1)
   falling-turn b i h v =
-      let read : getD b (i + 1) d ≡ getD (deleting k m z a) i d =
+      let read : getD b (i + 1) d ≡ getD (lowered z a) i d =
       rw add-one
-      (ap (λ (r : List A). getD r (suc i) d) (v .items) ∙ swept-read (deleting k m z a) a i (suc i) d same-size (omega arith)
-      ∙ sym (deleting-moved k m i z d a (v .from) (omega arith) room)) in
+      (ap (λ (r : List A). getD r (suc i) d) (v .items) ∙ swept-read (lowered z a) a i (suc i) d length-lowered (omega arith)
+      ∙ sym
+      (List·getD-append (drop 1 a) (z ∷ []) d i (simp length-drop (omega arith)) ∙ getD-drop 1 a i d
+      ∙ ap (λ (j : ℕ). getD a j d) (let e : 1 + i ≡ suc i = omega arith in e))) in
       record {
-        from = omega arith;
         to = omega arith;
         items =
-            subst (λ (j : ℕ). set b i (getD b (i + 1) d) ≡ swept (deleting k m z a) a j) (sym (add-one i))
-            (ap (λ (y : A). set b i y) read ∙ ap (λ (r : List A). set r i (getD (deleting k m z a) i d)) (v .items)
-            ∙ swept-store (deleting k m z a) a i d same-size (omega arith));
+            subst (λ (j : ℕ). set b i (getD b (i + 1) d) ≡ swept (lowered z a) a j) (sym (add-one i))
+            (ap (λ (y : A). set b i y) read ∙ ap (λ (r : List A). set r i (getD (lowered z a) i d)) (v .items)
+            ∙ swept-store (lowered z a) a i d length-lowered (omega arith));
         size = length-set b i (getD b (i + 1) d) ∙ v .size;
       }
 
-  freed : getD (deleting k m z a) n d ≡ z
-  freed = subst (λ (j : ℕ). j ≤ length a → getD (deleting k j z a) n d ≡ z) (sym last) (deleting-freed k n z d a front) room
+  pub falling-end : (b : List A) (j i : ℕ) → j ≡ i → suc i ≡ length a → Falling z a b j → set b i z ≡ lowered z a
+  falling-end b j i s e w =
+      let v = subst (Falling z a b) s w in
+      let freed : z ≡ getD (lowered z a) i d = sym (getD-at (drop 1 a) z [] d i (simp length-drop (omega arith))) in
+      ap (λ (r : List A). set r i z) (v .items) ∙ ap (set (swept (lowered z a) a i) i) freed
+      ∙ swept-store (lowered z a) a i d length-lowered (omega arith)
+      ∙ swept-to (lowered z a) a (suc i)
+      (drop-of-length-le (lowered z a) {i = suc i} (omega (arith, length-lowered)) ∙ sym (drop-of-length-le a {i = suc i} (omega arith)))
 
-  rest : drop (suc n) (deleting k m z a) ≡ drop (suc n) a
-  rest = subst (λ (j : ℕ). j ≤ length a → drop (suc n) (deleting k j z a) ≡ drop (suc n) a) (sym last) (deleting-rest k n z a front) room
+-- ---- a part of an array whose first n places hold a list, changed and put back: k places stand in front of it
 
-  pub falling-end : (b : List A) (i : ℕ) → n ≤ i → Falling z a m n k b i → set b n z ≡ deletedAt k (take m a) ++ z ∷ drop m a
-  falling-end b i h v =
-      let e : i ≡ n = omega arith in
-      ap (λ (r : List A). set r n z) (v .items ∙ ap (λ (j : ℕ). swept (deleting k m z a) a j) e)
-      ∙ ap (λ (y : A). set (swept (deleting k m z a) a n) n y) (sym freed)
-      ∙ swept-store (deleting k m z a) a n d same-size (omega arith)
-      ∙ swept-to (deleting k m z a) a (suc n) rest
+module _ {A : Type 0} where
+  -- from place k to the first unused one, and that too
+  pub part-raised : (k m n : ℕ) (x : A) (a : List A) → n ≡ k + m → n < length a
+      → take k a ++ ((x ∷ take m (take (suc m) (drop k a))) ++ drop (suc m) (drop k a)) ≡ insertedAt k x (take n a) ++ drop (suc n) a
+  part-raised k m n x [] e h = absurd (not-suc-le-zero h)
+  part-raised zero m n x (y ∷ a) e h =
+      let same : m ≡ n = omega arith in
+      ap (λ (r : List A). x ∷ r ++ drop m a) (take-take m (suc m) (y ∷ a) (omega arith))
+      ∙ ap (λ (j : ℕ). insertedAt 0 x (take j (y ∷ a)) ++ drop (suc j) (y ∷ a)) same
+  part-raised (suc k) m zero x (y ∷ a) e h = absurd (omega arith)
+  part-raised (suc k) m (suc n) x (y ∷ a) e h = ap (λ (r : List A). y ∷ r) (part-raised k m n x a (omega arith) (le-of-suc-le-suc h))
+
+  -- from place k to the last
+  pub part-lowered : (k m n : ℕ) (z : A) (a : List A) → n ≡ k + suc m → n ≤ length a
+      → take k a ++ ((drop 1 (take (suc m) (drop k a)) ++ z ∷ []) ++ drop (suc m) (drop k a)) ≡ deletedAt k (take n a) ++ z ∷ drop n a
+  part-lowered k m n z [] e h = absurd (omega arith)
+  part-lowered zero m n z (y ∷ a) e h =
+      let same : suc m ≡ n = omega arith in
+      append-snoc (take m a) z (drop m a) ∙ ap (λ (j : ℕ). deletedAt 0 (take j (y ∷ a)) ++ z ∷ drop j (y ∷ a)) same
+  part-lowered (suc k) m zero z (y ∷ a) e h = absurd (omega arith)
+  part-lowered (suc k) m (suc n) z (y ∷ a) e h = ap (λ (r : List A). y ∷ r) (part-lowered k m n z a (omega arith) (le-of-suc-le-suc h))

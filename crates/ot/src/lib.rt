@@ -1,10 +1,10 @@
 // Edits of a list, and operational transformation: the form of one edit after another.
 ghost use mathlib.Core.Path.{_≡_};
-ghost use Prim.Native.Nat.{_+_, _<_, _≤_};
-ghost use mathlib.Core.List.{_∷_, _++_};
+ghost use Prim.Native.Nat.{_-_, _<_};
+ghost use mathlib.Core.List.{[], _∷_, _++_};
 ghost use lib.ListN.{length, take, drop};
 ghost use lib.Dec.{leb};
-ghost use Rattle.ot.specs.Edit.{positionOf, insertedAt, deletedAt, fits, transformed};
+ghost use Rattle.ot.specs.Edit.{positionOf, fits, transformed};
 ghost use Rattle.ot.specs.Items.{capacity, sizeAfter, Room, Edited};
 
 // An edit. Positions count from 1.
@@ -102,51 +102,51 @@ pub fn enough(e: Edit, len: u16) -> bool
     }
 }
 
-// Puts x into the list that the first len places hold, before its place at, counted from 0. The items from there on move up by one,
-// into the first unused place; nothing else is touched.
-fn insert_at(items: &mut [u32], len: usize, at: usize, x: u32)
-    requires { ⌜ (at ≤ len) × (len < length (now items)) ⌝ }
-    ensures { λ r. ⌜ now (items .exit) ≡ insertedAt at x (take len (now (items .entry))) ++ drop (len + 1) (now (items .entry)) ⌝ }
+// Puts x in front of a part of a list whose last place is not in use; what stands there moves up by one. The part begins where x goes,
+// so that the compiler makes the loop one move of memory.
+fn insert_front(part: &mut [u32], x: u32)
+    requires { ⌜ 0 < length (now part) ⌝ }
+    ensures { λ r. ⌜ now (part .exit) ≡ x ∷ take (length (now (part .entry)) - 1) (now (part .entry)) ⌝ }
 {
-    let mut held = x;
-    let mut i = at;
-    while i < len {
-        let next = items[i];
-        items[i] = held;
-        held = next;
-        i += 1;
+    let mut i = part.len() - 1;
+    while 0 < i {
+        part[i] = part[i - 1];
+        i -= 1;
     }
-    items[len] = held;
+    part[0] = x;
 }
 
-// Takes the item at place at, counted from 0, out of the list that the first len places hold. The items behind it move down by one,
-// and the place that this frees becomes 0.
-fn delete_at(items: &mut [u32], len: usize, at: usize)
-    requires { ⌜ (at < len) × (len ≤ length (now items)) ⌝ }
-    ensures { λ r. ⌜ now (items .exit) ≡ deletedAt at (take len (now (items .entry))) ++ 0 ∷ drop len (now (items .entry)) ⌝ }
+// Takes the first item out of a part of a list; those behind it move down by one, and the place that this frees becomes 0.
+fn delete_front(part: &mut [u32])
+    requires { ⌜ 0 < length (now part) ⌝ }
+    ensures { λ r. ⌜ now (part .exit) ≡ drop 1 (now (part .entry)) ++ 0 ∷ [] ⌝ }
 {
-    let last = len - 1;
-    let mut i = at;
+    let last = part.len() - 1;
+    let mut i = 0;
     while i < last {
-        items[i] = items[i + 1];
+        part[i] = part[i + 1];
         i += 1;
     }
-    items[last] = 0;
+    part[last] = 0;
 }
 
 // Applies e to the list that the first len places hold, and gives its new length.
-pub fn apply(items: &mut [u32; 512], len: u16, e: Edit) -> u16
-    requires { ⌜ Room e len capacity ⌝ }
+pub fn apply(items: &mut [u32], len: u16, e: Edit) -> u16
+    requires { ⌜ (length (now items) ≡ capacity) × Room e len capacity ⌝ }
     ensures { λ r. ⌜ Edited e len (now (items .entry)) (now (items .exit)) r ⌝ }
 {
     match e {
         Edit::Nothing => len,
         Edit::Delete(p) => {
-            delete_at(items, len as usize, (p - 1) as usize);
+            let from = (p - 1) as usize;
+            let to = len as usize;
+            delete_front(&mut items[from..to]);
             len - 1
         }
         Edit::Insert(p, x, _) => {
-            insert_at(items, len as usize, (p - 1) as usize, x);
+            let from = (p - 1) as usize;
+            let to = len as usize + 1;
+            insert_front(&mut items[from..to], x);
             len + 1
         }
     }
