@@ -1,16 +1,18 @@
 -- Taking: what the code decides is what the model does, and what it then writes is the store of what the model makes.
-use Prim.Native.Nat.{ℕ, _+_, _-_, _≤_}
+use Prim.Native.Nat.{ℕ, _+_, _-_, _≤_, _<_}
+use native.Mathlib.Numerals.{add-one}
 use native.Mathlib.Omega.{arith}
 use mathlib.Core.Path.{_≡_, refl, ap, _∙_, sym, subst}
 use mathlib.Core.Bool.{Bool, true, false, _&&_, cond}
 use mathlib.Core.List.{List, [], _∷_, _++_}
 use lib.Dec.{leb, eqb}
-use lib.ListN.{length, take, drop, replicate}
+use lib.ListN.{length, getD, set, take, drop, replicate, drop-of-length-le, length-drop}
 use borrow.Author.Tests.{eqb-false, eqb-true, ne-eqb, eq-eqb, leb-true, le-leb}
 use Rattle.ot.specs.declared.Edit.{Edit}
 use Rattle.ot.specs.declared.Edit.the-variants.{Nothing, Delete, Insert}
 use Rattle.ot.specs.Edit.{applied, fits, positionOf}
 use Rattle.ot.specs.Items.{padded, Room, Edited}
+use Rattle.ot.proofs.Sweep.{swept, swept-store, swept-to}
 use Rattle.wire.specs.declared.Header.{Header}
 use Rattle.wire.specs.declared.Message.{Message}
 use Rattle.wire.specs.declared.Message.the-variants as message
@@ -23,6 +25,7 @@ use Rattle.model.specs.Limits.{maxItems, maxPending}
 use Rattle.model.specs.Cross.{past, over, allPlaced}
 use Rattle.model.specs.Questions.{Question, ask, asks, Answer, answer}
 use Rattle.model.specs.Client as client
+use Rattle.model.proofs.Cross.{length-over}
 use Rattle.model.proofs.Tests.{yes-all, and-right}
 use Rattle.pending.specs.declared.Crossed.{Crossed}
 use Rattle.pending.specs.Slots.{placeOf, itemOf, editsFrom, filled, steps, crossed, Kept, Whole, Ready}
@@ -41,6 +44,15 @@ use Rattle.client.specs.Answers.{refusedWith, guarded, taken}
 use Rattle.client.specs.Taking.{Between, takeAsked, ackAsked, askedEdit, askedAck, asked, Decidable, Decided, refusing, deciding, left, nine, editDone, editDecided, ackDone, decided, staying, Droppable}
 use Rattle.client.proofs.Answers.{refused, done}
 use Rattle.client.proofs.Edits.{facts, len-few, items-stored}
+
+-- ---- the loop that puts one number after the other: at place i the array holds those of the part up to there
+
+module _ (part words a : List ℕ) (i : ℕ) (same : length part ≡ length words) where
+  pub put-turn : i < length words → a ≡ swept part words i → set a i (getD part i 0) ≡ swept part words (i + 1)
+  put-turn h e = rw add-one (ap (λ (l : List ℕ). set l i (getD part i 0)) e ∙ swept-store part words i 0 same h)
+
+  pub put-end : length words ≤ i → a ≡ swept part words i → a ≡ part
+  put-end h e = e ∙ swept-to part words i (drop-of-length-le part {i = i} (omega arith) ∙ sym (drop-of-length-le words {i = i} h))
 
 -- ---- questions
 
@@ -435,6 +447,15 @@ module _ (c : Client) (s : Sound c) where
       ∙ ap (λ (b : Bool). guarded c (answer (asks (ask 2 b ∷ ask 3 false ∷ [])) (view c) (view c) 0)) (sym (s .model))
       ∙ ap (λ (r : Read). guarded c (client.clientReads (view c) r)) (sym p)
 
+few-staying : (k : Counts) (es : List Edit) (q : Asked) → length es ≤ maxPending → length (staying k es q) ≤ maxPending
+few-staying k es q h =
+    let rest : length (left k es (q .seen)) ≤ maxPending = omega (arith, length-drop (q .seen - k .acked) es) in
+    go (q .carries) rest
+  where
+    go : (b : Bool) → length (left k es (q .seen)) ≤ maxPending → length (cond b (over (q .edit) (left k es (q .seen))) (left k es (q .seen))) ≤ maxPending
+    go true r = omega (arith, length-over (q .edit) (left k es (q .seen)))
+    go false r = r
+
 -- What is written by the decision of a message that was read.
 module _ (c : Client) (s : Sound c) (bytes : List ℕ) (m : Message) (p : parsed bytes ≡ read.Message m) (d : Decision) (later : List ℕ)
     (v : Decided (decided (counts c) (view c .pending) (asked (counts c) m)) (staying (counts c) (view c .pending) (asked (counts c) m)) d later) where
@@ -454,6 +475,13 @@ module _ (c : Client) (s : Sound c) (bytes : List ℕ) (m : Message) (p : parsed
   module _ (z : d .refusal ≡ 0) where
     pub take-room : Room (d .edit) (c .len) maxItems
     take-room = decided-room c s d stay (client.clientTakes (view c) m) model z
+
+    pub take-later : length later ≡ maxPending
+    take-later =
+        ap length (v .places z)
+        ∙ filled-length placeOf stay
+        (few-staying (counts c) (view c .pending) (asked (counts c) m)
+        (omega (arith, s .kept .few, edits-length (c .«pending_places») (c .«pending_items») 0 (c .made - c .acked))))
 
     pub take-droppable : Droppable (c .made) (c .acked) (d .acked) (c .«pending_items»)
     take-droppable =

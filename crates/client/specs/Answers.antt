@@ -4,6 +4,7 @@ use mathlib.Core.Bool.{cond}
 use mathlib.Core.List.{List, [], _∷_}
 use lib.Dec.{leb, ltb, eqb}
 use Rattle.ot.specs.declared.Edit.{Edit}
+use Rattle.ot.specs.declared.Edit.the-variants.{Delete, Insert}
 use Rattle.wire.specs.declared.Message.{Message}
 use Rattle.wire.specs.Message.{messageOf}
 use Rattle.pending.specs.Slots.{editAt}
@@ -14,10 +15,22 @@ use Rattle.model.specs.Client as client
 use Rattle.endpoint.specs.Items.{roomy}
 use Rattle.client.specs.declared.Client.{Client}
 use Rattle.client.specs.declared.Answer.{Answer}
-use Rattle.client.specs.Store.{view, store, sound}
+use Rattle.client.specs.declared.Changed.{Changed}
+use Rattle.client.specs.declared.Counts.{Counts}
+use Rattle.client.specs.declared.editing.Change.{Change}
+use Rattle.client.specs.declared.editing.Change.the-variants as change
+use Rattle.client.specs.Store.{clientOf, view, store, sound}
 
 abbrev pub refusedWith : ℕ → Client → Answer
 refusedWith r c = record { refusal = r; passed = 0; client = c }
+
+-- the answer of a call that was lent the arrays of a client, with what it left in them
+abbrev pub answerOf : Changed → List ℕ → List ℕ → List ℕ → Answer
+answerOf r items places pending =
+    record { refusal = r .refusal; passed = r .passed; client = clientOf (r .counts) items places pending }
+
+abbrev pub refusedCounts : ℕ → Counts → Changed
+refusedCounts r k = record { refusal = r; passed = 0; counts = k }
 
 abbrev pub doneWith : ℕ → client.Client → Answer
 doneWith passed m = record { refusal = 0; passed = passed; client = store m }
@@ -41,6 +54,14 @@ inserted c p x = guarded c (client.insertClient (view c) p x)
 
 abbrev pub deleted : Client → ℕ → Answer
 deleted c p = guarded c (client.deleteClient (view c) p)
+
+-- what an editing is asked for, and the edit as it is made: an insert's priority is the line
+abbrev pub madeAs : ℕ → Change → Edit
+madeAs line (change.Delete p) = Delete p
+madeAs line (change.Insert p x) = Insert p x line
+
+abbrev pub changed : Client → Change → Answer
+changed c d = edited c (madeAs (c .line) d)
 
 abbrev pub taken : Client → List ℕ → Answer
 taken c bytes = guarded c (client.takeClient (view c) bytes)

@@ -5,11 +5,18 @@ ghost use Prim.Native.Nat.{_≤_};
 ghost use Rattle.model.specs.Limits.{maxInserts};
 ghost use Rattle.model.specs.Questions.{asks};
 ghost use Rattle.client.specs.Store.{clientOf, sound, Sound, Sizes};
-ghost use Rattle.client.specs.Answers.{editAsked, edited, inserted, deleted};
+ghost use Rattle.client.specs.Answers.{editAsked, madeAs, answerOf, changed, inserted, deleted};
 use crate::Answer;
+use crate::Changed;
 use crate::Client;
 use crate::Counts;
 use ot::Edit;
+
+// What is asked of an editing: a delete at a position, or an insert of an item there.
+pub enum Change {
+    Delete(u16),
+    Insert(u16, u32),
+}
 
 // Questions 9 to 12.
 fn ask_editing(made: u16, acked: u16, inserts: u16, len: u16, e: Edit) -> u8
@@ -54,47 +61,72 @@ fn ask<'a>(k: Counts, items: &'a [u32], places: &'a [u32], pending: &'a [u32], e
     2
 }
 
+// The edit as it is made: an insert's priority is the line.
+fn made_as(line: u8, change: Change) -> Edit
+    ensures { λ r. ⌜ r ≡ madeAs line change ⌝ }
+{
+    match change {
+        Change::Delete(p) => Edit::Delete(p),
+        Change::Insert(p, x) => Edit::Insert(p, x, line),
+    }
+}
+
+// The edit is applied, counted and kept, in place.
+pub fn edit_lent(
+    k: Counts,
+    items: &mut [u32],
+    places: &mut [u32],
+    pending: &mut [u32],
+    change: Change,
+) -> Changed
+    requires { ⌜ Sizes (now items) (now places) (now pending) ⌝ }
+    ensures { λ r. ⌜ answerOf r (now (items .exit)) (now (places .exit)) (now (pending .exit)) ≡ changed (clientOf k (now (items .entry)) (now (places .entry)) (now (pending .entry))) change ⌝ }
+{
+    let e = made_as(k.line, change);
+    let refusal = ask(k, items, places, pending, e);
+    if refusal != 0 {
+        return crate::refused(refusal, k);
+    }
+    let count = (k.made - k.acked) as usize;
+    places[count] = pending::place_of(e);
+    pending[count] = pending::item_of(e);
+    let len = ot::apply(items, k.len, e);
+    Changed {
+        refusal: 0,
+        passed: 0,
+        counts: Counts {
+            n: k.n,
+            line: k.line,
+            made: k.made + 1,
+            taken: k.taken,
+            acked: k.acked,
+            inserts: k.inserts + endpoint::inserts_of(e),
+            len,
+        },
+    }
+}
+
 impl Client {
-    // The edit is applied, counted and kept.
-    fn edit(mut self, e: Edit) -> Answer
-        ensures { λ r. ⌜ r ≡ edited self e ⌝ }
+    fn edit(self, change: Change) -> Answer
+        ensures { λ r. ⌜ r ≡ changed self change ⌝ }
     {
-        let k = Counts {
-            n: self.n,
-            line: self.line,
-            made: self.made,
-            taken: self.taken,
-            acked: self.acked,
-            inserts: self.inserts,
-            len: self.len,
-        };
-        let refusal = ask(k, &self.items, &self.pending_places, &self.pending_items, e);
-        if refusal == 0 {
-            let count = (k.made - k.acked) as usize;
-            self.pending_places[count] = pending::place_of(e);
-            self.pending_items[count] = pending::item_of(e);
-            self.len = ot::apply(&mut self.items, k.len, e);
-            self.made = k.made + 1;
-            self.inserts = k.inserts + endpoint::inserts_of(e);
-        }
-        Answer {
-            refusal,
-            passed: 0,
-            client: self,
-        }
+        let mut items = self.items;
+        let mut places = self.pending_places;
+        let mut pending = self.pending_items;
+        let a = edit_lent(self.counts(), &mut items, &mut places, &mut pending, change);
+        crate::joined(a, items, places, pending)
     }
 
     // Inserts x before the item at position p. Its priority is the line.
     pub fn insert(self, p: u16, x: u32) -> Answer
         ensures { λ r. ⌜ r ≡ inserted self p x ⌝ }
     {
-        let line = self.line;
-        self.edit(Edit::Insert(p, x, line))
+        self.edit(Change::Insert(p, x))
     }
 
     pub fn delete(self, p: u16) -> Answer
         ensures { λ r. ⌜ r ≡ deleted self p ⌝ }
     {
-        self.edit(Edit::Delete(p))
+        self.edit(Change::Delete(p))
     }
 }

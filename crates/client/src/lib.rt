@@ -1,14 +1,16 @@
 // The client's end of a sheet: its state, opening, and question 2.
+// A client is its numbers and three arrays. The calls change lent arrays in place (`edit_lent`, `take_lent`); the methods, which take a
+// client by value and hand it back, are thin: they lend its arrays.
 ghost use mathlib.Core.Path.{_≡_};
 ghost use mathlib.Core.Bool.{true};
 ghost use Prim.Native.Nat.{_-_};
-ghost use Rattle.client.specs.Store.{fresh, countTests, countsOf, clientOf, sound, Sound, Sizes};
-ghost use Rattle.client.specs.Answers.{opened};
+ghost use Rattle.client.specs.Store.{fresh, countTests, countsOf, counts, clientOf, sound, Sound, Sizes};
+ghost use Rattle.client.specs.Answers.{opened, refusedCounts, answerOf};
 ghost use Rattle.model.specs.Questions.{every};
 
-mod editing;
-mod sending;
-mod taking;
+pub mod editing;
+pub mod sending;
+pub mod taking;
 
 // All state of a client. Unused places are zero.
 pub struct Client {
@@ -29,15 +31,23 @@ pub struct Client {
     pub pending_items: [u32; Client::PENDING],
 }
 
-// The numbers of a client. Functions that only ask get these and lent arrays, since a client by value is copied at each call.
-struct Counts {
-    n: u8,
-    line: u8,
-    made: u16,
-    taken: u16,
-    acked: u16,
-    inserts: u16,
-    len: u16,
+// The numbers of a client.
+pub struct Counts {
+    pub n: u8,
+    pub line: u8,
+    pub made: u16,
+    pub taken: u16,
+    pub acked: u16,
+    pub inserts: u16,
+    pub len: u16,
+}
+
+// What a call on lent arrays answers: 0 or the number of the question that said no, how many pending edits the edit was transformed
+// past, and the numbers.
+pub struct Changed {
+    pub refusal: u8,
+    pub passed: u16,
+    pub counts: Counts,
 }
 
 // What a call answers: 0 or the number of the question that said no, how many pending edits the edit was transformed past, and
@@ -46,6 +56,41 @@ pub struct Answer {
     pub refusal: u8,
     pub passed: u16,
     pub client: Client,
+}
+
+// A refusal leaves the numbers as they came.
+fn refused(refusal: u8, k: Counts) -> Changed
+    ensures { λ r. ⌜ r ≡ refusedCounts refusal k ⌝ }
+{
+    Changed {
+        refusal,
+        passed: 0,
+        counts: k,
+    }
+}
+
+// The answer of a method: the arrays that were lent, with their numbers again.
+fn joined(a: Changed, items: [u32; 512], places: [u32; 64], pending: [u32; 64]) -> Answer
+    ensures { λ r. ⌜ r ≡ answerOf a items places pending ⌝ }
+{
+    let k = a.counts;
+    let client = Client {
+        n: k.n,
+        line: k.line,
+        made: k.made,
+        taken: k.taken,
+        acked: k.acked,
+        inserts: k.inserts,
+        len: k.len,
+        items,
+        pending_places: places,
+        pending_items: pending,
+    };
+    Answer {
+        refusal: a.refusal,
+        passed: a.passed,
+        client,
+    }
 }
 
 // a - b, and 0 where b is larger: so that the counts of any end whatever have a difference.
@@ -104,6 +149,20 @@ impl Client {
     pub const ITEMS: usize = 512;
 
     pub const INITIAL: usize = 128;
+
+    pub fn counts(self) -> Counts
+        ensures { λ r. ⌜ r ≡ counts self ⌝ }
+    {
+        Counts {
+            n: self.n,
+            line: self.line,
+            made: self.made,
+            taken: self.taken,
+            acked: self.acked,
+            inserts: self.inserts,
+            len: self.len,
+        }
+    }
 
     // A client that has made and taken nothing.
     fn fresh(n: u8, line: u8, len: u16, items: [u32; 512]) -> Client

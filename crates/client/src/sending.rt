@@ -55,7 +55,7 @@ fn message<'a>(
 }
 
 // Writes the message of edit number i, unless a question says no.
-fn write_edit<'a>(
+pub fn send_lent<'a>(
     k: Counts,
     items: &'a [u32],
     places: &'a [u32],
@@ -90,7 +90,7 @@ fn write_edit<'a>(
 }
 
 // Writes an acknowledgement of the edits taken, unless a question says no.
-fn write_ack<'a>(
+pub fn tell_lent<'a>(
     k: Counts,
     items: &'a [u32],
     places: &'a [u32],
@@ -127,17 +127,8 @@ impl Client {
     pub fn send(self, line: u8, k: u16, out: &mut [u8]) -> Sent
         ensures { λ r. ⌜ answered r (now (out .exit)) ≡ sentEdit self line k (now (out .entry)) ⌝ }
     {
-        let c = Counts {
-            n: self.n,
-            line: self.line,
-            made: self.made,
-            taken: self.taken,
-            acked: self.acked,
-            inserts: self.inserts,
-            len: self.len,
-        };
-        write_edit(
-            c,
+        send_lent(
+            self.counts(),
             &self.items,
             &self.pending_places,
             &self.pending_items,
@@ -151,17 +142,8 @@ impl Client {
     pub fn tell(self, line: u8, out: &mut [u8]) -> Sent
         ensures { λ r. ⌜ answered r (now (out .exit)) ≡ sentAck self line (now (out .entry)) ⌝ }
     {
-        let c = Counts {
-            n: self.n,
-            line: self.line,
-            made: self.made,
-            taken: self.taken,
-            acked: self.acked,
-            inserts: self.inserts,
-            len: self.len,
-        };
-        write_ack(
-            c,
+        tell_lent(
+            self.counts(),
             &self.items,
             &self.pending_places,
             &self.pending_items,

@@ -2,7 +2,7 @@
 ghost use mathlib.Core.Path.{_≡_};
 ghost use mathlib.Core.Bool.{true};
 ghost use Prim.Native.Nat.{_≤_, _-_};
-ghost use lib.ListN.{take, drop};
+ghost use lib.ListN.{length, take, drop};
 ghost use Rattle.ot.specs.Edit.{positionOf};
 ghost use Rattle.ot.specs.Items.{padded};
 ghost use Rattle.wire.specs.Message.{inRange};
@@ -11,9 +11,11 @@ ghost use Rattle.model.specs.Cross.{priority, over};
 ghost use Rattle.model.specs.Questions.{asks};
 ghost use Rattle.model.specs.Client as client;
 ghost use Rattle.pending.specs.Slots.{editsFrom};
-ghost use Rattle.client.specs.Answers.{taken};
+ghost use Rattle.client.specs.Answers.{taken, answerOf};
+ghost use Rattle.client.specs.Store.{clientOf, Sizes};
 ghost use Rattle.client.specs.Taking.{Between, takeAsked, ackAsked, askedEdit, askedAck, asked, refusing, left, editDecided, decided, staying, Decidable, Decided, Droppable};
 use crate::Answer;
+use crate::Changed;
 use crate::Client;
 use crate::Counts;
 use ot::Edit;
@@ -177,70 +179,92 @@ fn decide<'a>(
     }
 }
 
+// Puts one number after the other into a line's array.
+fn put(words: &mut [u32], part: &[u32])
+    requires { ⌜ (length (now words) ≡ maxPending) × (length (now part) ≡ maxPending) ⌝ }
+    ensures { λ _. ⌜ now (words .exit) ≡ now (part .entry) ⌝ }
+{
+    for i in 0..64 {
+        words[i] = part[i];
+    }
+}
+
 // The items of the pending edits after seen. Where nothing new is acknowledged they stay where they are.
-fn drop_items(items: &mut [u32; 64], made: u16, acked: u16, seen: u16)
+fn drop_items(items: &mut [u32], made: u16, acked: u16, seen: u16)
     requires { ⌜ Droppable made acked seen (now items) ⌝ }
     ensures { λ _. ⌜ now (items .exit) ≡ padded 0 maxPending (take (made - seen) (drop (seen - acked) (now (items .entry)))) ⌝ }
 {
     if acked < seen {
-        let before = *items;
-        *items = pending::acked(&before, (seen - acked) as usize, (made - seen) as usize);
+        let rest = pending::acked(items, (seen - acked) as usize, (made - seen) as usize);
+        put(items, &rest);
     }
+}
+
+// Takes one message, in place.
+pub fn take_lent(
+    k: Counts,
+    items: &mut [u32],
+    places: &mut [u32],
+    pending: &mut [u32],
+    bytes: &[u8],
+) -> Changed
+    requires { ⌜ Sizes (now items) (now places) (now pending) ⌝ }
+    ensures { λ r. ⌜ answerOf r (now (items .exit)) (now (places .exit)) (now (pending .exit)) ≡ taken (clientOf k (now (items .entry)) (now (places .entry)) (now (pending .entry))) (now (bytes .entry)) ⌝ }
+{
+    if crate::is_sound(
+        k.n,
+        k.line,
+        k.made,
+        k.taken,
+        k.acked,
+        k.inserts,
+        k.len,
+        items,
+        places,
+        pending,
+    ) {
+        let Read::Message(m) = wire::parse(bytes) else {
+            return crate::refused(3, k);
+        };
+        let mut later = [0u32; 64];
+        let d = decide(k, places, pending, m, &mut later);
+        if d.refusal != 0 {
+            return Changed {
+                refusal: d.refusal,
+                passed: d.passed,
+                counts: k,
+            };
+        }
+        let e = d.edit;
+        let len = ot::apply(items, k.len, e);
+        put(places, &later);
+        drop_items(pending, k.made, k.acked, d.acked);
+        return Changed {
+            refusal: 0,
+            passed: d.passed,
+            counts: Counts {
+                n: k.n,
+                line: k.line,
+                made: k.made,
+                taken: d.taken,
+                acked: d.acked,
+                inserts: k.inserts,
+                len,
+            },
+        };
+    }
+    crate::refused(2, k)
 }
 
 impl Client {
     // Takes one message.
-    pub fn take(mut self, bytes: &[u8]) -> Answer
+    pub fn take(self, bytes: &[u8]) -> Answer
         ensures { λ r. ⌜ r ≡ taken self (now (bytes .entry)) ⌝ }
     {
-        let k = Counts {
-            n: self.n,
-            line: self.line,
-            made: self.made,
-            taken: self.taken,
-            acked: self.acked,
-            inserts: self.inserts,
-            len: self.len,
-        };
-        if crate::is_sound(
-            k.n,
-            k.line,
-            k.made,
-            k.taken,
-            k.acked,
-            k.inserts,
-            k.len,
-            &self.items,
-            &self.pending_places,
-            &self.pending_items,
-        ) {
-            let Read::Message(m) = wire::parse(bytes) else {
-                return Answer {
-                    refusal: 3,
-                    passed: 0,
-                    client: self,
-                };
-            };
-            let mut later = [0u32; 64];
-            let d = decide(k, &self.pending_places, &self.pending_items, m, &mut later);
-            if d.refusal == 0 {
-                let e = d.edit;
-                self.len = ot::apply(&mut self.items, k.len, e);
-                drop_items(&mut self.pending_items, k.made, k.acked, d.acked);
-                self.pending_places = later;
-                self.taken = d.taken;
-                self.acked = d.acked;
-            }
-            return Answer {
-                refusal: d.refusal,
-                passed: d.passed,
-                client: self,
-            };
-        }
-        Answer {
-            refusal: 2,
-            passed: 0,
-            client: self,
-        }
+        let mut items = self.items;
+        let mut places = self.pending_places;
+        let mut pending = self.pending_items;
+        let a = take_lent(self.counts(), &mut items, &mut places, &mut pending, bytes);
+        crate::joined(a, items, places, pending)
     }
 }

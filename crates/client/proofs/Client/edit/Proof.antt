@@ -1,71 +1,53 @@
-use Rattle.client.proofs.Edits.{facts, edit-allowed, edit-not-allowed, edit-pending, edit-room, edit-made, edit-inserts, edited-is}
-use mathlib.Core.Path.{sym, _∙_}
-use native.Mathlib.Omega.{arith}
+use Rattle.client.specs.declared.Counts.{Counts}
+use Rattle.client.specs.Store.{clientOf}
+use mathlib.Core.Path.{ap, _∙_}
+use denote.Ref.{now}
+use Rattle.client.specs.Answers.{changed}
 use borrow.Author.Needs.{needs}
 use Rattle.client.proofs.Client.edit.Statement.{statement}
 use Rattle.client.proofs.Client.edit.Tie as tie
+use Rattle.client.proofs.Client.edit.Reads as reads
+use Rattle.client.proofs.Client.edit.Lts as lts
+use Rattle.client.proofs.Client.counts.Reads as counts-reads
+use Rattle.client.proofs.editing.edit_lent.Reads as edit-lent-reads
+use Rattle.client.proofs.joined.Reads as joined-reads
 
-ask-requires : tie.Need-ask-requires
-ask-requires c κs = search needs
+-- src/editing.rt:116:27
+counts-requires : tie.Need-counts-requires
+counts-requires c κs = search needs
 
-sub-count : tie.Need-sub-count
-sub-count c = omega (arith, facts (c .before .before .before .before .before .before .before .before .before .before .args .t1) (edit-allowed (c .before .before .before .before .before .before .before .before .before .before .args .t1) (c .before .before .before .before .before .before .before .before .before .before .args .e) (c .before .before .ask .result) (c .before .before .ask .ensures .1) (c .before .before .ask .ensures .0) (c .before .if1 .taken) .0) .acked)
+-- src/editing.rt:116:42
+slice-aggregate-edit-lent : tie.Need-slice-aggregate-edit-lent
+slice-aggregate-edit-lent c = search needs
 
-cast-count : tie.Need-cast-count
-cast-count c = search needs
+-- src/editing.rt:116:54
+slice-aggregate-edit-lent-2 : tie.Need-slice-aggregate-edit-lent-2
+slice-aggregate-edit-lent-2 c = search needs
 
-place-of-requires : tie.Need-place-of-requires
-place-of-requires c κs = search needs
+-- src/editing.rt:116:67
+slice-aggregate-edit-lent-3 : tie.Need-slice-aggregate-edit-lent-3
+slice-aggregate-edit-lent-3 c = search needs
 
-mul-self : tie.Need-mul-self
-mul-self c = search needs
+-- src/editing.rt:116:13
+edit-lent-requires : tie.Need-edit-lent-requires
+edit-lent-requires c κs = search needs
 
-element-write-self : tie.Need-element-write-self
-element-write-self c = edit-pending (c .before .before .before .before .before .before .before .before .before .before .before .args .t1) (edit-allowed (c .before .before .before .before .before .before .before .before .before .before .before .args .t1) (c .before .before .before .before .before .before .before .before .before .before .before .args .e) (c .before .before .before .ask .result) (c .before .before .before .ask .ensures .1) (c .before .before .before .ask .ensures .0) (c .before .before .if1 .taken) .0) (c .before .before .before .before .before .before .before .before .before .before .before .args .e) (edit-allowed (c .before .before .before .before .before .before .before .before .before .before .before .args .t1) (c .before .before .before .before .before .before .before .before .before .before .before .args .e) (c .before .before .before .ask .result) (c .before .before .before .ask .ensures .1) (c .before .before .before .ask .ensures .0) (c .before .before .if1 .taken) .1)
+-- src/editing.rt:117:9
+joined-requires : tie.Need-joined-requires
+joined-requires c κs = search needs
 
-item-of-requires : tie.Need-item-of-requires
-item-of-requires c κs = search needs
-
-mul-self-2 : tie.Need-mul-self-2
-mul-self-2 c = search needs
-
-element-write-self-2 : tie.Need-element-write-self-2
-element-write-self-2 c = edit-pending (c .before .before .before .before .before .before .before .before .before .before .before .before .args .t1) (edit-allowed (c .before .before .before .before .before .before .before .before .before .before .before .before .args .t1) (c .before .before .before .before .before .before .before .before .before .before .before .before .args .e) (c .before .before .before .before .ask .result) (c .before .before .before .before .ask .ensures .1) (c .before .before .before .before .ask .ensures .0) (c .before .before .before .if1 .taken) .0) (c .before .before .before .before .before .before .before .before .before .before .before .before .args .e) (edit-allowed (c .before .before .before .before .before .before .before .before .before .before .before .before .args .t1) (c .before .before .before .before .before .before .before .before .before .before .before .before .args .e) (c .before .before .before .before .ask .result) (c .before .before .before .before .ask .ensures .1) (c .before .before .before .before .ask .ensures .0) (c .before .before .before .if1 .taken) .1)
-
-apply-requires : tie.Need-apply-requires
-apply-requires c κs = edit-room (c .before .before .before .before .before .before .before .before .before .before .before .before .before .args .t1) (edit-allowed (c .before .before .before .before .before .before .before .before .before .before .before .before .before .args .t1) (c .before .before .before .before .before .before .before .before .before .before .before .before .before .args .e) (c .before .before .before .before .before .ask .result) (c .before .before .before .before .before .ask .ensures .1) (c .before .before .before .before .before .ask .ensures .0) (c .before .before .before .before .if1 .taken) .0) (c .before .before .before .before .before .before .before .before .before .before .before .before .before .args .e) (edit-allowed (c .before .before .before .before .before .before .before .before .before .before .before .before .before .args .t1) (c .before .before .before .before .before .before .before .before .before .before .before .before .before .args .e) (c .before .before .before .before .before .ask .result) (c .before .before .before .before .before .ask .ensures .1) (c .before .before .before .before .before .ask .ensures .0) (c .before .before .before .before .if1 .taken) .1)
-
-add-self : tie.Need-add-self
-add-self c = omega (arith, edit-made (c .before .before .before .before .before .before .before .before .before .before .before .before .before .before .before .args .t1) (edit-allowed (c .before .before .before .before .before .before .before .before .before .before .before .before .before .before .before .args .t1) (c .before .before .before .before .before .before .before .before .before .before .before .before .before .before .before .args .e) (c .before .before .before .before .before .before .before .ask .result) (c .before .before .before .before .before .before .before .ask .ensures .1) (c .before .before .before .before .before .before .before .ask .ensures .0) (c .before .before .before .before .before .before .if1 .taken) .0) (c .before .before .before .before .before .before .before .before .before .before .before .before .before .before .before .args .e) (edit-allowed (c .before .before .before .before .before .before .before .before .before .before .before .before .before .before .before .args .t1) (c .before .before .before .before .before .before .before .before .before .before .before .before .before .before .before .args .e) (c .before .before .before .before .before .before .before .ask .result) (c .before .before .before .before .before .before .before .ask .ensures .1) (c .before .before .before .before .before .before .before .ask .ensures .0) (c .before .before .before .before .before .before .if1 .taken) .1))
-
-inserts-of-requires : tie.Need-inserts-of-requires
-inserts-of-requires c κs = search needs
-
-add-self-2 : tie.Need-add-self-2
-add-self-2 c = omega (arith, edit-inserts (c .before .before .before .before .before .before .before .before .before .before .before .before .before .before .before .before .before .args .t1) (edit-allowed (c .before .before .before .before .before .before .before .before .before .before .before .before .before .before .before .before .before .args .t1) (c .before .before .before .before .before .before .before .before .before .before .before .before .before .before .before .before .before .args .e) (c .before .before .before .before .before .before .before .before .before .ask .result) (c .before .before .before .before .before .before .before .before .before .ask .ensures .1) (c .before .before .before .before .before .before .before .before .before .ask .ensures .0) (c .before .before .before .before .before .before .before .before .if1 .taken) .0) (c .before .before .before .before .before .before .before .before .before .before .before .before .before .before .before .before .before .args .e) (edit-allowed (c .before .before .before .before .before .before .before .before .before .before .before .before .before .before .before .before .before .args .t1) (c .before .before .before .before .before .before .before .before .before .before .before .before .before .before .before .before .before .args .e) (c .before .before .before .before .before .before .before .before .before .ask .result) (c .before .before .before .before .before .before .before .before .before .ask .ensures .1) (c .before .before .before .before .before .before .before .before .before .ask .ensures .0) (c .before .before .before .before .before .before .before .before .if1 .taken) .1), c .before .inserts-of .ensures)
-
+-- src/editing.rt:110:5
 returns : tie.Need-returns
-returns c = edited-is (c .before .before .before .before .before .before .before .before .before .before .before .before .before .before .before .before .before .args .t1) (edit-allowed (c .before .before .before .before .before .before .before .before .before .before .before .before .before .before .before .before .before .args .t1) (c .before .before .before .before .before .before .before .before .before .before .before .before .before .before .before .before .before .args .e) (c .before .before .before .before .before .before .before .before .before .ask .result) (c .before .before .before .before .before .before .before .before .before .ask .ensures .1) (c .before .before .before .before .before .before .before .before .before .ask .ensures .0) (c .before .before .before .before .before .before .before .before .if1 .taken) .0) (c .before .before .before .before .before .before .before .before .before .before .before .before .before .before .before .before .before .args .e) (edit-allowed (c .before .before .before .before .before .before .before .before .before .before .before .before .before .before .before .before .before .args .t1) (c .before .before .before .before .before .before .before .before .before .before .before .before .before .before .before .before .before .args .e) (c .before .before .before .before .before .before .before .before .before .ask .result) (c .before .before .before .before .before .before .before .before .before .ask .ensures .1) (c .before .before .before .before .before .before .before .before .before .ask .ensures .0) (c .before .before .before .before .before .before .before .before .if1 .taken) .1) (c .before .before .before .before .before .before .before .before .before .ask .result) (c .before .inserts-of .result) (c .before .before .before .apply .result) (c .before .before .before .before .before .before .place-of .result) (c .before .before .before .before .before .item-of .result) (c .before .before .before .apply .last .0) (c .before .before .before .before .before .before .before .before .if1 .taken ∙ sym (edit-allowed (c .before .before .before .before .before .before .before .before .before .before .before .before .before .before .before .before .before .args .t1) (c .before .before .before .before .before .before .before .before .before .before .before .before .before .before .before .before .before .args .e) (c .before .before .before .before .before .before .before .before .before .ask .result) (c .before .before .before .before .before .before .before .before .before .ask .ensures .1) (c .before .before .before .before .before .before .before .before .before .ask .ensures .0) (c .before .before .before .before .before .before .before .before .if1 .taken) .1)) (c .before .inserts-of .ensures) (c .before .before .before .before .before .before .place-of .ensures) (c .before .before .before .before .before .item-of .ensures) (c .before .before .before .apply .ensures)
-
-returns-2 : tie.Need-returns-2
-returns-2 c = edit-not-allowed (c .before .before .before .before .before .before .before .before .before .args .t1) (c .before .before .before .before .before .before .before .before .before .args .e) (c .before .ask .result) (c .before .ask .ensures .1) (c .before .ask .ensures .0) (c .if1 .left)
+returns c = c .joined .ensures ∙ c .before .before .before .before .edit-lent .ensures ∙ ap (λ (k : Counts). changed (clientOf k (c .before .before .before .before .before .before .before .before .before .before .before .before .args .self .items) (c .before .before .before .before .before .before .before .before .before .before .before .before .args .self .«pending_places») (c .before .before .before .before .before .before .before .before .before .before .before .before .args .self .«pending_items»)) (c .before .before .before .before .before .before .before .before .before .before .before .before .args .change)) (c .before .before .before .before .before .before .before .before .counts .ensures)
 
 pub edit-spec : {M : Type 1} → statement M
 edit-spec =
     tie.close
     (tie.spec
-    ask-requires
-    sub-count
-    cast-count
-    place-of-requires
-    mul-self
-    element-write-self
-    item-of-requires
-    mul-self-2
-    element-write-self-2
-    apply-requires
-    add-self
-    inserts-of-requires
-    add-self-2
-    returns
-    returns-2)
+    counts-requires
+    slice-aggregate-edit-lent
+    slice-aggregate-edit-lent-2
+    slice-aggregate-edit-lent-3
+    edit-lent-requires
+    joined-requires
+    returns)

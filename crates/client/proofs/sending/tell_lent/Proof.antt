@@ -7,8 +7,8 @@ use mathlib.Core.Path.{ap, sym, _∙_}
 use denote.Ref.{now}
 use Prim.Native.Nat.{ℕ}
 use borrow.Author.Needs.{needs}
-use Rattle.client.proofs.sending.write_ack.Statement.{statement}
-use Rattle.client.proofs.sending.write_ack.Tie as tie
+use Rattle.client.proofs.sending.tell_lent.Statement.{statement}
+use Rattle.client.proofs.sending.tell_lent.Tie as tie
 
 is-sound-requires : tie.Need-is-sound-requires
 is-sound-requires c κs = search needs
@@ -28,7 +28,7 @@ returns c = c .before .before .finish .ensures ∙ ap (λ (r : ℕ). finished r 
 returns-2 : tie.Need-returns-2
 returns-2 c = unsound-sending (clientOf (c .before .before .before .before .before .before .args .k) (now (c .before .before .before .before .before .before .args .items)) (now (c .before .before .before .before .before .before .args .places)) (now (c .before .before .before .before .before .before .args .pending))) (tellClient (view (clientOf (c .before .before .before .before .before .before .args .k) (now (c .before .before .before .before .before .before .args .items)) (now (c .before .before .before .before .before .before .args .places)) (now (c .before .before .before .before .before .before .args .pending)))) (c .before .before .before .before .before .before .args .line) (now (c .before .before .before .before .before .before .args .out))) (now (c .before .before .before .before .before .before .args .out)) (sym (c .before .is-sound .ensures .0) ∙ c .if1 .left)
 
-pub write-ack-spec : {M : Type 1} → statement M
-write-ack-spec =
+pub tell-lent-spec : {M : Type 1} → statement M
+tell-lent-spec =
     tie.close
     (tie.spec is-sound-requires ask-line-requires finish-requires same-length returns returns-2)
