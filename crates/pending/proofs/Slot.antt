@@ -3,7 +3,7 @@ use Prim.Native.Nat.{ℕ, _+_, _*_, _/_, _%_, _≤_, _<_}
 use native.Mathlib.Nat.{mod-lt, mod-eq-of-lt, div-add-mod', mul-add-div-right, mul-add-mod-self-right, div-eq-of-lt}
 use native.Mathlib.Omega.{arith}
 use mathlib.Core.Path.{_≡_, refl, ap, _∙_, sym}
-use mathlib.Core.Bool.{Bool, true, false, not, _&&_, _||_, cond, and-true, and-assoc, and-comm, or-false}
+use mathlib.Core.Bool.{Bool, true, false, not, _&&_, _||_, cond, and-true, and-assoc, and-comm, or-false, or-true}
 use lib.Dec.{leb, ltb, eqb, lit<}
 use borrow.Author.Tests.{leb-true, le-leb, lt-leb, lt-ltb, le-ltb, ltb-true, eqb-true, eq-eqb, ne-eqb, eqb-false}
 use Rattle.ot.specs.declared.Edit.{Edit}
@@ -20,10 +20,12 @@ bool-ext true b f g = sym (f refl)
 bool-ext false true f g = g refl
 bool-ext false false f g = refl
 
--- the code's test of a priority
-pub priority-is : (n line p : ℕ) (own : Bool) → (own && eqb line p || not own && other n line p) ≡ rightPriority n line own p
-priority-is n line p true = or-false (eqb line p)
-priority-is n line p false = refl
+-- the code's test of an insert's priority
+pub priority-is : (n line p : ℕ) (own : Bool) → eqb p 0 ≡ false
+    → (own && eqb line p || not own && (leb p n && not (eqb p line))) ≡ rightPriority n line own p
+priority-is n line p true e = or-false (eqb line p)
+priority-is n line p false e =
+    ap (λ (t : Bool). (t && leb p n) && not (eqb p line)) (sym (le-leb 1 p (omega (arith, eqb-false p 0 e))))
 
 -- A place by its two parts.
 module _ (place : ℕ) where
@@ -64,48 +66,54 @@ module _ (place : ℕ) where
 
 -- ---- the test of a slot
 
-right-by : (place item : ℕ) (good : ℕ → Bool) (b c : Bool) → eqb (position place) 0 ≡ b → eqb (rank place) 0 ≡ c
-    → ((eqb place 0 && eqb item 0) || (inList place && ((c && eqb item 0) || (leb 1 (rank place) && good (rank place)))))
+right-by : (place item : ℕ) (good : ℕ → Bool) (g b c : Bool) → (c ≡ false → g ≡ good (rank place)) → eqb (position place) 0 ≡ b → eqb (rank place) 0 ≡ c
+    → (((eqb place 0 || inList place) && (eqb item 0 || not c)) && (c || g))
     ≡ (placed (cond b Nothing (cond c (Delete (position place)) (Insert (position place) item (rank place))))
     && (priority good (cond b Nothing (cond c (Delete (position place)) (Insert (position place) item (rank place))))
     && (eqb place (placeOf (cond b Nothing (cond c (Delete (position place)) (Insert (position place) item (rank place)))))
     && eqb item (itemOf (cond b Nothing (cond c (Delete (position place)) (Insert (position place) item (rank place))))))))
 unfolding within
-right-by place item good true c eb ec =
-    ap (λ (t : Bool). (eqb place 0 && eqb item 0) || (t && ((c && eqb item 0) || (leb 1 (rank place) && good (rank place)))))
-    (none-in-list place (eqb-true (position place) 0 eb))
-    ∙ or-false (eqb place 0 && eqb item 0)
-right-by place item good false true eb ec =
+right-by place item good g true true eg eb ec =
+    and-true ((eqb place 0 || inList place) && (eqb item 0 || false))
+    ∙ ap (λ (t : Bool). (eqb place 0 || t) && (eqb item 0 || false)) (none-in-list place (eqb-true (position place) 0 eb))
+    ∙ ap (λ (t : Bool). t && (eqb item 0 || false)) (or-false (eqb place 0))
+    ∙ ap (λ (t : Bool). eqb place 0 && t) (or-false (eqb item 0))
+right-by place item good g true false eg eb ec =
+    let used : eqb place 0 ≡ false = ne-eqb place 0 (λ z. eqb-false (rank place) 0 ec (omega (arith, parts place))) in
+    ap (λ (t : Bool). ((eqb place 0 || t) && (eqb item 0 || true)) && g) (none-in-list place (eqb-true (position place) 0 eb))
+    ∙ ap (λ (t : Bool). ((t || false) && (eqb item 0 || true)) && g) used
+    ∙ ap (λ (t : Bool). t && eqb item 0) (sym used)
+right-by place item good g false true eg eb ec =
     let used : eqb place 0 ≡ false = ne-eqb place 0 (λ z. eqb-false (position place) 0 eb (omega (arith, parts place))) in
-    let no : leb 1 (rank place) ≡ false = lt-leb 1 (rank place) (omega (arith, eqb-true (rank place) 0 ec)) in
     let whole : position place * 256 + rank place ≡ position place * 256 = omega (arith, eqb-true (rank place) 0 ec) in
-    ap (λ (t : Bool). (t && eqb item 0) || (inList place && (eqb item 0 || (leb 1 (rank place) && good (rank place))))) used
-    ∙ ap (λ (t : Bool). inList place && (eqb item 0 || (t && good (rank place)))) no
+    and-true ((eqb place 0 || inList place) && (eqb item 0 || false))
+    ∙ ap (λ (t : Bool). (t || inList place) && (eqb item 0 || false)) used
     ∙ ap (λ (t : Bool). inList place && t) (or-false (eqb item 0))
     ∙ ap (λ (t : Bool). t && eqb item 0) (in-list place (eqb-false (position place) 0 eb))
     ∙ and-assoc (leb 1 (position place) && leb (position place) maxItems) (eqb place (position place * 256 + rank place)) (eqb item 0)
     ∙ ap (λ (n : ℕ). (leb 1 (position place) && leb (position place) maxItems) && (eqb place n && eqb item 0)) whole
-right-by place item good false false eb ec =
+right-by place item good g false false eg eb ec =
     let used : eqb place 0 ≡ false = ne-eqb place 0 (λ z. eqb-false (position place) 0 eb (omega (arith, parts place))) in
-    let yes′ : leb 1 (rank place) ≡ true = le-leb 1 (rank place) (omega (arith, eqb-false (rank place) 0 ec)) in
     let a : Bool = leb 1 (position place) && leb (position place) maxItems in
     let t : Bool = eqb place (position place * 256 + rank place) in
-    ap (λ (u : Bool). (u && eqb item 0) || (inList place && (false || (leb 1 (rank place) && good (rank place))))) used
-    ∙ ap (λ (u : Bool). inList place && (u && good (rank place))) yes′
+    ap (λ (u : Bool). ((u || inList place) && (eqb item 0 || true)) && g) used
+    ∙ ap (λ (u : Bool). (inList place && u) && g) (or-true (eqb item 0))
+    ∙ ap (λ (u : Bool). u && g) (and-true (inList place))
+    ∙ ap (λ (u : Bool). inList place && u) (eg refl)
     ∙ ap (λ (u : Bool). u && good (rank place)) (in-list place (eqb-false (position place) 0 eb))
     ∙ and-assoc a t (good (rank place))
     ∙ ap (λ (u : Bool). a && u) (and-comm t (good (rank place)) ∙ ap (λ (u : Bool). good (rank place) && u) (sym (and-true t)))
     ∙ ap (λ (u : Bool). a && (good (rank place) && (t && u))) (sym (eq-eqb item item refl))
 
 -- what the code tests is the definition
-pub right-is : (place item : ℕ) (good : ℕ → Bool) (g : Bool) → g ≡ good (place % 256)
-    → ((eqb place 0 && eqb item 0)
-    || ((leb 256 place && ltb place 131328) && ((eqb (place % 256) 0 && eqb item 0) || (leb 1 (place % 256) && g))))
-    ≡ rightSlot good place item
+pub right-is : (place item n line : ℕ) (own : Bool)
+    → (((eqb place 0 || (leb 256 place && ltb place 131328)) && (eqb item 0 || not (eqb (place % 256) 0)))
+    && (eqb (place % 256) 0 || (own && eqb line (place % 256) || not own && (leb (place % 256) n && not (eqb (place % 256) line)))))
+    ≡ rightSlot (rightPriority n line own) place item
 unfolding editOf tidy
-right-is place item good g e =
-    ap (λ (u : Bool). (eqb place 0 && eqb item 0) || (inList place && ((eqb (rank place) 0 && eqb item 0) || (leb 1 (rank place) && u)))) e
-    ∙ right-by place item good (eqb (position place) 0) (eqb (rank place) 0) refl refl
+right-is place item n line own =
+    right-by place item (rightPriority n line own) (own && eqb line (rank place) || not own && (leb (rank place) n && not (eqb (rank place) line)))
+    (eqb (position place) 0) (eqb (rank place) 0) (priority-is n line (rank place) own) refl refl
 
 -- ---- a slot is the slot of what it means, and an edit what its slot means
 

@@ -41,6 +41,12 @@ module _ (test : ℕ → Bool) where
       let none′ : 0 ≡ to - i = omega arith in
       sym (and-true flag) ∙ ap (λ (k : ℕ). flag && allFrom test i k) none′
 
+  -- the numbers up to a place are as many as lie before it
+  pub all-count : (from to count : ℕ) → to ≡ from + count → allFrom test from (to - from) ≡ allFrom test from count
+  all-count from to count e =
+      let n : to - from ≡ count = omega arith in
+      ap (allFrom test from) n
+
   pub all-each : (from count : ℕ) → allFrom test from count ≡ true → (i : ℕ) → i < count → test (from + i) ≡ true
   unfolding allFrom
   all-each from zero a i h = absurd (not-suc-le-zero h)
@@ -71,6 +77,27 @@ gather-turn places items i to all h =
     ap (λ (b : Bool). b && allFrom (emptyAt places items) (i + 1) (to - (i + 1)))
     (or-zero all (bitOr (getD places i 0) (getD items i 0)) ∙ ap (λ (b : Bool). eqb all 0 && b) (or-zero (getD places i 0) (getD items i 0)))
     ∙ all-turn (emptyAt places items) i to (eqb all 0) (emptyAt places items i) h refl
+
+-- The same where the slots of a line are counted from 0; left are those from slot i on.
+module _ (places items : List ℕ) (from : ℕ) where
+  abbrev pub leftEmpty : ℕ → Bool
+  leftEmpty i = allFrom (emptyAt places items) (from + i) (from + maxPending - (from + i))
+
+  pub line-start : leftEmpty 0 ≡ allFrom (emptyAt places items) from maxPending
+  line-start =
+      let first : from + 0 ≡ from = omega arith in
+      ap (λ (k : ℕ). allFrom (emptyAt places items) k (from + maxPending - k)) first
+      ∙ all-count (emptyAt places items) from (from + maxPending) maxPending refl
+
+  pub line-turn : (i all : ℕ) → i < maxPending
+      → (eqb (bitOr all (bitOr (getD places (from + i) 0) (getD items (from + i) 0))) 0 && leftEmpty (i + 1)) ≡ (eqb all 0 && leftEmpty i)
+  line-turn i all h =
+      let next : from + (i + 1) ≡ from + i + 1 = omega arith in
+      ap (λ (k : ℕ). eqb (bitOr all (bitOr (getD places (from + i) 0) (getD items (from + i) 0))) 0 && allFrom (emptyAt places items) k (from + maxPending - k)) next
+      ∙ gather-turn places items (from + i) (from + maxPending) all (omega arith)
+
+  pub line-end : (i : ℕ) (flag : Bool) → maxPending ≤ i → flag ≡ (flag && leftEmpty i)
+  line-end i flag h = all-end (emptyAt places items) (from + i) (from + maxPending) flag (omega arith)
 
 -- ---- the tests of a line
 
@@ -105,11 +132,10 @@ module _ (good : ℕ → Bool) (ps xs : List ℕ) where
         → unused ≡ allFrom (emptyAt ps xs) to (end - to) → (used && unused) ≡ soundSlots good from count ps xs
     unfolding soundSlots
     sound-few to end used unused h et ee eu en =
-        let n : to - from ≡ count = omega arith in
         let m : end - to ≡ maxPending - count = omega arith in
         let es : List Edit = editsFrom ps xs from count in
         let u : used ≡ (allPlaced es && (priorities good es && allFrom (tidyAt ps xs) from count)) =
-        eu ∙ ap (allFrom (rightAt good ps xs) from) n ∙ right-all from count in
+        eu ∙ all-count (rightAt good ps xs) from to count et ∙ right-all from count in
         let v : unused ≡ allFrom (emptyAt ps xs) (from + count) (maxPending - count) =
         en ∙ ap (allFrom (emptyAt ps xs) to) m ∙ ap (λ (k : ℕ). allFrom (emptyAt ps xs) k (maxPending - count)) et in
         let t : Bool = allFrom (tidyAt ps xs) from count in
@@ -118,6 +144,15 @@ module _ (good : ℕ → Bool) (ps xs : List ℕ) where
         ∙ and-assoc (allPlaced es) (priorities good es && t) z
         ∙ ap (λ (b : Bool). allPlaced es && b) (and-assoc (priorities good es) t z ∙ ap (λ (b : Bool). priorities good es && (t && b)) (sym (and-true z)))
         ∙ ap (λ (b : Bool). b && (allPlaced es && (priorities good es && (t && (z && true))))) (sym (le-leb count maxPending h))
+
+    -- the one loop of a line without pending edits
+    pub sound-none : (unused : Bool) → count ≡ 0 → unused ≡ allFrom (emptyAt ps xs) from maxPending → unused ≡ soundSlots good from count ps xs
+    unfolding allFrom
+    sound-none unused z e =
+        let to : from ≡ from + count = omega arith in
+        sound-few from (from + maxPending) true unused (omega arith) to refl
+        (sym (all-count (rightAt good ps xs) from from 0 (omega arith)))
+        (e ∙ sym (all-count (emptyAt ps xs) from (from + maxPending) maxPending refl))
 
     -- The numbers of a line are those for its edits, if each slot in use is that of its edit and each other slot is zero.
     whole-line : (word : Edit → ℕ) → word Nothing ≡ 0 → (ws : List ℕ) → count ≤ maxPending → from + maxPending ≤ length ws

@@ -73,25 +73,18 @@ pub fn at<'a>(places: &'a [u32], items: &'a [u32], i: usize) -> Edit
 
 // ---- question 2
 
-// The priority of a client's own insert (own) or of another's, kept by the server for a line.
-fn right_priority(n: u8, line: u8, own: bool, p: u8) -> bool
-    ensures { λ r. ⌜ r ≡ rightPriority n line own p ⌝ }
-{
-    let mine = line == p;
-    let others = (1 <= p) & (p <= n) & !(p == line);
-    (own & mine) | (!own & others)
-}
-
-// A slot in use, by its numbers alone: nothing, or a position of 1 to 512 with a delete or with an insert of the right priority.
+// A slot in use, by its numbers alone: nothing, or a position of 1 to 512 with a delete or with an insert of the right priority. The
+// priority of a client's own insert (own) is its line; what the server keeps for a line has another of 1 to n. Nothing and a delete have
+// priority 0 and item 0, so the tests of item and priority are the same for the two, and only the position tells them apart.
 fn is_right(place: u32, item: u32, n: u8, line: u8, own: bool) -> bool
     ensures { λ r. ⌜ r ≡ rightSlot (rightPriority n line own) place item ⌝ }
 {
     let r = (place % 256) as u8;
-    let nothing = (place == 0) & (item == 0);
-    let position = (256 <= place) & (place < 131328);
-    let delete = (r == 0) & (item == 0);
-    let insert = (1 <= r) & right_priority(n, line, own, r);
-    nothing | (position & (delete | insert))
+    let position = (place == 0) | ((256 <= place) & (place < 131328));
+    let item_right = (item == 0) | !(r == 0);
+    let mine = line == r;
+    let others = (r <= n) & !(r == line);
+    position & item_right & ((r == 0) | ((own & mine) | (!own & others)))
 }
 
 // The slots in use, from up to but not at to: no early return and no branch, so that the compiler makes the loop wide.
@@ -126,6 +119,19 @@ fn unused_empty(places: &[u32], items: &[u32], from: usize, to: usize) -> bool
     all == 0
 }
 
+// The same for a whole line, where no edit is pending: a loop of fixed length, which the compiler makes wide and lays out whole.
+fn line_empty(places: &[u32], items: &[u32], from: usize) -> bool
+    requires { ⌜ Whole from (now places) (now items) ⌝ }
+    ensures { λ r. ⌜ r ≡ allFrom (emptyAt (now (places .entry)) (now (items .entry))) from maxPending ⌝ }
+{
+    let mut all = 0u32;
+    for i in 0..64 {
+        let slot = from + i;
+        all = all | (places[slot] | items[slot]);
+    }
+    all == 0
+}
+
 // Question 2 about the line whose first slot is from: the pending edits of a client (own), or those that the server keeps for a line.
 pub fn sound<'a>(
     places: &'a [u32],
@@ -141,6 +147,9 @@ pub fn sound<'a>(
 {
     if 64 < count {
         return false;
+    }
+    if count == 0 {
+        return line_empty(places, items, from);
     }
     let used = from + count;
     used_right(places, items, from, used, n, line, own)
