@@ -9,11 +9,22 @@ use Rattle.model.specs.Questions as model
 use Rattle.model.specs.Server as end
 use Rattle.server.specs.declared.Server.{Server}
 use Rattle.server.specs.declared.Answer.{Answer}
-use Rattle.server.specs.View.{view, store}
+use Rattle.server.specs.declared.taking.Changed.{Changed}
+use Rattle.lines.specs.declared.Counts.{Counts}
+use Rattle.server.specs.View.{view, store, serverOf}
 use Rattle.server.specs.Sound.{soundStruct}
 
 abbrev pub refused : Server → ℕ → Answer
 refused s r = record { refusal = r; passed = 0; server = s }
+
+-- the same where the arrays are lent: the counts as they came
+abbrev pub unchanged : ℕ → Counts → Changed
+unchanged r k = record { refusal = r; passed = 0; counts = k }
+
+-- what an answer with lent arrays says of the struct: the counts, and the arrays as they are then
+abbrev pub answerOf : Changed → List ℕ → List ℕ → List ℕ → Answer
+answerOf r items ps xs =
+    record { server = serverOf (r .counts) items ps xs; refusal = r .refusal; passed = r .passed }
 
 -- the answer a about the struct s: the one struct for the new end, or the struct as it came
 unfoldable pub answered : Server → model.Answer end.Server → Answer

@@ -1,6 +1,6 @@
 // The server's end of a sheet. Each call takes the end by value and hands it back in its answer.
-mod sending;
-mod taking;
+pub mod sending;
+pub mod taking;
 
 ghost use mathlib.Core.Path.{_≡_};
 ghost use mathlib.Core.Bool.{true};

@@ -1,6 +1,8 @@
 // Taking: a message of a client, an edit or an acknowledgement.
 ghost use mathlib.Core.Path.{_≡_};
-ghost use Rattle.server.specs.Calls.{refused, takes};
+ghost use Rattle.server.specs.View.{countsOf, serverOf};
+ghost use Rattle.server.specs.Sound.{Sizes};
+ghost use Rattle.server.specs.Calls.{unchanged, answerOf, takes};
 use crate::Answer;
 use crate::Server;
 use crate::is_sound;
@@ -8,68 +10,126 @@ use lines::Counts;
 use lines::taking;
 use wire::Read;
 
+// What taking answers where the arrays are lent: 0 or the number of the question that said no, how many pending edits an edit was
+// transformed past, and the counts as they are now.
+pub struct Changed {
+    pub refusal: u8,
+    pub passed: u16,
+    pub counts: Counts,
+}
+
+// The number of the question that said no, with the counts as handed in.
+fn refused(refusal: u8, k: Counts) -> Changed
+    ensures { λ r. ⌜ r ≡ unchanged refusal k ⌝ }
+{
+    Changed {
+        refusal,
+        passed: 0,
+        counts: k,
+    }
+}
+
+// Bytes that a client sent: exactly one message. The end's arrays are lent and written in place, since an end by value is copied at
+// each call; a refusal writes nothing.
+pub fn take_lent(
+    mut k: Counts,
+    items: &mut [u32; 512],
+    places: &mut [u32; 512],
+    pending: &mut [u32; 512],
+    bytes: &[u8],
+) -> Changed
+    requires { ⌜ Sizes k (now items) (now places) (now pending) ⌝ }
+    ensures { λ r. ⌜ answerOf r (now (items .exit)) (now (places .exit)) (now (pending .exit)) ≡ takes (serverOf k (now (items .entry)) (now (places .entry)) (now (pending .entry))) (now (bytes .entry)) ⌝ }
+{
+    if is_sound(
+        k.n,
+        k.initial,
+        k.len,
+        &k.made,
+        &k.taken,
+        &k.acked,
+        &k.inserts,
+        items,
+        places,
+        pending,
+    ) {
+        let Read::Message(m) = wire::parse(bytes) else {
+            return refused(3, k);
+        };
+        let mut later = [0u32; 64];
+        let d = taking::decide(k, places, pending, m, &mut later);
+        if d.refusal == 0 {
+            let i = d.at;
+            let e = d.edit;
+            let place = pending::place_of(e);
+            taking::write_places(places, &later, k, i, d.others, place);
+            let item = pending::item_of(e);
+            taking::write_items(pending, k, i, d.acked, d.others, item);
+            k.len = ot::apply(items, k.len, e);
+            taking::raise(&mut k.made, d.others, i);
+            k.taken[i] = d.taken;
+            k.acked[i] = d.acked;
+            k.inserts[i] = d.inserts;
+            return Changed {
+                refusal: 0,
+                passed: d.passed,
+                counts: k,
+            };
+        }
+        return refused(d.refusal, k);
+    }
+    refused(2, k)
+}
+
 impl Server {
-    // The number of the question that said no, with the end as handed in.
-    fn refuse(self, number: u8) -> Answer
-        ensures { λ r. ⌜ r ≡ refused self number ⌝ }
+    // The same of an end by value.
+    pub fn take(self, bytes: &[u8]) -> Answer
+        ensures { λ r. ⌜ r ≡ takes self (now (bytes .entry)) ⌝ }
     {
+        let mut items = self.items;
+        let mut places = self.pending_places;
+        let mut pending = self.pending_items;
+        let a = take_lent(self.counts(), &mut items, &mut places, &mut pending, bytes);
+        let k = a.counts;
+        let made = k.made;
+        let taken = k.taken;
+        let acked = k.acked;
+        let inserts = k.inserts;
+        let server = Server {
+            n: k.n,
+            initial: k.initial,
+            len: k.len,
+            items,
+            made,
+            taken,
+            acked,
+            inserts,
+            pending_places: places,
+            pending_items: pending,
+        };
         Answer {
-            refusal: number,
-            passed: 0,
-            server: self,
+            server,
+            refusal: a.refusal,
+            passed: a.passed,
         }
     }
 
-    // Bytes that a client sent: exactly one message.
-    pub fn take(mut self, bytes: &[u8]) -> Answer
-        ensures { λ r. ⌜ r ≡ takes self (now (bytes .entry)) ⌝ }
+    // The small part of an end: what functions that are lent its arrays get beside them.
+    pub fn counts(self) -> Counts
+        ensures { λ r. ⌜ r ≡ countsOf self ⌝ }
     {
-        if is_sound(
-            self.n,
-            self.initial,
-            self.len,
-            &self.made,
-            &self.taken,
-            &self.acked,
-            &self.inserts,
-            &self.items,
-            &self.pending_places,
-            &self.pending_items,
-        ) {
-            let Read::Message(m) = wire::parse(bytes) else {
-                return self.refuse(3);
-            };
-            let k = Counts {
-                n: self.n,
-                initial: self.initial,
-                len: self.len,
-                made: self.made,
-                taken: self.taken,
-                acked: self.acked,
-                inserts: self.inserts,
-            };
-            let mut later = [0u32; 64];
-            let d = taking::decide(k, &self.pending_places, &self.pending_items, m, &mut later);
-            if d.refusal == 0 {
-                let i = d.at;
-                let e = d.edit;
-                self.len = ot::apply(&mut self.items, k.len, e);
-                let place = pending::place_of(e);
-                taking::write_places(&mut self.pending_places, &later, k, i, d.others, place);
-                let item = pending::item_of(e);
-                taking::write_items(&mut self.pending_items, k, i, d.acked, d.others, item);
-                taking::raise(&mut self.made, d.others, i);
-                self.taken[i] = d.taken;
-                self.acked[i] = d.acked;
-                self.inserts[i] = d.inserts;
-                return Answer {
-                    refusal: 0,
-                    passed: d.passed,
-                    server: self,
-                };
-            }
-            return self.refuse(d.refusal);
+        let made = self.made;
+        let taken = self.taken;
+        let acked = self.acked;
+        let inserts = self.inserts;
+        Counts {
+            n: self.n,
+            initial: self.initial,
+            len: self.len,
+            made,
+            taken,
+            acked,
+            inserts,
         }
-        self.refuse(2)
     }
 }

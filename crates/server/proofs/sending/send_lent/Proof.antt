@@ -1,0 +1,78 @@
+use borrow.Author.Needs.{needs}
+use mathlib.Core.Path.{sym, _∙_}
+use Rattle.server.specs.declared.Server.{Server}
+use Rattle.server.specs.View.{serverOf}
+use Rattle.server.specs.Sound.{Sound}
+use Rattle.server.proofs.Whole.{lines-few}
+use Rattle.server.proofs.Answers.{sends-no, send-refused, send-done}
+use Rattle.server.proofs.sending.send_lent.Statement.{statement}
+use Rattle.server.proofs.sending.send_lent.Tie as tie
+
+-- the end whose parts these are
+abbrev whole : tie.Start → Server
+whole c = serverOf (c .args .t1) (c .args .items .now) (c .args .places .now) (c .args .pending .now)
+
+-- question 2 said yes
+abbrev entry : tie.Then1 → tie.Start
+entry c = c .before .before .before .before .before .before .before .before .before .before .before .before .before .before .before
+
+sound : (c : tie.Then1) → Sound (whole (entry c))
+sound c = c .before .is-sound .ensures .1 (c .if1 .taken)
+
+-- src/sending.rt:27:8
+is-sound-requires : tie.Need-is-sound-requires
+is-sound-requires c κs = search needs
+
+-- src/sending.rt:39:13
+ask-send-requires : tie.Need-ask-send-requires
+ask-send-requires c κs =
+    let t = c in
+    lines-few (whole (entry t)) (sound t)
+
+-- src/sending.rt:41:17
+message-requires : tie.Need-message-requires
+message-requires c κs =
+    let t = c .before .before in
+    (lines-few (whole (entry t)) (sound t), sym (c .before .ask-send .ensures) ∙ c .if2 .taken)
+
+-- src/sending.rt:42:13
+finish-requires : tie.Need-finish-requires
+finish-requires c κs = search needs
+
+-- src/sending.rt:42:13
+same-length : tie.Need-same-length
+same-length c = search needs
+
+-- src/sending.rt:42:13
+returns : tie.Need-returns
+returns c =
+    let t = c .before .before .before .before .before .before .before in
+    let s = entry t in
+    c .before .before .finish .ensures
+    ∙ send-done (whole s) (s .args .line) (s .args .n) (s .args .out .now) (sound t) (c .before .before .before .before .message .result) (sym (c .before .before .before .before .before .before .ask-send .ensures) ∙ c .before .before .before .before .before .if2 .taken) (c .before .before .before .before .message .ensures)
+
+-- src/sending.rt:44:9
+returns-2 : tie.Need-returns-2
+returns-2 c =
+    let t = c .before .before in
+    let s = entry t in
+    send-refused (whole s) (s .args .line) (s .args .n) (s .args .out .now) (sound t) (c .before .ask-send .result) (c .before .ask-send .ensures) (c .if2 .left)
+
+-- src/sending.rt:15:1
+returns-3 : tie.Need-returns-3
+returns-3 c =
+    let s = c .before .before .before .before .before .before .before .before .before .before .before .before .before .before .before in
+    sends-no (whole s) (s .args .line) (s .args .n) (s .args .out .now) (sym (c .before .is-sound .ensures .0) ∙ c .if1 .left)
+
+pub send-lent-spec : {M : Type 1} → statement M
+send-lent-spec =
+    tie.close
+    (tie.spec
+    is-sound-requires
+    ask-send-requires
+    message-requires
+    finish-requires
+    same-length
+    returns
+    returns-2
+    returns-3)
