@@ -131,7 +131,7 @@ write-items-requires c κs =
 apply-requires : tie.Need-apply-requires
 apply-requires c κs =
     let t = c .before .before .before .before .before .before .before .before in
-    decides t .room
+    (entry (well t) .pre .list, decides t .room)
 
 -- src/taking.rt:69:13
 raise-requires : tie.Need-raise-requires
