@@ -1,4 +1,5 @@
 pub mod Lists
+pub mod Flat
 pub mod Examples
 pub mod Openings
 pub mod Benches

@@ -2,3 +2,4 @@ pub mod Opening
 pub mod Bench
 pub mod Output
 pub mod Ends
+pub mod Flat
