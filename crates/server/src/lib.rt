@@ -1,13 +1,15 @@
-// The server's end of a sheet. Each call takes the end by value and hands it back in its answer.
+// The server's end of a sheet. Each method takes the end by value and hands it back in its answer. An end by value is copied at each
+// call, so the work is done by functions of `taking` and `sending` that get its counts and are lent its arrays.
 pub mod sending;
 pub mod taking;
 
 ghost use mathlib.Core.Path.{_≡_};
 ghost use mathlib.Core.Bool.{true};
 ghost use Rattle.lines.specs.Lines.{counts};
-ghost use Rattle.server.specs.View.{serverOf, fresh};
+ghost use Rattle.server.specs.View.{countsOf, serverOf, fresh};
 ghost use Rattle.server.specs.Sound.{soundStruct, Sound, Sizes};
 ghost use Rattle.server.specs.Calls.{opened};
+use lines::Counts;
 
 // The server's end. Of each line four counts, at place line - 1, and its pending edits, in the 64 slots from 64 * (line - 1). Every
 // place that is not in use is zero.
@@ -41,7 +43,7 @@ pub struct Answer {
 
 // ---- question 2
 
-// All arrays are lent as they stand in the end: put together in a struct they would be copied, and read back too soon.
+// All arrays are lent, those of the counts as well: put together in a struct they would be copied, and read back too soon.
 fn is_sound<'a>(
     n: u8,
     initial: u16,
@@ -94,11 +96,11 @@ impl Server {
     // The limits, by name.
     pub const LINES: usize = 8;
 
-    pub const INSERTS: u16 = lines::Counts::INSERTS;
+    pub const INSERTS: u16 = Counts::INSERTS;
 
-    pub const EDITS: u16 = lines::Counts::EDITS;
+    pub const EDITS: u16 = Counts::EDITS;
 
-    pub const PENDING: u16 = lines::Counts::PENDING;
+    pub const PENDING: u16 = Counts::PENDING;
 
     pub const ITEMS: usize = 512;
 
@@ -122,6 +124,25 @@ impl Server {
             refusal: 1,
             passed: 0,
             server,
+        }
+    }
+
+    // The small part of an end: what functions that are lent its arrays get beside them.
+    pub fn counts(self) -> Counts
+        ensures { λ r. ⌜ r ≡ countsOf self ⌝ }
+    {
+        let made = self.made;
+        let taken = self.taken;
+        let acked = self.acked;
+        let inserts = self.inserts;
+        Counts {
+            n: self.n,
+            initial: self.initial,
+            len: self.len,
+            made,
+            taken,
+            acked,
+            inserts,
         }
     }
 }

@@ -1,6 +1,6 @@
 // Taking: a message of a client, an edit or an acknowledgement.
 ghost use mathlib.Core.Path.{_≡_};
-ghost use Rattle.server.specs.View.{countsOf, serverOf};
+ghost use Rattle.server.specs.View.{serverOf};
 ghost use Rattle.server.specs.Sound.{Sizes};
 ghost use Rattle.server.specs.Calls.{unchanged, answerOf, takes};
 use crate::Answer;
@@ -111,25 +111,6 @@ impl Server {
             server,
             refusal: a.refusal,
             passed: a.passed,
-        }
-    }
-
-    // The small part of an end: what functions that are lent its arrays get beside them.
-    pub fn counts(self) -> Counts
-        ensures { λ r. ⌜ r ≡ countsOf self ⌝ }
-    {
-        let made = self.made;
-        let taken = self.taken;
-        let acked = self.acked;
-        let inserts = self.inserts;
-        Counts {
-            n: self.n,
-            initial: self.initial,
-            len: self.len,
-            made,
-            taken,
-            acked,
-            inserts,
         }
     }
 }

@@ -137,7 +137,7 @@ apply-requires c κs =
 raise-requires : tie.Need-raise-requires
 raise-requires c κs =
     let t = c .before .before .before .before .before .before .before .before .before .before in
-    (others-few t, (sound (well t) .sized .made, written-made (end t) (sound (well t)) (decision t) (left t) (model.serverTakes (view (end t)) (message t) .end) (decides t)))
+    (omega (arith, others-few t), (sound (well t) .sized .made, λ j lt. written-made (end t) (sound (well t)) (decision t) (left t) (model.serverTakes (view (end t)) (message t) .end) (decides t) j (omega (arith, lt))))
 
 -- src/taking.rt:70:13
 mul-k : tie.Need-mul-k
