@@ -128,6 +128,13 @@ module _ {K E : Type 0} (make : Makes K E) (none : K) (w p : ℕ) where
         → getD (endsFrom make none w p ks items places pending 0 count) j d ≡ endAt make none w p ks items places pending j
     ends-of count j d h = ends-at 0 count j d h ∙ ap (endAt make none w p ks items places pending) (zero-add j)
 
+    pub ends-take : (n i count : ℕ) → n ≤ count
+        → take n (endsFrom make none w p ks items places pending i count) ≡ endsFrom make none w p ks items places pending i n
+    unfolding endsFrom
+    ends-take zero i count h = refl
+    ends-take (suc n) i zero h = absurd (omega arith)
+    ends-take (suc n) i (suc count) h = ap (λ l. endAt make none w p ks items places pending i ∷ l) (ends-take n (suc i) count (omega arith))
+
     -- the end at place i, whatever stands past the end
     pub end-is : (i : ℕ) (k d : K) → i < length ks → k ≡ getD ks i d
         → make k (part w i items) (part p i places) (part p i pending) ≡ endAt make none w p ks items places pending i

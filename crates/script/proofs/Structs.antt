@@ -4,9 +4,10 @@ use mathlib.Core.Path.{_≡_, refl, sym, ap, ap₂, _∙_, subst}
 use mathlib.Core.Bool.{Bool, true, false, cond}
 use mathlib.Core.List.{List, [], _∷_, _++_, map}
 use native.Mathlib.Omega.{arith}
-use borrow.Author.Tests.{eqb-true, eqb-false, eq-eqb}
-use lib.Dec.{eqb}
+use borrow.Author.Tests.{eqb-true, eqb-false, eq-eqb, ne-eqb, le-leb, lt-leb, leb-true, leb-false}
+use lib.Dec.{leb, eqb}
 use lib.ListN.{length, getD, take, drop, set, length-map, length-append, List·getD-append, List·getD-map}
+use lib.Seq.{set-getD}
 use Rattle.ot.specs.declared.Edit.{Edit}
 use Rattle.ot.specs.Items.{padded}
 use Rattle.wire.specs.declared.Read.{Read}
@@ -36,7 +37,9 @@ use Rattle.text.specs.declared.parse.Order.{Order}
 use Rattle.text.specs.Order.{coded}
 use Rattle.text.specs.Command.{Command, Bad, Insert, Delete, Up, Down, Ack, Told}
 use Rattle.script.specs.Bench.{Bench, Step, clientOf, onClient, onServer, delivered, room, step}
-use Rattle.script.specs.Ends.{viewEnds, storeEnds, Whole, sentBy, changedBy}
+use Rattle.endpoint.specs.declared.Sent as endpoint
+use Rattle.endpoint.specs.Sending.{answered as answeredAs}
+use Rattle.script.specs.Ends.{Stepped, viewEnds, storeEnds, Whole, sentBy, changedBy, unsent as unsentBy, atServer, atClient, delivered as deliveredTo, ordered}
 use Rattle.text.proofs.Sinks.{both}
 use Rattle.script.proofs.Benches.{every-at}
 
@@ -63,6 +66,10 @@ clientDone e i a = record { refusal = a .refusal; ends = record { server = e .se
 
 abbrev pub serverDone : Ends → serverAnswer.Answer → Done
 serverDone e a = record { refusal = a .refusal; ends = record { server = a .server; clients = e .clients } }
+
+-- what an order leaves of the server and of the client at place i
+abbrev pub steppedDone : Ends → ℕ → Stepped → Done
+steppedDone e i a = record { refusal = a .refusal; ends = record { server = a .server; clients = set (e .clients) i (a .client) } }
 
 -- A refusal hands back the end as it came.
 abbrev pub Keeps : {E : Type 0} → E → Answer E → Type 0
@@ -285,10 +292,30 @@ module _ (e : Ends) (w : Whole e) where
   changed-is (Ack l) h x d p low high z = absurd (omega arith)
   changed-is (Told l) h x d p low high z = client-gets l (h .0) (h .1) x d p _ _ (told-sent l) z
 
+  -- So it is with an order whole.
+  pub ordered-is : (c : Command) → Within (e .server .n) c → (x d : Client) → x ≡ getD (e .clients) (coded c .line - 1) d → 1 ≤ coded c .verb
+      → steppedDone e (coded c .line - 1) (ordered (e .server) x (coded c)) ≡ storeStep (step B c)
+  unfolding ordered
+  ordered-is c h x d p low = go (eqb (wrote x c .refusal) 0) refl (leb 5 (coded c .verb)) refl
+    where
+      as-before : set (e .clients) (coded c .line - 1) x ≡ e .clients
+      as-before = ap (set (e .clients) (coded c .line - 1)) p ∙ set-getD (e .clients) (coded c .line - 1) d
+
+      go : (t : Bool) → eqb (wrote x c .refusal) 0 ≡ t → (u : Bool) → leb 5 (coded c .verb) ≡ u
+          → steppedDone e (coded c .line - 1)
+          (cond t
+          (cond u (atServer x (takes (e .server) (take (wrote x c .written) (wrote x c .buffer))))
+          (atClient (e .server) (changedBy x (coded c) (take (wrote x c .written) (wrote x c .buffer)))))
+          (unsentBy (e .server) x (wrote x c .refusal)))
+          ≡ storeStep (step B c)
+      go false q u v = done-path refl refl as-before ∙ unsent-is c h x d p low (eqb-false (wrote x c .refusal) 0 q)
+      go true q true v = done-path refl refl as-before ∙ up-is c h x d p (leb-true 5 (coded c .verb) v) (eqb-true (wrote x c .refusal) 0 q)
+      go true q false v = changed-is c h x d p low (leb-false 5 (coded c .verb) v) (eqb-true (wrote x c .refusal) 0 q)
+
 -- Any sending writes within its buffer.
-sent-within : (r : ℕ) (bytes lent : List ℕ) → sent r bytes lent .written ≤ length (sent r bytes lent .buffer)
+sending-within : (r : ℕ) (bytes lent : List ℕ) → sent r bytes lent .written ≤ length (sent r bytes lent .buffer)
 unfolding sent
-sent-within r bytes lent =
+sending-within r bytes lent =
     both (λ (x : Sent). x .written ≤ length (x .buffer)) (eqb r 0) (record { refusal = 0; written = length bytes; buffer = bytes ++ drop (length bytes) lent })
     (record { refusal = r; written = 0; buffer = lent }) (let l = length-append bytes (drop (length bytes) lent) in omega arith) (omega arith)
 
@@ -301,16 +328,41 @@ guarded-within c a lent h = both Written (client.sound c) a (record { refusal = 
 
 send-within : (s : Server) (l k : ℕ) (lent : List ℕ) → Written (sends s l k lent)
 unfolding sends serverModels.sendServer
-send-within s l k lent = both Written (soundStruct s) (serverModels.sendServer (server.view s) l k lent) (sent 2 [] lent) (sent-within _ _ lent) (sent-within 2 [] lent)
+send-within s l k lent = both Written (soundStruct s) (serverModels.sendServer (server.view s) l k lent) (sent 2 [] lent) (sending-within _ _ lent) (sending-within 2 [] lent)
 
 tell-within : (s : Server) (l : ℕ) (lent : List ℕ) → Written (tells s l lent)
 unfolding tells serverModels.tellServer
-tell-within s l lent = both Written (soundStruct s) (serverModels.tellServer (server.view s) l lent) (sent 2 [] lent) (sent-within _ _ lent) (sent-within 2 [] lent)
+tell-within s l lent = both Written (soundStruct s) (serverModels.tellServer (server.view s) l lent) (sent 2 [] lent) (sending-within _ _ lent) (sending-within 2 [] lent)
 
 pub wrote-within : (s : Server) (c : Client) (o : Order) (lent : List ℕ) → Written (sentBy s c o lent)
 unfolding sentBy models.sendClient models.tellClient
 wrote-within s c o lent =
-    both Written (eqb (o .verb) 5) _ _ (guarded-within c (models.sendClient (client.view c) (o .line) (o .number) lent) lent (sent-within _ _ lent))
-    (both Written (eqb (o .verb) 6) _ _ (guarded-within c (models.tellClient (client.view c) (o .line) lent) lent (sent-within _ _ lent))
+    both Written (eqb (o .verb) 5) _ _ (guarded-within c (models.sendClient (client.view c) (o .line) (o .number) lent) lent (sending-within _ _ lent))
+    (both Written (eqb (o .verb) 6) _ _ (guarded-within c (models.tellClient (client.view c) (o .line) lent) lent (sending-within _ _ lent))
     (both Written (eqb (o .verb) 3) _ _ (send-within s (o .line) (o .number) lent)
     (both Written (eqb (o .verb) 4) _ _ (tell-within s (o .line) lent) (omega arith))))
+
+-- ---- an order, from what was sent of it
+
+module _ (s : Server) (c : Client) (o : Order) (b : endpoint.Sent) (m : List ℕ) (pb : answeredAs b m ≡ sentBy s c o room) where
+  pub sent-within : b .written ≤ length m
+  sent-within = subst Written (sym pb) (wrote-within s c o room)
+
+  -- by what was sent, and by the verb
+  by : (t u : Bool) → eqb (b .refusal) 0 ≡ t → leb 5 (o .verb) ≡ u
+      → cond t (cond u (atServer c (takes s (take (b .written) m))) (atClient s (changedBy c o (take (b .written) m)))) (unsentBy s c (b .refusal)) ≡ ordered s c o
+  unfolding ordered
+  by t u p q =
+      ap₂
+      (λ (x y : Bool). cond x (cond y (atServer c (takes s (take (b .written) m))) (atClient s (changedBy c o (take (b .written) m)))) (unsentBy s c (b .refusal)))
+      (sym p) (sym q)
+      ∙ ap (deliveredTo s c o) pb
+
+  pub ordered-unsent : (b .refusal ≡ 0 → ⊥) → unsentBy s c (b .refusal) ≡ ordered s c o
+  ordered-unsent h = by false (leb 5 (o .verb)) (ne-eqb (b .refusal) 0 h) refl
+
+  pub ordered-up : b .refusal ≡ 0 → 5 ≤ o .verb → atServer c (takes s (take (b .written) m)) ≡ ordered s c o
+  ordered-up z h = by true true (eq-eqb (b .refusal) 0 z) (le-leb 5 (o .verb) h)
+
+  pub ordered-client : b .refusal ≡ 0 → o .verb < 5 → atClient s (changedBy c o (take (b .written) m)) ≡ ordered s c o
+  ordered-client z h = by true false (eq-eqb (b .refusal) 0 z) (lt-leb 5 (o .verb) h)

@@ -3,10 +3,8 @@ use Prim.Native.Nat.{ℕ, suc, _+_, _-_, _<_, _≤_}
 use mathlib.Core.Path.{_≡_, refl, sym, ap, ap₂, _∙_, subst}
 use mathlib.Core.Bool.{Bool, true, false, _&&_, cond}
 use mathlib.Core.List.{List, [], _∷_, _++_, map}
-use native.Mathlib.Numerals.{add-one}
 use native.Mathlib.Omega.{arith}
 use lib.ListN.{length, getD, take, drop, replicate, length-append, length-map, drop-of-length-le}
-use lib.Seq.{drop-cons}
 use lib.Dec.{leb, ltb}
 use Rattle.ot.specs.Items.{padded}
 use Rattle.model.specs.Limits.{maxLines}
@@ -16,10 +14,8 @@ use Rattle.model.specs.Server as serverModels
 use Rattle.model.proofs.Tests.{between-true}
 use Rattle.pending.proofs.Pad.{pad-take}
 use Rattle.client.specs.declared.Client.{Client}
-use Rattle.client.specs.declared.Answer as clientAnswer
 use Rattle.client.specs.Store as client
 use Rattle.server.specs.declared.Server.{Server}
-use Rattle.server.specs.declared.Answer as serverAnswer
 use Rattle.server.specs.View as server
 use Rattle.server.proofs.Stored.{view-store}
 use Rattle.client.proofs.Stored.{client-view}
@@ -27,9 +23,6 @@ use Rattle.script.specs.declared.ends.Ends.{Ends}
 use Rattle.text.specs.declared.parse.Order.{Order}
 use Rattle.text.specs.declared.parse.Line.{Line}
 use Rattle.text.specs.Order.{coded, Next}
-use Rattle.endpoint.specs.declared.Sent as endpoint
-use Rattle.endpoint.specs.Sending.{answered}
-use Rattle.server.specs.Calls.{takes}
 use Rattle.text.specs.Sink.{Sink, sink, puts}
 use Rattle.text.specs.Text.{before, linesOf, wordsOf, same}
 use Rattle.text.specs.Decimal.{numberOf, tooWide}
@@ -37,11 +30,11 @@ use Rattle.text.specs.Command.{Command, Bad, Insert, Delete, Up, Down, Ack, Tol
 use Rattle.script.specs.Bench.{Bench, SoundBench, room, step, clientOf}
 use Rattle.text.specs.Lines.{unknown, replied, clientList}
 use Rattle.script.specs.Output.{understood, replies, clientLists, lists, ran}
-use Rattle.script.specs.Ends.{viewEnds, storeEnds, Whole, sentBy, changedBy}
+use Rattle.script.specs.Ends.{Stepped, viewEnds, storeEnds, Whole, ordered}
 use Rattle.text.proofs.Sinks.{both, and-left, and-right, puts-append}
 use Rattle.text.proofs.Texts.{lines-none}
 use Rattle.script.proofs.Benches.{step-sound}
-use Rattle.script.proofs.Structs.{Within, Done, storeStep, clientDone, serverDone, lines-few, client-is, client-sound, server-is, unsent-is, up-is, changed-is, wrote-within}
+use Rattle.script.proofs.Structs.{Within, Done, storeStep, steppedDone, lines-few, client-is, server-is, ordered-is}
 
 -- ---- the line of a command that was read is one of 1 to n
 
@@ -190,42 +183,14 @@ module _ (s out : List ℕ) (i to : ℕ) (e : Ends) (z : Sink) (g : Running s ou
         standing : x ≡ getD (e .clients) (coded said .line - 1) d
         standing = px ∙ ap (λ (y : Order). getD (e .clients) (y .line - 1) d) said-so
 
-        module _ (b : endpoint.Sent) (m : List ℕ) (pb : answered b m ≡ sentBy (e .server) x o room) where
-          low′ : 1 ≤ coded said .verb
-          low′ = subst (λ (y : Order). 1 ≤ y .verb) said-so low
-
-          sends-as : answered b m ≡ sentBy (e .server) x (coded said) room
-          sends-as = pb ∙ ap (λ (y : Order). sentBy (e .server) x y room) said-so
-
-          pub written-within : b .written ≤ length m
-          written-within = subst (λ (y : Sent). y .written ≤ length (y .buffer)) (sym pb) (wrote-within (e .server) x o room)
-
-          pub running-unsent : (b .refusal ≡ 0 → ⊥) → (out′ : List ℕ) (to′ : ℕ) → sink out′ to′ ≡ puts (replied (b .refusal)) (sink out to) → Running s out′ (r .after) to′ e z
-          running-unsent h out′ to′ q =
-              let k = ap (λ (y : Sent). y .refusal) sends-as in
-              replying (record { refusal = b .refusal; ends = e })
-              (ap (λ j. record { refusal = j; ends = e }) k ∙ unsent-is e (g .whole) said within x d standing low′ (λ z′. h (k ∙ z′))) out′ to′ q
-
-          module _ (ok : b .refusal ≡ 0) where
-            ok′ : sentBy (e .server) x (coded said) room .refusal ≡ 0
-            ok′ = sym (ap (λ (y : Sent). y .refusal) sends-as) ∙ ok
-
-            pub running-up : 5 ≤ o .verb → (a : serverAnswer.Answer) → a ≡ takes (e .server) (take (b .written) m) → (out′ : List ℕ) (to′ : ℕ)
-                → sink out′ to′ ≡ puts (replied (a .refusal)) (sink out to) → Running s out′ (r .after) to′ (serverDone e a .ends) z
-            running-up high a pa out′ to′ q =
-                replying (serverDone e a)
-                (ap (serverDone e) (pa ∙ ap (λ (y : Sent). takes (e .server) (take (y .written) (y .buffer))) sends-as)
-                ∙ up-is e (g .whole) said within x d standing (subst (λ (y : Order). 5 ≤ y .verb) said-so high) ok′)
-                out′ to′ q
-
-            pub running-client : o .verb < 5 → (a : clientAnswer.Answer) → a ≡ changedBy x o (take (b .written) m) → (out′ : List ℕ) (to′ : ℕ)
-                → sink out′ to′ ≡ puts (replied (a .refusal)) (sink out to) → Running s out′ (r .after) to′ (clientDone e (o .line - 1) a .ends) z
-            running-client high a pa out′ to′ q =
-                replying (clientDone e (o .line - 1) a)
-                (ap (clientDone e (o .line - 1)) pa
-                ∙ ap₂ (λ (y : Sent) (w : Order). clientDone e (w .line - 1) (changedBy x w (take (y .written) (y .buffer)))) sends-as said-so
-                ∙ changed-is e (g .whole) said within x d standing low′ (subst (λ (y : Order). y .verb < 5) said-so high) ok′)
-                out′ to′ q
+        pub running-turn : (a : Stepped) → a ≡ ordered (e .server) x o → (out′ : List ℕ) (to′ : ℕ) → sink out′ to′ ≡ puts (replied (a .refusal)) (sink out to)
+            → Running s out′ (r .after) to′ (steppedDone e (o .line - 1) a .ends) z
+        running-turn a pa out′ to′ q =
+            replying (steppedDone e (o .line - 1) a)
+            (ap (steppedDone e (o .line - 1)) pa
+            ∙ ap (λ (w : Order). steppedDone e (w .line - 1) (ordered (e .server) x w)) said-so
+            ∙ ordered-is e (g .whole) said within x d standing (subst (λ (y : Order). 1 ≤ y .verb) said-so low))
+            out′ to′ q
 
   pub running-end : length s ≤ i → puts (lists (viewEnds e)) (sink out to) ≡ z
   unfolding ran
@@ -253,29 +218,7 @@ module _ (e : Ends) (w : Whole e) where
     is : c ≡ client.store (clientOf B (suc i))
     is = client-is e w (suc i) (omega arith) small c d here
 
-    well : models.soundClient (clientOf B (suc i)) ≡ true
-    well = client-sound e w (suc i) (omega arith) small c d here
-
     pub client-fits : c .len ≤ length (c .items)
     client-fits =
         subst (λ (x : Client). x .len ≤ length (x .items)) (sym is)
         (let m = clientOf B (suc i) .items in let l = length-append m (replicate (512 - length m) 0) in omega arith)
-
-    items-are : take (c .len) (c .items) ≡ clientOf B (suc i) .items
-    items-are = ap (λ (x : Client). take (x .len) (x .items)) is ∙ ap (λ (v : models.Client). v .items) (client-view (clientOf B (suc i)) well)
-
-    pub lists-turn : (out out′ : List ℕ) (to to′ : ℕ) (z : Sink) → sink out′ to′ ≡ puts (clientList (i + 1) (take (c .len) (c .items))) (sink out to)
-        → puts (clientLists (suc i) (drop i (B .clients))) (sink out to) ≡ z → puts (clientLists (suc (i + 1)) (drop (i + 1) (B .clients))) (sink out′ to′) ≡ z
-    unfolding clientLists server.view
-    lists-turn out out′ to to′ z q h =
-        let k : i < length (B .clients) = (let n = w .sound .count in omega arith) in
-        ap (puts (clientLists (suc (i + 1)) (drop (i + 1) (B .clients)))) q
-        ∙ sym (puts-append (clientList (i + 1) (take (c .len) (c .items))) (clientLists (suc (i + 1)) (drop (i + 1) (B .clients))) (sink out to))
-        ∙ ap (λ l. puts (clientList (i + 1) l ++ clientLists (suc (i + 1)) (drop (i + 1) (B .clients))) (sink out to)) items-are
-        ∙ ap (λ j. puts (clientList j (clientOf B (suc i) .items) ++ clientLists (suc j) (drop j (B .clients))) (sink out to)) (add-one i)
-        ∙ ap (λ j. puts (clientList (suc i) (getD (B .clients) j models.noClient .items) ++ clientLists (suc (suc i)) (drop (suc i) (B .clients))) (sink out to)) same-place
-        ∙ ap (λ l. puts (clientLists (suc i) l) (sink out to)) (sym (drop-cons (B .clients) i models.noClient k)) ∙ h
-
-  pub lists-end : (i : ℕ) (s : Sink) → e .server .n ≤ i → puts (clientLists (suc i) (drop i (B .clients))) s ≡ s
-  unfolding clientLists puts server.view
-  lists-end i s h = let k : length (B .clients) ≤ i = (let n = w .sound .count in omega arith) in rw (drop-of-length-le (B .clients) k)

@@ -3,3 +3,4 @@ pub mod Bench
 pub mod Output
 pub mod Ends
 pub mod Flat
+pub mod Bays

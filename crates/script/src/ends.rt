@@ -1,5 +1,7 @@
-// A server and its clients, and what an order does to them.
+// A server and its clients, and what an order does to them. Each end is its numbers and its arrays, so that calls change it in place.
 use client::Client;
+use client::Counts;
+use client::editing::Change;
 use endpoint::Sent;
 use server::Server;
 use text::ACK;
@@ -11,7 +13,11 @@ use text::TOLD;
 use text::UP;
 ghost use mathlib.Core.Path.{_≡_};
 ghost use Rattle.endpoint.specs.Sending.{answered};
-ghost use Rattle.script.specs.Ends.{sentBy, changedBy};
+ghost use Rattle.client.specs.Store as client;
+ghost use Rattle.client.specs.Answers.{answerOf};
+ghost use Rattle.server.specs.View.{serverOf};
+ghost use Rattle.server.specs.Sound.{Sizes};
+ghost use Rattle.script.specs.Ends.{sentBy, changedBy, ordered, steppedOf};
 
 // The server, and the clients of lines 1 to n in the first n places.
 pub struct Ends {
@@ -19,21 +25,40 @@ pub struct Ends {
     pub clients: [Client; 8],
 }
 
+// What an order leaves: 0 or the refusal, and the numbers of the server and of the order's client.
+pub struct Turned {
+    pub refusal: u8,
+    pub server: lines::Counts,
+    pub client: Counts,
+}
+
 // What the one end of an order writes for the other. An edit writes nothing.
-pub fn sent(server: Server, client: Client, o: Order, m: &mut [u8]) -> Sent
-    ensures { λ r. ⌜ answered r (now (m .exit)) ≡ sentBy server client o (now (m .entry)) ⌝ }
+fn sent<'a>(
+    s: lines::Counts,
+    items: &'a [u32],
+    places: &'a [u32],
+    pending: &'a [u32],
+    c: Counts,
+    own: &'a [u32],
+    own_places: &'a [u32],
+    own_pending: &'a [u32],
+    o: Order,
+    m: &mut [u8],
+) -> Sent
+    requires { ⌜ Sizes s (now items) (now places) (now pending) × client.Sizes (now own) (now «own_places») (now «own_pending») ⌝ }
+    ensures { λ r. ⌜ answered r (now (m .exit)) ≡ sentBy (serverOf s (now (items .entry)) (now (places .entry)) (now (pending .entry))) (client.clientOf c (now (own .entry)) (now («own_places» .entry)) (now («own_pending» .entry))) o (now (m .entry)) ⌝ }
 {
     if o.verb == UP {
-        return client.send(o.line, o.number, m);
+        return client::sending::send_lent(c, own, own_places, own_pending, o.line, o.number, m);
     }
     if o.verb == ACK {
-        return client.tell(o.line, m);
+        return client::sending::tell_lent(c, own, own_places, own_pending, o.line, m);
     }
     if o.verb == DOWN {
-        return server.send(o.line, o.number, m);
+        return server::sending::send_lent(s, items, places, pending, o.line, o.number, m);
     }
     if o.verb == TOLD {
-        return server.tell(o.line, m);
+        return server::sending::tell_lent(s, items, places, pending, o.line, m);
     }
     Sent {
         refusal: 0,
@@ -42,14 +67,82 @@ pub fn sent(server: Server, client: Client, o: Order, m: &mut [u8]) -> Sent
 }
 
 // The client's own edit, or what it takes.
-pub fn at_client(client: Client, o: Order, bytes: &[u8]) -> client::Answer
-    ensures { λ r. ⌜ r ≡ changedBy client o (now (bytes .entry)) ⌝ }
+fn at_client(
+    c: Counts,
+    items: &mut [u32],
+    places: &mut [u32],
+    pending: &mut [u32],
+    o: Order,
+    bytes: &[u8],
+) -> client::Changed
+    requires { ⌜ client.Sizes (now items) (now places) (now pending) ⌝ }
+    ensures { λ r. ⌜ answerOf r (now (items .exit)) (now (places .exit)) (now (pending .exit)) ≡ changedBy (client.clientOf c (now (items .entry)) (now (places .entry)) (now (pending .entry))) o (now (bytes .entry)) ⌝ }
 {
     if o.verb == INS {
-        return client.insert(o.number, o.item);
+        return client::editing::edit_lent(
+            c,
+            items,
+            places,
+            pending,
+            Change::Insert(o.number, o.item),
+        );
     }
     if o.verb == DEL {
-        return client.delete(o.number);
+        return client::editing::edit_lent(c, items, places, pending, Change::Delete(o.number));
     }
-    client.take(bytes)
+    client::taking::take_lent(c, items, places, pending, bytes)
+}
+
+// An order at the server and the client of its line, in place. What cannot be sent changes nothing.
+pub fn turn(
+    s: lines::Counts,
+    items: &mut [u32; 512],
+    places: &mut [u32; 512],
+    pending: &mut [u32; 512],
+    c: Counts,
+    own: &mut [u32],
+    own_places: &mut [u32],
+    own_pending: &mut [u32],
+    o: Order,
+) -> Turned
+    requires { ⌜ Sizes s (now items) (now places) (now pending) × client.Sizes (now own) (now «own_places») (now «own_pending») ⌝ }
+    ensures { λ r. ⌜ steppedOf r (now (items .exit)) (now (places .exit)) (now (pending .exit)) (now (own .exit)) (now («own_places» .exit)) (now («own_pending» .exit)) ≡ ordered (serverOf s (now (items .entry)) (now (places .entry)) (now (pending .entry))) (client.clientOf c (now (own .entry)) (now («own_places» .entry)) (now («own_pending» .entry))) o ⌝ }
+{
+    let mut m = [0u8; 14];
+    let b = sent(
+        s,
+        items,
+        places,
+        pending,
+        c,
+        own,
+        own_places,
+        own_pending,
+        o,
+        &mut m,
+    );
+    if b.refusal != 0 {
+        return Turned {
+            refusal: b.refusal,
+            server: s,
+            client: c,
+        };
+    }
+    let n = b.written;
+    if UP <= o.verb {
+        let a = server::taking::take_lent(s, items, places, pending, &m[..n]);
+        let server = a.counts;
+        return Turned {
+            refusal: a.refusal,
+            server,
+            client: c,
+        };
+    }
+    let a = at_client(c, own, own_places, own_pending, o, &m[..n]);
+    let client = a.counts;
+    Turned {
+        refusal: a.refusal,
+        server: s,
+        client,
+    }
 }

@@ -1,13 +1,13 @@
 // The run program over a text: reads lines, makes the calls they name, and prints.
+use crate::bays::side_by_side;
 use crate::ends::Ends;
-use crate::ends::at_client;
-use crate::ends::sent;
+use crate::ends::turn;
 use crate::opening::First;
 use crate::opening::read_first;
 use client::Client;
+use client::Counts;
 use server::Server;
 use text::INS;
-use text::UP;
 use text::client_list;
 use text::end;
 use text::line_at;
@@ -17,86 +17,80 @@ use text::server_list;
 use text::unknown;
 ghost use mathlib.Core.Path.{_≡_};
 ghost use Prim.Native.Nat.{_≤_};
-ghost use lib.ListN.{length, take, drop};
+ghost use lib.ListN.{drop};
 ghost use Rattle.text.specs.Sink.{sink, puts as Sink·puts, Printed};
 ghost use Rattle.text.specs.Text.{linesOf};
 ghost use Rattle.script.specs.Opening.{maxHeld, held};
-ghost use Rattle.text.specs.Lines.{clientList};
-ghost use Rattle.script.specs.Output.{clientLists, lists as Output·lists, ran, started as Output·started, output};
+ghost use Rattle.script.specs.Output.{ran, started as Output·started, output};
 ghost use Rattle.script.specs.Ends.{Whole, viewEnds, opening};
-
-// The list of the client on a line.
-fn one_list(out: &mut [u8], at: usize, line: u8, c: Client) -> usize
-    requires { ⌜ c .len ≤ length (c .items) ⌝ }
-    ensures { λ r. ⌜ sink (now (out .exit)) r ≡ Sink·puts (clientList line (take (c .len) (c .items))) (sink (now (out .entry)) at) ⌝ }
-{
-    let items = c.items;
-    let len = c.len as usize;
-    client_list(out, at, line, &items[..len])
-}
+ghost use Rattle.script.specs.Bays.{Shown, listsFrom};
 
 // The lists of the clients, in line order.
-fn client_lists(out: &mut [u8], at: usize, ends: Ends) -> usize
-    requires { ⌜ Whole ends ⌝ }
-    ensures { λ r. ⌜ sink (now (out .exit)) r ≡ Sink·puts (clientLists 1 (viewEnds ends .clients)) (sink (now (out .entry)) at) ⌝ }
+fn client_lists(out: &mut [u8], at: usize, n: u8, counts: [Counts; 8], items: &[u32]) -> usize
+    requires { ⌜ Shown n counts (now items) ⌝ }
+    ensures { λ r. ⌜ sink (now (out .exit)) r ≡ Sink·puts (listsFrom counts (now (items .entry)) 0 n) (sink (now (out .entry)) at) ⌝ }
 {
     let mut to = at;
     let mut i = 0;
-    while i < ends.server.n {
-        let k = i as usize;
-        let c = ends.clients[k];
+    while i < n {
+        let c = counts[i as usize];
+        let from = 512 * i as usize;
+        let end = from + c.len as usize;
         i += 1;
-        to = one_list(out, to, i, c);
+        to = client_list(out, to, i, &items[from..end]);
     }
     to
 }
 
-// All lists.
-fn lists(out: &mut [u8], at: usize, ends: Ends) -> usize
-    requires { ⌜ Whole ends ⌝ }
-    ensures { λ r. ⌜ sink (now (out .exit)) r ≡ Sink·puts (Output·lists (viewEnds ends)) (sink (now (out .entry)) at) ⌝ }
-{
-    let items = ends.server.items;
-    let len = ends.server.len as usize;
-    let to = server_list(out, at, &items[..len]);
-    client_lists(out, to, ends)
-}
-
-// The lines from a place of the input on, and the lists.
-fn commands(input: &[u8], mut i: usize, out: &mut [u8], mut at: usize, mut ends: Ends) -> usize
+// The lines from a place of the input on, and the lists. The ends are taken apart, so that a line changes them in place.
+fn commands(input: &[u8], mut i: usize, out: &mut [u8], mut at: usize, ends: Ends) -> usize
     requires { ⌜ Whole ends ⌝ }
     ensures { λ r. ⌜ sink (now (out .exit)) r ≡ Sink·puts (ran (viewEnds ends) (linesOf (drop i (now (input .entry))))) (sink (now (out .entry)) at) ⌝ }
 {
+    let server = ends.server;
+    let mut s = server.counts();
+    let mut items = server.items;
+    let mut places = server.pending_places;
+    let mut pending = server.pending_items;
+    let clients = ends.clients;
+    let b = side_by_side(clients);
+    let mut counts = b.counts;
+    let mut own = b.items;
+    let mut own_places = b.places;
+    let mut own_pending = b.pending;
     while i < input.len() {
-        let line = line_at(input, i, ends.server.n);
+        let line = line_at(input, i, s.n);
         let o = line.order;
         i = line.after;
         if o.verb < INS {
             at = unknown(out, at);
             continue;
         }
-        let k = (o.line - 1) as usize;
-        let mut m = [0u8; 14];
-        let b = sent(ends.server, ends.clients[k], o, &mut m);
-        if b.refusal != 0 {
-            at = reply(out, at, b.refusal);
-            continue;
-        }
-        let n = b.written;
-        let bytes = &m[..n];
-        if UP <= o.verb {
-            let s = ends.server.take(bytes);
-            at = reply(out, at, s.refusal);
-            let t = s.server;
-            ends.server = t;
-            continue;
-        }
-        let a = at_client(ends.clients[k], o, bytes);
-        at = reply(out, at, a.refusal);
-        let t = a.client;
-        ends.clients[k] = t;
+        let j = (o.line - 1) as usize;
+        let from = 512 * j;
+        let end = from + 512;
+        let first = 64 * j;
+        let last = first + 64;
+        let t = turn(
+            s,
+            &mut items,
+            &mut places,
+            &mut pending,
+            counts[j],
+            &mut own[from..end],
+            &mut own_places[first..last],
+            &mut own_pending[first..last],
+            o,
+        );
+        let after = t.server;
+        s = after;
+        let c = t.client;
+        counts[j] = c;
+        at = reply(out, at, t.refusal);
     }
-    lists(out, at, ends)
+    let len = s.len as usize;
+    let to = server_list(out, at, &items[..len]);
+    client_lists(out, to, s.n, counts, &own)
 }
 
 // The clients of lines 1 to n. Opening refuses a line past n, and then gives an end that is all zeros.

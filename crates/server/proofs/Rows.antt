@@ -6,7 +6,7 @@ use mathlib.Core.List.{List, [], _∷_, _++_, map}
 use Prim.Native.Nat.{ℕ, zero, suc, _+_, _-_, _*_, _≤_, _<_}
 use native.Mathlib.Omega.{arith}
 use lib.Dec.{ltb}
-use lib.ListN.{length, getD, take, drop, set, length-map, take-append-drop, drop-of-length-le, List·getD-map}
+use lib.ListN.{length, getD, take, drop, set, length-append, length-map, take-append-drop, drop-of-length-le, List·getD-map}
 use lib.Seq.{take-at, drop-append-add, drop-drop, drop-set-add, drop-set-lt, take-set-le, ext-getD}
 use borrow.Author.Tests.{ltb-true, ltb-false}
 use Rattle.ot.specs.declared.Edit.{Edit}
@@ -56,6 +56,13 @@ module _ (word : Edit → ℕ) where
       ap (λ (j : ℕ). stretch j (filled word (v .pending) ++ slotsOf word vs)) e
       ∙ ap (take maxPending) (drop-append-add (filled word (v .pending)) (slotsOf word vs) (maxPending * i))
       ∙ slots-at vs i (λ k. f (suc k)) (omega arith)
+
+-- 64 slots to a line
+slots-long : (word : Edit → ℕ) (vs : List model.Line) → ((k : ℕ) → length (getD vs k model.noLine .pending) ≤ maxPending) → length (slotsOf word vs) ≡ maxPending * length vs
+unfolding slotsOf
+slots-long word [] f = refl
+slots-long word (v ∷ vs) f =
+    omega (arith, length-append (filled word (v .pending)) (slotsOf word vs), filled-length word (v .pending) (f 0), slots-long word vs (λ k. f (suc k)))
 
 -- ---- the struct
 
@@ -121,6 +128,18 @@ module _ (m : model.Server) (few : length (m .lines) ≤ maxLines) where
   module _ (short : (i : ℕ) → length (getD (m .lines) i model.noLine .pending) ≤ maxPending) where
     all-few : (k : ℕ) → length (getD (allLines m) k model.noLine .pending) ≤ maxPending
     all-few k = omega (arith, short k, ap (λ (v : model.Line). length (v .pending)) (line-is k))
+
+    pub store-sized : Sized (store m)
+    unfolding store
+    store-sized =
+        record {
+          made = length-map (allLines m) (λ v. v .made) ∙ eight;
+          taken = length-map (allLines m) (λ v. v .taken) ∙ eight;
+          acked = length-map (allLines m) (λ v. v .acked) ∙ eight;
+          inserts = length-map (allLines m) (λ v. v .inserts) ∙ eight;
+          places = omega (arith, slots-long placeOf (allLines m) all-few, eight);
+          items = omega (arith, slots-long itemOf (allLines m) all-few, eight);
+        }
 
     pub store-row : (i : ℕ) → i < maxLines → Row (store m) i (getD (m .lines) i model.noLine)
     unfolding store

@@ -18,15 +18,15 @@ use Rattle.model.specs.Server as model
 use Rattle.model.proofs.Tests.{both, held}
 use Rattle.model.proofs.SoundServer.{LineFacts, ServerFacts, server-facts, takenSum}
 use Rattle.pending.specs.Slots.{editsFrom, allFrom, tidyAt, emptyAt}
-use Rattle.pending.proofs.Pad.{pad-take, pad-drop}
+use Rattle.pending.proofs.Pad.{pad-length, pad-take, pad-drop}
 use Rattle.pending.proofs.Slot.{other-ranks}
 use Rattle.pending.proofs.Tests.{filled-edits, filled-tidy, filled-empty}
 use Rattle.endpoint.specs.Items.{allZero}
 use Rattle.server.specs.declared.Server.{Server}
 use Rattle.lines.specs.Lines.{pendingCount}
 use Rattle.server.specs.View.{countsOf, lineAt, linesFrom, view, store}
-use Rattle.server.specs.Sound.{tidyLine, zeroLine, structTests, soundStruct}
-use Rattle.server.proofs.Rows.{Row, store-row}
+use Rattle.server.specs.Sound.{tidyLine, zeroLine, structTests, soundStruct, Sizes}
+use Rattle.server.proofs.Rows.{Row, store-sized, store-row}
 use Rattle.server.proofs.Places.{first-each, last-each, lines-length, line-used}
 use Rattle.server.proofs.Whole.{facts-at}
 
@@ -55,6 +55,14 @@ module _ (m : model.Server) (s : model.soundServer m ≡ true) where
 
   row : (i : ℕ) → i < maxLines → Row (store m) i (getD (m .lines) i model.noLine)
   row = store-row m (omega (arith, facts .count, facts .n)) short
+
+  pub store-sizes : Sizes (countsOf (store m)) (store m .items) (store m .«pending_places») (store m .«pending_items»)
+  unfolding store
+  store-sizes =
+      record {
+        list = pad-length maxItems 0 (m .items) (omega (arith, facts .items));
+        sized = store-sized m (omega (arith, facts .count, facts .n)) short;
+      }
 
   abbrev ps : List ℕ
   ps = store m .«pending_places»

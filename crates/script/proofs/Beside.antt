@@ -1,0 +1,111 @@
+-- The clients side by side: filling their arrays, and showing their lists.
+use Prim.Native.Nat.{ℕ, zero, suc, _+_, _-_, _*_, _≤_, _<_}
+use mathlib.Core.Path.{_≡_, refl, sym, ap, ap₂, _∙_, subst}
+use mathlib.Core.List.{List, [], _∷_, _++_, map}
+use native.Mathlib.Omega.{arith}
+use native.Mathlib.Numerals.{add-one}
+use lib.ListN.{length, getD, take, drop, set, length-set, drop-of-length-le}
+use Rattle.ot.proofs.Sweep.{swept, swept-store, swept-to}
+use Rattle.model.specs.Limits.{maxItems, maxPending, maxLines}
+use Rattle.client.specs.declared.Client.{Client}
+use Rattle.client.specs.declared.Counts.{Counts}
+use Rattle.client.specs.Store as client
+use Rattle.text.specs.Sink.{Sink, sink, puts}
+use Rattle.text.specs.Lines.{clientList}
+use Rattle.text.proofs.Sinks.{puts-append}
+use Rattle.script.specs.Flat.{part, endsFrom}
+use Rattle.script.specs.Bays.{noCounts, clientsIn, Laid, listsFrom}
+use Rattle.script.specs.Output.{clientLists}
+use Rattle.script.proofs.Flat.{Put, front-is, lent-is, part-length, put-lent, ends-length, ends-put}
+
+-- ---- the lists
+
+module _ (ks : List Counts) (items : List ℕ) where
+  -- the lists are those of the clients that stand there
+  pub lists-are : (places pending : List ℕ) (i count : ℕ)
+      → listsFrom ks items i count ≡ clientLists (suc i) (map client.view (endsFrom client.clientOf noCounts maxItems maxPending ks items places pending i count))
+  unfolding listsFrom clientLists endsFrom
+  lists-are places pending i zero = refl
+  lists-are places pending i (suc count) =
+      ap (λ (l : List ℕ). clientList (suc i) (take (getD ks i noCounts .len) (part maxItems i items)) ++ l) (lists-are places pending (suc i) count)
+
+  pub lists-none : (i count : ℕ) (z : Sink) → count ≡ 0 → puts (listsFrom ks items i count) z ≡ z
+  unfolding listsFrom puts
+  lists-none i count z e = ap (λ (k : ℕ). puts (listsFrom ks items i k) z) e
+
+  -- one list more
+  module _ (i n : ℕ) (small : i < n) (within : getD ks i noCounts .len ≤ maxItems) (lo hi : ℕ) (from : lo ≡ maxItems * i) (to : hi ≡ lo + getD ks i noCounts .len) where
+    shown : take (hi - lo) (drop lo items) ≡ take (getD ks i noCounts .len) (part maxItems i items)
+    shown = front-is maxItems i items lo (lo + maxItems) from refl (getD ks i noCounts .len) hi to within
+
+    pub lists-next : (z z′ y : Sink) → z′ ≡ puts (clientList (i + 1) (take (hi - lo) (drop lo items))) z
+        → puts (listsFrom ks items i (n - i)) z ≡ y → puts (listsFrom ks items (i + 1) (n - (i + 1))) z′ ≡ y
+    unfolding listsFrom
+    lists-next z z′ y p h =
+        let left : n - i ≡ suc (n - (i + 1)) = omega arith in
+        let next : i + 1 ≡ suc i = omega arith in
+        ap (puts (listsFrom ks items (i + 1) (n - (i + 1)))) p
+        ∙ ap₂ (λ (j : ℕ) (l : List ℕ). puts (listsFrom ks items j (n - (i + 1))) (puts (clientList j l) z)) next shown
+        ∙ sym (puts-append (clientList (suc i) (take (getD ks i noCounts .len) (part maxItems i items))) (listsFrom ks items (suc i) (n - (i + 1))) z)
+        ∙ ap (λ (k : ℕ). puts (listsFrom ks items i k) z) (sym left) ∙ h
+
+-- ---- filling the arrays: those of the first j clients stand there
+
+-- part i of an array is lent, and x is put there
+module _ (w i : ℕ) (a : List ℕ) (lo hi : ℕ) (from : lo ≡ w * i) (to : hi ≡ lo + w) (within : hi ≤ length a) (x : List ℕ) (size : length x ≡ w) where
+  pub lent-alike : length (take (hi - lo) (drop lo a)) ≡ length x
+  lent-alike = ap length (lent-is w i a lo hi from to) ∙ part-length w i a lo hi from to within ∙ sym size
+
+  pub put-copied : (y : List ℕ) → y ≡ x → Put w i a (take lo a ++ (y ++ drop (hi - lo) (drop lo a))) x
+  put-copied y e = subst (λ (z : List ℕ). Put w i a (take lo a ++ (z ++ drop (hi - lo) (drop lo a))) x) (sym e) (put-lent w i a lo hi from to within x size)
+
+module _ (clients : List Client) where
+  pub record Filling (ks : List Counts) (items places pending : List ℕ) (j : ℕ) : Type 0 where
+    pub to : j ≤ 8
+    pub laid : Laid ks items places pending
+    -- what stood there before
+    pub start : List Client
+    pub begun : length start ≡ 8
+    pub ends : clientsIn ks items places pending ≡ swept clients start j
+
+  pub filling-start : (ks : List Counts) (items places pending : List ℕ) → Laid ks items places pending → Filling ks items places pending 0
+  filling-start ks items places pending l =
+      record {
+        to = omega arith;
+        laid = l;
+        start = clientsIn ks items places pending;
+        begun = ends-length client.clientOf noCounts maxItems maxPending ks items places pending 0 8;
+        ends = refl;
+      }
+
+module _ (clients : List Client) (eight : length clients ≡ 8) where
+  pub filling-turn : (ks : List Counts) (k : Counts) (items items′ places places′ pending pending′ : List ℕ) (j : ℕ) (c d : Client) → j < 8 → c ≡ getD clients j d
+      → k ≡ client.counts c → Filling clients ks items places pending j
+      → Put maxItems j items items′ (c .items) → Put maxPending j places places′ (c .«pending_places») → Put maxPending j pending pending′ (c .«pending_items»)
+      → Filling clients (set ks j k) items′ places′ pending′ (j + 1)
+  filling-turn ks k items items′ places places′ pending pending′ j c d small pc pk f pi pp pq =
+      record {
+        to = omega arith;
+        laid =
+            record {
+              counts-size = length-set ks j k ∙ f .laid .counts-size;
+              items-size = pi .size ∙ f .laid .items-size;
+              places-size = pp .size ∙ f .laid .places-size;
+              pending-size = pq .size ∙ f .laid .pending-size;
+            };
+        start = f .start;
+        begun = f .begun;
+        ends =
+            sym
+            (ends-put client.clientOf noCounts maxItems maxPending j maxLines ks k items items′ places places′ pending pending′ (c .items) (c .«pending_places») (c .«pending_items»)
+            (omega (arith, f .laid .counts-size)) small pi pp pq)
+            ∙ ap₂ (λ (l : List Client) (q : Counts). set l j (client.clientOf q (c .items) (c .«pending_places») (c .«pending_items»))) (f .ends) pk
+            ∙ ap (set (swept clients (f .start) j) j) pc
+            ∙ rw add-one (swept-store clients (f .start) j d (eight ∙ sym (f .begun)) (omega (arith, f .begun)));
+      }
+
+  pub filling-end : (ks : List Counts) (items places pending : List ℕ) (j : ℕ) → 8 ≤ j → Filling clients ks items places pending j
+      → clientsIn ks items places pending ≡ clients
+  filling-end ks items places pending j h f =
+      f .ends
+      ∙ swept-to clients (f .start) j (drop-of-length-le clients {i = j} (omega arith) ∙ sym (drop-of-length-le (f .start) {i = j} (omega (arith, f .begun))))

@@ -1,0 +1,159 @@
+-- A line of the run program, on ends that are taken apart: the server's numbers and arrays, and the clients side by side.
+use Prim.Native.Nat.{ℕ, suc, _+_, _-_, _*_, _<_, _≤_}
+use mathlib.Core.Path.{_≡_, refl, sym, ap, ap₂, _∙_, subst}
+use mathlib.Core.List.{List, _++_, map}
+use native.Mathlib.Omega.{arith}
+use lib.ListN.{length, getD, take, drop, set, length-set, length-take}
+use Rattle.model.specs.Limits.{maxLines, maxItems, maxPending}
+use Rattle.lines.specs.declared.Counts as lines
+use Rattle.client.specs.declared.Client.{Client}
+use Rattle.client.specs.declared.Counts.{Counts}
+use Rattle.client.specs.Store as client
+use Rattle.server.specs.declared.Server.{Server}
+use Rattle.server.specs.View as server
+use Rattle.server.specs.Sound.{Sizes}
+use Rattle.server.proofs.Stored.{store-sizes}
+use Rattle.text.specs.declared.parse.Line.{Line}
+use Rattle.text.specs.declared.parse.Order.{Order}
+use Rattle.text.specs.Order.{Next}
+use Rattle.text.specs.Sink.{Sink, sink, puts}
+use Rattle.text.specs.Lines.{replied, serverList}
+use Rattle.text.proofs.Sinks.{then}
+use Rattle.script.specs.declared.bays.Bays.{Bays}
+use Rattle.script.specs.declared.ends.Ends.{Ends}
+use Rattle.script.specs.declared.ends.Turned.{Turned}
+use Rattle.script.specs.Flat.{part, endsFrom}
+use Rattle.script.specs.Bays.{noCounts, clientsIn, Laid, Standing, Shown, listsFrom}
+use Rattle.script.specs.Output.{clientLists, lists}
+use Rattle.script.specs.Ends.{Whole, viewEnds, steppedOf, ordered}
+use Rattle.script.proofs.Flat.{Put, lent-is, part-length, put-lent, ends-of, ends-take, ends-put}
+use Rattle.script.proofs.Beside.{lists-are}
+use Rattle.script.proofs.Structs.{lines-few, server-is}
+use Rattle.script.proofs.Turns.{Running, order-line, running-turn, running-end, client-fits}
+
+abbrev pub endsOf : lines.Counts → List ℕ → List ℕ → List ℕ → List Counts → List ℕ → List ℕ → List ℕ → Ends
+endsOf s items places pending ks own ps xs = record { server = server.serverOf s items places pending; clients = clientsIn ks own ps xs }
+
+-- the ends as they come, taken apart
+pub apart : (e : Ends) (s : lines.Counts) (b : Bays) → s ≡ server.countsOf (e .server) → Standing (e .clients) b
+    → endsOf s (e .server .items) (e .server .«pending_places») (e .server .«pending_items») (b .counts) (b .items) (b .places) (b .pending) ≡ e
+apart e s b ps pb =
+    ap₂
+    (λ (k : lines.Counts) (cs : List Client). record { server = server.serverOf k (e .server .items) (e .server .«pending_places») (e .server .«pending_items»); clients = cs }) ps
+    (pb .standing)
+
+-- part j of an array is lent, and x stands there afterwards
+abbrev pub lentBack : ℕ → ℕ → List ℕ → List ℕ → List ℕ
+lentBack w j a x = take (w * j) a ++ (x ++ drop (w * j + w - w * j) (drop (w * j) a))
+
+abbrev pub lentPart : ℕ → ℕ → List ℕ → List ℕ
+lentPart w j a = take (w * j + w - w * j) (drop (w * j) a)
+
+module _ (ks : List Counts) (own ps xs : List ℕ) (l : Laid ks own ps xs) (j : ℕ) (small : j < 8) where
+  own-fits : maxItems * j + maxItems ≤ length own
+  own-fits = omega (arith, l .items-size)
+
+  places-fit : maxPending * j + maxPending ≤ length ps
+  places-fit = omega (arith, l .places-size)
+
+  pending-fit : maxPending * j + maxPending ≤ length xs
+  pending-fit = omega (arith, l .pending-size)
+
+  pub lent-sizes : client.Sizes (lentPart maxItems j own) (lentPart maxPending j ps) (lentPart maxPending j xs)
+  lent-sizes =
+      record {
+        items-size = ap length (lent-is maxItems j own _ _ refl refl) ∙ part-length maxItems j own _ _ refl refl own-fits;
+        places-size = ap length (lent-is maxPending j ps _ _ refl refl) ∙ part-length maxPending j ps _ _ refl refl places-fit;
+        pending-size = ap length (lent-is maxPending j xs _ _ refl refl) ∙ part-length maxPending j xs _ _ refl refl pending-fit;
+      }
+
+  -- the client that stands there, from the parts that are lent
+  pub lent-client : (d : Client) → client.clientOf (getD ks j noCounts) (lentPart maxItems j own) (lentPart maxPending j ps) (lentPart maxPending j xs) ≡ getD (clientsIn ks own ps xs) j d
+  lent-client d =
+      ap (λ (a : List ℕ). client.clientOf (getD ks j noCounts) a (lentPart maxPending j ps) (lentPart maxPending j xs)) (lent-is maxItems j own _ _ refl refl)
+      ∙ ap₂ (client.clientOf (getD ks j noCounts) (part maxItems j own)) (lent-is maxPending j ps _ _ refl refl) (lent-is maxPending j xs _ _ refl refl)
+      ∙ sym (ends-of client.clientOf noCounts maxItems maxPending ks own ps xs maxLines j d small)
+
+  module _ (k : Counts) (x y z : List ℕ) (sx : length x ≡ maxItems) (sy : length y ≡ maxPending) (sz : length z ≡ maxPending) where
+    put-own : Put maxItems j own (lentBack maxItems j own x) x
+    put-own = put-lent maxItems j own _ _ refl refl own-fits x sx
+
+    put-places : Put maxPending j ps (lentBack maxPending j ps y) y
+    put-places = put-lent maxPending j ps _ _ refl refl places-fit y sy
+
+    put-pending : Put maxPending j xs (lentBack maxPending j xs z) z
+    put-pending = put-lent maxPending j xs _ _ refl refl pending-fit z sz
+
+    pub laid-back : Laid (set ks j k) (lentBack maxItems j own x) (lentBack maxPending j ps y) (lentBack maxPending j xs z)
+    laid-back =
+        record {
+          counts-size = length-set ks j k ∙ l .counts-size;
+          items-size = put-own .size ∙ l .items-size;
+          places-size = put-places .size ∙ l .places-size;
+          pending-size = put-pending .size ∙ l .pending-size;
+        }
+
+    pub clients-back : set (clientsIn ks own ps xs) j (client.clientOf k x y z)
+        ≡ clientsIn (set ks j k) (lentBack maxItems j own x) (lentBack maxPending j ps y) (lentBack maxPending j xs z)
+    clients-back =
+        ends-put client.clientOf noCounts maxItems maxPending j maxLines ks k own (lentBack maxItems j own x) ps (lentBack maxPending j ps y) xs (lentBack maxPending j xs z) x y z
+        (omega (arith, l .counts-size)) small put-own put-places put-pending
+
+-- ---- one line
+
+module _ (input out : List ℕ) (i to : ℕ) (s : lines.Counts) (items places pending : List ℕ) (ks : List Counts) (own ps xs : List ℕ) (z : Sink)
+    (l : Laid ks own ps xs) (g : Running input out i to (endsOf s items places pending ks own ps xs) z) where
+  abbrev e : Ends
+  e = endsOf s items places pending ks own ps xs
+
+  pub server-sizes : Sizes s items places pending
+  server-sizes =
+      subst (λ (x : Server). Sizes (server.countsOf x) (x .items) (x .«pending_places») (x .«pending_items»)) (sym (server-is e (g .whole)))
+      (store-sizes (viewEnds e .server) (g .whole .sound .server))
+
+  module _ (r : Line) (p : Next input i (s .n) r) (o : Order) (po : o ≡ r .order) (low : 1 ≤ o .verb) where
+    pub turn-line : (1 ≤ o .line) × (o .line - 1 < 8)
+    turn-line = order-line input out i to e z g r p o po low
+
+    pub going-turn : (t : Turned) (items′ places′ pending′ x y v : List ℕ) → length x ≡ maxItems → length y ≡ maxPending → length v ≡ maxPending
+        → steppedOf t items′ places′ pending′ x y v
+        ≡ ordered (server.serverOf s items places pending)
+        (client.clientOf (getD ks (o .line - 1) noCounts) (lentPart maxItems (o .line - 1) own) (lentPart maxPending (o .line - 1) ps) (lentPart maxPending (o .line - 1) xs)) o
+        → (out′ : List ℕ) (to′ : ℕ) → sink out′ to′ ≡ puts (replied (t .refusal)) (sink out to)
+        → Running input out′ (r .after) to′
+        (endsOf (t .server) items′ places′ pending′ (set ks (o .line - 1) (t .client)) (lentBack maxItems (o .line - 1) own x) (lentBack maxPending (o .line - 1) ps y)
+        (lentBack maxPending (o .line - 1) xs v)) z
+    going-turn t items′ places′ pending′ x y v sx sy sv pt out′ to′ q =
+        let small = turn-line .1 in
+        let c : Client = client.clientOf (getD ks (o .line - 1) noCounts) (lentPart maxItems (o .line - 1) own) (lentPart maxPending (o .line - 1) ps) (lentPart maxPending (o .line - 1) xs) in
+        subst (λ (cs : List Client). Running input out′ (r .after) to′ (record { server = server.serverOf (t .server) items′ places′ pending′; clients = cs }) z)
+        (clients-back ks own ps xs l (o .line - 1) small (t .client) x y v sx sy sv)
+        (running-turn input out i to e z g r p o po low c c (lent-client ks own ps xs l (o .line - 1) small c) (steppedOf t items′ places′ pending′ x y v) pt out′ to′ q)
+
+  -- ---- the lists
+
+  pub shown : Shown (s .n) ks own
+  shown =
+      record {
+        few = lines-few e (g .whole);
+        items-size = l .items-size;
+        within =
+            λ k small.
+            let few = lines-few e (g .whole) in
+            let c : Client = client.clientOf (getD ks k noCounts) (part maxItems k own) (part maxPending k ps) (part maxPending k xs) in
+            let fits = client-fits e (g .whole) k small c c (sym (ends-of client.clientOf noCounts maxItems maxPending ks own ps xs maxLines k c (omega arith))) in
+            let short = length-take maxItems (drop (maxItems * k) own) in
+            omega arith;
+      }
+
+  pub going-end : length input ≤ i → (out₁ out₂ : List ℕ) (to₁ to₂ : ℕ) → sink out₁ to₁ ≡ puts (serverList (take (s .len) items)) (sink out to)
+      → sink out₂ to₂ ≡ puts (listsFrom ks own 0 (s .n)) (sink out₁ to₁) → sink out₂ to₂ ≡ z
+  unfolding server.view
+  going-end h out₁ out₂ to₁ to₂ p q =
+      then (serverList (take (s .len) items)) (clientLists 1 (viewEnds e .clients)) (sink out to) p
+      (q
+      ∙ ap (λ (t : List ℕ). puts t (sink out₁ to₁))
+      (lists-are ks own ps xs 0 (s .n)
+      ∙ ap (λ (cs : List Client). clientLists 1 (map client.view cs))
+      (sym (ends-take client.clientOf noCounts maxItems maxPending ks own ps xs (s .n) 0 maxLines (lines-few e (g .whole))))))
+      ∙ running-end input out i to e z g h
