@@ -17,6 +17,7 @@ use Rattle.client.specs.declared.Client.{Client}
 use Rattle.client.specs.declared.Answer as fromClient
 use Rattle.server.specs.declared.Server.{Server}
 use Rattle.server.specs.declared.Answer as fromServer
+use Rattle.server.specs.Calls as server
 use Rattle.calls.specs.declared.call.Call.{Call}
 use Rattle.calls.specs.Calls.{atEnd, canSet, isCall, placeOf, sends}
 use Rattle.calls.specs.Dump.{answerBytes}
@@ -38,9 +39,41 @@ copy-turn i s first l h j e =
 
 -- ---- one call
 
--- what a sending answers, without the buffer
-pub sent-bytes : (s : Sent) (lent : List ℕ) (m : model.Sent) → answered s lent ≡ m → answerBytes (s .refusal) (s .written % 256) 0 ≡ sentBytes m
-sent-bytes s lent m e = ap sentBytes e
+-- What a sending answers, without the buffer: op 3 sends an edit, any other an acknowledgement.
+module _ (op : ℕ) (s : Sent) (lent : List ℕ) (edit ack : model.Sent) where
+  pub sent-edit : op ≡ 3 → answered s lent ≡ edit → answerBytes (s .refusal) (s .written % 256) 0 ≡ sentBytes (cond (eqb op 3) edit ack)
+  sent-edit o e = ap sentBytes e ∙ ap (λ (t : Bool). sentBytes (cond t edit ack)) (sym (eq-eqb op 3 o))
+
+  pub sent-ack : (op ≡ 3 → ⊥) → answered s lent ≡ ack → answerBytes (s .refusal) (s .written % 256) 0 ≡ sentBytes (cond (eqb op 3) edit ack)
+  sent-ack o e = ap sentBytes e ∙ ap (λ (t : Bool). sentBytes (cond t edit ack)) (sym (ne-eqb op 3 o))
+
+-- the same sending from equal counts, into as many bytes
+pub sent-same : {A : Type 0} (sending : A → List ℕ → model.Sent) {a b : A} (slot : List ℕ) {m n : ℕ} → a ≡ b → m ≡ n
+    → sentBytes (sending a (take m slot)) ≡ sentBytes (sending b (take n slot))
+sent-same sending {a} {b} slot {m} {n} e f =
+    ap (λ x. sentBytes (sending x (take m slot))) e ∙ ap (λ (i : ℕ). sentBytes (sending b (take i slot))) f
+
+-- what is neither an edit nor a sending is a taking
+pub take-op : (k : Call) → 3 ≤ k .op → k .op ≤ 5 → sends k ≡ false → k .op ≡ 5
+take-op k a b e = go (eqb (k .op) 3) (eqb (k .op) 4) refl refl e
+  where
+    go : (x y : Bool) → eqb (k .op) 3 ≡ x → eqb (k .op) 4 ≡ y → x || y ≡ false → k .op ≡ 5
+    go true y p q t = never (sym t)
+    go false true p q t = never (sym t)
+    go false false p q t = omega (arith, eqb-false (k .op) 3 p, eqb-false (k .op) 4 q)
+
+server-takes : (k : Call) (bytes : List ℕ) (v : Server) → k .op ≡ 5
+    → changedBytes (server.takes v bytes .refusal) (server.takes v bytes .passed)
+    ≡ changedBytes (serverChanged k [] bytes v .refusal) (serverChanged k [] bytes v .passed)
+unfolding serverChanged
+server-takes k bytes v e = simp e
+
+-- a reply is that of a sending, or that of any other call
+when-sent : {t : Bool} {b : List ℕ} (x y : List ℕ) → t ≡ true → b ≡ x → b ≡ cond t x y
+when-sent x y e p = p ∙ ap (λ (u : Bool). cond u x y) (sym e)
+
+when-changed : {t : Bool} {b : List ℕ} (x y : List ℕ) → t ≡ false → b ≡ y → b ≡ cond t x y
+when-changed x y e p = p ∙ ap (λ (u : Bool). cond u x y) (sym e)
 
 -- ---- where a call that can be repeated takes place
 
@@ -60,7 +93,7 @@ module _ (k : Call) (h : isCall k ≡ true) where
       go false b d e t = never e
 
   -- the server makes no edit
-  pub server-op : 1 ≤ k .op → k .end ≡ 0 → 3 ≤ k .op
+  server-op : 1 ≤ k .op → k .end ≡ 0 → 3 ≤ k .op
   server-op o e =
       go (eqb (k .op) 1) (eqb (k .op) 2) refl refl
       (subst (λ (n : ℕ). (not (eqb (k .op) 1 || eqb (k .op) 2) || leb 1 n) ≡ true) e
@@ -113,39 +146,47 @@ module _ (k : Call) (initial : List ℕ) (len : ℕ) (slot : List ℕ) (o : 1 �
       go true = refl
       go false = refl
 
--- j, n and slot as the code has them
-module _ (k : Call) (w : World) (j n : ℕ) (slot : List ℕ) (h : isCall k ≡ true) (o : 1 ≤ k .op) (q : k .op ≤ 5) (l : 20 * j + 20 ≤ length (w .slots))
-    (e : j ≡ slotOf k) (m : n ≡ min (lengthIn k (w .lengths)) 20) (s : slot ≡ take 20 (drop (20 * j) (w .slots))) where
+-- What the code has found before it chooses the end: the slot's number, how many bytes its message has, and its bytes.
+pub record Found (k : Call) (w : World) (j n : ℕ) (slot : List ℕ) : Type 0 where
+  pub call : isCall k ≡ true
+  pub least : 1 ≤ k .op
+  pub most : k .op ≤ 5
+  pub room : 20 * j + 20 ≤ length (w .slots)
+  pub number : j ≡ slotOf k
+  pub held : n ≡ min (lengthIn k (w .lengths)) 20
+  pub bytes : slot ≡ take 20 (drop (20 * j) (w .slots))
+
+module _ {k : Call} {w : World} {j n : ℕ} {slot : List ℕ} (f : Found k w j n slot) where
   slot-is : slot ≡ slotIn k (w .slots)
-  slot-is = s ∙ ap (λ (i : ℕ). take 20 (drop (20 * i) (w .slots))) e
+  slot-is = f .bytes ∙ ap (λ (i : ℕ). take 20 (drop (20 * i) (w .slots))) (f .number)
 
   twenty : length slot ≡ 20
-  twenty = ap length s ∙ length-take-le 20 (drop (20 * j) (w .slots)) (simp length-drop (omega arith))
+  twenty = ap length (f .bytes) ∙ length-take-le 20 (drop (20 * j) (w .slots)) (simp length-drop (omega (arith, f .room)))
 
-  pub at-server : {b : List ℕ} → k .end ≡ 0 → b ≡ serverReply k (take n slot) (take (min (k .size) 20) slot) (w .server) → Replied k w b
+  at-server : {b : List ℕ} → k .end ≡ 0 → b ≡ serverReply k (take n slot) (take (min (k .size) 20) slot) (w .server) → Replied k w b
   unfolding turnOf
   at-server z p =
       record {
         answer = λ initial. p
-            ∙ ap (λ (f : List ℕ). serverReply k f (take (min (k .size) 20) slot) (w .server)) (front-of slot (lengthIn k (w .lengths)) n twenty m)
-            ∙ ap (λ (f : List ℕ). serverReply k (front (lengthIn k (w .lengths)) slot) f (w .server)) (front-of slot (k .size) (min (k .size) 20) twenty refl)
-            ∙ server-front k (front (k .number) initial) (lengthIn k (w .lengths)) slot o (w .server)
+            ∙ ap (λ (b : List ℕ). serverReply k b (take (min (k .size) 20) slot) (w .server)) (front-of slot (lengthIn k (w .lengths)) n twenty (f .held))
+            ∙ ap (λ (b : List ℕ). serverReply k (front (lengthIn k (w .lengths)) slot) b (w .server)) (front-of slot (k .size) (min (k .size) 20) twenty refl)
+            ∙ server-front k (front (k .number) initial) (lengthIn k (w .lengths)) slot (f .least) (w .server)
             ∙ ap (λ (t : List ℕ). take 4 (serverTurn k (front (k .number) initial) (lengthIn k (w .lengths)) t (w .server) .bytes)) slot-is
             ∙ ap (λ (t : Turn). take 4 (t .bytes)) (turn initial);
       }
     where
       turn : (initial : List ℕ) → serverTurn k (front (k .number) initial) (lengthIn k (w .lengths)) (slotIn k (w .slots)) (w .server) ≡ turnOf initial k w
-      turn initial = sym (ap (λ (n : ℕ). turnAt n (front (k .number) initial) k (lengthIn k (w .lengths)) (slotIn k (w .slots)) w) (place-is k h q ∙ z))
+      turn initial = sym (ap (λ (n : ℕ). turnAt n (front (k .number) initial) k (lengthIn k (w .lengths)) (slotIn k (w .slots)) w) (place-is k (f .call) (f .most) ∙ z))
 
-  pub at-client : {b : List ℕ} → (k .end ≡ 0 → ⊥) → b ≡ clientReply k (take n slot) (take (min (k .size) 20) slot) (getD (w .clients) (k .end - 1) noClient)
+  at-client : {b : List ℕ} → (k .end ≡ 0 → ⊥) → b ≡ clientReply k (take n slot) (take (min (k .size) 20) slot) (getD (w .clients) (k .end - 1) noClient)
       → Replied k w b
   unfolding turnOf
   at-client z p =
       record {
         answer = λ initial. p
-            ∙ ap (λ (f : List ℕ). clientReply k f (take (min (k .size) 20) slot) (getD (w .clients) (k .end - 1) noClient)) (front-of slot (lengthIn k (w .lengths)) n twenty m)
-            ∙ ap (λ (f : List ℕ). clientReply k (front (lengthIn k (w .lengths)) slot) f (getD (w .clients) (k .end - 1) noClient)) (front-of slot (k .size) (min (k .size) 20) twenty refl)
-            ∙ client-front k (front (k .number) initial) (lengthIn k (w .lengths)) slot o (getD (w .clients) (k .end - 1) noClient)
+            ∙ ap (λ (b : List ℕ). clientReply k b (take (min (k .size) 20) slot) (getD (w .clients) (k .end - 1) noClient)) (front-of slot (lengthIn k (w .lengths)) n twenty (f .held))
+            ∙ ap (λ (b : List ℕ). clientReply k (front (lengthIn k (w .lengths)) slot) b (getD (w .clients) (k .end - 1) noClient)) (front-of slot (k .size) (min (k .size) 20) twenty refl)
+            ∙ client-front k (front (k .number) initial) (lengthIn k (w .lengths)) slot (f .least) (getD (w .clients) (k .end - 1) noClient)
             ∙ ap (λ (t : List ℕ). take 4 (clientTurn k (front (k .number) initial) (lengthIn k (w .lengths)) t (getD (w .clients) (k .end - 1) noClient) .bytes)) slot-is
             ∙ ap (λ (t : Turn). take 4 (t .bytes)) (turn initial);
       }
@@ -154,5 +195,23 @@ module _ (k : Call) (w : World) (j n : ℕ) (slot : List ℕ) (h : isCall k ≡ 
       turn initial =
           let p : turnAt (k .end) (front (k .number) initial) k (lengthIn k (w .lengths)) (slotIn k (w .slots)) w
           ≡ clientTurn k (front (k .number) initial) (lengthIn k (w .lengths)) (slotIn k (w .slots)) (getD (w .clients) (k .end - 1) noClient) =
-          simp (ne-eqb (k .end) 0 z, le-leb (k .end) 8 (end-is k h q)) in
-          sym (ap (λ (n : ℕ). turnAt n (front (k .number) initial) k (lengthIn k (w .lengths)) (slotIn k (w .slots)) w) (place-is k h q) ∙ p)
+          simp (ne-eqb (k .end) 0 z, le-leb (k .end) 8 (end-is k (f .call) (f .most))) in
+          sym (ap (λ (n : ℕ). turnAt n (front (k .number) initial) k (lengthIn k (w .lengths)) (slotIn k (w .slots)) w) (place-is k (f .call) (f .most)) ∙ p)
+
+  -- the four that the code tells apart
+  pub at-server-sent : {b : List ℕ} → k .end ≡ 0 → sends k ≡ true → b ≡ sentBytes (serverSent k (w .server) (take (min (k .size) 20) slot)) → Replied k w b
+  at-server-sent z t p = at-server z (when-sent _ _ t p)
+
+  pub at-server-taken : {b : List ℕ} → k .end ≡ 0 → sends k ≡ false
+      → b ≡ changedBytes (server.takes (w .server) (take n slot) .refusal) (server.takes (w .server) (take n slot) .passed) → Replied k w b
+  at-server-taken z t p = at-server z (when-changed _ _ t (p ∙ server-takes k (take n slot) (w .server) (take-op k (server-op k (f .call) (f .least) z) (f .most) t)))
+
+  pub at-client-sent : {b : List ℕ} → (k .end ≡ 0 → ⊥) → sends k ≡ true
+      → b ≡ sentBytes (clientSent k (getD (w .clients) (k .end - 1) noClient) (take (min (k .size) 20) slot)) → Replied k w b
+  at-client-sent z t p = at-client z (when-sent _ _ t p)
+
+  pub at-client-changed : {b : List ℕ} → (k .end ≡ 0 → ⊥) → sends k ≡ false
+      → b ≡ changedBytes (clientChanged k [] (take n slot) (getD (w .clients) (k .end - 1) noClient) .refusal)
+      (clientChanged k [] (take n slot) (getD (w .clients) (k .end - 1) noClient) .passed)
+      → Replied k w b
+  at-client-changed z t p = at-client z (when-changed _ _ t p)

@@ -1,14 +1,19 @@
-// For timing: one call, done again and again on the same end. A turn of a loop hands the end over, and nothing else is copied but the
-// 20 bytes of a slot.
+// For timing: one call, done again and again on the same end. An edit or a taking is handed the end, which is one copy of it in each
+// turn. A sending changes no end and is lent its arrays, so that a turn copies only the 20 bytes of a slot.
 ghost use mathlib.Core.Path.{_≡_};
 ghost use Prim.Native.Nat.{_+_, _≤_, _%_, min};
-ghost use mathlib.Core.Bool.{true};
+ghost use mathlib.Core.Bool.{true, false};
+ghost use mathlib.Core.List.{[]};
 ghost use lib.ListN.{length, take, drop};
-ghost use Rattle.calls.specs.Calls.{isCall};
+ghost use Rattle.client.specs.Store.{clientOf, Sizes as ClientSizes};
+ghost use Rattle.server.specs.View.{serverOf};
+ghost use Rattle.server.specs.Sound.{Sizes as ServerSizes};
+ghost use Rattle.server.specs.Calls.{takes};
+ghost use Rattle.calls.specs.Calls.{isCall, sends};
 ghost use Rattle.calls.specs.Dump.{answerBytes};
 ghost use Rattle.driver.specs.Answers.{repeated, Wrote};
 ghost use Rattle.driver.specs.Drive.{Replied};
-ghost use Rattle.turns.specs.Turn.{clientReply, serverReply};
+ghost use Rattle.turns.specs.Turn.{clientChanged, clientSent, serverSent, changedBytes, sentBytes};
 use crate::drive;
 use crate::drive::World;
 use calls::call;
@@ -60,10 +65,10 @@ fn slot_at(slots: &[u8], first: usize) -> [u8; 20]
 
 // ---- a client
 
-// The calls that are for timing.
-fn once_client(c: Client, k: Call, bytes: &[u8], lent: &mut [u8]) -> Reply
-    requires { ⌜ (1 ≤ k .op) × (k .op ≤ 5) ⌝ }
-    ensures { λ r. ⌜ answerBytes (r .refusal) (r .written) (r .passed) ≡ clientReply k (now (bytes .entry)) (now (lent .entry)) c ⌝ }
+// An edit or a taking.
+fn once_client(c: Client, k: Call, bytes: &[u8]) -> Reply
+    requires { ⌜ (1 ≤ k .op) × (k .op ≤ 5) × (sends k ≡ false) ⌝ }
+    ensures { λ r. ⌜ answerBytes (r .refusal) (r .written) (r .passed) ≡ changedBytes (clientChanged k [] (now (bytes .entry)) c .refusal) (clientChanged k [] (now (bytes .entry)) c .passed) ⌝ }
 {
     let op = k.op;
     match op {
@@ -75,12 +80,6 @@ fn once_client(c: Client, k: Call, bytes: &[u8], lent: &mut [u8]) -> Reply
             let a = c.delete(k.position);
             return changed(a.refusal, a.passed);
         }
-        3 => {
-            return sent(c.send(k.line, k.number, lent));
-        }
-        4 => {
-            return sent(c.tell(k.line, lent));
-        }
         _ => {
             let a = c.take(bytes);
             return changed(a.refusal, a.passed);
@@ -88,16 +87,56 @@ fn once_client(c: Client, k: Call, bytes: &[u8], lent: &mut [u8]) -> Reply
     }
 }
 
-// Each turn finds the slot as it was. n bytes of it are its message.
+// n bytes of the slot are its message.
 fn repeat_client(c: Client, k: Call, slot: [u8; 20], n: usize, times: u32) -> Reply
-    requires { ⌜ (1 ≤ k .op) × (k .op ≤ 5) × (n ≤ 20) ⌝ }
-    ensures { λ r. ⌜ answerBytes (r .refusal) (r .written) (r .passed) ≡ clientReply k (take n slot) (take (min (k .size) 20) slot) c ⌝ }
+    requires { ⌜ (1 ≤ k .op) × (k .op ≤ 5) × (sends k ≡ false) × (n ≤ 20) ⌝ }
+    ensures { λ r. ⌜ answerBytes (r .refusal) (r .written) (r .passed) ≡ changedBytes (clientChanged k [] (take n slot) c .refusal) (clientChanged k [] (take n slot) c .passed) ⌝ }
 {
+    let mut i = 1;
+    loop {
+        let r = once_client(c, k, &slot[..n]);
+        if times <= i {
+            return r;
+        }
+        i += 1;
+    }
+}
+
+// A sending, from the numbers of a client and its arrays.
+fn once_client_sent<'a>(
+    q: client::Counts,
+    items: &'a [u32],
+    places: &'a [u32],
+    pending: &'a [u32],
+    k: Call,
+    lent: &mut [u8],
+) -> Reply
+    requires { ⌜ ClientSizes (now items) (now places) (now pending) ⌝ }
+    ensures { λ r. ⌜ answerBytes (r .refusal) (r .written) (r .passed) ≡ sentBytes (clientSent k (clientOf q (now (items .entry)) (now (places .entry)) (now (pending .entry))) (now (lent .entry))) ⌝ }
+{
+    if k.op == 3 {
+        return sent(client::sending::send_lent(q, items, places, pending, k.line, k.number, lent));
+    }
+    sent(client::sending::tell_lent(q, items, places, pending, k.line, lent))
+}
+
+// Each turn finds the slot as it was.
+fn repeat_client_sent(c: Client, k: Call, slot: [u8; 20], times: u32) -> Reply
+    ensures { λ r. ⌜ answerBytes (r .refusal) (r .written) (r .passed) ≡ sentBytes (clientSent k c (take (min (k .size) 20) slot)) ⌝ }
+{
+    let q = c.counts();
     let size = turns::within(k.size);
     let mut i = 1;
     loop {
         let mut lent = slot;
-        let r = once_client(c, k, &slot[..n], &mut lent[..size]);
+        let r = once_client_sent(
+            q,
+            &c.items,
+            &c.pending_places,
+            &c.pending_items,
+            k,
+            &mut lent[..size],
+        );
         if times <= i {
             return r;
         }
@@ -107,34 +146,54 @@ fn repeat_client(c: Client, k: Call, slot: [u8; 20], n: usize, times: u32) -> Re
 
 // ---- the server
 
-fn once_server(s: Server, k: Call, bytes: &[u8], lent: &mut [u8]) -> Reply
-    requires { ⌜ (3 ≤ k .op) × (k .op ≤ 5) ⌝ }
-    ensures { λ r. ⌜ answerBytes (r .refusal) (r .written) (r .passed) ≡ serverReply k (now (bytes .entry)) (now (lent .entry)) s ⌝ }
+// The server makes no edit, so what is not sent is taken.
+fn repeat_server(s: Server, slot: [u8; 20], n: usize, times: u32) -> Reply
+    requires { ⌜ n ≤ 20 ⌝ }
+    ensures { λ r. ⌜ answerBytes (r .refusal) (r .written) (r .passed) ≡ changedBytes (takes s (take n slot) .refusal) (takes s (take n slot) .passed) ⌝ }
 {
-    let op = k.op;
-    match op {
-        3 => {
-            return sent(s.send(k.line, k.number, lent));
-        }
-        4 => {
-            return sent(s.tell(k.line, lent));
-        }
-        _ => {
-            let a = s.take(bytes);
+    let mut i = 1;
+    loop {
+        let a = s.take(&slot[..n]);
+        if times <= i {
             return changed(a.refusal, a.passed);
         }
+        i += 1;
     }
 }
 
-fn repeat_server(s: Server, k: Call, slot: [u8; 20], n: usize, times: u32) -> Reply
-    requires { ⌜ (3 ≤ k .op) × (k .op ≤ 5) × (n ≤ 20) ⌝ }
-    ensures { λ r. ⌜ answerBytes (r .refusal) (r .written) (r .passed) ≡ serverReply k (take n slot) (take (min (k .size) 20) slot) s ⌝ }
+fn once_server_sent<'a>(
+    q: lines::Counts,
+    items: &'a [u32],
+    places: &'a [u32],
+    pending: &'a [u32],
+    k: Call,
+    lent: &mut [u8],
+) -> Reply
+    requires { ⌜ ServerSizes q (now items) (now places) (now pending) ⌝ }
+    ensures { λ r. ⌜ answerBytes (r .refusal) (r .written) (r .passed) ≡ sentBytes (serverSent k (serverOf q (now (items .entry)) (now (places .entry)) (now (pending .entry))) (now (lent .entry))) ⌝ }
 {
+    if k.op == 3 {
+        return sent(server::sending::send_lent(q, items, places, pending, k.line, k.number, lent));
+    }
+    sent(server::sending::tell_lent(q, items, places, pending, k.line, lent))
+}
+
+fn repeat_server_sent(s: Server, k: Call, slot: [u8; 20], times: u32) -> Reply
+    ensures { λ r. ⌜ answerBytes (r .refusal) (r .written) (r .passed) ≡ sentBytes (serverSent k s (take (min (k .size) 20) slot)) ⌝ }
+{
+    let q = s.counts();
     let size = turns::within(k.size);
     let mut i = 1;
     loop {
         let mut lent = slot;
-        let r = once_server(s, k, &slot[..n], &mut lent[..size]);
+        let r = once_server_sent(
+            q,
+            &s.items,
+            &s.pending_places,
+            &s.pending_items,
+            k,
+            &mut lent[..size],
+        );
         if times <= i {
             return r;
         }
@@ -153,12 +212,19 @@ fn repeat(w: World, k: Call, times: u32) -> Reply
     let n = turns::held(k, &lengths);
     let slots = w.slots;
     let slot = slot_at(&slots, 20 * turns::slot_of(k));
+    let sending = call::sends(k);
     if k.end == 0 {
         let server = w.server;
-        return repeat_server(server, k, slot, n, times);
+        if sending {
+            return repeat_server_sent(server, k, slot, times);
+        }
+        return repeat_server(server, slot, n, times);
     }
     let clients = w.clients;
     let c = clients[k.end as usize - 1];
+    if sending {
+        return repeat_client_sent(c, k, slot, times);
+    }
     repeat_client(c, k, slot, n, times)
 }
 

@@ -1,64 +1,56 @@
 use Prim.Native.Nat.{ℕ, _-_, _≤_}
 use native.Mathlib.Omega.{arith}
-use mathlib.Core.Path.{ap, _∙_, sym}
-use lib.ListN.{take}
+use mathlib.Core.Path.{ap, sym, _∙_}
 use lib.Seq.{length-take-le}
 use borrow.Author.Needs.{needs}
-use Rattle.turns.specs.Turn.{serverReply}
+use Rattle.server.specs.declared.Answer.{Answer}
+use Rattle.turns.specs.Turn.{changedBytes}
 use Rattle.driver.proofs.repeat.repeat_server.Statement.{statement}
 use Rattle.driver.proofs.repeat.repeat_server.Tie as tie
 use Rattle.driver.proofs.repeat.repeat_server.Reads as reads
 use Rattle.driver.proofs.repeat.repeat_server.Lts as lts
-use Rattle.driver.proofs.repeat.once_server.Reads as once-server-reads
-use Rattle.turns.proofs.within.Reads as within-reads
+use Rattle.driver.proofs.repeat.changed.Reads as changed-reads
+use Rattle.server.proofs.Server.take.Reads as take-reads
 
 abbrev Inv-loop : tie.InvT-loop
-Inv-loop s k n times slot size i₀ i = 1 ≤ i
+Inv-loop s n times slot i₀ i = 1 ≤ i
 
 abbrev μ-loop : tie.MeasureT-loop
-μ-loop s k n times slot size i₀ i = times - i
+μ-loop s n times slot i₀ i = times - i
 
--- src/repeat.rt:134:9
-within-requires : tie.Need-within-requires Inv-loop μ-loop
-within-requires c κs = search needs
-
--- src/repeat.rt:136:5
+-- src/repeat.rt:155:5
 loop-holds : tie.Need-loop-holds Inv-loop μ-loop
 loop-holds c = omega arith
 
--- src/repeat.rt:138:35
+-- src/repeat.rt:156:24
 array-share-prefix-slot : tie.Need-array-share-prefix-slot Inv-loop μ-loop
 array-share-prefix-slot c = search needs
 
--- src/repeat.rt:138:35
-slice-aggregate-once-server : tie.Need-slice-aggregate-once-server Inv-loop μ-loop
-slice-aggregate-once-server c = sym (length-take-le (c .before .before .before .args .n) _ (search needs))
+-- src/repeat.rt:156:24
+slice-aggregate-take : tie.Need-slice-aggregate-take Inv-loop μ-loop
+slice-aggregate-take c = sym (length-take-le (c .before .before .args .n) _ (search needs))
 
--- src/repeat.rt:138:47
-array-borrow-prefix-lent : tie.Need-array-borrow-prefix-lent Inv-loop μ-loop
-array-borrow-prefix-lent c = search needs
+-- src/repeat.rt:156:13
+take-requires : tie.Need-take-requires Inv-loop μ-loop
+take-requires c κs = search needs
 
--- src/repeat.rt:138:47
-slice-aggregate-once-server-2 : tie.Need-slice-aggregate-once-server-2 Inv-loop μ-loop
-slice-aggregate-once-server-2 c = sym (length-take-le (c .before .before .before .within .result) _ (search needs))
+-- src/repeat.rt:158:13
+changed-requires : tie.Need-changed-requires Inv-loop μ-loop
+changed-requires c κs = search needs
 
--- src/repeat.rt:138:13
-once-server-requires : tie.Need-once-server-requires Inv-loop μ-loop
-once-server-requires c κs = (c .before .before .before .before .pre .0, c .before .before .before .before .pre .1)
-
--- src/repeat.rt:140:13
+-- src/repeat.rt:158:13
 returns : tie.Need-returns Inv-loop μ-loop
-returns c = c .before .before .once-server .ensures ∙ ap (λ (m : ℕ). serverReply (c .before .before .before .before .before .before .before .args .k) (take (c .before .before .before .before .before .before .before .args .n) (c .before .before .before .before .before .before .before .args .t3)) (take m (c .before .before .before .before .before .before .before .args .t3)) (c .before .before .before .before .before .before .before .args .s)) (c .before .before .before .before .before .before .within .ensures)
+returns c = c .changed .ensures ∙ ap (λ (a : Answer). changedBytes (a .refusal) (a .passed)) (c .before .before .take .ensures)
 
--- src/repeat.rt:142:9
+-- src/repeat.rt:160:9
 add-i : tie.Need-add-i Inv-loop μ-loop
 add-i c = omega arith
 
--- src/repeat.rt:136:5
+-- src/repeat.rt:155:5
 loop-less : tie.Need-loop-less Inv-loop μ-loop
 loop-less c = omega arith
 
--- src/repeat.rt:136:5
+-- src/repeat.rt:155:5
 loop-again : tie.Need-loop-again Inv-loop μ-loop
 loop-again c = omega arith
 
@@ -68,13 +60,11 @@ repeat-server-spec =
     (tie.spec
     Inv-loop
     μ-loop
-    within-requires
     loop-holds
     array-share-prefix-slot
-    slice-aggregate-once-server
-    array-borrow-prefix-lent
-    slice-aggregate-once-server-2
-    once-server-requires
+    slice-aggregate-take
+    take-requires
+    changed-requires
     returns
     add-i
     loop-less
