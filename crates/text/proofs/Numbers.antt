@@ -1,12 +1,12 @@
 -- Laws of numbers as text.
 use Prim.Native.Nat.{ℕ, zero, suc, _+_, _-_, _*_, _/_, _%_, _<_, _≤_, min}
-use mathlib.Core.Path.{_≡_, refl, _∙_}
-use mathlib.Core.Bool.{Bool, true, _&&_, _||_, cond}
+use mathlib.Core.Path.{_≡_, refl, ap, sym, _∙_}
+use mathlib.Core.Bool.{Bool, true, false, _&&_, _||_, cond}
 use mathlib.Core.List.{List, [], _∷_}
 use native.Mathlib.Numerals.{add-one}
-use native.Mathlib.Nat.{lt-of-mul-lt-mul-left, div-lt-iff-lt-mul, mod-lt}
+use native.Mathlib.Nat.{lt-of-mul-lt-mul-left, div-lt-iff-lt-mul, mod-lt, mod-eq-of-lt}
 use native.Mathlib.Omega.{arith}
-use borrow.Author.Tests.{eqb-true}
+use borrow.Author.Tests.{eqb-true, lt-leb}
 use lib.Dec.{leb, eqb}
 use lib.ListN.{length, getD, drop, drop-of-length-le}
 use lib.Seq.{drop-cons}
@@ -86,6 +86,22 @@ module _ (k rest : ℕ) (h : k ≤ 9) (h′ : 9 ≤ k) where
   pub digits-last : (started : Bool) (a : Sink) {b z : Sink} → b ≡ put (48 + rest) a → puts (digitsAt (drop k powers) started rest) a ≡ z → b ≡ z
   unfolding digitsAt puts
   digits-last started a {b} {z} e ez = e ∙ (rw at-last at ez)
+
+-- a power above the number leaves nothing in front, so a number below ten is its one digit
+below : (p : ℕ) (ps : List ℕ) (n : ℕ) → n < p → digitsAt (p ∷ ps) false n ≡ digitsAt ps false n
+unfolding digitsAt
+below p ps n h = rw (lt-leb p n h, mod-eq-of-lt h)
+
+one-digit : (n : ℕ) → n < 10 → decimal n ≡ (48 + n) ∷ []
+unfolding decimal digitsAt
+one-digit n h =
+    below 1000000000 (drop 1 powers) n (omega arith) ∙ below 100000000 (drop 2 powers) n (omega arith) ∙ below 10000000 (drop 3 powers) n (omega arith)
+    ∙ below 1000000 (drop 4 powers) n (omega arith) ∙ below 100000 (drop 5 powers) n (omega arith) ∙ below 10000 (drop 6 powers) n (omega arith)
+    ∙ below 1000 (drop 7 powers) n (omega arith) ∙ below 100 (drop 8 powers) n (omega arith) ∙ below 10 [] n h
+
+pub one-put : (n : ℕ) (a : Sink) {b : Sink} → n < 10 → b ≡ put (48 + n) a → b ≡ puts (decimal n) a
+unfolding puts
+one-put n a h e = e ∙ ap (λ (l : List ℕ). puts l a) (sym (one-digit n h))
 
 -- one turn of the loop over a list, and its end
 pub listed-turn : (l : List ℕ) (i : ℕ) (a : Sink) {b z : Sink} → i < length l → b ≡ puts (32 ∷ decimal (getD l i 0)) a

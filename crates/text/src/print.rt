@@ -121,10 +121,14 @@ fn item(out: &mut [u8], at: usize, x: u32) -> usize
     decimal(out, to, x)
 }
 
-// The answer to a line: a refusal's number, or 0.
+// The answer to a line: a refusal's number, or 0. Most are one digit, which needs no powers of ten.
 pub fn reply(out: &mut [u8], at: usize, r: u8) -> usize
     ensures { λ r′. ⌜ sink (now (out .exit)) r′ ≡ Sink·puts (replied r) (sink (now (out .entry)) at) ⌝ }
 {
+    if r < 10 {
+        let to = put(out, at, 48 + r);
+        return put(out, to, b'\n');
+    }
     let to = decimal(out, at, r as u32);
     put(out, to, b'\n')
 }
