@@ -6,7 +6,7 @@ use Rattle.text.specs.Text.{before, parts, same}
 use Rattle.text.specs.Decimal.{digitsAt, decimal, listed, numberFrom, numberOf}
 use Rattle.text.specs.Command.{commandOf}
 use Rattle.script.specs.Opening.{openingOf}
-use Rattle.script.specs.Bench.{step}
+use Rattle.bench.specs.Bench.{step}
 use Rattle.script.specs.Output.{clientLists, understood, ran, output}
 
 -- opens every definition on the way

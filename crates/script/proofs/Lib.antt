@@ -1,11 +1,7 @@
-pub mod Lists
-pub mod Flat
-pub mod Beside
+pub mod Showing
 pub mod Examples
 pub mod Openings
-pub mod Benches
 pub mod Room
-pub mod Structs
 pub mod Turns
 pub mod Lines
 pub mod Opened

@@ -19,16 +19,17 @@ use Rattle.text.specs.Order.{Next}
 use Rattle.text.specs.Sink.{Sink, sink, puts}
 use Rattle.text.specs.Lines.{replied, serverList}
 use Rattle.text.proofs.Sinks.{then}
-use Rattle.script.specs.declared.bays.Bays.{Bays}
-use Rattle.script.specs.declared.ends.Ends.{Ends}
-use Rattle.script.specs.declared.ends.Turned.{Turned}
-use Rattle.script.specs.Flat.{part, endsFrom}
-use Rattle.script.specs.Bays.{noCounts, clientsIn, Laid, Standing, Shown, listsFrom}
+use Rattle.bench.specs.declared.bays.Bays.{Bays}
+use Rattle.bench.specs.declared.ends.Ends.{Ends}
+use Rattle.bench.specs.declared.ends.Turned.{Turned}
+use Rattle.bench.specs.Flat.{part, endsFrom}
+use Rattle.bench.specs.Bays.{noCounts, clientsIn, Laid, Standing}
+use Rattle.script.specs.Shown.{Shown, listsFrom}
 use Rattle.script.specs.Output.{clientLists, lists}
-use Rattle.script.specs.Ends.{Whole, viewEnds, steppedOf, ordered}
-use Rattle.script.proofs.Flat.{Put, lent-is, part-length, put-lent, ends-of, ends-take, ends-put}
-use Rattle.script.proofs.Beside.{lists-are}
-use Rattle.script.proofs.Structs.{lines-few, server-is}
+use Rattle.bench.specs.Ends.{Whole, viewEnds, steppedOf, ordered}
+use Rattle.bench.proofs.Flat.{Put, lent-is, part-length, put-lent, ends-of, ends-take, ends-put}
+use Rattle.script.proofs.Showing.{lists-are}
+use Rattle.bench.proofs.Structs.{lines-few, server-is}
 use Rattle.script.proofs.Turns.{Running, order-line, running-turn, running-end, client-fits}
 
 abbrev pub endsOf : lines.Counts → List ℕ → List ℕ → List ℕ → List Counts → List ℕ → List ℕ → List ℕ → Ends

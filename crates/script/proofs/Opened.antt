@@ -23,19 +23,19 @@ use Rattle.client.specs.Answers.{opened}
 use Rattle.server.specs.declared.Answer as serverAnswer
 use Rattle.server.specs.View as server
 use Rattle.server.specs.Calls as calls
-use Rattle.script.specs.declared.ends.Ends.{Ends}
+use Rattle.bench.specs.declared.ends.Ends.{Ends}
 use Rattle.script.specs.declared.opening.First.{First}
 use Rattle.text.specs.Sink.{Sink, puts}
 use Rattle.text.specs.Text.{before, linesOf, parts, same}
 use Rattle.script.specs.Opening.{Opening, none, sheet, openingOf, held, cut, maxHeld, Reads}
 use Rattle.text.specs.Lines.{replied}
 use Rattle.script.specs.Output.{ran, started, printed, long, maxInput, output}
-use Rattle.script.specs.Bench.{Bench, SoundBench, openClients, openBench}
-use Rattle.script.specs.Ends.{storeEnds, viewEnds, opening, Whole}
+use Rattle.bench.specs.Bench.{Bench, SoundBench, openClients, openBench}
+use Rattle.bench.specs.Ends.{storeEnds, viewEnds, opening, Whole}
 use Rattle.text.proofs.Sinks.{then}
 use Rattle.text.proofs.Texts.{lines-first}
-use Rattle.script.proofs.Benches as benches
-use Rattle.script.proofs.Structs.{open-keeps, end-stored}
+use Rattle.bench.proofs.Benches as benches
+use Rattle.bench.proofs.Structs.{open-keeps, end-stored}
 use Rattle.script.proofs.Turns.{store-whole, bench-view}
 
 and-none : (a : Bool) → (a && false) ≡ false

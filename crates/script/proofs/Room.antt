@@ -26,11 +26,11 @@ use Rattle.text.specs.Text.{joined, parts, linesOf}
 use Rattle.text.specs.Decimal.{powers, digitsAt, decimal, listed}
 use Rattle.text.specs.Command.{commandOf}
 use Rattle.script.specs.Opening.{Opening, none, sheet, openingOf}
-use Rattle.script.specs.Bench.{Bench, Step, SoundBench, clientOf, onClient, onServer, delivered, room, step, openBench}
+use Rattle.bench.specs.Bench.{Bench, Step, SoundBench, clientOf, onClient, onServer, delivered, room, step, openBench}
 use Rattle.text.specs.Lines.{unknown, serverWord, clientWord, replied, serverList, clientList}
 use Rattle.script.specs.Output.{long, understood, replies, clientLists, lists, ran, started, printed, output, maxInput, maxOutput, OutputFits, AllPrinted}
 use Rattle.text.proofs.Sinks.{both, and-left, and-right}
-use Rattle.script.proofs.Benches.{step-sound, opened, open-sound}
+use Rattle.bench.proofs.Benches.{step-sound, opened, open-sound}
 
 -- A number has at most ten digits, a list eleven bytes an item.
 digit-length : (t : Bool) (d : ℕ) → length (cond t (d ∷ []) []) ≤ 1

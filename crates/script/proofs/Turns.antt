@@ -19,7 +19,7 @@ use Rattle.server.specs.declared.Server.{Server}
 use Rattle.server.specs.View as server
 use Rattle.server.proofs.Stored.{view-store}
 use Rattle.client.proofs.Stored.{client-view}
-use Rattle.script.specs.declared.ends.Ends.{Ends}
+use Rattle.bench.specs.declared.ends.Ends.{Ends}
 use Rattle.text.specs.declared.parse.Order.{Order}
 use Rattle.text.specs.declared.parse.Line.{Line}
 use Rattle.text.specs.Order.{coded, Next}
@@ -27,14 +27,14 @@ use Rattle.text.specs.Sink.{Sink, sink, puts}
 use Rattle.text.specs.Text.{before, linesOf, wordsOf, same}
 use Rattle.text.specs.Decimal.{numberOf, tooWide}
 use Rattle.text.specs.Command.{Command, Bad, Insert, Delete, Up, Down, Ack, Told, withOne, afterNumber, verbOf, spoken, commandOf, ackWord, toldWord, delWord, upWord, downWord, insWord}
-use Rattle.script.specs.Bench.{Bench, SoundBench, room, step, clientOf}
+use Rattle.bench.specs.Bench.{Bench, SoundBench, room, step, clientOf}
 use Rattle.text.specs.Lines.{unknown, replied, clientList}
 use Rattle.script.specs.Output.{understood, replies, clientLists, lists, ran}
-use Rattle.script.specs.Ends.{Stepped, viewEnds, storeEnds, Whole, ordered}
+use Rattle.bench.specs.Ends.{Stepped, viewEnds, storeEnds, Whole, ordered}
 use Rattle.text.proofs.Sinks.{both, and-left, and-right, puts-append}
 use Rattle.text.proofs.Texts.{lines-none}
-use Rattle.script.proofs.Benches.{step-sound}
-use Rattle.script.proofs.Structs.{Within, Done, storeStep, steppedDone, lines-few, client-is, server-is, ordered-is}
+use Rattle.bench.proofs.Benches.{step-sound}
+use Rattle.bench.proofs.Structs.{Within, Done, storeStep, steppedDone, lines-few, client-is, server-is, ordered-is}
 
 -- ---- the line of a command that was read is one of 1 to n
 

@@ -1,6 +1,3 @@
 pub mod Opening
-pub mod Bench
+pub mod Shown
 pub mod Output
-pub mod Ends
-pub mod Flat
-pub mod Bays

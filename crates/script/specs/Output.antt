@@ -12,7 +12,7 @@ use Rattle.text.specs.Text.{linesOf}
 use Rattle.text.specs.Lines.{unknown, replied, serverList, clientList}
 use Rattle.text.specs.Command.{Command, Bad, Insert, Delete, Up, Down, Ack, Told, commandOf}
 use Rattle.script.specs.Opening.{Opening, none, sheet, openingOf}
-use Rattle.script.specs.Bench.{Bench, step, openBench}
+use Rattle.bench.specs.Bench.{Bench, step, openBench}
 
 -- `long`, as bytes
 abbrev pub long : List ℕ

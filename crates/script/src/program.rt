@@ -1,9 +1,9 @@
 // The run program over a text: reads lines, makes the calls they name, and prints.
-use crate::bays::side_by_side;
-use crate::ends::Ends;
-use crate::ends::turn;
 use crate::opening::First;
 use crate::opening::read_first;
+use bench::bays::side_by_side;
+use bench::ends::Ends;
+use bench::ends::turn;
 use client::Client;
 use client::Counts;
 use server::Server;
@@ -22,8 +22,8 @@ ghost use Rattle.text.specs.Sink.{sink, puts as Sink·puts, Printed};
 ghost use Rattle.text.specs.Text.{linesOf};
 ghost use Rattle.script.specs.Opening.{maxHeld, held};
 ghost use Rattle.script.specs.Output.{ran, started as Output·started, output};
-ghost use Rattle.script.specs.Ends.{Whole, viewEnds, opening};
-ghost use Rattle.script.specs.Bays.{Shown, listsFrom};
+ghost use Rattle.bench.specs.Ends.{Whole, viewEnds, opening};
+ghost use Rattle.script.specs.Shown.{Shown, listsFrom};
 
 // The lists of the clients, in line order.
 fn client_lists(out: &mut [u8], at: usize, n: u8, counts: [Counts; 8], items: &[u32]) -> usize

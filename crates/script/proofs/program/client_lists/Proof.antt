@@ -5,8 +5,8 @@ use borrow.Author.Needs.{needs}
 use denote.Ref.{now}
 use lib.ListN.{length}
 use Rattle.text.specs.Sink.{sink, puts}
-use Rattle.script.specs.Bays.{listsFrom}
-use Rattle.script.proofs.Beside.{lists-next, lists-none}
+use Rattle.script.specs.Shown.{listsFrom}
+use Rattle.script.proofs.Showing.{lists-next, lists-none}
 use Rattle.script.proofs.program.client_lists.Statement.{statement}
 use Rattle.script.proofs.program.client_lists.Tie as tie
 use Rattle.script.proofs.program.client_lists.Reads as reads

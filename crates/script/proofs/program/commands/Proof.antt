@@ -7,18 +7,18 @@ use lib.ListN.{length, drop}
 use lib.Seq.{length-take-le}
 use Rattle.text.specs.Sink.{sink, puts}
 use Rattle.text.specs.Text.{linesOf}
-use Rattle.script.specs.declared.ends.Ends.{Ends}
-use Rattle.script.specs.Bays.{Laid}
+use Rattle.bench.specs.declared.ends.Ends.{Ends}
+use Rattle.bench.specs.Bays.{Laid}
 use Rattle.script.specs.Output.{ran}
-use Rattle.script.specs.Ends.{Whole, viewEnds}
+use Rattle.bench.specs.Ends.{Whole, viewEnds}
 use Rattle.script.proofs.Turns.{Running, running-bad, server-fits}
 use Rattle.script.proofs.Lines.{endsOf, apart, lent-sizes, laid-back, server-sizes, turn-line, going-turn, shown, going-end}
 use Rattle.script.proofs.program.commands.Statement.{statement}
 use Rattle.script.proofs.program.commands.Tie as tie
 use Rattle.script.proofs.program.commands.Reads as reads
 use Rattle.script.proofs.program.commands.Lts as lts
-use Rattle.script.proofs.bays.side_by_side.Reads as side-by-side-reads
-use Rattle.script.proofs.ends.turn.Reads as turn-reads
+use Rattle.bench.proofs.bays.side_by_side.Reads as side-by-side-reads
+use Rattle.bench.proofs.ends.turn.Reads as turn-reads
 use Rattle.script.proofs.program.client_lists.Reads as client-lists-reads
 use Rattle.server.proofs.Server.counts.Reads as counts-reads
 use Rattle.text.proofs.line_at.Reads as line-at-reads

@@ -4,7 +4,7 @@ use native.Mathlib.Omega.{arith}
 use borrow.Author.Needs.{needs}
 use lib.ListN.{length, length-set}
 use Rattle.ot.proofs.Sweep.{swept}
-use Rattle.script.specs.Ends.{opening}
+use Rattle.bench.specs.Ends.{opening}
 use Rattle.script.proofs.Opened.{opening-turn, opening-end}
 use Rattle.script.proofs.program.open_clients.Statement.{statement}
 use Rattle.script.proofs.program.open_clients.Tie as tie

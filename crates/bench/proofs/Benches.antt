@@ -20,7 +20,7 @@ use Rattle.model.proofs.Tests.{hold, yes-all, between-true}
 use Rattle.model.proofs.Opens.{client-opens, server-opens}
 use Rattle.model.proofs.Sound.{accepted, keeps-sound}
 use Rattle.text.specs.Command.{Command, Bad, Insert, Delete, Up, Down, Ack, Told}
-use Rattle.script.specs.Bench.{Bench, Step, SoundBench, clientOf, onClient, onServer, delivered, room, step, openClients, openBench}
+use Rattle.bench.specs.Bench.{Bench, Step, SoundBench, clientOf, onClient, onServer, delivered, room, step, openClients, openBench}
 use Rattle.text.proofs.Sinks.{both, and-left, and-right}
 
 -- a property of both ends that an answer may hand back

@@ -3,7 +3,7 @@ use client::Client;
 use client::Counts;
 ghost use mathlib.Core.Path.{_≡_};
 ghost use lib.ListN.{length};
-ghost use Rattle.script.specs.Bays.{Standing};
+ghost use Rattle.bench.specs.Bays.{Standing};
 
 pub struct Bays {
     pub counts: [Counts; 8],

@@ -17,10 +17,10 @@ use Rattle.server.specs.declared.Server.{Server}
 use Rattle.server.specs.View as server
 use Rattle.server.specs.declared.Answer as serverAnswer
 use Rattle.server.specs.Calls.{sends, tells, takes}
-use Rattle.script.specs.declared.ends.Ends.{Ends}
-use Rattle.script.specs.declared.ends.Turned.{Turned}
+use Rattle.bench.specs.declared.ends.Ends.{Ends}
+use Rattle.bench.specs.declared.ends.Turned.{Turned}
 use Rattle.text.specs.declared.parse.Order.{Order}
-use Rattle.script.specs.Bench.{Bench, SoundBench, room}
+use Rattle.bench.specs.Bench.{Bench, SoundBench, room}
 
 -- the clients of lines 1 to n stand in the first n places
 abbrev pub viewEnds : Ends → Bench

@@ -1,17 +1,17 @@
 use Rattle.server.specs.View.{serverOf}
 use Rattle.client.specs.Store.{clientOf}
-use Rattle.script.specs.Ends.{atServer, atClient}
-use Rattle.script.proofs.Structs.{sent-within, ordered-unsent, ordered-up, ordered-client}
+use Rattle.bench.specs.Ends.{atServer, atClient}
+use Rattle.bench.proofs.Structs.{sent-within, ordered-unsent, ordered-up, ordered-client}
 use lib.Seq.{length-take-le}
 use mathlib.Core.Path.{ap, sym, _∙_}
 use denote.Ref.{now}
 use borrow.Author.Needs.{needs}
-use Rattle.script.proofs.ends.turn.Statement.{statement}
-use Rattle.script.proofs.ends.turn.Tie as tie
-use Rattle.script.proofs.ends.turn.Reads as reads
-use Rattle.script.proofs.ends.turn.Lts as lts
-use Rattle.script.proofs.ends.at_client.Reads as at-client-reads
-use Rattle.script.proofs.ends.sent.Reads as sent-reads
+use Rattle.bench.proofs.ends.turn.Statement.{statement}
+use Rattle.bench.proofs.ends.turn.Tie as tie
+use Rattle.bench.proofs.ends.turn.Reads as reads
+use Rattle.bench.proofs.ends.turn.Lts as lts
+use Rattle.bench.proofs.ends.at_client.Reads as at-client-reads
+use Rattle.bench.proofs.ends.sent.Reads as sent-reads
 use Rattle.server.proofs.taking.take_lent.Reads as take-lent-reads
 
 -- src/ends.rt:106:81

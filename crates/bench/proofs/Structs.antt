@@ -29,19 +29,19 @@ use Rattle.server.specs.declared.Answer as serverAnswer
 use Rattle.server.specs.View as server
 use Rattle.server.specs.Calls.{answered, refused, sends, tells, takes}
 use Rattle.server.specs.Sound.{soundStruct}
-use Rattle.script.proofs.Lists.{getD-default, pad-set, set-map}
+use Rattle.bench.proofs.Lists.{getD-default, pad-set, set-map}
 use Rattle.server.proofs.Stored.{view-store, store-sound}
 use Rattle.client.proofs.Stored.{client-view, client-stored}
-use Rattle.script.specs.declared.ends.Ends.{Ends}
+use Rattle.bench.specs.declared.ends.Ends.{Ends}
 use Rattle.text.specs.declared.parse.Order.{Order}
 use Rattle.text.specs.Order.{coded}
 use Rattle.text.specs.Command.{Command, Bad, Insert, Delete, Up, Down, Ack, Told}
-use Rattle.script.specs.Bench.{Bench, Step, clientOf, onClient, onServer, delivered, room, step}
+use Rattle.bench.specs.Bench.{Bench, Step, clientOf, onClient, onServer, delivered, room, step}
 use Rattle.endpoint.specs.declared.Sent as endpoint
 use Rattle.endpoint.specs.Sending.{answered as answeredAs}
-use Rattle.script.specs.Ends.{Stepped, viewEnds, storeEnds, Whole, sentBy, changedBy, unsent as unsentBy, atServer, atClient, delivered as deliveredTo, ordered}
+use Rattle.bench.specs.Ends.{Stepped, viewEnds, storeEnds, Whole, sentBy, changedBy, unsent as unsentBy, atServer, atClient, delivered as deliveredTo, ordered}
 use Rattle.text.proofs.Sinks.{both}
-use Rattle.script.proofs.Benches.{every-at}
+use Rattle.bench.proofs.Benches.{every-at}
 
 -- the line of a command is one of 1 to n
 abbrev pub Within : ℕ → Command → Type 0

@@ -17,7 +17,7 @@ ghost use Rattle.client.specs.Store as client;
 ghost use Rattle.client.specs.Answers.{answerOf};
 ghost use Rattle.server.specs.View.{serverOf};
 ghost use Rattle.server.specs.Sound.{Sizes};
-ghost use Rattle.script.specs.Ends.{sentBy, changedBy, ordered, steppedOf};
+ghost use Rattle.bench.specs.Ends.{sentBy, changedBy, ordered, steppedOf};
 
 // The server, and the clients of lines 1 to n in the first n places.
 pub struct Ends {

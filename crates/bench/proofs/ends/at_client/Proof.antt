@@ -1,10 +1,10 @@
 use borrow.Author.Tests.{eq-eqb, ne-eqb}
-use Rattle.script.specs.Ends.{changedBy}
+use Rattle.bench.specs.Ends.{changedBy}
 use borrow.Author.Needs.{needs}
-use Rattle.script.proofs.ends.at_client.Statement.{statement}
-use Rattle.script.proofs.ends.at_client.Tie as tie
-use Rattle.script.proofs.ends.at_client.Reads as reads
-use Rattle.script.proofs.ends.at_client.Lts as lts
+use Rattle.bench.proofs.ends.at_client.Statement.{statement}
+use Rattle.bench.proofs.ends.at_client.Tie as tie
+use Rattle.bench.proofs.ends.at_client.Reads as reads
+use Rattle.bench.proofs.ends.at_client.Lts as lts
 use Rattle.client.proofs.editing.edit_lent.Reads as edit-lent-reads
 use Rattle.client.proofs.taking.take_lent.Reads as take-lent-reads
 

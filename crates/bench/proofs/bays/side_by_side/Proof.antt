@@ -5,13 +5,13 @@ use mathlib.Core.List.{[]}
 use borrow.Author.Needs.{needs}
 use lib.ListN.{length, getD, length-replicate}
 use Rattle.client.specs.declared.Client.{Client}
-use Rattle.script.proofs.Beside.{lent-alike, put-copied, Filling, filling-start, filling-turn, filling-end}
-use Rattle.script.proofs.bays.side_by_side.Statement.{statement}
-use Rattle.script.proofs.bays.side_by_side.Tie as tie
-use Rattle.script.proofs.bays.side_by_side.Reads as reads
-use Rattle.script.proofs.bays.side_by_side.Lts as lts
+use Rattle.bench.proofs.Beside.{lent-alike, put-copied, Filling, filling-start, filling-turn, filling-end}
+use Rattle.bench.proofs.bays.side_by_side.Statement.{statement}
+use Rattle.bench.proofs.bays.side_by_side.Tie as tie
+use Rattle.bench.proofs.bays.side_by_side.Reads as reads
+use Rattle.bench.proofs.bays.side_by_side.Lts as lts
 use Rattle.client.proofs.Client.counts.Reads as counts-reads
-use Rattle.script.proofs.bays.put.Reads as put-reads
+use Rattle.bench.proofs.bays.put.Reads as put-reads
 
 abbrev noClient : Client
 noClient = record { n = 0; line = 0; made = 0; taken = 0; acked = 0; inserts = 0; len = 0; items = []; «pending_places» = []; «pending_items» = [] }

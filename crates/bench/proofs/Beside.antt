@@ -1,7 +1,7 @@
--- The clients side by side: filling their arrays, and showing their lists.
-use Prim.Native.Nat.{ℕ, zero, suc, _+_, _-_, _*_, _≤_, _<_}
+-- The clients side by side: filling their arrays.
+use Prim.Native.Nat.{ℕ, _+_, _-_, _*_, _≤_, _<_}
 use mathlib.Core.Path.{_≡_, refl, sym, ap, ap₂, _∙_, subst}
-use mathlib.Core.List.{List, [], _∷_, _++_, map}
+use mathlib.Core.List.{List, _++_}
 use native.Mathlib.Omega.{arith}
 use native.Mathlib.Numerals.{add-one}
 use lib.ListN.{length, getD, take, drop, set, length-set, drop-of-length-le}
@@ -10,44 +10,8 @@ use Rattle.model.specs.Limits.{maxItems, maxPending, maxLines}
 use Rattle.client.specs.declared.Client.{Client}
 use Rattle.client.specs.declared.Counts.{Counts}
 use Rattle.client.specs.Store as client
-use Rattle.text.specs.Sink.{Sink, sink, puts}
-use Rattle.text.specs.Lines.{clientList}
-use Rattle.text.proofs.Sinks.{puts-append}
-use Rattle.script.specs.Flat.{part, endsFrom}
-use Rattle.script.specs.Bays.{noCounts, clientsIn, Laid, listsFrom}
-use Rattle.script.specs.Output.{clientLists}
-use Rattle.script.proofs.Flat.{Put, front-is, lent-is, part-length, put-lent, ends-length, ends-put}
-
--- ---- the lists
-
-module _ (ks : List Counts) (items : List ℕ) where
-  -- the lists are those of the clients that stand there
-  pub lists-are : (places pending : List ℕ) (i count : ℕ)
-      → listsFrom ks items i count ≡ clientLists (suc i) (map client.view (endsFrom client.clientOf noCounts maxItems maxPending ks items places pending i count))
-  unfolding listsFrom clientLists endsFrom
-  lists-are places pending i zero = refl
-  lists-are places pending i (suc count) =
-      ap (λ (l : List ℕ). clientList (suc i) (take (getD ks i noCounts .len) (part maxItems i items)) ++ l) (lists-are places pending (suc i) count)
-
-  pub lists-none : (i count : ℕ) (z : Sink) → count ≡ 0 → puts (listsFrom ks items i count) z ≡ z
-  unfolding listsFrom puts
-  lists-none i count z e = ap (λ (k : ℕ). puts (listsFrom ks items i k) z) e
-
-  -- one list more
-  module _ (i n : ℕ) (small : i < n) (within : getD ks i noCounts .len ≤ maxItems) (lo hi : ℕ) (from : lo ≡ maxItems * i) (to : hi ≡ lo + getD ks i noCounts .len) where
-    shown : take (hi - lo) (drop lo items) ≡ take (getD ks i noCounts .len) (part maxItems i items)
-    shown = front-is maxItems i items lo (lo + maxItems) from refl (getD ks i noCounts .len) hi to within
-
-    pub lists-next : (z z′ y : Sink) → z′ ≡ puts (clientList (i + 1) (take (hi - lo) (drop lo items))) z
-        → puts (listsFrom ks items i (n - i)) z ≡ y → puts (listsFrom ks items (i + 1) (n - (i + 1))) z′ ≡ y
-    unfolding listsFrom
-    lists-next z z′ y p h =
-        let left : n - i ≡ suc (n - (i + 1)) = omega arith in
-        let next : i + 1 ≡ suc i = omega arith in
-        ap (puts (listsFrom ks items (i + 1) (n - (i + 1)))) p
-        ∙ ap₂ (λ (j : ℕ) (l : List ℕ). puts (listsFrom ks items j (n - (i + 1))) (puts (clientList j l) z)) next shown
-        ∙ sym (puts-append (clientList (suc i) (take (getD ks i noCounts .len) (part maxItems i items))) (listsFrom ks items (suc i) (n - (i + 1))) z)
-        ∙ ap (λ (k : ℕ). puts (listsFrom ks items i k) z) (sym left) ∙ h
+use Rattle.bench.specs.Bays.{noCounts, clientsIn, Laid}
+use Rattle.bench.proofs.Flat.{Put, lent-is, part-length, put-lent, ends-length, ends-put}
 
 -- ---- filling the arrays: those of the first j clients stand there
 

@@ -6,10 +6,10 @@ use denote.Ref.{now}
 use native.Mathlib.Omega.{arith}
 use Prim.Native.Nat.{_-_, _≤_}
 use borrow.Author.Needs.{needs}
-use Rattle.script.proofs.bays.put.Statement.{statement}
-use Rattle.script.proofs.bays.put.Tie as tie
-use Rattle.script.proofs.bays.put.Reads as reads
-use Rattle.script.proofs.bays.put.Lts as lts
+use Rattle.bench.proofs.bays.put.Statement.{statement}
+use Rattle.bench.proofs.bays.put.Tie as tie
+use Rattle.bench.proofs.bays.put.Reads as reads
+use Rattle.bench.proofs.bays.put.Lts as lts
 
 abbrev Inv-loop : tie.InvT-loop
 Inv-loop words₀ part i₀ i-end words i = (i ≤ i-end) × (length words ≡ length words₀) × (words ≡ swept part words₀ i)

@@ -1,10 +1,10 @@
 use borrow.Author.Tests.{eq-eqb, ne-eqb}
-use Rattle.script.specs.Ends.{sentBy}
+use Rattle.bench.specs.Ends.{sentBy}
 use borrow.Author.Needs.{needs}
-use Rattle.script.proofs.ends.sent.Statement.{statement}
-use Rattle.script.proofs.ends.sent.Tie as tie
-use Rattle.script.proofs.ends.sent.Reads as reads
-use Rattle.script.proofs.ends.sent.Lts as lts
+use Rattle.bench.proofs.ends.sent.Statement.{statement}
+use Rattle.bench.proofs.ends.sent.Tie as tie
+use Rattle.bench.proofs.ends.sent.Reads as reads
+use Rattle.bench.proofs.ends.sent.Lts as lts
 use Rattle.client.proofs.sending.send_lent.Reads as sending-send-lent-reads
 use Rattle.client.proofs.sending.tell_lent.Reads as sending-tell-lent-reads
 use Rattle.server.proofs.sending.send_lent.Reads as sending-send-lent-reads′

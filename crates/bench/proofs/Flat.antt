@@ -10,8 +10,8 @@ use borrow.Author.Tests.{eqb-true, eqb-false, ltb-true, ltb-false}
 use lib.Dec.{eqb, ltb}
 use lib.ListN.{length, getD, take, drop, set, length-append, length-take, length-drop, length-set, take-append-drop}
 use lib.Seq.{take-at, drop-at, take-take, take-append-le, drop-append-le, drop-drop, length-take-le, ext-getD, getD-set-same, getD-set-other}
-use Rattle.script.specs.Flat.{part, Makes, endAt, endsFrom}
-use Rattle.script.proofs.Lists.{getD-default}
+use Rattle.bench.specs.Flat.{part, Makes, endAt, endsFrom}
+use Rattle.bench.proofs.Lists.{getD-default}
 
 -- ---- one part
 

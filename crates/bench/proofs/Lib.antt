@@ -1,0 +1,5 @@
+pub mod Lists
+pub mod Flat
+pub mod Beside
+pub mod Benches
+pub mod Structs

@@ -1,0 +1,4 @@
+pub mod Bench
+pub mod Ends
+pub mod Flat
+pub mod Bays
