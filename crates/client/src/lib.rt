@@ -4,7 +4,7 @@
 ghost use mathlib.Core.Path.{_≡_};
 ghost use mathlib.Core.Bool.{true};
 ghost use Prim.Native.Nat.{_-_};
-ghost use Rattle.client.specs.Store.{fresh, countTests, countsOf, counts, clientOf, sound, Sound, Sizes};
+ghost use Rattle.client.specs.Store.{fresh, countTests, counts, clientOf, sound, Sound, Sizes};
 ghost use Rattle.client.specs.Answers.{opened, refusedCounts, answerOf};
 ghost use Rattle.model.specs.Questions.{every};
 
@@ -111,28 +111,16 @@ fn counts_sound(n: u8, line: u8, made: u16, taken: u16, acked: u16, inserts: u16
     lines & own & counts & few & (len as usize <= Client::ITEMS)
 }
 
-// Question 2. Every test is made whatever the others find. The numbers come one by one, since four functions call this one, and a struct
-// of them would go through memory.
-fn is_sound<'a>(
-    n: u8,
-    line: u8,
-    made: u16,
-    taken: u16,
-    acked: u16,
-    inserts: u16,
-    len: u16,
-    items: &'a [u32],
-    places: &'a [u32],
-    pending: &'a [u32],
-) -> bool
+// Question 2. Every test is made whatever the others find.
+fn is_sound<'a>(k: Counts, items: &'a [u32], places: &'a [u32], pending: &'a [u32]) -> bool
     requires { ⌜ Sizes (now items) (now places) (now pending) ⌝ }
-    ensures answer { λ r. ⌜ r ≡ sound (clientOf (countsOf n line made taken acked inserts len) (now (items .entry)) (now (places .entry)) (now (pending .entry))) ⌝ }
-    ensures facts { λ r. ⌜ (r ≡ true → Sound (clientOf (countsOf n line made taken acked inserts len) (now (items .entry)) (now (places .entry)) (now (pending .entry)))) ⌝ }
+    ensures answer { λ r. ⌜ r ≡ sound (clientOf k (now (items .entry)) (now (places .entry)) (now (pending .entry))) ⌝ }
+    ensures facts { λ r. ⌜ (r ≡ true → Sound (clientOf k (now (items .entry)) (now (places .entry)) (now (pending .entry)))) ⌝ }
 {
-    let count = less(made, acked) as usize;
-    counts_sound(n, line, made, taken, acked, inserts, len)
-        & endpoint::zero_from(items, len as usize)
-        & pending::sound(places, pending, 0, count, n, line, true)
+    let count = less(k.made, k.acked) as usize;
+    counts_sound(k.n, k.line, k.made, k.taken, k.acked, k.inserts, k.len)
+        & endpoint::zero_from(items, k.len as usize)
+        & pending::sound(places, pending, 0, count, k.n, k.line, true)
 }
 
 impl Client {

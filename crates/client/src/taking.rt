@@ -202,7 +202,7 @@ fn drop_items(items: &mut [u32], made: u16, acked: u16, seen: u16)
 
 // Takes one message, in place.
 pub fn take_lent(
-    k: Counts,
+    mut k: Counts,
     items: &mut [u32],
     places: &mut [u32],
     pending: &mut [u32],
@@ -211,18 +211,7 @@ pub fn take_lent(
     requires { ⌜ Sizes (now items) (now places) (now pending) ⌝ }
     ensures { λ r. ⌜ answerOf r (now (items .exit)) (now (places .exit)) (now (pending .exit)) ≡ taken (clientOf k (now (items .entry)) (now (places .entry)) (now (pending .entry))) (now (bytes .entry)) ⌝ }
 {
-    if crate::is_sound(
-        k.n,
-        k.line,
-        k.made,
-        k.taken,
-        k.acked,
-        k.inserts,
-        k.len,
-        items,
-        places,
-        pending,
-    ) {
+    if crate::is_sound(k, items, places, pending) {
         let Read::Message(m) = wire::parse(bytes) else {
             return crate::refused(3, k);
         };
@@ -236,21 +225,15 @@ pub fn take_lent(
             };
         }
         let e = d.edit;
-        let len = ot::apply(items, k.len, e);
         put(places, &later);
         drop_items(pending, k.made, k.acked, d.acked);
+        k.len = ot::apply(items, k.len, e);
+        k.taken = d.taken;
+        k.acked = d.acked;
         return Changed {
             refusal: 0,
             passed: d.passed,
-            counts: Counts {
-                n: k.n,
-                line: k.line,
-                made: k.made,
-                taken: d.taken,
-                acked: d.acked,
-                inserts: k.inserts,
-                len,
-            },
+            counts: k,
         };
     }
     crate::refused(2, k)
