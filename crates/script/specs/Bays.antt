@@ -5,7 +5,7 @@ use mathlib.Core.List.{List, [], _++_}
 use lib.ListN.{length, getD, take}
 use Rattle.model.specs.Limits.{maxLines, maxItems, maxPending}
 use Rattle.client.specs.declared.Client.{Client}
-use Rattle.client.specs.declared.Counts.{Counts}
+use Rattle.line.specs.declared.Counts.{Counts}
 use Rattle.client.specs.Store.{countsOf, clientOf}
 use Rattle.text.specs.Lines.{clientList}
 use Rattle.script.specs.declared.bays.Bays.{Bays}

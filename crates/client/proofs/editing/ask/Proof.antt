@@ -5,7 +5,7 @@ use mathlib.Core.Path.{_≡_, ap, sym, _∙_}
 use Rattle.model.specs.Questions.{asks}
 use Rattle.client.specs.declared.Client.{Client}
 use Rattle.client.specs.Store.{clientOf, sound, Sound}
-use Rattle.client.specs.Answers.{editAsked}
+use Rattle.line.specs.Asking.{editAsked}
 use Rattle.client.proofs.Edits.{facts}
 use Rattle.client.proofs.editing.ask.Statement.{statement}
 use Rattle.client.proofs.editing.ask.Tie as tie

@@ -5,10 +5,11 @@ use Prim.Native.Nat.{_<_}
 use Rattle.ot.specs.declared.Edit.{Edit}
 use Rattle.model.specs.Limits.{maxPending}
 use Rattle.model.specs.Questions.{asks}
+use Rattle.line.specs.Asking.{editAsked}
 use Rattle.client.specs.declared.Client.{Client}
 use Rattle.client.specs.declared.Changed.{Changed}
 use Rattle.client.specs.Store.{clientOf, pendingCount, Sound}
-use Rattle.client.specs.Answers.{answerOf, editAsked, edited}
+use Rattle.client.specs.Answers.{answerOf, edited}
 use Rattle.client.proofs.Edits.{facts, edit-allowed, edit-not-allowed, edit-pending, edit-room, edit-made, edit-inserts, edited-is}
 use Rattle.client.proofs.editing.edit_lent.Statement.{statement}
 use Rattle.client.proofs.editing.edit_lent.Tie as tie

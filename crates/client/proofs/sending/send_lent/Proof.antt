@@ -8,7 +8,7 @@ use Rattle.model.specs.Questions.{asks}
 use Rattle.endpoint.specs.Sending.{finished}
 use Rattle.client.specs.declared.Client.{Client}
 use Rattle.client.specs.Store.{clientOf, view, sound}
-use Rattle.client.specs.Answers.{sendQuestions}
+use Rattle.line.specs.Asking.{sendQuestions}
 use Rattle.client.proofs.Messages.{unsound-sending, sent-edit}
 use Rattle.client.proofs.sending.send_lent.Statement.{statement}
 use Rattle.client.proofs.sending.send_lent.Tie as tie

@@ -13,7 +13,7 @@ use Rattle.model.specs.Limits.{maxPending}
 use Rattle.client.specs.declared.Client.{Client}
 use Rattle.client.specs.declared.Answer.{Answer}
 use Rattle.client.specs.declared.Changed.{Changed}
-use Rattle.client.specs.declared.taking.Decision.{Decision}
+use Rattle.line.specs.declared.taking.Decision.{Decision}
 use Rattle.client.specs.Store as store
 use Rattle.client.specs.Store.{clientOf, view, Sound}
 use Rattle.client.specs.Answers.{answerOf}
