@@ -8,7 +8,7 @@ use lib.ListN.{length, getD, take, drop, set, length-set, drop-of-length-le}
 use Rattle.ot.proofs.Sweep.{swept, swept-store, swept-to}
 use Rattle.model.specs.Limits.{maxItems, maxPending, maxLines}
 use Rattle.client.specs.declared.Client.{Client}
-use Rattle.client.specs.declared.Counts.{Counts}
+use Rattle.line.specs.declared.Counts.{Counts}
 use Rattle.client.specs.Store as client
 use Rattle.bench.specs.Bays.{noCounts, clientsIn, Laid}
 use Rattle.bench.proofs.Flat.{Put, lent-is, part-length, put-lent, ends-length, ends-put}

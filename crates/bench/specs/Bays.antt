@@ -5,7 +5,7 @@ use mathlib.Core.List.{List}
 use lib.ListN.{length}
 use Rattle.model.specs.Limits.{maxLines, maxItems, maxPending}
 use Rattle.client.specs.declared.Client.{Client}
-use Rattle.client.specs.declared.Counts.{Counts}
+use Rattle.line.specs.declared.Counts.{Counts}
 use Rattle.client.specs.Store.{countsOf, clientOf}
 use Rattle.bench.specs.declared.bays.Bays.{Bays}
 use Rattle.bench.specs.Flat.{endsFrom}

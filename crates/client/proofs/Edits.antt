@@ -8,7 +8,6 @@ use lib.Dec.{leb, ltb}
 use lib.ListN.{length, set}
 use borrow.Author.Tests.{eqb-false, ltb-true, leb-true}
 use Rattle.ot.specs.declared.Edit.{Edit}
-use Rattle.ot.specs.declared.Edit.the-variants.{Nothing, Delete, Insert}
 use Rattle.ot.specs.Edit.{applied, fits}
 use Rattle.ot.specs.Items.{Room, Edited}
 use Rattle.model.specs.Limits.{maxInserts, maxEdits, maxPending, maxItems}
@@ -22,9 +21,10 @@ use Rattle.pending.specs.Slots.{placeOf, itemOf, filled}
 use Rattle.pending.proofs.Slots.{edits-length, filled-push}
 use Rattle.endpoint.specs.Items.{stored, roomy}
 use Rattle.endpoint.proofs.Room.{roomy-model, roomy-room, room-stored, room-length}
+use Rattle.line.specs.Asking.{editAsked}
 use Rattle.client.specs.declared.Client.{Client}
 use Rattle.client.specs.Store.{pendingCount, view, store, sound, Sound}
-use Rattle.client.specs.Answers.{refusedWith, doneWith, guarded, editAsked, edited}
+use Rattle.client.specs.Answers.{refusedWith, doneWith, guarded, edited}
 use Rattle.client.proofs.Answers.{unsound, refused, done}
 
 -- the counts with other values
@@ -151,8 +151,3 @@ module _ (c : Client) (e : Edit) (r : ℕ) (f : sound c ≡ true → Sound c) (e
       go : (b : Bool) → sound c ≡ b → refusedWith r c ≡ edited c e
       go true t = edit-refused c (f t) e r (answer-is true t) n
       go false t = ap (λ (k : ℕ). refusedWith k c) (answer-is false t) ∙ unsound c (editClient (view c) e) t
-
-pub inserts-few : (e : Edit) → insertsOf e ≤ 1
-inserts-few Nothing = omega arith
-inserts-few (Delete p) = omega arith
-inserts-few (Insert p x r) = omega arith

@@ -20,9 +20,10 @@ use Rattle.pending.proofs.Slot.{zero-slot}
 use Rattle.pending.proofs.Slots.{edits-length, edits-at, filled-at}
 use Rattle.endpoint.specs.Sending.{finished}
 use Rattle.endpoint.proofs.Line.{asks-append}
+use Rattle.line.specs.Asking.{lineQuestion, sendQuestions, messageAt}
 use Rattle.client.specs.declared.Client.{Client}
 use Rattle.client.specs.Store.{pendingCount, view, sound, Sound}
-use Rattle.client.specs.Answers.{guardedSending, lineQuestion, sendQuestions, messageAt, sentEdit, sentAck}
+use Rattle.client.specs.Answers.{guardedSending, sentEdit, sentAck}
 
 pub unsound-sending : (c : Client) (a : model.Sent) (lent : List ℕ) → sound c ≡ false
     → record { refusal = 2; written = 0; buffer = lent } ≡ guardedSending c a lent
@@ -74,9 +75,3 @@ module _ (c : Client) (s : Sound c) (line : ℕ) (lent : List ℕ) where
       ap (λ (n : ℕ). model.sent n bytes lent) (sym (asks-append asked fit (eqb-false 4 0 refl, tt)))
       ∙ ap (λ (b : Bool). model.sent (model.asks (model.ask 2 b ∷ asked ++ fit)) bytes lent) (sym (s .model))
       ∙ ap (λ (b : Bool). cond b (tellClient (view c) line lent) (record { refusal = 2; written = 0; buffer = lent })) (sym (s .yes))
-
-pub message-of : (own taken acked : ℕ) (ps xs : List ℕ) (k d i : ℕ) (e : Edit) (m : Message) → d ≡ k - acked → i ≡ d - 1 → e ≡ editAt ps xs i
-    → m ≡ messageOf (record { line = own; direction = 0; number = k; seen = taken }) e → m ≡ messageAt own taken acked ps xs k
-message-of own taken acked ps xs k d i e m ed ei ee em =
-    let place : i ≡ k - (acked + 1) = omega arith in
-    em ∙ ap (messageOf (record { line = own; direction = 0; number = k; seen = taken })) (ee ∙ ap (editAt ps xs) place)

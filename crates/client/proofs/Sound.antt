@@ -18,8 +18,9 @@ use Rattle.pending.proofs.Tests.{sound-kept}
 use Rattle.endpoint.specs.Items.{stored, allZero}
 use Rattle.endpoint.proofs.Bools.{bool-ext}
 use Rattle.endpoint.proofs.Items.{stored-of}
+use Rattle.line.specs.Numbers.{countTests}
 use Rattle.client.specs.declared.Client.{Client}
-use Rattle.client.specs.Store.{pendingCount, view, store, soundTests, countTests, sound, Sound, Sizes}
+use Rattle.client.specs.Store.{pendingCount, view, store, soundTests, sound, Sound, Sizes}
 
 -- the struct with other lists
 abbrev pub holding : Client → ℕ → List ℕ → List ℕ → List ℕ → Client

@@ -1,22 +1,16 @@
 -- What each call of a client answers: the model's answer in structs. An end that is not sound is refused by question 2.
-use Prim.Native.Nat.{ℕ, _+_, _-_}
+use Prim.Native.Nat.{ℕ}
 use mathlib.Core.Bool.{cond}
-use mathlib.Core.List.{List, [], _∷_}
-use lib.Dec.{leb, ltb, eqb}
+use mathlib.Core.List.{List}
+use lib.Dec.{eqb}
 use Rattle.ot.specs.declared.Edit.{Edit}
 use Rattle.ot.specs.declared.Edit.the-variants.{Delete, Insert}
-use Rattle.wire.specs.declared.Message.{Message}
-use Rattle.wire.specs.Message.{messageOf}
-use Rattle.pending.specs.Slots.{editAt}
-use Rattle.model.specs.Limits.{maxInserts, maxEdits, maxPending}
-use Rattle.model.specs.Cross.{insertsOf}
 use Rattle.model.specs.Questions as model
 use Rattle.model.specs.Client as client
-use Rattle.endpoint.specs.Items.{roomy}
+use Rattle.line.specs.declared.Counts.{Counts}
 use Rattle.client.specs.declared.Client.{Client}
 use Rattle.client.specs.declared.Answer.{Answer}
 use Rattle.client.specs.declared.Changed.{Changed}
-use Rattle.client.specs.declared.Counts.{Counts}
 use Rattle.client.specs.declared.editing.Change.{Change}
 use Rattle.client.specs.declared.editing.Change.the-variants as change
 use Rattle.client.specs.Store.{clientOf, view, store, sound}
@@ -75,26 +69,3 @@ sentEdit c line k lent = guardedSending c (client.sendClient (view c) line k len
 
 abbrev pub sentAck : Client → ℕ → List ℕ → model.Sent
 sentAck c line lent = guardedSending c (client.tellClient (view c) line lent) lent
-
--- ---- the questions, by the counts
-
--- question 4 of a sending, and 4 and 13
-abbrev pub lineQuestion : ℕ → ℕ → List model.Question
-lineQuestion own line = model.ask 4 (eqb line own) ∷ []
-
-abbrev pub sendQuestions : ℕ → ℕ → ℕ → ℕ → ℕ → List model.Question
-sendQuestions own made acked line k = model.ask 4 (eqb line own) ∷ model.ask 13 (model.between (acked + 1) made k) ∷ []
-
--- the message of edit number k; every slot that holds no pending edit holds nothing
-abbrev pub messageAt : ℕ → ℕ → ℕ → List ℕ → List ℕ → ℕ → Message
-messageAt own taken acked places items k =
-    messageOf (record { line = own; direction = 0; number = k; seen = taken }) (editAt places items (k - (acked + 1)))
-
--- questions 9 to 12 of an editing
-abbrev pub editAsked : ℕ → ℕ → ℕ → ℕ → Edit → List model.Question
-editAsked made acked inserts len e =
-    model.ask 9 (roomy e len)
-    ∷ model.ask 10 (leb (inserts + insertsOf e) maxInserts)
-    ∷ model.ask 11 (ltb made maxEdits)
-    ∷ model.ask 12 (ltb (made - acked) maxPending)
-    ∷ []

@@ -5,19 +5,16 @@ use mathlib.Core.Bool.{Bool, true}
 use mathlib.Core.List.{List, [], _∷_}
 use lib.Dec.{leb, eqb}
 use lib.ListN.{length, take, drop}
-use Rattle.model.specs.Limits.{maxLines, maxInserts, maxEdits, maxOthers, maxPending, maxItems}
-use Rattle.model.specs.Questions.{every, between}
+use Rattle.model.specs.Limits.{maxPending, maxItems}
+use Rattle.model.specs.Questions.{every}
 use Rattle.model.specs.Client as model
 use Rattle.pending.specs.Slots.{placeOf, itemOf, editsFrom, filled, soundSlots, Kept, Whole}
 use Rattle.endpoint.specs.Items.{stored, allZero}
 use Rattle.client.specs.declared.Client.{Client}
-use Rattle.client.specs.declared.Counts.{Counts}
+use Rattle.line.specs.declared.Counts.{Counts}
+pub use Rattle.line.specs.Numbers.{countsOf}
 
 -- the numbers of a client, and a client of its parts
-abbrev pub countsOf : ℕ → ℕ → ℕ → ℕ → ℕ → ℕ → ℕ → Counts
-countsOf n line made taken acked inserts len =
-    record { n = n; line = line; made = made; taken = taken; acked = acked; inserts = inserts; len = len }
-
 abbrev pub counts : Client → Counts
 counts c = countsOf (c .n) (c .line) (c .made) (c .taken) (c .acked) (c .inserts) (c .len)
 
@@ -93,19 +90,6 @@ soundTests c =
     ∷ leb (c .len) maxItems
     ∷ allZero (drop (c .len) (c .items))
     ∷ soundSlots (eqb (c .line)) 0 (pendingCount c) (c .«pending_places») (c .«pending_items»)
-    ∷ []
-
--- the part of it that the counts alone decide
-abbrev pub countTests : ℕ → ℕ → ℕ → ℕ → ℕ → ℕ → ℕ → List Bool
-countTests n line made taken acked inserts len =
-    between 1 maxLines n
-    ∷ between 1 n line
-    ∷ leb made maxEdits
-    ∷ leb taken maxOthers
-    ∷ leb acked made
-    ∷ leb inserts maxInserts
-    ∷ leb inserts made
-    ∷ leb len maxItems
     ∷ []
 
 unfoldable pub sound : Client → Bool

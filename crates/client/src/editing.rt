@@ -1,15 +1,14 @@
 // Editing: an insert or a delete made here is applied, counted and kept. Nothing is sent.
 ghost use mathlib.Core.Path.{_≡_};
 ghost use mathlib.Core.Bool.{true, cond};
-ghost use Prim.Native.Nat.{_≤_};
-ghost use Rattle.model.specs.Limits.{maxInserts};
 ghost use Rattle.model.specs.Questions.{asks};
+ghost use Rattle.line.specs.Asking.{editAsked};
 ghost use Rattle.client.specs.Store.{clientOf, sound, Sound, Sizes};
-ghost use Rattle.client.specs.Answers.{editAsked, madeAs, answerOf, changed, inserted, deleted};
+ghost use Rattle.client.specs.Answers.{madeAs, answerOf, changed, inserted, deleted};
 use crate::Answer;
 use crate::Changed;
 use crate::Client;
-use crate::Counts;
+use line::Counts;
 use ot::Edit;
 
 // What is asked of an editing: a delete at a position, or an insert of an item there.
@@ -18,45 +17,14 @@ pub enum Change {
     Insert(u16, u32),
 }
 
-// Questions 9 to 12.
-fn ask_editing(made: u16, acked: u16, inserts: u16, len: u16, e: Edit) -> u8
-    requires { ⌜ (inserts ≤ maxInserts) × (acked ≤ made) ⌝ }
-    ensures { λ r. ⌜ r ≡ asks (editAsked made acked inserts len e) ⌝ }
-{
-    if endpoint::has_room(e, len) {
-        if Client::INSERTS < inserts + endpoint::inserts_of(e) {
-            return 10;
-        }
-        if Client::EDITS <= made {
-            return 11;
-        }
-        if Client::PENDING <= (made - acked) as usize {
-            return 12;
-        }
-        return 0;
-    }
-    9
-}
-
 // Questions 2 and 9 to 12.
 fn ask<'a>(k: Counts, items: &'a [u32], places: &'a [u32], pending: &'a [u32], e: Edit) -> u8
     requires { ⌜ Sizes (now items) (now places) (now pending) ⌝ }
     ensures answer { λ r. ⌜ r ≡ cond (sound (clientOf k (now (items .entry)) (now (places .entry)) (now (pending .entry)))) (asks (editAsked (k .made) (k .acked) (k .inserts) (k .len) e)) 2 ⌝ }
     ensures facts { λ r. ⌜ (sound (clientOf k (now (items .entry)) (now (places .entry)) (now (pending .entry))) ≡ true → Sound (clientOf k (now (items .entry)) (now (places .entry)) (now (pending .entry)))) ⌝ }
 {
-    if crate::is_sound(
-        k.n,
-        k.line,
-        k.made,
-        k.taken,
-        k.acked,
-        k.inserts,
-        k.len,
-        items,
-        places,
-        pending,
-    ) {
-        return ask_editing(k.made, k.acked, k.inserts, k.len, e);
+    if crate::is_sound(k, items, places, pending) {
+        return line::editing::ask_editing(k.made, k.acked, k.inserts, k.len, e);
     }
     2
 }
@@ -73,7 +41,7 @@ fn made_as(line: u8, change: Change) -> Edit
 
 // The edit is applied, counted and kept, in place.
 pub fn edit_lent(
-    k: Counts,
+    mut k: Counts,
     items: &mut [u32],
     places: &mut [u32],
     pending: &mut [u32],
@@ -90,19 +58,13 @@ pub fn edit_lent(
     let count = (k.made - k.acked) as usize;
     places[count] = pending::place_of(e);
     pending[count] = pending::item_of(e);
-    let len = ot::apply(items, k.len, e);
+    k.len = ot::apply(items, k.len, e);
+    k.made = k.made + 1;
+    k.inserts = k.inserts + endpoint::inserts_of(e);
     Changed {
         refusal: 0,
         passed: 0,
-        counts: Counts {
-            n: k.n,
-            line: k.line,
-            made: k.made + 1,
-            taken: k.taken,
-            acked: k.acked,
-            inserts: k.inserts + endpoint::inserts_of(e),
-            len,
-        },
+        counts: k,
     }
 }
 

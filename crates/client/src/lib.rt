@@ -3,10 +3,9 @@
 // client by value and hand it back, are thin: they lend its arrays.
 ghost use mathlib.Core.Path.{_≡_};
 ghost use mathlib.Core.Bool.{true};
-ghost use Prim.Native.Nat.{_-_};
-ghost use Rattle.client.specs.Store.{fresh, countTests, countsOf, counts, clientOf, sound, Sound, Sizes};
+ghost use Rattle.client.specs.Store.{fresh, counts, clientOf, sound, Sound, Sizes};
 ghost use Rattle.client.specs.Answers.{opened, refusedCounts, answerOf};
-ghost use Rattle.model.specs.Questions.{every};
+pub use line::Counts;
 
 pub mod editing;
 pub mod sending;
@@ -29,17 +28,6 @@ pub struct Client {
     // edits acked + 1 to made, in their present form: where each stands, position * 256 + priority, and its item
     pub pending_places: [u32; Client::PENDING],
     pub pending_items: [u32; Client::PENDING],
-}
-
-// The numbers of a client.
-pub struct Counts {
-    pub n: u8,
-    pub line: u8,
-    pub made: u16,
-    pub taken: u16,
-    pub acked: u16,
-    pub inserts: u16,
-    pub len: u16,
 }
 
 // What a call on lent arrays answers: 0 or the number of the question that said no, how many pending edits the edit was transformed
@@ -93,60 +81,30 @@ fn joined(a: Changed, items: [u32; 512], places: [u32; 64], pending: [u32; 64]) 
     }
 }
 
-// a - b, and 0 where b is larger: so that the counts of any end whatever have a difference.
-fn less(a: u16, b: u16) -> u16
-    ensures { λ r. ⌜ r ≡ a - b ⌝ }
-{
-    if b < a { a - b } else { 0 }
-}
-
-// Question 2, what the counts say of it.
-fn counts_sound(n: u8, line: u8, made: u16, taken: u16, acked: u16, inserts: u16, len: u16) -> bool
-    ensures { λ r. ⌜ r ≡ every (countTests n line made taken acked inserts len) ⌝ }
-{
-    let lines = (1 <= n) & (n <= Client::LINES);
-    let own = (1 <= line) & (line <= n);
-    let counts = (made <= Client::EDITS) & (taken <= Client::OTHERS) & (acked <= made);
-    let few = (inserts <= Client::INSERTS) & (inserts <= made);
-    lines & own & counts & few & (len as usize <= Client::ITEMS)
-}
-
-// Question 2. Every test is made whatever the others find. The numbers come one by one, since four functions call this one, and a struct
-// of them would go through memory.
-fn is_sound<'a>(
-    n: u8,
-    line: u8,
-    made: u16,
-    taken: u16,
-    acked: u16,
-    inserts: u16,
-    len: u16,
-    items: &'a [u32],
-    places: &'a [u32],
-    pending: &'a [u32],
-) -> bool
+// Question 2. Every test is made whatever the others find.
+fn is_sound<'a>(k: Counts, items: &'a [u32], places: &'a [u32], pending: &'a [u32]) -> bool
     requires { ⌜ Sizes (now items) (now places) (now pending) ⌝ }
-    ensures answer { λ r. ⌜ r ≡ sound (clientOf (countsOf n line made taken acked inserts len) (now (items .entry)) (now (places .entry)) (now (pending .entry))) ⌝ }
-    ensures facts { λ r. ⌜ (r ≡ true → Sound (clientOf (countsOf n line made taken acked inserts len) (now (items .entry)) (now (places .entry)) (now (pending .entry)))) ⌝ }
+    ensures answer { λ r. ⌜ r ≡ sound (clientOf k (now (items .entry)) (now (places .entry)) (now (pending .entry))) ⌝ }
+    ensures facts { λ r. ⌜ (r ≡ true → Sound (clientOf k (now (items .entry)) (now (places .entry)) (now (pending .entry)))) ⌝ }
 {
-    let count = less(made, acked) as usize;
-    counts_sound(n, line, made, taken, acked, inserts, len)
-        & endpoint::zero_from(items, len as usize)
-        & pending::sound(places, pending, 0, count, n, line, true)
+    let count = line::less(k.made, k.acked) as usize;
+    line::counts_sound(k.n, k.line, k.made, k.taken, k.acked, k.inserts, k.len)
+        & endpoint::zero_from(items, k.len as usize)
+        & pending::sound(places, pending, 0, count, k.n, k.line, true)
 }
 
 impl Client {
-    pub const LINES: u8 = 8;
+    pub const LINES: u8 = Counts::LINES;
 
-    pub const INSERTS: u16 = 48;
+    pub const INSERTS: u16 = Counts::INSERTS;
 
-    pub const EDITS: u16 = 400;
+    pub const EDITS: u16 = Counts::EDITS;
 
-    pub const OTHERS: u16 = 2800;
+    pub const OTHERS: u16 = Counts::OTHERS;
 
-    pub const PENDING: usize = 64;
+    pub const PENDING: usize = Counts::PENDING;
 
-    pub const ITEMS: usize = 512;
+    pub const ITEMS: usize = Counts::ITEMS;
 
     pub const INITIAL: usize = 128;
 

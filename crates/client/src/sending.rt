@@ -1,58 +1,12 @@
 // Sending, which changes no end: a pending edit in its present form, or an acknowledgement of what was taken.
 ghost use mathlib.Core.Path.{_≡_};
-ghost use Rattle.model.specs.Questions.{asks};
 ghost use Rattle.endpoint.specs.Sending.{answered};
 ghost use Rattle.client.specs.Store.{clientOf, Sizes};
-ghost use Rattle.client.specs.Answers.{lineQuestion, sendQuestions, messageAt, sentEdit, sentAck};
+ghost use Rattle.client.specs.Answers.{sentEdit, sentAck};
 use crate::Client;
-use crate::Counts;
 use endpoint::Sent;
-use wire::Header;
+use line::Counts;
 use wire::Message;
-
-// Question 4: is the line its own?
-fn ask_line(own: u8, line: u8) -> u8
-    ensures { λ r. ⌜ r ≡ asks (lineQuestion own line) ⌝ }
-{
-    if line == own { 0 } else { 4 }
-}
-
-// Questions 4 and 13.
-fn ask_sending(own: u8, made: u16, acked: u16, line: u8, k: u16) -> u8
-    ensures { λ r. ⌜ r ≡ asks (sendQuestions own made acked line k) ⌝ }
-{
-    if line != own {
-        return 4;
-    }
-    if k <= acked {
-        return 13;
-    }
-    if made < k {
-        return 13;
-    }
-    0
-}
-
-// The message of edit number k; of one that is not pending it is a message of nothing, which no call sends.
-fn message<'a>(
-    own: u8,
-    taken: u16,
-    acked: u16,
-    places: &'a [u32],
-    items: &'a [u32],
-    k: u16,
-) -> Message
-    ensures { λ r. ⌜ r ≡ messageAt own taken acked (now (places .entry)) (now (items .entry)) k ⌝ }
-{
-    let i = crate::less(crate::less(k, acked), 1) as usize;
-    let h = Header {
-        line: own,
-        direction: 0,
-        number: k,
-        seen: taken,
-    };
-    wire::of_edit(h, pending::at(places, items, i))
-}
 
 // Writes the message of edit number i, unless a question says no.
 pub fn send_lent<'a>(
@@ -67,20 +21,9 @@ pub fn send_lent<'a>(
     requires { ⌜ Sizes (now items) (now places) (now pending) ⌝ }
     ensures { λ r. ⌜ answered r (now (out .exit)) ≡ sentEdit (clientOf k (now (items .entry)) (now (places .entry)) (now (pending .entry))) line i (now (out .entry)) ⌝ }
 {
-    if crate::is_sound(
-        k.n,
-        k.line,
-        k.made,
-        k.taken,
-        k.acked,
-        k.inserts,
-        k.len,
-        items,
-        places,
-        pending,
-    ) {
-        let refusal = ask_sending(k.line, k.made, k.acked, line, i);
-        let m = message(k.line, k.taken, k.acked, places, pending, i);
+    if crate::is_sound(k, items, places, pending) {
+        let refusal = line::sending::ask_sending(k.line, k.made, k.acked, line, i);
+        let m = line::sending::message(k.line, k.taken, k.acked, places, pending, i);
         return endpoint::finish(refusal, m, out);
     }
     Sent {
@@ -101,19 +44,8 @@ pub fn tell_lent<'a>(
     requires { ⌜ Sizes (now items) (now places) (now pending) ⌝ }
     ensures { λ r. ⌜ answered r (now (out .exit)) ≡ sentAck (clientOf k (now (items .entry)) (now (places .entry)) (now (pending .entry))) line (now (out .entry)) ⌝ }
 {
-    if crate::is_sound(
-        k.n,
-        k.line,
-        k.made,
-        k.taken,
-        k.acked,
-        k.inserts,
-        k.len,
-        items,
-        places,
-        pending,
-    ) {
-        let refusal = ask_line(k.line, line);
+    if crate::is_sound(k, items, places, pending) {
+        let refusal = line::sending::ask_line(k.line, line);
         return endpoint::finish(refusal, Message::Ack(k.line, 0, k.taken), out);
     }
     Sent {

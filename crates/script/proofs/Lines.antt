@@ -7,7 +7,7 @@ use lib.ListN.{length, getD, take, drop, set, length-set, length-take}
 use Rattle.model.specs.Limits.{maxLines, maxItems, maxPending}
 use Rattle.lines.specs.declared.Counts as lines
 use Rattle.client.specs.declared.Client.{Client}
-use Rattle.client.specs.declared.Counts.{Counts}
+use Rattle.line.specs.declared.Counts.{Counts}
 use Rattle.client.specs.Store as client
 use Rattle.server.specs.declared.Server.{Server}
 use Rattle.server.specs.View as server

@@ -5,7 +5,7 @@ use mathlib.Core.List.{List, _++_, map}
 use native.Mathlib.Omega.{arith}
 use lib.ListN.{getD, take, drop}
 use Rattle.model.specs.Limits.{maxItems, maxPending}
-use Rattle.client.specs.declared.Counts.{Counts}
+use Rattle.line.specs.declared.Counts.{Counts}
 use Rattle.client.specs.Store as client
 use Rattle.text.specs.Sink.{Sink, puts}
 use Rattle.text.specs.Lines.{clientList}

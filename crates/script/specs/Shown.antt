@@ -4,7 +4,7 @@ use mathlib.Core.Path.{_≡_}
 use mathlib.Core.List.{List, [], _++_}
 use lib.ListN.{length, getD, take}
 use Rattle.model.specs.Limits.{maxItems}
-use Rattle.client.specs.declared.Counts.{Counts}
+use Rattle.line.specs.declared.Counts.{Counts}
 use Rattle.text.specs.Lines.{clientList}
 use Rattle.bench.specs.Flat.{part}
 use Rattle.bench.specs.Bays.{noCounts}

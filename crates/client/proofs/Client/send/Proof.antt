@@ -1,4 +1,4 @@
-use Rattle.client.specs.declared.Counts.{Counts}
+use Rattle.line.specs.declared.Counts.{Counts}
 use Rattle.client.specs.Store.{clientOf}
 use mathlib.Core.Path.{ap, _∙_}
 use denote.Ref.{now}

@@ -1,25 +1,48 @@
-use Rattle.client.proofs.Edits.{facts}
-use Rattle.client.specs.Store.{clientOf}
-use Rattle.client.specs.Answers.{editAsked}
-use Rattle.model.specs.Questions.{asks}
-use mathlib.Core.Bool.{Bool, cond}
-use mathlib.Core.Path.{ap, sym, _∙_}
-use denote.Ref.{now}
 use borrow.Author.Needs.{needs}
+use Prim.Native.Nat.{ℕ}
+use mathlib.Core.Bool.{Bool, true, false, cond}
+use mathlib.Core.Path.{_≡_, ap, sym, _∙_}
+use Rattle.model.specs.Questions.{asks}
+use Rattle.client.specs.declared.Client.{Client}
+use Rattle.client.specs.Store.{clientOf, sound, Sound}
+use Rattle.line.specs.Asking.{editAsked}
+use Rattle.client.proofs.Edits.{facts}
 use Rattle.client.proofs.editing.ask.Statement.{statement}
 use Rattle.client.proofs.editing.ask.Tie as tie
+
+-- the end whose parts these are
+abbrev start : tie.After-is-sound → tie.Start
+start c = c .before .before .before .before
+
+abbrev whole : tie.After-is-sound → Client
+whole c = clientOf (start c .args .k) (start c .args .items .now) (start c .args .places .now) (start c .args .pending .now)
+
+-- the answer, by what question 2 said
+abbrev answer : tie.After-is-sound → Bool → ℕ
+answer c b = cond b (asks (editAsked (whole c .made) (whole c .acked) (whole c .inserts) (whole c .len) (start c .args .e))) 2
+
+-- the test that was made is question 2
+tested : (c : tie.After-is-sound) (b : Bool) → c .is-sound .result ≡ b → answer c b ≡ answer c (sound (whole c))
+tested c b t = ap (answer c) (sym t ∙ c .is-sound .ensures .0)
+
+found : (c : tie.After-is-sound) → sound (whole c) ≡ true → Sound (whole c)
+found c t = c .is-sound .ensures .1 (c .is-sound .ensures .0 ∙ t)
 
 is-sound-requires : tie.Need-is-sound-requires
 is-sound-requires c κs = search needs
 
 ask-editing-requires : tie.Need-ask-editing-requires
-ask-editing-requires c κs = let f = facts (clientOf (c .before .before .before .before .before .args .k) (now (c .before .before .before .before .before .args .items)) (now (c .before .before .before .before .before .args .places)) (now (c .before .before .before .before .before .args .pending))) (c .before .is-sound .ensures .1 (c .if1 .taken)) in (f .inserts, f .acked)
+ask-editing-requires c κs = let f = facts (whole (c .before)) (c .before .is-sound .ensures .1 (c .if1 .taken)) in (f .inserts, f .acked)
 
 returns : tie.Need-returns
-returns c = (c .ask-editing .ensures ∙ ap (λ (b : Bool). cond b (asks (editAsked (c .before .before .before .before .before .before .args .k .made) (c .before .before .before .before .before .before .args .k .acked) (c .before .before .before .before .before .before .args .k .inserts) (c .before .before .before .before .before .before .args .k .len) (c .before .before .before .before .before .before .args .e))) 2) (sym (sym (c .before .before .is-sound .ensures .0) ∙ c .before .if1 .taken)), (λ t. c .before .before .is-sound .ensures .1 (c .before .before .is-sound .ensures .0 ∙ t)))
+returns c =
+    let a = c .before .before in
+    (c .ask-editing .ensures ∙ tested a true (c .before .if1 .taken), found a)
 
 returns-2 : tie.Need-returns-2
-returns-2 c = (ap (λ (b : Bool). cond b (asks (editAsked (c .before .before .before .before .before .args .k .made) (c .before .before .before .before .before .args .k .acked) (c .before .before .before .before .before .args .k .inserts) (c .before .before .before .before .before .args .k .len) (c .before .before .before .before .before .args .e))) 2) (sym (sym (c .before .is-sound .ensures .0) ∙ c .if1 .left)), (λ t. c .before .is-sound .ensures .1 (c .before .is-sound .ensures .0 ∙ t)))
+returns-2 c =
+    let a = c .before in
+    (tested a false (c .if1 .left), found a)
 
 pub ask-spec : {M : Type 1} → statement M
 ask-spec = tie.close (tie.spec is-sound-requires ask-editing-requires returns returns-2)

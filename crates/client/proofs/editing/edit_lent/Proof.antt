@@ -1,114 +1,148 @@
-use Rattle.client.proofs.Edits.{facts, edit-allowed, edit-not-allowed, edit-pending, edit-room, edit-made, edit-inserts, edited-is}
-use Rattle.client.specs.declared.Changed.{Changed}
-use Rattle.client.specs.Store.{clientOf}
-use Rattle.client.specs.Answers.{answerOf, edited}
-use mathlib.Core.Path.{ap, sym, _∙_}
-use denote.Ref.{now}
-use native.Mathlib.Omega.{arith}
 use borrow.Author.Needs.{needs}
+use mathlib.Core.Path.{_≡_, ap, sym, _∙_}
+use native.Mathlib.Omega.{arith}
+use Prim.Native.Nat.{_<_}
+use Rattle.ot.specs.declared.Edit.{Edit}
+use Rattle.model.specs.Limits.{maxPending}
+use Rattle.model.specs.Questions.{asks}
+use Rattle.line.specs.Asking.{editAsked}
+use Rattle.client.specs.declared.Client.{Client}
+use Rattle.client.specs.declared.Changed.{Changed}
+use Rattle.client.specs.Store.{clientOf, pendingCount, Sound}
+use Rattle.client.specs.Answers.{answerOf, edited}
+use Rattle.client.proofs.Edits.{facts, edit-allowed, edit-not-allowed, edit-pending, edit-room, edit-made, edit-inserts, edited-is}
 use Rattle.client.proofs.editing.edit_lent.Statement.{statement}
 use Rattle.client.proofs.editing.edit_lent.Tie as tie
-use Rattle.client.proofs.editing.edit_lent.Reads as reads
-use Rattle.client.proofs.editing.edit_lent.Lts as lts
-use Rattle.client.proofs.editing.ask.Reads as ask-reads
-use Rattle.client.proofs.editing.made_as.Reads as made-as-reads
-use Rattle.client.proofs.refused.Reads as refused-reads
-use Rattle.endpoint.proofs.inserts_of.Reads as inserts-of-reads
-use Rattle.ot.proofs.apply.Reads as apply-reads
-use Rattle.pending.proofs.item_of.Reads as item-of-reads
-use Rattle.pending.proofs.place_of.Reads as place-of-reads
 
--- src/editing.rt:85:9
+-- the end whose parts these are
+abbrev start : tie.After-ask → tie.Start
+start c = c .before .before .before .before .before .before .before .before
+
+abbrev whole : tie.After-ask → Client
+whole c = clientOf (start c .args .k) (start c .args .items .now) (start c .args .places .now) (start c .args .pending .now)
+
+-- the edit as it is made
+abbrev made : tie.After-ask → Edit
+made c = c .before .before .before .before .made-as .result
+
+-- ---- no question said no
+
+allowed : (c : tie.Else1) → Sound (whole (c .before)) × (asks (editAsked (whole (c .before) .made) (whole (c .before) .acked) (whole (c .before) .inserts) (whole (c .before) .len) (made (c .before))) ≡ 0)
+allowed c =
+    let a = c .before in
+    edit-allowed (whole a) (made a) (a .ask .result) (a .ask .ensures .1) (a .ask .ensures .0) (c .if1 .left)
+
+few : (c : tie.Else1) → pendingCount (whole (c .before)) < maxPending
+few c = edit-pending (whole (c .before)) (allowed c .0) (made (c .before)) (allowed c .1)
+
+-- ---- the needs
+
+-- src/editing.rt:74:9
 made-as-requires : tie.Need-made-as-requires
 made-as-requires c κs = search needs
 
--- src/editing.rt:86:9
+-- src/editing.rt:75:9
 ask-requires : tie.Need-ask-requires
 ask-requires c κs = search needs
 
--- src/editing.rt:88:9
+-- src/editing.rt:77:9
 refused-requires : tie.Need-refused-requires
 refused-requires c κs = search needs
 
--- src/editing.rt:88:9
+-- src/editing.rt:77:9
 same-length : tie.Need-same-length
 same-length c = search needs
 
--- src/editing.rt:88:9
+-- src/editing.rt:77:9
 same-length-2 : tie.Need-same-length-2
 same-length-2 c = search needs
 
--- src/editing.rt:88:9
+-- src/editing.rt:77:9
 same-length-3 : tie.Need-same-length-3
 same-length-3 c = search needs
 
--- src/editing.rt:88:9
+-- src/editing.rt:77:9
 returns : tie.Need-returns
-returns c = ap (λ (q : Changed). answerOf q (now (c .before .before .before .before .before .before .before .before .before .before .args .items)) (now (c .before .before .before .before .before .before .before .before .before .before .args .places)) (now (c .before .before .before .before .before .before .before .before .before .before .args .pending))) (c .refused .ensures) ∙ edit-not-allowed (clientOf (c .before .before .before .before .before .before .before .before .before .before .args .k) (now (c .before .before .before .before .before .before .before .before .before .before .args .items)) (now (c .before .before .before .before .before .before .before .before .before .before .args .places)) (now (c .before .before .before .before .before .before .before .before .before .before .args .pending))) (c .before .before .before .before .before .before .made-as .result) (c .before .before .ask .result) (c .before .before .ask .ensures .1) (c .before .before .ask .ensures .0) (c .before .if1 .taken) ∙ ap (edited (clientOf (c .before .before .before .before .before .before .before .before .before .before .args .k) (now (c .before .before .before .before .before .before .before .before .before .before .args .items)) (now (c .before .before .before .before .before .before .before .before .before .before .args .places)) (now (c .before .before .before .before .before .before .before .before .before .before .args .pending)))) (c .before .before .before .before .before .before .made-as .ensures)
+returns c =
+    let a = c .before .before in
+    ap (λ (q : Changed). answerOf q (start a .args .items .now) (start a .args .places .now) (start a .args .pending .now)) (c .refused .ensures)
+    ∙ edit-not-allowed (whole a) (made a) (a .ask .result) (a .ask .ensures .1) (a .ask .ensures .0) (c .before .if1 .taken)
+    ∙ ap (edited (whole a)) (a .before .before .before .before .made-as .ensures)
 
--- src/editing.rt:90:18
+-- src/editing.rt:79:18
 sub-count : tie.Need-sub-count
-sub-count c = omega (arith, facts (clientOf (c .before .before .before .before .before .before .before .before .before .before .args .k) (now (c .before .before .before .before .before .before .before .before .before .before .args .items)) (now (c .before .before .before .before .before .before .before .before .before .before .args .places)) (now (c .before .before .before .before .before .before .before .before .before .before .args .pending))) ((edit-allowed (clientOf (c .before .before .before .before .before .before .before .before .before .before .args .k) (now (c .before .before .before .before .before .before .before .before .before .before .args .items)) (now (c .before .before .before .before .before .before .before .before .before .before .args .places)) (now (c .before .before .before .before .before .before .before .before .before .before .args .pending))) (c .before .before .before .before .before .before .made-as .result) (c .before .before .ask .result) (c .before .before .ask .ensures .1) (c .before .before .ask .ensures .0) (c .before .if1 .left)) .0) .acked)
+sub-count c = omega (arith, facts (whole (c .before .before)) (allowed (c .before) .0) .acked)
 
--- src/editing.rt:90:17
+-- src/editing.rt:79:17
 cast-count : tie.Need-cast-count
 cast-count c = search needs
 
--- src/editing.rt:91:21
+-- src/editing.rt:80:21
 place-of-requires : tie.Need-place-of-requires
 place-of-requires c κs = search needs
 
--- src/editing.rt:91:5
+-- src/editing.rt:80:5
 mul-places : tie.Need-mul-places
 mul-places c = search needs
 
--- src/editing.rt:91:5
+-- src/editing.rt:80:5
 slice-write-places : tie.Need-slice-write-places
-slice-write-places c = let n = edit-pending (clientOf (c .before .before .before .before .before .before .before .before .before .before .before .args .k) (now (c .before .before .before .before .before .before .before .before .before .before .before .args .items)) (now (c .before .before .before .before .before .before .before .before .before .before .before .args .places)) (now (c .before .before .before .before .before .before .before .before .before .before .before .args .pending))) ((edit-allowed (clientOf (c .before .before .before .before .before .before .before .before .before .before .before .args .k) (now (c .before .before .before .before .before .before .before .before .before .before .before .args .items)) (now (c .before .before .before .before .before .before .before .before .before .before .before .args .places)) (now (c .before .before .before .before .before .before .before .before .before .before .before .args .pending))) (c .before .before .before .before .before .before .before .made-as .result) (c .before .before .before .ask .result) (c .before .before .before .ask .ensures .1) (c .before .before .before .ask .ensures .0) (c .before .before .if1 .left)) .0) (c .before .before .before .before .before .before .before .made-as .result) ((edit-allowed (clientOf (c .before .before .before .before .before .before .before .before .before .before .before .args .k) (now (c .before .before .before .before .before .before .before .before .before .before .before .args .items)) (now (c .before .before .before .before .before .before .before .before .before .before .before .args .places)) (now (c .before .before .before .before .before .before .before .before .before .before .before .args .pending))) (c .before .before .before .before .before .before .before .made-as .result) (c .before .before .before .ask .result) (c .before .before .before .ask .ensures .1) (c .before .before .before .ask .ensures .0) (c .before .before .if1 .left)) .1) in omega (arith, c .before .before .before .before .before .before .before .before .before .before .before .pre .places-size)
+slice-write-places c = let n = few (c .before .before) in omega (arith, start (c .before .before .before) .pre .places-size)
 
--- src/editing.rt:92:22
+-- src/editing.rt:81:22
 item-of-requires : tie.Need-item-of-requires
 item-of-requires c κs = search needs
 
--- src/editing.rt:92:5
+-- src/editing.rt:81:5
 mul-pending : tie.Need-mul-pending
 mul-pending c = search needs
 
--- src/editing.rt:92:5
+-- src/editing.rt:81:5
 slice-write-pending : tie.Need-slice-write-pending
-slice-write-pending c = let n = edit-pending (clientOf (c .before .before .before .before .before .before .before .before .before .before .before .before .args .k) (now (c .before .before .before .before .before .before .before .before .before .before .before .before .args .items)) (now (c .before .before .before .before .before .before .before .before .before .before .before .before .args .places)) (now (c .before .before .before .before .before .before .before .before .before .before .before .before .args .pending))) ((edit-allowed (clientOf (c .before .before .before .before .before .before .before .before .before .before .before .before .args .k) (now (c .before .before .before .before .before .before .before .before .before .before .before .before .args .items)) (now (c .before .before .before .before .before .before .before .before .before .before .before .before .args .places)) (now (c .before .before .before .before .before .before .before .before .before .before .before .before .args .pending))) (c .before .before .before .before .before .before .before .before .made-as .result) (c .before .before .before .before .ask .result) (c .before .before .before .before .ask .ensures .1) (c .before .before .before .before .ask .ensures .0) (c .before .before .before .if1 .left)) .0) (c .before .before .before .before .before .before .before .before .made-as .result) ((edit-allowed (clientOf (c .before .before .before .before .before .before .before .before .before .before .before .before .args .k) (now (c .before .before .before .before .before .before .before .before .before .before .before .before .args .items)) (now (c .before .before .before .before .before .before .before .before .before .before .before .before .args .places)) (now (c .before .before .before .before .before .before .before .before .before .before .before .before .args .pending))) (c .before .before .before .before .before .before .before .before .made-as .result) (c .before .before .before .before .ask .result) (c .before .before .before .before .ask .ensures .1) (c .before .before .before .before .ask .ensures .0) (c .before .before .before .if1 .left)) .1) in omega (arith, c .before .before .before .before .before .before .before .before .before .before .before .before .pre .pending-size)
+slice-write-pending c = let n = few (c .before .before .before) in omega (arith, start (c .before .before .before .before) .pre .pending-size)
 
--- src/editing.rt:93:9
+-- src/editing.rt:82:5
 apply-requires : tie.Need-apply-requires
-apply-requires c κs = (c .before .before .before .before .before .before .before .before .before .before .before .before .before .pre .items-size, edit-room (clientOf (c .before .before .before .before .before .before .before .before .before .before .before .before .before .args .k) (now (c .before .before .before .before .before .before .before .before .before .before .before .before .before .args .items)) (now (c .before .before .before .before .before .before .before .before .before .before .before .before .before .args .places)) (now (c .before .before .before .before .before .before .before .before .before .before .before .before .before .args .pending))) ((edit-allowed (clientOf (c .before .before .before .before .before .before .before .before .before .before .before .before .before .args .k) (now (c .before .before .before .before .before .before .before .before .before .before .before .before .before .args .items)) (now (c .before .before .before .before .before .before .before .before .before .before .before .before .before .args .places)) (now (c .before .before .before .before .before .before .before .before .before .before .before .before .before .args .pending))) (c .before .before .before .before .before .before .before .before .before .made-as .result) (c .before .before .before .before .before .ask .result) (c .before .before .before .before .before .ask .ensures .1) (c .before .before .before .before .before .ask .ensures .0) (c .before .before .before .before .if1 .left)) .0) (c .before .before .before .before .before .before .before .before .before .made-as .result) ((edit-allowed (clientOf (c .before .before .before .before .before .before .before .before .before .before .before .before .before .args .k) (now (c .before .before .before .before .before .before .before .before .before .before .before .before .before .args .items)) (now (c .before .before .before .before .before .before .before .before .before .before .before .before .before .args .places)) (now (c .before .before .before .before .before .before .before .before .before .before .before .before .before .args .pending))) (c .before .before .before .before .before .before .before .before .before .made-as .result) (c .before .before .before .before .before .ask .result) (c .before .before .before .before .before .ask .ensures .1) (c .before .before .before .before .before .ask .ensures .0) (c .before .before .before .before .if1 .left)) .1))
+apply-requires c κs =
+    let t = c .before .before .before .before in
+    let a = t .before in
+    (start a .pre .items-size, edit-room (whole a) (allowed t .0) (made a) (allowed t .1))
 
--- src/editing.rt:100:19
-add-t17 : tie.Need-add-t17
-add-t17 c = omega (arith, edit-made (clientOf (c .before .before .before .before .before .before .before .before .before .before .before .before .before .before .before .before .before .args .k) (now (c .before .before .before .before .before .before .before .before .before .before .before .before .before .before .before .before .before .args .items)) (now (c .before .before .before .before .before .before .before .before .before .before .before .before .before .before .before .before .before .args .places)) (now (c .before .before .before .before .before .before .before .before .before .before .before .before .before .before .before .before .before .args .pending))) ((edit-allowed (clientOf (c .before .before .before .before .before .before .before .before .before .before .before .before .before .before .before .before .before .args .k) (now (c .before .before .before .before .before .before .before .before .before .before .before .before .before .before .before .before .before .args .items)) (now (c .before .before .before .before .before .before .before .before .before .before .before .before .before .before .before .before .before .args .places)) (now (c .before .before .before .before .before .before .before .before .before .before .before .before .before .before .before .before .before .args .pending))) (c .before .before .before .before .before .before .before .before .before .before .before .before .before .made-as .result) (c .before .before .before .before .before .before .before .before .before .ask .result) (c .before .before .before .before .before .before .before .before .before .ask .ensures .1) (c .before .before .before .before .before .before .before .before .before .ask .ensures .0) (c .before .before .before .before .before .before .before .before .if1 .left)) .0) (c .before .before .before .before .before .before .before .before .before .before .before .before .before .made-as .result) ((edit-allowed (clientOf (c .before .before .before .before .before .before .before .before .before .before .before .before .before .before .before .before .before .args .k) (now (c .before .before .before .before .before .before .before .before .before .before .before .before .before .before .before .before .before .args .items)) (now (c .before .before .before .before .before .before .before .before .before .before .before .before .before .before .before .before .before .args .places)) (now (c .before .before .before .before .before .before .before .before .before .before .before .before .before .before .before .before .before .args .pending))) (c .before .before .before .before .before .before .before .before .before .before .before .before .before .made-as .result) (c .before .before .before .before .before .before .before .before .before .ask .result) (c .before .before .before .before .before .before .before .before .before .ask .ensures .1) (c .before .before .before .before .before .before .before .before .before .ask .ensures .0) (c .before .before .before .before .before .before .before .before .if1 .left)) .1))
+-- src/editing.rt:83:14
+add-k : tie.Need-add-k
+add-k c =
+    let t = c .before .before .before .before .before .before .before .before in
+    omega (arith, edit-made (whole (t .before)) (allowed t .0) (made (t .before)) (allowed t .1))
 
--- src/editing.rt:103:34
+-- src/editing.rt:84:29
 inserts-of-requires : tie.Need-inserts-of-requires
 inserts-of-requires c κs = search needs
 
--- src/editing.rt:103:22
-add-t25 : tie.Need-add-t25
-add-t25 c = omega (arith, edit-inserts (clientOf (c .before .before .before .before .before .before .before .before .before .before .before .before .before .before .before .before .before .before .before .args .k) (now (c .before .before .before .before .before .before .before .before .before .before .before .before .before .before .before .before .before .before .before .args .items)) (now (c .before .before .before .before .before .before .before .before .before .before .before .before .before .before .before .before .before .before .before .args .places)) (now (c .before .before .before .before .before .before .before .before .before .before .before .before .before .before .before .before .before .before .before .args .pending))) ((edit-allowed (clientOf (c .before .before .before .before .before .before .before .before .before .before .before .before .before .before .before .before .before .before .before .args .k) (now (c .before .before .before .before .before .before .before .before .before .before .before .before .before .before .before .before .before .before .before .args .items)) (now (c .before .before .before .before .before .before .before .before .before .before .before .before .before .before .before .before .before .before .before .args .places)) (now (c .before .before .before .before .before .before .before .before .before .before .before .before .before .before .before .before .before .before .before .args .pending))) (c .before .before .before .before .before .before .before .before .before .before .before .before .before .before .before .made-as .result) (c .before .before .before .before .before .before .before .before .before .before .before .ask .result) (c .before .before .before .before .before .before .before .before .before .before .before .ask .ensures .1) (c .before .before .before .before .before .before .before .before .before .before .before .ask .ensures .0) (c .before .before .before .before .before .before .before .before .before .before .if1 .left)) .0) (c .before .before .before .before .before .before .before .before .before .before .before .before .before .before .before .made-as .result) ((edit-allowed (clientOf (c .before .before .before .before .before .before .before .before .before .before .before .before .before .before .before .before .before .before .before .args .k) (now (c .before .before .before .before .before .before .before .before .before .before .before .before .before .before .before .before .before .before .before .args .items)) (now (c .before .before .before .before .before .before .before .before .before .before .before .before .before .before .before .before .before .before .before .args .places)) (now (c .before .before .before .before .before .before .before .before .before .before .before .before .before .before .before .before .before .before .before .args .pending))) (c .before .before .before .before .before .before .before .before .before .before .before .before .before .before .before .made-as .result) (c .before .before .before .before .before .before .before .before .before .before .before .ask .result) (c .before .before .before .before .before .before .before .before .before .before .before .ask .ensures .1) (c .before .before .before .before .before .before .before .before .before .before .before .ask .ensures .0) (c .before .before .before .before .before .before .before .before .before .before .if1 .left)) .1), c .before .inserts-of .ensures)
+-- src/editing.rt:84:17
+add-k-2 : tie.Need-add-k-2
+add-k-2 c =
+    let t = c .before .before .before .before .before .before .before .before .before .before in
+    omega (arith, edit-inserts (whole (t .before)) (allowed t .0) (made (t .before)) (allowed t .1), c .before .inserts-of .ensures)
 
--- src/editing.rt:75:1
+-- src/editing.rt:64:1
 same-length-4 : tie.Need-same-length-4
 same-length-4 c = search needs
 
--- src/editing.rt:75:1
+-- src/editing.rt:64:1
 same-length-5 : tie.Need-same-length-5
 same-length-5 c = search needs
 
--- src/editing.rt:75:1
+-- src/editing.rt:64:1
 same-length-6 : tie.Need-same-length-6
 same-length-6 c = search needs
 
--- src/editing.rt:75:1
+-- src/editing.rt:64:1
 returns-2 : tie.Need-returns-2
-returns-2 c = edited-is (clientOf (c .before .before .before .before .before .before .before .before .before .before .before .before .before .before .before .before .before .before .before .args .k) (now (c .before .before .before .before .before .before .before .before .before .before .before .before .before .before .before .before .before .before .before .args .items)) (now (c .before .before .before .before .before .before .before .before .before .before .before .before .before .before .before .before .before .before .before .args .places)) (now (c .before .before .before .before .before .before .before .before .before .before .before .before .before .before .before .before .before .before .before .args .pending))) ((edit-allowed (clientOf (c .before .before .before .before .before .before .before .before .before .before .before .before .before .before .before .before .before .before .before .args .k) (now (c .before .before .before .before .before .before .before .before .before .before .before .before .before .before .before .before .before .before .before .args .items)) (now (c .before .before .before .before .before .before .before .before .before .before .before .before .before .before .before .before .before .before .before .args .places)) (now (c .before .before .before .before .before .before .before .before .before .before .before .before .before .before .before .before .before .before .before .args .pending))) (c .before .before .before .before .before .before .before .before .before .before .before .before .before .before .before .made-as .result) (c .before .before .before .before .before .before .before .before .before .before .before .ask .result) (c .before .before .before .before .before .before .before .before .before .before .before .ask .ensures .1) (c .before .before .before .before .before .before .before .before .before .before .before .ask .ensures .0) (c .before .before .before .before .before .before .before .before .before .before .if1 .left)) .0) (c .before .before .before .before .before .before .before .before .before .before .before .before .before .before .before .made-as .result) ((edit-allowed (clientOf (c .before .before .before .before .before .before .before .before .before .before .before .before .before .before .before .before .before .before .before .args .k) (now (c .before .before .before .before .before .before .before .before .before .before .before .before .before .before .before .before .before .before .before .args .items)) (now (c .before .before .before .before .before .before .before .before .before .before .before .before .before .before .before .before .before .before .before .args .places)) (now (c .before .before .before .before .before .before .before .before .before .before .before .before .before .before .before .before .before .before .before .args .pending))) (c .before .before .before .before .before .before .before .before .before .before .before .before .before .before .before .made-as .result) (c .before .before .before .before .before .before .before .before .before .before .before .ask .result) (c .before .before .before .before .before .before .before .before .before .before .before .ask .ensures .1) (c .before .before .before .before .before .before .before .before .before .before .before .ask .ensures .0) (c .before .before .before .before .before .before .before .before .before .before .if1 .left)) .1) 0 (c .before .inserts-of .result) (c .before .before .before .before .before .apply .result) (c .before .before .before .before .before .before .before .before .place-of .result) (c .before .before .before .before .before .before .before .item-of .result) (c .before .before .before .before .before .apply .last .0) (sym ((edit-allowed (clientOf (c .before .before .before .before .before .before .before .before .before .before .before .before .before .before .before .before .before .before .before .args .k) (now (c .before .before .before .before .before .before .before .before .before .before .before .before .before .before .before .before .before .before .before .args .items)) (now (c .before .before .before .before .before .before .before .before .before .before .before .before .before .before .before .before .before .before .before .args .places)) (now (c .before .before .before .before .before .before .before .before .before .before .before .before .before .before .before .before .before .before .before .args .pending))) (c .before .before .before .before .before .before .before .before .before .before .before .before .before .before .before .made-as .result) (c .before .before .before .before .before .before .before .before .before .before .before .ask .result) (c .before .before .before .before .before .before .before .before .before .before .before .ask .ensures .1) (c .before .before .before .before .before .before .before .before .before .before .before .ask .ensures .0) (c .before .before .before .before .before .before .before .before .before .before .if1 .left)) .1)) (c .before .inserts-of .ensures) (c .before .before .before .before .before .before .before .before .place-of .ensures) (c .before .before .before .before .before .before .before .item-of .ensures) (c .before .before .before .before .before .apply .ensures) ∙ ap (edited (clientOf (c .before .before .before .before .before .before .before .before .before .before .before .before .before .before .before .before .before .before .before .args .k) (now (c .before .before .before .before .before .before .before .before .before .before .before .before .before .before .before .before .before .before .before .args .items)) (now (c .before .before .before .before .before .before .before .before .before .before .before .before .before .before .before .before .before .before .before .args .places)) (now (c .before .before .before .before .before .before .before .before .before .before .before .before .before .before .before .before .before .before .before .args .pending)))) (c .before .before .before .before .before .before .before .before .before .before .before .before .before .before .before .made-as .ensures)
+returns-2 c =
+    let t = c .before .before .before .before .before .before .before .before .before .before in
+    let a = t .before in
+    edited-is (whole a) (allowed t .0) (made a) (allowed t .1) 0 (c .before .inserts-of .result) (c .before .before .before .before .before .apply .result) (c .before .before .before .before .before .before .before .before .place-of .result) (c .before .before .before .before .before .before .before .item-of .result) (c .before .before .before .before .before .apply .last .0) (sym (allowed t .1)) (c .before .inserts-of .ensures) (c .before .before .before .before .before .before .before .before .place-of .ensures) (c .before .before .before .before .before .before .before .item-of .ensures) (c .before .before .before .before .before .apply .ensures)
+    ∙ ap (edited (whole a)) (a .before .before .before .before .made-as .ensures)
 
 pub edit-lent-spec : {M : Type 1} → statement M
 edit-lent-spec =
@@ -130,9 +164,9 @@ edit-lent-spec =
     mul-pending
     slice-write-pending
     apply-requires
-    add-t17
+    add-k
     inserts-of-requires
-    add-t25
+    add-k-2
     same-length-4
     same-length-5
     same-length-6

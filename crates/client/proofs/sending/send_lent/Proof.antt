@@ -1,16 +1,27 @@
-use Rattle.client.proofs.Messages.{unsound-sending, sent-edit}
-use Rattle.client.specs.Store.{clientOf, view}
-use Rattle.client.specs.Answers.{sendQuestions}
-use Rattle.endpoint.specs.Sending.{finished}
+use borrow.Author.Needs.{needs}
+use mathlib.Core.Bool.{false}
+use mathlib.Core.Path.{_≡_, ap, sym, _∙_}
+use Prim.Native.Nat.{ℕ}
+use Rattle.wire.specs.declared.Message.{Message}
 use Rattle.model.specs.Client.{sendClient}
 use Rattle.model.specs.Questions.{asks}
-use Rattle.wire.specs.declared.Message.{Message}
-use mathlib.Core.Path.{ap, sym, _∙_}
-use denote.Ref.{now}
-use Prim.Native.Nat.{ℕ}
-use borrow.Author.Needs.{needs}
+use Rattle.endpoint.specs.Sending.{finished}
+use Rattle.client.specs.declared.Client.{Client}
+use Rattle.client.specs.Store.{clientOf, view, sound}
+use Rattle.line.specs.Asking.{sendQuestions}
+use Rattle.client.proofs.Messages.{unsound-sending, sent-edit}
 use Rattle.client.proofs.sending.send_lent.Statement.{statement}
 use Rattle.client.proofs.sending.send_lent.Tie as tie
+
+-- the end whose parts these are
+abbrev start : tie.After-is-sound → tie.Start
+start c = c .before .before .before .before .before
+
+abbrev whole : tie.After-is-sound → Client
+whole c = clientOf (start c .args .k) (start c .args .items .now) (start c .args .places .now) (start c .args .pending .now)
+
+unsound : (c : tie.Else1) → sound (whole (c .before)) ≡ false
+unsound c = sym (c .before .is-sound .ensures .0) ∙ c .if1 .left
 
 is-sound-requires : tie.Need-is-sound-requires
 is-sound-requires c κs = search needs
@@ -28,12 +39,19 @@ same-length : tie.Need-same-length
 same-length c = search needs
 
 returns : tie.Need-returns
-returns c = c .before .before .finish .ensures ∙ ap (λ (r : ℕ). finished r (c .before .before .before .before .message .result) (now (c .before .before .before .before .before .before .before .before .before .before .before .before .args .out))) (c .before .before .before .before .before .ask-sending .ensures)
-    ∙ ap (λ (m : Message). finished (asks (sendQuestions (c .before .before .before .before .before .before .before .before .before .before .before .before .args .k .line) (c .before .before .before .before .before .before .before .before .before .before .before .before .args .k .made) (c .before .before .before .before .before .before .before .before .before .before .before .before .args .k .acked) (c .before .before .before .before .before .before .before .before .before .before .before .before .args .line) (c .before .before .before .before .before .before .before .before .before .before .before .before .args .i))) m (now (c .before .before .before .before .before .before .before .before .before .before .before .before .args .out))) (c .before .before .before .before .message .ensures)
-    ∙ sent-edit (clientOf (c .before .before .before .before .before .before .before .before .before .before .before .before .args .k) (now (c .before .before .before .before .before .before .before .before .before .before .before .before .args .items)) (now (c .before .before .before .before .before .before .before .before .before .before .before .before .args .places)) (now (c .before .before .before .before .before .before .before .before .before .before .before .before .args .pending))) (c .before .before .before .before .before .before .before .is-sound .ensures .1 (c .before .before .before .before .before .before .if1 .taken)) (c .before .before .before .before .before .before .before .before .before .before .before .before .args .line) (now (c .before .before .before .before .before .before .before .before .before .before .before .before .args .out)) (c .before .before .before .before .before .before .before .before .before .before .before .before .args .i)
+returns c =
+    let a = c .before .before .before .before .before .before .before in
+    let s = start a in
+    c .before .before .finish .ensures
+    ∙ ap (λ (r : ℕ). finished r (c .before .before .before .before .message .result) (s .args .out .now)) (c .before .before .before .before .before .ask-sending .ensures)
+    ∙ ap (λ (m : Message). finished (asks (sendQuestions (whole a .line) (whole a .made) (whole a .acked) (s .args .line) (s .args .i))) m (s .args .out .now)) (c .before .before .before .before .message .ensures)
+    ∙ sent-edit (whole a) (a .is-sound .ensures .1 (c .before .before .before .before .before .before .if1 .taken)) (s .args .line) (s .args .out .now) (s .args .i)
 
 returns-2 : tie.Need-returns-2
-returns-2 c = unsound-sending (clientOf (c .before .before .before .before .before .before .args .k) (now (c .before .before .before .before .before .before .args .items)) (now (c .before .before .before .before .before .before .args .places)) (now (c .before .before .before .before .before .before .args .pending))) (sendClient (view (clientOf (c .before .before .before .before .before .before .args .k) (now (c .before .before .before .before .before .before .args .items)) (now (c .before .before .before .before .before .before .args .places)) (now (c .before .before .before .before .before .before .args .pending)))) (c .before .before .before .before .before .before .args .line) (c .before .before .before .before .before .before .args .i) (now (c .before .before .before .before .before .before .args .out))) (now (c .before .before .before .before .before .before .args .out)) (sym (c .before .is-sound .ensures .0) ∙ c .if1 .left)
+returns-2 c =
+    let a = c .before in
+    let s = start a in
+    unsound-sending (whole a) (sendClient (view (whole a)) (s .args .line) (s .args .i) (s .args .out .now)) (s .args .out .now) (unsound c)
 
 pub send-lent-spec : {M : Type 1} → statement M
 send-lent-spec =

@@ -3,7 +3,7 @@ use native.Mathlib.Omega.{arith}
 use mathlib.Core.Path.{sym, _∙_}
 use lib.Seq.{length-take-le}
 use borrow.Author.Needs.{needs}
-use Rattle.client.specs.declared.Counts.{Counts}
+use Rattle.line.specs.declared.Counts.{Counts}
 use Rattle.client.specs.Store.{clientOf}
 use Rattle.turns.specs.Turn.{clientSent}
 use Rattle.driver.proofs.Repeating.{sent-same}
