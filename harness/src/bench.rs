@@ -272,7 +272,7 @@ pub fn run(folder: &Path, subjects: &[&dyn Subject]) -> bool {
     let growth = growth_table(&rows, subjects);
     let names: Vec<&str> = subjects.iter().map(|subject| subject.name()).collect();
     let text = format!(
-        "## Single calls\n\nEach time includes a fresh copy of the end. Processor time, middle of {TURNS} turns, lowest to highest in brackets.\n\n{calls}\n\
+        "## Single calls\n\nAn edit and a taking include a fresh copy of the end. Processor time, middle of {TURNS} turns, lowest to highest in brackets.\n\n{calls}\n\
          ## As edits grow\n\nA whole sheet of eight, all editing at once: every edit is made, sent, taken by the server, sent on and taken by\n\
          seven clients, with acknowledgements both ways. Middle of 5 turns.\n\n{growth}\n![Bytes kept and time per edit](growth.svg)\n"
     );

@@ -8,6 +8,7 @@ use crate::plain::server::Server;
 use crate::plain::slip::{Rules, Slip};
 use crate::plain::{Answer, Sent};
 use crate::protocol::*;
+use std::hint::black_box;
 use std::marker::PhantomData;
 
 pub struct World<R: Rules> {
@@ -66,7 +67,7 @@ pub fn repeat<R: Rules>(bytes: &[u8], times: u32, out: &mut [u8]) -> usize {
     for call in before {
         world.perform(call, &initial, &mut unread[..call.answer_length()]);
     }
-    world.repeat(last, times, &mut out[..ANSWER]);
+    out[..ANSWER].copy_from_slice(&world.repeat(last, times));
     ANSWER
 }
 
@@ -192,25 +193,22 @@ impl<R: Rules> World<R> {
         Some(())
     }
 
-    /// The last call of `repeat`. A fresh copy of the end goes into each call, as where ends are passed by value.
-    fn repeat(&mut self, last: &Call, times: u32, out: &mut [u8]) {
-        let times = times.max(1);
-        if matches!(last.op, SEND | TELL) {
-            for _ in 0..times {
-                self.perform(std::hint::black_box(last), &[], out);
-            }
-        } else if last.end == 0 {
-            let server = self.server.clone();
-            for _ in 0..times {
-                self.server.clone_from(std::hint::black_box(&server));
-                self.perform(std::hint::black_box(last), &[], out);
-            }
-        } else {
-            let client = self.clients[last.end as usize - 1].clone();
-            for _ in 0..times {
-                self.clients[last.end as usize - 1].clone_from(std::hint::black_box(&client));
-                self.perform(std::hint::black_box(last), &[], out);
-            }
+    /// The last call of `repeat`, chosen once, so that a turn is the call and nothing else.
+    fn repeat(&self, last: &Call, times: u32) -> [u8; ANSWER] {
+        let slot = last.slot as usize % SLOTS;
+        let message = &self.slots[slot][..(self.lengths[slot] as usize).min(SLOT)];
+        let mut lent = self.slots[slot];
+        let lent = &mut lent[..(last.size as usize).min(SLOT)];
+        let client = &self.clients[(last.end as usize).max(1) - 1];
+        match (last.op, last.end) {
+            (SEND, 0) => sent_again(times, || black_box(&self.server).send::<R>(last.line, last.number, black_box(&mut *lent))),
+            (SEND, _) => sent_again(times, || black_box(client).send::<R>(last.line, last.number, black_box(&mut *lent))),
+            (TELL, 0) => sent_again(times, || black_box(&self.server).tell::<R>(last.line, black_box(&mut *lent))),
+            (TELL, _) => sent_again(times, || black_box(client).tell::<R>(last.line, black_box(&mut *lent))),
+            (TAKE, 0) => changed_again(&self.server, times, |server| server.take::<R>(message)),
+            (TAKE, _) => changed_again(client, times, |client| client.take::<R>(message)),
+            (INSERT, _) => changed_again(client, times, |client| client.insert::<R>(last.position, last.value)),
+            (_, _) => changed_again(client, times, |client| client.delete::<R>(last.position)),
         }
     }
 
@@ -227,6 +225,26 @@ impl<R: Rules> World<R> {
         }
         self.earlier[end] = shown;
     }
+}
+
+/// The last answer of many. A fresh copy of the end goes into each call, as where ends are passed by value.
+fn changed_again<T: Clone>(end: &T, times: u32, call: impl Fn(&mut T) -> Answer) -> [u8; ANSWER] {
+    let mut fresh = end.clone();
+    let mut done = call(&mut fresh);
+    for _ in 1..times {
+        fresh.clone_from(black_box(end));
+        done = call(black_box(&mut fresh));
+    }
+    let [high, low] = done.passed.to_be_bytes();
+    [done.refusal, 0, high, low]
+}
+
+fn sent_again(times: u32, mut call: impl FnMut() -> Sent) -> [u8; ANSWER] {
+    let mut sent = call();
+    for _ in 1..times {
+        sent = black_box(call());
+    }
+    [sent.refusal, sent.length, 0, 0]
 }
 
 fn set_line(line: &mut Line, call: &Call) -> Option<()> {
