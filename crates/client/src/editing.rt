@@ -23,7 +23,18 @@ fn ask<'a>(k: Counts, items: &'a [u32], places: &'a [u32], pending: &'a [u32], e
     ensures answer { λ r. ⌜ r ≡ cond (sound (clientOf k (now (items .entry)) (now (places .entry)) (now (pending .entry)))) (asks (editAsked (k .made) (k .acked) (k .inserts) (k .len) e)) 2 ⌝ }
     ensures facts { λ r. ⌜ (sound (clientOf k (now (items .entry)) (now (places .entry)) (now (pending .entry))) ≡ true → Sound (clientOf k (now (items .entry)) (now (places .entry)) (now (pending .entry)))) ⌝ }
 {
-    if crate::is_sound(k, items, places, pending) {
+    if crate::is_sound(
+        k.n,
+        k.line,
+        k.made,
+        k.taken,
+        k.acked,
+        k.inserts,
+        k.len,
+        items,
+        places,
+        pending,
+    ) {
         return line::editing::ask_editing(k.made, k.acked, k.inserts, k.len, e);
     }
     2
@@ -41,7 +52,7 @@ fn made_as(line: u8, change: Change) -> Edit
 
 // The edit is applied, counted and kept, in place.
 pub fn edit_lent(
-    mut k: Counts,
+    k: Counts,
     items: &mut [u32],
     places: &mut [u32],
     pending: &mut [u32],
@@ -58,13 +69,21 @@ pub fn edit_lent(
     let count = (k.made - k.acked) as usize;
     places[count] = pending::place_of(e);
     pending[count] = pending::item_of(e);
-    k.len = ot::apply(items, k.len, e);
-    k.made = k.made + 1;
-    k.inserts = k.inserts + endpoint::inserts_of(e);
+    let len = ot::apply(items, k.len, e);
+    let made = k.made + 1;
+    let inserts = k.inserts + endpoint::inserts_of(e);
     Changed {
         refusal: 0,
         passed: 0,
-        counts: k,
+        counts: Counts {
+            n: k.n,
+            line: k.line,
+            made,
+            taken: k.taken,
+            acked: k.acked,
+            inserts,
+            len,
+        },
     }
 }
 

@@ -3,7 +3,7 @@
 // client by value and hand it back, are thin: they lend its arrays.
 ghost use mathlib.Core.Path.{_≡_};
 ghost use mathlib.Core.Bool.{true};
-ghost use Rattle.client.specs.Store.{fresh, counts, clientOf, sound, Sound, Sizes};
+ghost use Rattle.client.specs.Store.{fresh, counts, countsOf, clientOf, sound, Sound, Sizes};
 ghost use Rattle.client.specs.Answers.{opened, refusedCounts, answerOf};
 pub use line::Counts;
 
@@ -81,16 +81,28 @@ fn joined(a: Changed, items: [u32; 512], places: [u32; 64], pending: [u32; 64]) 
     }
 }
 
-// Question 2. Every test is made whatever the others find.
-fn is_sound<'a>(k: Counts, items: &'a [u32], places: &'a [u32], pending: &'a [u32]) -> bool
+// Question 2. Every test is made whatever the others find. The numbers come one by one: put together in a struct they would be stored
+// in parts and read back whole, which waits for the stores.
+fn is_sound<'a>(
+    n: u8,
+    line: u8,
+    made: u16,
+    taken: u16,
+    acked: u16,
+    inserts: u16,
+    len: u16,
+    items: &'a [u32],
+    places: &'a [u32],
+    pending: &'a [u32],
+) -> bool
     requires { ⌜ Sizes (now items) (now places) (now pending) ⌝ }
-    ensures answer { λ r. ⌜ r ≡ sound (clientOf k (now (items .entry)) (now (places .entry)) (now (pending .entry))) ⌝ }
-    ensures facts { λ r. ⌜ (r ≡ true → Sound (clientOf k (now (items .entry)) (now (places .entry)) (now (pending .entry)))) ⌝ }
+    ensures answer { λ r. ⌜ r ≡ sound (clientOf (countsOf n line made taken acked inserts len) (now (items .entry)) (now (places .entry)) (now (pending .entry))) ⌝ }
+    ensures facts { λ r. ⌜ (r ≡ true → Sound (clientOf (countsOf n line made taken acked inserts len) (now (items .entry)) (now (places .entry)) (now (pending .entry)))) ⌝ }
 {
-    let count = line::less(k.made, k.acked) as usize;
-    line::counts_sound(k.n, k.line, k.made, k.taken, k.acked, k.inserts, k.len)
-        & endpoint::zero_from(items, k.len as usize)
-        & pending::sound(places, pending, 0, count, k.n, k.line, true)
+    let count = line::less(made, acked) as usize;
+    line::counts_sound(n, line, made, taken, acked, inserts, len)
+        & endpoint::zero_from(items, len as usize)
+        & pending::sound(places, pending, 0, count, n, line, true)
 }
 
 impl Client {

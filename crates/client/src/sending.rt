@@ -21,7 +21,18 @@ pub fn send_lent<'a>(
     requires { ⌜ Sizes (now items) (now places) (now pending) ⌝ }
     ensures { λ r. ⌜ answered r (now (out .exit)) ≡ sentEdit (clientOf k (now (items .entry)) (now (places .entry)) (now (pending .entry))) line i (now (out .entry)) ⌝ }
 {
-    if crate::is_sound(k, items, places, pending) {
+    if crate::is_sound(
+        k.n,
+        k.line,
+        k.made,
+        k.taken,
+        k.acked,
+        k.inserts,
+        k.len,
+        items,
+        places,
+        pending,
+    ) {
         let refusal = line::sending::ask_sending(k.line, k.made, k.acked, line, i);
         let m = line::sending::message(k.line, k.taken, k.acked, places, pending, i);
         return endpoint::finish(refusal, m, out);
@@ -44,7 +55,18 @@ pub fn tell_lent<'a>(
     requires { ⌜ Sizes (now items) (now places) (now pending) ⌝ }
     ensures { λ r. ⌜ answered r (now (out .exit)) ≡ sentAck (clientOf k (now (items .entry)) (now (places .entry)) (now (pending .entry))) line (now (out .entry)) ⌝ }
 {
-    if crate::is_sound(k, items, places, pending) {
+    if crate::is_sound(
+        k.n,
+        k.line,
+        k.made,
+        k.taken,
+        k.acked,
+        k.inserts,
+        k.len,
+        items,
+        places,
+        pending,
+    ) {
         let refusal = line::sending::ask_line(k.line, line);
         return endpoint::finish(refusal, Message::Ack(k.line, 0, k.taken), out);
     }

@@ -10,7 +10,7 @@ use wire::Read;
 
 // Takes one message, in place.
 pub fn take_lent(
-    mut k: Counts,
+    k: Counts,
     items: &mut [u32],
     places: &mut [u32],
     pending: &mut [u32],
@@ -19,7 +19,18 @@ pub fn take_lent(
     requires { ⌜ Sizes (now items) (now places) (now pending) ⌝ }
     ensures { λ r. ⌜ answerOf r (now (items .exit)) (now (places .exit)) (now (pending .exit)) ≡ taken (clientOf k (now (items .entry)) (now (places .entry)) (now (pending .entry))) (now (bytes .entry)) ⌝ }
 {
-    if crate::is_sound(k, items, places, pending) {
+    if crate::is_sound(
+        k.n,
+        k.line,
+        k.made,
+        k.taken,
+        k.acked,
+        k.inserts,
+        k.len,
+        items,
+        places,
+        pending,
+    ) {
         let Read::Message(m) = wire::parse(bytes) else {
             return crate::refused(3, k);
         };
@@ -35,13 +46,19 @@ pub fn take_lent(
         let e = d.edit;
         line::taking::put(places, &later);
         line::taking::drop_items(pending, k.made, k.acked, d.acked);
-        k.len = ot::apply(items, k.len, e);
-        k.taken = d.taken;
-        k.acked = d.acked;
+        let len = ot::apply(items, k.len, e);
         return Changed {
             refusal: 0,
             passed: d.passed,
-            counts: k,
+            counts: Counts {
+                n: k.n,
+                line: k.line,
+                made: k.made,
+                taken: d.taken,
+                acked: d.acked,
+                inserts: k.inserts,
+                len,
+            },
         };
     }
     crate::refused(2, k)

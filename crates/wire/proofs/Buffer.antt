@@ -1,5 +1,5 @@
 -- The loop that copies a message into a buffer, and what it leaves there, in the words of `Written`.
-use Prim.Native.Nat.{ℕ, _+_, _≤_, _<_}
+use Prim.Native.Nat.{ℕ, _+_, _-_, _≤_, _<_}
 use native.Mathlib.Nat.{zero-add}
 use native.Mathlib.Numerals.{add-one}
 use native.Mathlib.Omega.{arith}
@@ -21,12 +21,17 @@ pub record Copied (b before : List ℕ) (n : ℕ) (out : List ℕ) (i : ℕ) : T
   pub held : n ≤ length b
   pub size : length out ≡ length before
 
-module _ {b before : List ℕ} {n : ℕ} where
-  pub copied-start : n ≤ length before → n ≤ length b → Copied b before n before 0
-  copied-start h k = record { to = omega arith; bytes = refl; room = h; held = k; size = refl }
+-- the loop goes on to a fixed number of turns, and copies no more than n: after i turns i bytes, or n where i is larger
+abbrev pub CopiedBy : List ℕ → List ℕ → ℕ → List ℕ → ℕ → Type 0
+CopiedBy b before n out i = Copied b before n out (n - (n - i))
 
-  pub copied-turn : {out : List ℕ} {i : ℕ} → i < n → Copied b before n out i → Copied b before n (set out i (getD b i 0)) (i + 1)
-  copied-turn {out} {i} h v =
+module _ {b before : List ℕ} {n : ℕ} where
+  pub copied-start : n ≤ length before → n ≤ length b → CopiedBy b before n before 0
+  copied-start h k =
+      subst (Copied b before n before) {x = 0} (omega arith) (record { to = omega arith; bytes = refl; room = h; held = k; size = refl })
+
+  copied-next : {out : List ℕ} {i : ℕ} → i < n → Copied b before n out i → Copied b before n (set out i (getD b i 0)) (i + 1)
+  copied-next {out} {i} h v =
       let e = paste-suc before 0 b i 0 (rw zero-add (omega arith)) (omega arith) in
       record {
         to = omega arith;
@@ -36,15 +41,26 @@ module _ {b before : List ℕ} {n : ℕ} where
         size = length-set out i (getD b i 0) ∙ v .size;
       }
 
+  pub copied-turn : {out : List ℕ} {i : ℕ} → i < n → CopiedBy b before n out i → CopiedBy b before n (set out i (getD b i 0)) (i + 1)
+  copied-turn {out} {i} h v =
+      subst
+      (Copied b before n (set out i (getD b i 0)))
+      {x = i + 1}
+      (omega arith)
+      (copied-next h (subst (Copied b before n out) {x = n - (n - i)} {y = i} (omega arith) v))
+
+  pub copied-pass : {out : List ℕ} {i : ℕ} → n ≤ i → CopiedBy b before n out i → CopiedBy b before n out (i + 1)
+  copied-pass {out} {i} h v = subst (Copied b before n out) {x = n - (n - i)} (omega arith) v
+
 module _ (m : Message) (b : List ℕ) {n : ℕ} (size : n ≡ length (bytesOf m)) (packed : take (length (bytesOf m)) b ≡ bytesOf m) where
   -- the bytes are all there
   pub enough : n ≤ length b
   enough = omega (arith, ap length packed, length-take (length (bytesOf m)) b)
 
-  pub copied-end : {before after : List ℕ} {i : ℕ} → n ≤ i → Copied b before n after i → Written m before n after
+  pub copied-end : {before after : List ℕ} {i : ℕ} → n ≤ i → CopiedBy b before n after i → Written m before n after
   copied-end {before} {after} {i} h v =
       let fits : length (bytesOf m) ≤ length before = omega arith in
-      let e : i ≡ length (bytesOf m) = omega arith in
+      let e : n - (n - i) ≡ length (bytesOf m) = omega arith in
       let all = subst (λ (j : ℕ). after ≡ take j b ++ drop j before) e (v .bytes) in
       record {
         size = simp (le-leb _ _ fits) size;

@@ -238,7 +238,8 @@ fn bytes(m: Message) -> [u8; 14]
     }
 }
 
-// The message at the front of the buffer, and its length; a buffer that is too short stays as it is, and the answer is 0.
+// The message at the front of the buffer, and its length; a buffer that is too short stays as it is, and the answer is 0. The loop has a
+// fixed length, so that the compiler lays it out and writes each byte where it goes: the packed bytes are never stored and read again.
 pub fn write(m: Message, out: &mut [u8]) -> usize
     ensures { λ n. ⌜ Written m (now (out .entry)) n (now (out .exit)) ⌝ }
 {
@@ -247,10 +248,11 @@ pub fn write(m: Message, out: &mut [u8]) -> usize
         return 0;
     }
     let b = bytes(m);
-    let mut i = 0;
-    while i < n {
+    for i in 0..14 {
+        if n <= i {
+            continue;
+        }
         out[i] = b[i];
-        i += 1;
     }
     n
 }

@@ -37,31 +37,24 @@ few c = edit-pending (whole (c .before)) (allowed c .0) (made (c .before)) (allo
 
 -- ---- the needs
 
--- src/editing.rt:74:9
 made-as-requires : tie.Need-made-as-requires
 made-as-requires c κs = search needs
 
--- src/editing.rt:75:9
 ask-requires : tie.Need-ask-requires
 ask-requires c κs = search needs
 
--- src/editing.rt:77:9
 refused-requires : tie.Need-refused-requires
 refused-requires c κs = search needs
 
--- src/editing.rt:77:9
 same-length : tie.Need-same-length
 same-length c = search needs
 
--- src/editing.rt:77:9
 same-length-2 : tie.Need-same-length-2
 same-length-2 c = search needs
 
--- src/editing.rt:77:9
 same-length-3 : tie.Need-same-length-3
 same-length-3 c = search needs
 
--- src/editing.rt:77:9
 returns : tie.Need-returns
 returns c =
     let a = c .before .before in
@@ -69,74 +62,58 @@ returns c =
     ∙ edit-not-allowed (whole a) (made a) (a .ask .result) (a .ask .ensures .1) (a .ask .ensures .0) (c .before .if1 .taken)
     ∙ ap (edited (whole a)) (a .before .before .before .before .made-as .ensures)
 
--- src/editing.rt:79:18
 sub-count : tie.Need-sub-count
 sub-count c = omega (arith, facts (whole (c .before .before)) (allowed (c .before) .0) .acked)
 
--- src/editing.rt:79:17
 cast-count : tie.Need-cast-count
 cast-count c = search needs
 
--- src/editing.rt:80:21
 place-of-requires : tie.Need-place-of-requires
 place-of-requires c κs = search needs
 
--- src/editing.rt:80:5
 mul-places : tie.Need-mul-places
 mul-places c = search needs
 
--- src/editing.rt:80:5
 slice-write-places : tie.Need-slice-write-places
 slice-write-places c = let n = few (c .before .before) in omega (arith, start (c .before .before .before) .pre .places-size)
 
--- src/editing.rt:81:22
 item-of-requires : tie.Need-item-of-requires
 item-of-requires c κs = search needs
 
--- src/editing.rt:81:5
 mul-pending : tie.Need-mul-pending
 mul-pending c = search needs
 
--- src/editing.rt:81:5
 slice-write-pending : tie.Need-slice-write-pending
 slice-write-pending c = let n = few (c .before .before .before) in omega (arith, start (c .before .before .before .before) .pre .pending-size)
 
--- src/editing.rt:82:5
 apply-requires : tie.Need-apply-requires
 apply-requires c κs =
     let t = c .before .before .before .before in
     let a = t .before in
     (start a .pre .items-size, edit-room (whole a) (allowed t .0) (made a) (allowed t .1))
 
--- src/editing.rt:83:14
-add-k : tie.Need-add-k
-add-k c =
+add-made : tie.Need-add-made
+add-made c =
     let t = c .before .before .before .before .before .before .before .before in
     omega (arith, edit-made (whole (t .before)) (allowed t .0) (made (t .before)) (allowed t .1))
 
--- src/editing.rt:84:29
 inserts-of-requires : tie.Need-inserts-of-requires
 inserts-of-requires c κs = search needs
 
--- src/editing.rt:84:17
-add-k-2 : tie.Need-add-k-2
-add-k-2 c =
+add-inserts : tie.Need-add-inserts
+add-inserts c =
     let t = c .before .before .before .before .before .before .before .before .before .before in
     omega (arith, edit-inserts (whole (t .before)) (allowed t .0) (made (t .before)) (allowed t .1), c .before .inserts-of .ensures)
 
--- src/editing.rt:64:1
 same-length-4 : tie.Need-same-length-4
 same-length-4 c = search needs
 
--- src/editing.rt:64:1
 same-length-5 : tie.Need-same-length-5
 same-length-5 c = search needs
 
--- src/editing.rt:64:1
 same-length-6 : tie.Need-same-length-6
 same-length-6 c = search needs
 
--- src/editing.rt:64:1
 returns-2 : tie.Need-returns-2
 returns-2 c =
     let t = c .before .before .before .before .before .before .before .before .before .before in
@@ -164,9 +141,9 @@ edit-lent-spec =
     mul-pending
     slice-write-pending
     apply-requires
-    add-k
+    add-made
     inserts-of-requires
-    add-k-2
+    add-inserts
     same-length-4
     same-length-5
     same-length-6
