@@ -13,21 +13,22 @@ pub mod taking;
 
 // All state of a client. Unused places are zero.
 pub struct Client {
-    // how many clients the sheet has, and which this one is
-    pub n: u8,
-    pub line: u8,
+    // the items; the first len are the list
+    pub items: [u32; Client::ITEMS],
+    // edits acked + 1 to made, in their present form: where each stands, position * 256 + priority, and its item
+    pub pending_places: [u32; Client::PENDING],
+    pub pending_items: [u32; Client::PENDING],
     // edits made here, edits taken, and how many of those made the server has acknowledged
     pub made: u16,
     pub taken: u16,
     pub acked: u16,
     // how many of those made are inserts
     pub inserts: u16,
-    // how many items the list has, and the items
+    // how many items the list has
     pub len: u16,
-    pub items: [u32; Client::ITEMS],
-    // edits acked + 1 to made, in their present form: where each stands, position * 256 + priority, and its item
-    pub pending_places: [u32; Client::PENDING],
-    pub pending_items: [u32; Client::PENDING],
+    // how many clients the sheet has, and which this one is
+    pub n: u8,
+    pub line: u8,
 }
 
 // What a call on lent arrays answers: 0 or the number of the question that said no, how many pending edits the edit was transformed

@@ -9,15 +9,15 @@ pub mod editing;
 pub mod sending;
 pub mod taking;
 
-// The numbers of a client.
+// The numbers of a client. The counts stand first: four of them fill eight bytes from the struct's start, which are stored and read as one.
 pub struct Counts {
-    pub n: u8,
-    pub line: u8,
     pub made: u16,
     pub taken: u16,
     pub acked: u16,
     pub inserts: u16,
     pub len: u16,
+    pub n: u8,
+    pub line: u8,
 }
 
 impl Counts {
