@@ -1,25 +1,25 @@
 -- Question 2 about a line: what the loops compute is the definition, and what the line is where the answer is yes.
 use Prim.Native.Nat.{ℕ, zero, suc, _+_, _-_, _≤_, _<_}
-use native.Mathlib.Nat.{le-of-suc-le-suc, not-suc-le-zero}
+use native.Mathlib.Nat.{le-of-suc-le-suc, not-suc-le-zero, zero-add}
 use native.Mathlib.Numerals.{add-one}
 use native.Mathlib.Omega.{arith}
 use mathlib.Core.Path.{_≡_, refl, ap, _∙_, sym}
-use mathlib.Core.Bool.{Bool, true, false, _&&_, and-true, and-assoc}
+use mathlib.Core.Bool.{Bool, true, false, _&&_, _||_, and-true, and-false, and-assoc}
 use mathlib.Core.List.{List, [], _∷_}
 use lib.Dec.{ltb, eqb}
 use lib.ListN.{length, getD, List·getD-eq-default}
 use lib.Seq.{ext-getD}
 use lib.Bits.{bitOr}
-use borrow.Author.Tests.{lt-leb, le-leb, eq-eqb, leb-true, eqb-true, ltb-true, ltb-false}
+use borrow.Author.Tests.{lt-leb, le-leb, lt-ltb, le-ltb, eq-eqb, leb-true, eqb-true, ltb-true, ltb-false}
 use Rattle.ot.specs.declared.Edit.{Edit}
 use Rattle.ot.specs.declared.Edit.the-variants.{Nothing}
 use Rattle.ot.specs.Laws.{within}
 use Rattle.model.specs.Limits.{maxPending}
 use Rattle.model.specs.Cross.{placed, allPlaced, priority, priorities}
 use Rattle.model.proofs.Tests.{both, and-left, and-right, hold, held}
-use Rattle.pending.specs.Slots.{placeOf, itemOf, editOf, tidy, editAt, editsFrom, stretch, filled, allFrom, tidyAt, emptyAt, rightAt, soundTests, soundSlots, Kept, Tested, Whole}
+use Rattle.pending.specs.Slots.{placeOf, itemOf, editOf, tidy, editAt, editsFrom, stretch, filled, allFrom, tidyAt, emptyAt, rightSlot, rightAt, keptSlot, keptAt, soundTests, soundSlots, Kept, Tested, Whole}
 use Rattle.pending.proofs.Zero.{or-zero}
-use Rattle.pending.proofs.Slot.{tidy-place, tidy-item, Ranks, slot-edit, tidy-edit}
+use Rattle.pending.proofs.Slot.{bool-ext, tidy-place, tidy-item, Ranks, slot-edit, tidy-edit}
 use Rattle.pending.proofs.Slots.{edits-length, edits-at, stretch-at, stretch-length, filled-length, filled-at, whole-at}
 
 -- ---- a test of each of some numbers
@@ -99,6 +99,85 @@ module _ (places items : List ℕ) (from : ℕ) where
   pub line-end : (i : ℕ) (flag : Bool) → maxPending ≤ i → flag ≡ (flag && leftEmpty i)
   line-end i flag h = all-end (emptyAt places items) (from + i) (from + maxPending) flag (omega arith)
 
+-- ---- one slot
+
+-- an empty slot is a right one
+empty-right : (good : ℕ → Bool) (place item : ℕ) → (eqb place 0 && eqb item 0) ≡ true → rightSlot good place item ≡ true
+unfolding editOf tidy within
+empty-right good place item h =
+    ap (λ (p : ℕ). rightSlot good p item) (eqb-true place 0 (and-left (eqb place 0) (eqb item 0) h))
+    ∙ ap (rightSlot good 0) (eqb-true item 0 (and-right (eqb place 0) (eqb item 0) h))
+
+-- what the code tests of a slot is the definition
+pub kept-is : (good : ℕ → Bool) (used : Bool) (place item : ℕ) (r : Bool) → r ≡ rightSlot good place item
+    → (r && (used || eqb (bitOr place item) 0)) ≡ keptSlot good used place item
+kept-is good true place item r e = and-true r ∙ e
+kept-is good false place item r e = ap (λ (b : Bool). r && b) (or-zero place item) ∙ go (eqb place 0 && eqb item 0) refl
+  where
+    go : (b : Bool) → (eqb place 0 && eqb item 0) ≡ b → (r && b) ≡ b
+    go true h = and-true r ∙ e ∙ empty-right good place item h
+    go false h = and-false r
+
+-- Slots that are looked at as in use or not, and empty ones behind them, are those in use and the empty ones behind those.
+module _ (good : ℕ → Bool) (ps xs : List ℕ) (from count slots : ℕ) (few : count ≤ slots) (most : slots ≤ maxPending) where
+  abbrev slotIs : ℕ → Bool → Bool
+  slotIs j used = keptSlot good used (getD ps (from + j) 0) (getD xs (from + j) 0)
+
+  abbrev byUse : Bool
+  byUse = allFrom (rightAt good ps xs) from count && allFrom (emptyAt ps xs) (from + count) (maxPending - count)
+
+  abbrev bySlots : Bool
+  bySlots = allFrom (keptAt good from count ps xs) 0 slots && allFrom (emptyAt ps xs) (from + slots) (maxPending - slots)
+
+  by-slots : bySlots ≡ true → byUse ≡ true
+  by-slots h =
+      let kept = all-each (keptAt good from count ps xs) 0 slots
+      (and-left (allFrom (keptAt good from count ps xs) 0 slots) (allFrom (emptyAt ps xs) (from + slots) (maxPending - slots)) h) in
+      let rest = all-each (emptyAt ps xs) (from + slots) (maxPending - slots)
+      (and-right (allFrom (keptAt good from count ps xs) 0 slots) (allFrom (emptyAt ps xs) (from + slots) (maxPending - slots)) h) in
+      let at : (j : ℕ) → j < slots → slotIs j (ltb j count) ≡ true = λ j k. ap (keptAt good from count ps xs) (sym (zero-add j)) ∙ kept j k in
+      both (allFrom (rightAt good ps xs) from count) (allFrom (emptyAt ps xs) (from + count) (maxPending - count))
+      (each-all (rightAt good ps xs) from count (λ i k. ap (slotIs i) (sym (lt-ltb i count k)) ∙ at i (omega arith)))
+      (each-all (emptyAt ps xs) (from + count) (maxPending - count) (λ i k. unused i k at rest (ltb (count + i) slots) refl))
+    where
+      unused : (i : ℕ) → i < maxPending - count → ((j : ℕ) → j < slots → slotIs j (ltb j count) ≡ true)
+          → ((j : ℕ) → j < maxPending - slots → emptyAt ps xs (from + slots + j) ≡ true)
+          → (b : Bool) → ltb (count + i) slots ≡ b → emptyAt ps xs (from + count + i) ≡ true
+      unused i k at rest true e =
+          let same : from + count + i ≡ from + (count + i) = omega arith in
+          ap (emptyAt ps xs) same ∙ ap (slotIs (count + i)) (sym (le-ltb (count + i) count (omega arith)))
+          ∙ at (count + i) (ltb-true (count + i) slots e)
+      unused i k at rest false e =
+          let past : slots ≤ count + i = ltb-false (count + i) slots e in
+          let same : from + count + i ≡ from + slots + (count + i - slots) = omega arith in
+          ap (emptyAt ps xs) same ∙ rest (count + i - slots) (omega arith)
+
+  by-use : byUse ≡ true → bySlots ≡ true
+  by-use h =
+      let right = all-each (rightAt good ps xs) from count
+      (and-left (allFrom (rightAt good ps xs) from count) (allFrom (emptyAt ps xs) (from + count) (maxPending - count)) h) in
+      let rest = all-each (emptyAt ps xs) (from + count) (maxPending - count)
+      (and-right (allFrom (rightAt good ps xs) from count) (allFrom (emptyAt ps xs) (from + count) (maxPending - count)) h) in
+      both (allFrom (keptAt good from count ps xs) 0 slots) (allFrom (emptyAt ps xs) (from + slots) (maxPending - slots))
+      (each-all (keptAt good from count ps xs) 0 slots
+      (λ j k. ap (keptAt good from count ps xs) (zero-add j) ∙ slot j k right rest (ltb j count) refl))
+      (each-all (emptyAt ps xs) (from + slots) (maxPending - slots)
+      (λ i k.
+      let same : from + slots + i ≡ from + count + (slots + i - count) = omega arith in
+      ap (emptyAt ps xs) same ∙ rest (slots + i - count) (omega arith)))
+    where
+      slot : (j : ℕ) → j < slots → ((i : ℕ) → i < count → rightAt good ps xs (from + i) ≡ true)
+          → ((i : ℕ) → i < maxPending - count → emptyAt ps xs (from + count + i) ≡ true)
+          → (b : Bool) → ltb j count ≡ b → slotIs j (ltb j count) ≡ true
+      slot j k right rest true e = ap (slotIs j) e ∙ right j (ltb-true j count e)
+      slot j k right rest false e =
+          let past : count ≤ j = ltb-false j count e in
+          let same : from + j ≡ from + count + (j - count) = omega arith in
+          ap (slotIs j) e ∙ ap (emptyAt ps xs) same ∙ rest (j - count) (omega arith)
+
+  pub kept-all : bySlots ≡ byUse
+  kept-all = bool-ext bySlots byUse by-slots by-use
+
 -- ---- the tests of a line
 
 swap : (a b c p q r : Bool) → ((a && (b && c)) && (p && (q && r))) ≡ ((a && p) && ((b && q) && (c && r)))
@@ -144,6 +223,19 @@ module _ (good : ℕ → Bool) (ps xs : List ℕ) where
         ∙ and-assoc (allPlaced es) (priorities good es && t) z
         ∙ ap (λ (b : Bool). allPlaced es && b) (and-assoc (priorities good es) t z ∙ ap (λ (b : Bool). priorities good es && (t && b)) (sym (and-true z)))
         ∙ ap (λ (b : Bool). b && (allPlaced es && (priorities good es && (t && (z && true))))) (sym (le-leb count maxPending h))
+
+    -- the two loops together, where the first goes on past the slots in use
+    pub sound-slots : (slots end : ℕ) (kept unused : Bool) → count ≤ slots → slots ≤ maxPending → end ≡ from + maxPending
+        → kept ≡ allFrom (keptAt good from count ps xs) 0 slots
+        → unused ≡ allFrom (emptyAt ps xs) (from + slots) (end - (from + slots)) → (kept && unused) ≡ soundSlots good from count ps xs
+    sound-slots slots end kept unused few most ee ek en =
+        let rest : end - (from + slots) ≡ maxPending - slots = omega arith in
+        let left : maxPending - count ≡ from + maxPending - (from + count) = omega arith in
+        ap (λ (b : Bool). b && unused) ek
+        ∙ ap (λ (b : Bool). allFrom (keptAt good from count ps xs) 0 slots && b) (en ∙ ap (allFrom (emptyAt ps xs) (from + slots)) rest)
+        ∙ kept-all good ps xs from count slots few most
+        ∙ sound-few (from + count) (from + maxPending) (allFrom (rightAt good ps xs) from count) (allFrom (emptyAt ps xs) (from + count) (maxPending - count))
+        (omega arith) refl refl (sym (all-count (rightAt good ps xs) from (from + count) count refl)) (ap (allFrom (emptyAt ps xs) (from + count)) left)
 
     -- the one loop of a line without pending edits
     pub sound-none : (unused : Bool) → count ≡ 0 → unused ≡ allFrom (emptyAt ps xs) from maxPending → unused ≡ soundSlots good from count ps xs

@@ -4,7 +4,7 @@ use Prim.Native.Nat.{ℕ, zero, suc, _+_, _-_, _*_, _/_, _%_, _≤_}
 use mathlib.Core.Path.{_≡_}
 use mathlib.Core.Bool.{Bool, true, false, _&&_, cond}
 use mathlib.Core.List.{List, [], _∷_, map}
-use lib.Dec.{leb, eqb}
+use lib.Dec.{leb, ltb, eqb}
 use lib.ListN.{length, getD, take, drop}
 use Rattle.ot.specs.declared.Edit.{Edit}
 use Rattle.ot.specs.declared.Edit.the-variants.{Nothing, Delete, Insert}
@@ -85,6 +85,13 @@ rightSlot good place item = placed (editOf place item) && (priority good (editOf
 
 abbrev pub rightAt : (ℕ → Bool) → List ℕ → List ℕ → ℕ → Bool
 rightAt good places items i = rightSlot good (getD places i 0) (getD items i 0)
+
+-- A slot of a line, and slot j of the line at from, of which the first count are in use.
+abbrev pub keptSlot : (ℕ → Bool) → Bool → ℕ → ℕ → Bool
+keptSlot good used place item = cond used (rightSlot good place item) (eqb place 0 && eqb item 0)
+
+abbrev pub keptAt : (ℕ → Bool) → ℕ → ℕ → List ℕ → List ℕ → ℕ → Bool
+keptAt good from count places items j = keptSlot good (ltb j count) (getD places (from + j) 0) (getD items (from + j) 0)
 
 -- Question 2 about the line at from: kept are exactly count edits, at most 64, their positions and priorities right; unused
 -- slots are zero.

@@ -8,7 +8,7 @@ ghost use Rattle.model.specs.Limits.{maxItems, maxPending};
 ghost use Rattle.model.specs.Cross.{over, placed};
 ghost use Rattle.ot.specs.Edit.{positionOf};
 ghost use Rattle.ot.specs.Items.{padded};
-ghost use Rattle.pending.specs.Slots.{placeOf, itemOf, editOf, editAt, editsFrom, filled, rightPriority, rightSlot, rightAt, allFrom, emptyAt, crossed, Ready, Whole, Tested};
+ghost use Rattle.pending.specs.Slots.{placeOf, itemOf, editOf, editAt, editsFrom, filled, rightPriority, rightSlot, keptSlot, keptAt, allFrom, emptyAt, crossed, Ready, Whole, Tested};
 use ot::Edit;
 
 // What an arriving edit leaves: its own form after the pending edits, whether the forms of these after it have positions that a message
@@ -87,24 +87,33 @@ fn is_right(place: u32, item: u32, n: u8, line: u8, own: bool) -> bool
     position & item_right & ((r == 0) | ((own & mine) | (!own & others)))
 }
 
-// The slots in use, from up to but not at to: no early return and no branch, so that the compiler makes the loop wide.
-fn used_right(
+// A slot of a line, in use or not. An empty slot is a right one as well, so that the first test serves both.
+fn is_kept(used: bool, place: u32, item: u32, n: u8, line: u8, own: bool) -> bool
+    ensures { λ r. ⌜ r ≡ keptSlot (rightPriority n line own) used place item ⌝ }
+{
+    is_right(place, item, n, line, own) & (used | ((place | item) == 0))
+}
+
+// The first slots of a line, of which count are in use: no early return and no branch, so that the compiler makes the loop wide.
+fn slots_kept(
     places: &[u32],
     items: &[u32],
     from: usize,
-    to: usize,
+    slots: u32,
+    count: u32,
     n: u8,
     line: u8,
     own: bool,
 ) -> bool
-    requires { ⌜ (from ≤ to) × ((to ≤ length (now places)) × (to ≤ length (now items))) ⌝ }
-    ensures { λ r. ⌜ r ≡ allFrom (rightAt (rightPriority n line own) (now (places .entry)) (now (items .entry))) from (to - from) ⌝ }
+    requires { ⌜ (from + slots ≤ length (now places)) × (from + slots ≤ length (now items)) ⌝ }
+    ensures { λ r. ⌜ r ≡ allFrom (keptAt (rightPriority n line own) from count (now (places .entry)) (now (items .entry))) 0 slots ⌝ }
 {
-    let mut right = true;
-    for i in from..to {
-        right = right & is_right(places[i], items[i], n, line, own);
+    let mut kept = true;
+    for j in 0..slots {
+        let i = from + j as usize;
+        kept = kept & is_kept(j < count, places[i], items[i], n, line, own);
     }
-    right
+    kept
 }
 
 // Nothing but zeros: one number gathers the bits of all, and is tested at the end.
@@ -132,7 +141,8 @@ fn line_empty(places: &[u32], items: &[u32], from: usize) -> bool
     all == 0
 }
 
-// Question 2 about the line whose first slot is from: the pending edits of a client (own), or those that the server keeps for a line.
+// Question 2 about the line whose first slot is from: the pending edits of a client (own), or those that the server keeps for a line. The
+// slots are looked at by eights, those that hold an edit and then the rest, so that no wide loop leaves some over for a slow one.
 pub fn sound<'a>(
     places: &'a [u32],
     items: &'a [u32],
@@ -151,9 +161,9 @@ pub fn sound<'a>(
     if count == 0 {
         return line_empty(places, items, from);
     }
-    let used = from + count;
-    used_right(places, items, from, used, n, line, own)
-        & unused_empty(places, items, used, from + 64)
+    let slots = (count + 7) / 8 * 8;
+    slots_kept(places, items, from, slots as u32, count as u32, n, line, own)
+        & unused_empty(places, items, from + slots, from + 64)
 }
 
 // ---- the line after an acknowledgement, and after an edit that arrives
