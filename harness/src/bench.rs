@@ -15,7 +15,7 @@ use crate::plot;
 use crate::protocol::*;
 use crate::rng::Rng;
 use crate::scripts;
-use crate::subject::{Subject, SCRIPT_OUT};
+use crate::subject::{Plain, Subject, SCRIPT_OUT};
 use std::fmt::Write;
 use std::path::Path;
 
@@ -25,8 +25,10 @@ const TURNS: usize = 31;
 struct Task {
     name: String,
     work: Box<dyn Fn(&dyn Subject, u32)>,
-    /// Repeats in a turn.
+    /// Repeats in a turn, beside the one that is taken off.
     times: u32,
+    /// Calls in a repeat.
+    calls: u32,
 }
 
 /// A call list whose last call is timed; the answer has to be the one named.
@@ -38,18 +40,30 @@ fn call_task(name: String, mut list: List, call: Call, refusal: u8) -> Task {
         assert_eq!(subject.repeat(&bytes, times, &mut out), ANSWER);
         assert_eq!(out[0], refusal, "{}", subject.name());
     };
-    Task { name, work: Box::new(work), times: 4_000 }
+    Task { name, work: Box::new(work), times: 10_000, calls: 1 }
+}
+
+/// The same where a repeat is a burst of edits, all of which have to be accepted.
+fn burst_task(name: String, list: List, call: Call) -> Task {
+    let mut whole = list.clone();
+    whole.calls.extend((0..BURST).map(|_| call));
+    let mut out = vec![0; whole.output_length()];
+    Plain.run(&whole.bytes(), &mut out);
+    let answers = &out[out.len() - BURST as usize * ANSWER..];
+    assert!(answers.chunks(ANSWER).all(|answer| answer[0] == 0), "{name}");
+    Task { times: 2_000, calls: BURST, ..call_task(name, list, call, 0) }
 }
 
 fn tasks() -> Vec<Task> {
     let mut tasks = Vec::new();
-    for length in [128, 511] {
-        for kept in [0, 8, 63] {
+    // a burst ends at the limits: 64 pending, 512 items
+    for length in [128, 504] {
+        for kept in [0, 8, 56] {
             let list = client_at_limit(length, kept);
-            tasks.push(call_task(format!("client insert, {kept} pending, {length} items"), list, Call::insert(1, length / 2, 5), 0));
+            tasks.push(burst_task(format!("client insert, from {kept} pending, {length} items"), list, Call::insert(1, length / 2, 5)));
         }
     }
-    tasks.push(call_task("client delete, 8 pending, 512 items".to_string(), client_at_limit(512, 8), Call::delete(1, 200), 0));
+    tasks.push(burst_task("client delete, from 8 pending, 512 items".to_string(), client_at_limit(512, 8), Call::delete(1, 200)));
     for length in [128, 511] {
         for kept in [0, 8, 64] {
             tasks.push(call_task(
@@ -101,14 +115,20 @@ fn script_task() -> Task {
             assert!(subject.script(std::hint::black_box(&script), &mut out) > 0);
         }
     };
-    Task { name: "run program, 65,536 bytes".to_string(), work: Box::new(work), times: 1 }
+    Task { name: "run program, 65,536 bytes".to_string(), work: Box::new(work), times: 2, calls: 1 }
 }
 
-/// Nanoseconds for one time.
-fn time(task: &Task, subject: &dyn Subject) -> f64 {
+/// Nanoseconds for so many repeats.
+fn spent(task: &Task, subject: &dyn Subject, times: u32) -> f64 {
     let start = clock();
-    (task.work)(subject, task.times);
-    (clock() - start) / task.times as f64
+    (task.work)(subject, times);
+    clock() - start
+}
+
+/// Nanoseconds for one call. One repeat is timed by itself and taken off, and with it all that comes before the repeats.
+fn time(task: &Task, subject: &dyn Subject) -> f64 {
+    let one = spent(task, subject, 1);
+    (spent(task, subject, 1 + task.times) - one) / (task.times * task.calls) as f64
 }
 
 fn middle(values: &mut [f64]) -> (f64, f64, f64) {
@@ -272,7 +292,8 @@ pub fn run(folder: &Path, subjects: &[&dyn Subject]) -> bool {
     let growth = growth_table(&rows, subjects);
     let names: Vec<&str> = subjects.iter().map(|subject| subject.name()).collect();
     let text = format!(
-        "## Single calls\n\nAn edit and a taking include a fresh copy of the end. Processor time, middle of {TURNS} turns, lowest to highest in brackets.\n\n{calls}\n\
+        "## Single calls\n\nEdits are made {BURST} in a row on a fresh copy of the end, and a taking includes a fresh copy. Processor time of one call,\n\
+         middle of {TURNS} turns, lowest to highest in brackets.\n\n{calls}\n\
          ## As edits grow\n\nA whole sheet of eight, all editing at once: every edit is made, sent, taken by the server, sent on and taken by\n\
          seven clients, with acknowledgements both ways. Middle of 5 turns.\n\n{growth}\n![Bytes kept and time per edit](growth.svg)\n"
     );

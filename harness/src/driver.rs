@@ -207,8 +207,8 @@ impl<R: Rules> World<R> {
             (TELL, _) => sent_again(times, || black_box(client).tell::<R>(last.line, black_box(&mut *lent))),
             (TAKE, 0) => changed_again(&self.server, times, |server| server.take::<R>(message)),
             (TAKE, _) => changed_again(client, times, |client| client.take::<R>(message)),
-            (INSERT, _) => changed_again(client, times, |client| client.insert::<R>(last.position, last.value)),
-            (_, _) => changed_again(client, times, |client| client.delete::<R>(last.position)),
+            (INSERT, _) => edited_again(client, times, |client| client.insert::<R>(last.position, last.value)),
+            (_, _) => edited_again(client, times, |client| client.delete::<R>(last.position)),
         }
     }
 
@@ -237,6 +237,17 @@ fn changed_again<T: Clone>(end: &T, times: u32, call: impl Fn(&mut T) -> Answer)
     }
     let [high, low] = done.passed.to_be_bytes();
     [done.refusal, 0, high, low]
+}
+
+/// The same, with as many calls on each fresh copy as a burst has; the answer is that of the first.
+fn edited_again<T: Clone>(end: &T, times: u32, call: impl Fn(&mut T) -> Answer) -> [u8; ANSWER] {
+    changed_again(end, times, |fresh| {
+        let done = call(fresh);
+        for _ in 1..BURST {
+            black_box(call(black_box(fresh)));
+        }
+        done
+    })
 }
 
 fn sent_again(times: u32, mut call: impl FnMut() -> Sent) -> [u8; ANSWER] {

@@ -12,6 +12,8 @@ pub const NO_CALL: u8 = 255;
 pub const CLIENT_DUMP: usize = 12 + PENDING * 8 + ITEMS * 4;
 pub const SERVER_DUMP: usize = 6 + LINES * (8 + PENDING * 8) + ITEMS * 4;
 pub const SHOWN: usize = 1 + SLOT;
+/// How often a repeat makes an edit on one fresh copy of its end.
+pub const BURST: u32 = 8;
 
 pub const OPEN: u8 = 0;
 pub const INSERT: u8 = 1;

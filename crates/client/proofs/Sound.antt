@@ -1,13 +1,14 @@
 -- The struct's question 2: what the code tests is the definition, and what a sound struct is.
 use Prim.Native.Nat.{ℕ, _≤_}
 use native.Mathlib.Omega.{arith}
-use mathlib.Core.Path.{_≡_, ap, _∙_, sym}
+use mathlib.Core.Path.{_≡_, ap, _∙_, sym, subst}
 use mathlib.Core.Bool.{Bool, true, _&&_}
 use mathlib.Core.List.{List}
 use lib.Dec.{eqb}
 use lib.ListN.{length, take, drop, length-take}
+use lib.Seq.{take-all, length-take-le}
 use borrow.Author.Tests.{leb-true, le-leb, eq-eqb}
-use Rattle.model.specs.Limits.{maxItems}
+use Rattle.model.specs.Limits.{maxItems, maxPending}
 use Rattle.model.specs.Questions.{every}
 use Rattle.model.specs.Client.{clientTests, soundClient}
 use Rattle.model.proofs.Tests.{both, and-left, and-right, hold, held}
@@ -18,9 +19,38 @@ use Rattle.pending.proofs.Tests.{sound-kept}
 use Rattle.endpoint.specs.Items.{stored, allZero}
 use Rattle.endpoint.proofs.Bools.{bool-ext}
 use Rattle.endpoint.proofs.Items.{stored-of}
+use Rattle.line.specs.declared.Counts.{Counts}
 use Rattle.line.specs.Numbers.{countTests}
 use Rattle.client.specs.declared.Client.{Client}
-use Rattle.client.specs.Store.{pendingCount, view, store, soundTests, sound, Sound, Sizes}
+use Rattle.client.specs.Store.{clientOf, pendingCount, view, store, soundTests, sound, Sound, Sizes}
+
+-- Arrays that are lent as their first places, and these are all that they have.
+module _ (k : Counts) {items places pending : List ℕ} (z : Sizes items places pending) where
+  abbrev lent : Client
+  lent = clientOf k (take maxItems items) (take maxPending places) (take maxPending pending)
+
+  abbrev whole : Client
+  whole = clientOf k items places pending
+
+  all-lent : lent ≡ whole
+  all-lent =
+      ap (λ (l : List ℕ). clientOf k l (take maxPending places) (take maxPending pending)) (take-all maxItems items (omega (arith, z .items-size)))
+      ∙ ap (λ (l : List ℕ). clientOf k items l (take maxPending pending)) (take-all maxPending places (omega (arith, z .places-size)))
+      ∙ ap (clientOf k items places) (take-all maxPending pending (omega (arith, z .pending-size)))
+
+  pub lent-answer : (r : Bool) → r ≡ sound lent → r ≡ sound whole
+  lent-answer r e = e ∙ ap sound all-lent
+
+  pub lent-facts : (r : Bool) → (r ≡ true → Sound lent) → r ≡ true → Sound whole
+  lent-facts r f t = subst Sound all-lent (f t)
+
+  pub lent-sizes : Sizes (take maxItems items) (take maxPending places) (take maxPending pending)
+  lent-sizes =
+      record {
+        items-size = length-take-le maxItems items (omega (arith, z .items-size));
+        places-size = length-take-le maxPending places (omega (arith, z .places-size));
+        pending-size = length-take-le maxPending pending (omega (arith, z .pending-size));
+      }
 
 -- the struct with other lists
 abbrev pub holding : Client → ℕ → List ℕ → List ℕ → List ℕ → Client

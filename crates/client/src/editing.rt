@@ -31,9 +31,9 @@ fn ask<'a>(k: Counts, items: &'a [u32], places: &'a [u32], pending: &'a [u32], e
         k.acked,
         k.inserts,
         k.len,
-        items,
-        places,
-        pending,
+        &items[..Client::ITEMS],
+        &places[..Client::PENDING],
+        &pending[..Client::PENDING],
     ) {
         return line::editing::ask_editing(k.made, k.acked, k.inserts, k.len, e);
     }

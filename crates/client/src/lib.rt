@@ -82,8 +82,9 @@ fn joined(a: Changed, items: [u32; 512], places: [u32; 64], pending: [u32; 64]) 
     }
 }
 
-// Question 2. Every test is made whatever the others find. The numbers come one by one: put together in a struct they would be stored
-// in parts and read back whole, which waits for the stores.
+// Question 2. Every test is made whatever the others find. The numbers come one by one, and the arrays as their first places, which are
+// all of them: a struct of numbers, or a slice handed on as it came, would be stored in parts and read back whole, which waits for the
+// stores.
 fn is_sound<'a>(
     n: u8,
     line: u8,

@@ -29,9 +29,9 @@ pub fn send_lent<'a>(
         k.acked,
         k.inserts,
         k.len,
-        items,
-        places,
-        pending,
+        &items[..Client::ITEMS],
+        &places[..Client::PENDING],
+        &pending[..Client::PENDING],
     ) {
         let refusal = line::sending::ask_sending(k.line, k.made, k.acked, line, i);
         let m = line::sending::message(k.line, k.taken, k.acked, places, pending, i);
@@ -63,9 +63,9 @@ pub fn tell_lent<'a>(
         k.acked,
         k.inserts,
         k.len,
-        items,
-        places,
-        pending,
+        &items[..Client::ITEMS],
+        &places[..Client::PENDING],
+        &pending[..Client::PENDING],
     ) {
         let refusal = line::sending::ask_line(k.line, line);
         return endpoint::finish(refusal, Message::Ack(k.line, 0, k.taken), out);

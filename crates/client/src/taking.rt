@@ -27,9 +27,9 @@ pub fn take_lent(
         k.acked,
         k.inserts,
         k.len,
-        items,
-        places,
-        pending,
+        &items[..Client::ITEMS],
+        &places[..Client::PENDING],
+        &pending[..Client::PENDING],
     ) {
         let Read::Message(m) = wire::parse(bytes) else {
             return crate::refused(3, k);

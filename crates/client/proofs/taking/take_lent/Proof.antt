@@ -1,5 +1,6 @@
 use borrow.Author.Needs.{needs}
-use mathlib.Core.Bool.{false}
+use native.Mathlib.Omega.{arith}
+use mathlib.Core.Bool.{true, false}
 use mathlib.Core.Path.{_≡_, refl, ap, sym, _∙_}
 use mathlib.Core.List.{List}
 use Prim.Native.Nat.{ℕ}
@@ -10,6 +11,7 @@ use Rattle.wire.specs.Bytes.{parsed}
 use Rattle.wire.proofs.Codec.{codec}
 use Rattle.model.specs.Client.{takeClient}
 use Rattle.model.specs.Limits.{maxPending}
+use Rattle.client.proofs.Sound.{lent-answer, lent-facts, lent-sizes}
 use Rattle.client.specs.declared.Client.{Client}
 use Rattle.client.specs.declared.Answer.{Answer}
 use Rattle.client.specs.declared.Changed.{Changed}
@@ -29,6 +31,13 @@ start c = c .before .before .before .before .before .before .before .before
 abbrev whole : tie.After-is-sound → Client
 whole c = clientOf (start c .args .k) (start c .args .items .now) (start c .args .places .now) (start c .args .pending .now)
 
+-- question 2 is asked of the arrays' first places, which are all
+asked : (c : tie.After-is-sound) → c .is-sound .result ≡ store.sound (whole c)
+asked c = lent-answer (start c .args .k) (start c .pre) (c .is-sound .result) (c .is-sound .ensures .0)
+
+found-sound : (c : tie.After-is-sound) → c .is-sound .result ≡ true → Sound (whole c)
+found-sound c = lent-facts (start c .args .k) (start c .pre) (c .is-sound .result) (c .is-sound .ensures .1)
+
 -- an answer about them as they came
 abbrev untouched : tie.After-is-sound → Changed → Answer
 untouched c r = answerOf r (start c .args .items .now) (start c .args .places .now) (start c .args .pending .now)
@@ -36,10 +45,10 @@ untouched c r = answerOf r (start c .args .items .now) (start c .args .places .n
 -- ---- question 2 said no, or yes
 
 not-sound : (c : tie.Else1) → store.sound (whole (c .before)) ≡ false
-not-sound c = sym (c .before .is-sound .ensures .0) ∙ c .if1 .left
+not-sound c = sym (asked (c .before)) ∙ c .if1 .left
 
 sound : (c : tie.Then1) → Sound (whole (c .before))
-sound c = c .before .is-sound .ensures .1 (c .if1 .taken)
+sound c = found-sound (c .before) (c .if1 .taken)
 
 -- ---- and a message was read
 
@@ -80,8 +89,26 @@ kept-length c =
 -- ---- the needs
 
 -- src/taking.rt:214:8
+slice-reshare-prefix-is-sound : tie.Need-slice-reshare-prefix-is-sound
+slice-reshare-prefix-is-sound c = omega (arith, c .before .before .before .before .pre .items-size)
+
+slice-reshare-prefix-is-sound-2 : tie.Need-slice-reshare-prefix-is-sound-2
+slice-reshare-prefix-is-sound-2 c = omega (arith, c .before .before .before .before .before .pre .places-size)
+
+slice-reshare-prefix-is-sound-3 : tie.Need-slice-reshare-prefix-is-sound-3
+slice-reshare-prefix-is-sound-3 c = omega (arith, c .before .before .before .before .before .before .pre .pending-size)
+
+slice-aggregate-is-sound : tie.Need-slice-aggregate-is-sound
+slice-aggregate-is-sound c = let s = c .before .before .before .before .before in sym (lent-sizes (s .args .k) (s .pre) .items-size)
+
+slice-aggregate-is-sound-2 : tie.Need-slice-aggregate-is-sound-2
+slice-aggregate-is-sound-2 c = let s = c .before .before .before .before .before .before in sym (lent-sizes (s .args .k) (s .pre) .places-size)
+
+slice-aggregate-is-sound-3 : tie.Need-slice-aggregate-is-sound-3
+slice-aggregate-is-sound-3 c = let s = c .before .before .before .before .before .before .before in sym (lent-sizes (s .args .k) (s .pre) .pending-size)
+
 is-sound-requires : tie.Need-is-sound-requires
-is-sound-requires c κs = search needs
+is-sound-requires c κs = let s = c .before .before .before .before .before .before .before in lent-sizes (s .args .k) (s .pre)
 
 -- src/taking.rt:215:32
 parse-requires : tie.Need-parse-requires
@@ -216,6 +243,12 @@ pub take-lent-spec : {M : Type 1} → statement M
 take-lent-spec =
     tie.close
     (tie.spec
+    slice-reshare-prefix-is-sound
+    slice-aggregate-is-sound
+    slice-reshare-prefix-is-sound-2
+    slice-aggregate-is-sound-2
+    slice-reshare-prefix-is-sound-3
+    slice-aggregate-is-sound-3
     is-sound-requires
     parse-requires
     enum-known-m
