@@ -2,11 +2,12 @@
 ghost use mathlib.Core.Path.{_≡_};
 ghost use mathlib.Core.Bool.{cond};
 ghost use Prim.Native.Nat.{_+_, _*_, _≤_};
-ghost use mathlib.Core.List.{[]};
 ghost use lib.ListN.{length};
+ghost use Rattle.turns.specs.Turn.{Turned, front, slotIn, lengthIn, clientSize, clientAfter, clientTurn};
 ghost use Rattle.driver.specs.Answers.{answers, Wrote};
 ghost use Rattle.driver.specs.Drive.{start, run, afterAll, callsOf, Drove};
 use calls::call;
+use calls::call::Call;
 use calls::header;
 use client::Client;
 use server::Server;
@@ -33,24 +34,22 @@ fn further(quiet: bool, at: usize, size: usize) -> usize
     if quiet { at } else { at + size }
 }
 
-// Ends that are all zeros, as refused openings return them, and empty slots.
-fn start(none: &[u32]) -> World
-    requires { ⌜ now none ≡ [] ⌝ }
-    ensures { λ r. ⌜ r ≡ start ⌝ }
+// Ends that are all zeros, as refused openings return them.
+fn no_server() -> Server
+    ensures { λ r. ⌜ r ≡ start .server ⌝ }
 {
-    let s = Server::open(0, none);
-    let server = s.server;
-    let c = Client::open(0, 0, none);
-    let client = c.client;
-    let clients = [client; 8];
-    let slots = [170u8; 1280];
-    let lengths = [0u8; 64];
-    World {
-        server,
-        clients,
-        slots,
-        lengths,
-    }
+    let none = [0u32; 1];
+    let a = Server::open(0, &none[..0]);
+    a.server
+}
+
+fn no_clients() -> [Client; 8]
+    ensures { λ r. ⌜ r ≡ start .clients ⌝ }
+{
+    let none = [0u32; 1];
+    let a = Client::open(0, 0, &none[..0]);
+    let client = a.client;
+    [client; 8]
 }
 
 fn leave(
@@ -73,22 +72,37 @@ fn leave(
     }
 }
 
-// One call after another, `count` of them. What a call changes comes back from its turn; the rest stays.
-fn drive(
-    w: World,
-    calls: &[u8],
-    count: usize,
+// A call at a client, which hands the client back.
+fn at_client(
+    c: Client,
+    k: Call,
     initial: &[u32],
-    quiet: bool,
+    slots: &mut [u8],
+    lengths: &mut [u8],
     out: &mut [u8],
-) -> Driven
-    requires { ⌜ 16 * count ≤ length (now calls) ⌝ }
-    ensures { λ r. ⌜ Drove quiet (run quiet (now (initial .entry)) (length (now (out .entry))) w (callsOf count (now (calls .entry)))) (now (out .entry)) (now (out .exit)) r ⌝ }
+    at: usize,
+) -> Client
+    requires { ⌜ (length (now slots) ≡ 1280) × (length (now lengths) ≡ 64) × (at + clientSize k ≤ length (now out)) ⌝ }
+    ensures end { λ r. ⌜ r ≡ clientAfter k (front (k .number) (now (initial .entry))) (lengthIn k (now (lengths .entry))) (slotIn k (now (slots .entry))) c ⌝ }
+    ensures turn { λ _. ⌜ Turned k (clientTurn k (front (k .number) (now (initial .entry))) (lengthIn k (now (lengths .entry))) (slotIn k (now (slots .entry))) c) at (clientSize k) (now (slots .entry)) (now (slots .exit)) (now (lengths .entry)) (now (lengths .exit)) (now (out .entry)) (now (out .exit)) ⌝ }
 {
-    let mut server = w.server;
-    let mut clients = w.clients;
-    let mut slots = w.slots;
-    let mut lengths = w.lengths;
+    if call::sends(k) {
+        turns::send_client(c, k, slots, lengths, out, at);
+        return c;
+    }
+    turns::change_client(c, k, initial, slots, lengths, out, at)
+}
+
+// From the start, one call after another, `count` of them. A sending at the server does not hand it back: it is the largest end, and its
+// sendings are most of the calls.
+fn drive(calls: &[u8], count: usize, initial: &[u32], quiet: bool, out: &mut [u8]) -> Driven
+    requires { ⌜ 16 * count ≤ length (now calls) ⌝ }
+    ensures { λ r. ⌜ Drove quiet (run quiet (now (initial .entry)) (length (now (out .entry))) start (callsOf count (now (calls .entry)))) (now (out .entry)) (now (out .exit)) r ⌝ }
+{
+    let mut server = no_server();
+    let mut clients = no_clients();
+    let mut slots = [170u8; 1280];
+    let mut lengths = [0u8; 64];
     let mut at = 0;
     let mut i = 0;
     while i < count {
@@ -111,11 +125,7 @@ fn drive(
         }
         if place <= 8 {
             let c = clients[place - 1];
-            if call::sends(k) {
-                turns::send_client(c, k, &mut slots, &mut lengths, out, here);
-                continue;
-            }
-            let c = turns::change_client(c, k, initial, &slots, &lengths, out, here);
+            let c = at_client(c, k, initial, &mut slots, &mut lengths, out, here);
             clients[place - 1] = c;
             continue;
         }
@@ -130,8 +140,7 @@ pub fn drive_quietly(calls: &[u8], count: usize, initial: &[u32]) -> World
     ensures { λ r. ⌜ r ≡ afterAll (now (initial .entry)) start (callsOf count (now (calls .entry))) ⌝ }
 {
     let mut unread = [0u8; 6218];
-    let w = start(&initial[..0]);
-    let d = drive(w, calls, count, initial, true, &mut unread);
+    let d = drive(calls, count, initial, true, &mut unread);
     d.world
 }
 
@@ -144,8 +153,7 @@ pub fn run(calls: &[u8], out: &mut [u8]) -> usize
         let from = 2 + 4 * c;
         let count = (calls.len() - from) / 16;
         let items = header::items_in(calls, c);
-        let w = start(&items[..0]);
-        let d = drive(w, &calls[from..], count, &items[..c], false, out);
+        let d = drive(&calls[from..], count, &items[..c], false, out);
         return d.written;
     }
     0
