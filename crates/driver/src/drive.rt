@@ -3,9 +3,9 @@ ghost use mathlib.Core.Path.{_≡_};
 ghost use mathlib.Core.Bool.{cond};
 ghost use Prim.Native.Nat.{_+_, _*_, _≤_};
 ghost use lib.ListN.{length};
-ghost use Rattle.turns.specs.Turn.{Turned, front, slotIn, lengthIn, clientSize, clientAfter, clientTurn};
+ghost use Rattle.turns.specs.Turn.{clientSize};
 ghost use Rattle.driver.specs.Answers.{answers, Wrote};
-ghost use Rattle.driver.specs.Drive.{start, run, afterAll, callsOf, Drove};
+ghost use Rattle.driver.specs.Drive.{start, AtClient, run, afterAll, callsOf, Drove};
 use calls::call;
 use calls::call::Call;
 use calls::header;
@@ -83,8 +83,7 @@ fn at_client(
     at: usize,
 ) -> Client
     requires { ⌜ (length (now slots) ≡ 1280) × (length (now lengths) ≡ 64) × (at + clientSize k ≤ length (now out)) ⌝ }
-    ensures end { λ r. ⌜ r ≡ clientAfter k (front (k .number) (now (initial .entry))) (lengthIn k (now (lengths .entry))) (slotIn k (now (slots .entry))) c ⌝ }
-    ensures turn { λ _. ⌜ Turned k (clientTurn k (front (k .number) (now (initial .entry))) (lengthIn k (now (lengths .entry))) (slotIn k (now (slots .entry))) c) at (clientSize k) (now (slots .entry)) (now (slots .exit)) (now (lengths .entry)) (now (lengths .exit)) (now (out .entry)) (now (out .exit)) ⌝ }
+    ensures { λ r. ⌜ AtClient k (now (initial .entry)) c at (now (slots .entry)) (now (slots .exit)) (now (lengths .entry)) (now (lengths .exit)) (now (out .entry)) (now (out .exit)) r ⌝ }
 {
     if call::sends(k) {
         turns::send_client(c, k, slots, lengths, out, at);

@@ -32,7 +32,7 @@ same-length-3 c = search needs
 
 -- src/drive.rt:91:9
 returns : tie.Need-returns
-returns c = let t = sym (c .before .before .before .before .before .before .before .before .before .before .before .sends .ensures) ∙ c .before .before .before .before .before .before .before .before .before .before .if1 .taken in (simp t, client-sent (front (c .before .before .before .before .before .before .before .before .before .before .before .before .before .before .before .before .args .k .number) (c .before .before .before .before .before .before .before .before .before .before .before .before .before .before .before .before .args .initial .now)) (c .before .before .before .before .before .before .before .before .before .before .before .before .before .before .before .before .args .c) t (c .before .before .before .before .before .before .send-client .ensures))
+returns c = let t = sym (c .before .before .before .before .before .before .before .before .before .before .before .sends .ensures) ∙ c .before .before .before .before .before .before .before .before .before .before .if1 .taken in record { end = simp t; turn = client-sent (front (c .before .before .before .before .before .before .before .before .before .before .before .before .before .before .before .before .args .k .number) (c .before .before .before .before .before .before .before .before .before .before .before .before .before .before .before .before .args .initial .now)) (c .before .before .before .before .before .before .before .before .before .before .before .before .before .before .before .before .args .c) t (c .before .before .before .before .before .before .send-client .ensures) }
 
 -- src/drive.rt:93:5
 change-client-requires : tie.Need-change-client-requires
@@ -52,7 +52,7 @@ same-length-6 c = search needs
 
 -- src/drive.rt:76:1
 returns-2 : tie.Need-returns-2
-returns-2 c = let t = sym (c .before .before .before .before .before .before .before .sends .ensures) ∙ c .before .before .before .before .before .before .if1 .left in (simp t (c .before .before .change-client .ensures .0), client-changed (front (c .before .before .before .before .before .before .before .before .before .before .before .before .args .k .number) (c .before .before .before .before .before .before .before .before .before .before .before .before .args .initial .now)) (c .before .before .before .before .before .before .before .before .before .before .before .before .args .c) t (c .before .before .change-client .ensures .1))
+returns-2 c = let t = sym (c .before .before .before .before .before .before .before .sends .ensures) ∙ c .before .before .before .before .before .before .if1 .left in record { end = simp t (c .before .before .change-client .ensures .0); turn = client-changed (front (c .before .before .before .before .before .before .before .before .before .before .before .before .args .k .number) (c .before .before .before .before .before .before .before .before .before .before .before .before .args .initial .now)) (c .before .before .before .before .before .before .before .before .before .before .before .before .args .c) t (c .before .before .change-client .ensures .1) }
 
 pub at-client-spec : {M : Type 1} → statement M
 at-client-spec =
