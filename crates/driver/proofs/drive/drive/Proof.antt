@@ -117,11 +117,11 @@ loop-again-2 c = going-on (c .before .before .before .before .before .before .be
 
 -- src/drive.rt:127:29
 sub-c : tie.Need-sub-c Inv-loop μ-loop
-sub-c c = search needs
+sub-c c = omega arith
 
 -- src/drive.rt:127:21
 mul-c : tie.Need-mul-c Inv-loop μ-loop
-mul-c c = search needs
+mul-c c = omega arith
 
 -- src/drive.rt:127:21
 array-copy-out-c : tie.Need-array-copy-out-c Inv-loop μ-loop
@@ -145,7 +145,7 @@ sub-clients c = omega arith
 
 -- src/drive.rt:129:13
 mul-clients : tie.Need-mul-clients Inv-loop μ-loop
-mul-clients c = search needs
+mul-clients c = omega arith
 
 -- src/drive.rt:129:13
 array-set-from-clients : tie.Need-array-set-from-clients Inv-loop μ-loop
