@@ -272,7 +272,7 @@ fn repeat(w: World, k: Call, times: u32) -> Reply
     repeat_client(c, k, slot, n, times)
 }
 
-// Runs all calls but the last, does the last one `times` times on what they leave, and writes its answer.
+// Runs all calls but the last, does the last one in `times` turns on what they leave, and writes its answer.
 pub fn run_again(calls: &[u8], times: u32, out: &mut [u8]) -> usize
     ensures { λ r. ⌜ Wrote (repeated (now (calls .entry)) (length (now (out .entry)))) (now (out .entry)) (now (out .exit)) r ⌝ }
 {
