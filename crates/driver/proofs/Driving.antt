@@ -21,7 +21,7 @@ use Rattle.calls.specs.Dump.{Put}
 use Rattle.calls.proofs.Bytes.{put-length, sets-append}
 use Rattle.driver.specs.declared.drive.World.{World}
 use Rattle.driver.specs.declared.drive.Driven.{Driven}
-use Rattle.turns.specs.Turn.{Turn, Turned, front, slotOf, slotPut, slotIn, lengthIn, changedTurn, clientSize, clientChanged, clientAnswer, clientSends, clientAfter, clientTurn, serverSize, serverChanged, serverAnswer, serverSends, serverTurn, slotSize, slotTurn}
+use Rattle.turns.specs.Turn.{Turn, Turned, front, slotOf, slotPut, slotIn, lengthIn, clientSize, clientChanged, clientAnswer, clientSends, clientTurn, serverSize, serverChanged, serverAnswer, serverSends, serverTurn, slotSize, slotTurn}
 use Rattle.driver.specs.Drive.{start, noClient, turnAt, stepAt, turnOf, after, Run, kept, left, more, run, callsOf, Drove}
 use Rattle.turns.proofs.Slots.{slot-same}
 use Rattle.turns.proofs.Turns.{never}
@@ -36,28 +36,6 @@ sends-no-dump op = go (eqb op 3) (eqb op 4) refl refl
     go true b p q h = rw (eqb-true op 3 p)
     go false true p q h = rw (eqb-true op 4 q)
     go false false p q h = never h
-
--- ---- a call at a client
-
-pub sends-fit : (k : Call) (at n : ℕ) → sends k ≡ true → at + clientSize k ≤ n → at + 4 ≤ n
-sends-fit k at n on = subst (λ (b : Bool). at + cond b 2576 4 ≤ n → at + 4 ≤ n) (sym (sends-no-dump (k .op) on)) (λ h. h)
-
-module _ {k : Call} (initial : List ℕ) (c : Client) {at : ℕ} {slots slots₁ lengths lengths₁ out out₁ : List ℕ} where
-  pub client-sent : sends k ≡ true → Turned k (clientSends k (lengthIn k lengths) (slotIn k slots) c) at 4 slots slots₁ lengths lengths₁ out out₁
-      → Turned k (clientTurn k initial (lengthIn k lengths) (slotIn k slots) c) at (clientSize k) slots slots₁ lengths lengths₁ out out₁
-  unfolding clientTurn
-  client-sent on t = simp (on, sends-no-dump (k .op) on) t
-
-module _ {k : Call} (initial : List ℕ) (c : Client) {at : ℕ} {slots lengths out out₁ : List ℕ} where
-  pub client-changed : sends k ≡ false
-      → Put at (clientSize k) (clientAnswer k (clientChanged k initial (front (lengthIn k lengths) (slotIn k slots)) c)) out out₁
-      → Turned k (clientTurn k initial (lengthIn k lengths) (slotIn k slots) c) at (clientSize k) slots slots lengths lengths out out₁
-  unfolding clientTurn
-  client-changed off p =
-      let t : Turned k (changedTurn (lengthIn k lengths) (slotIn k slots) (clientAnswer k (clientChanged k initial (front (lengthIn k lengths) (slotIn k slots)) c)))
-      at (clientSize k) slots slots lengths lengths out out₁ =
-      record { slot-bytes = sym (slot-same (slotOf k) slots); slot-length = sym (set-getD lengths (slotOf k) 0); answer = p } in
-      simp off t
 
 -- ---- one call
 
@@ -98,13 +76,25 @@ module _ {initial : List ℕ} {k : Call} {w : World} {at : ℕ} {out out₁ : Li
         stepped (simp (eq-eqb place 0 z, off) p)
         (simp (eq-eqb place 0 z, off) (world-is q refl (sym (slot-same (slotOf k) (w .slots))) (sym (set-getD (w .lengths) (slotOf k) 0))))
 
-  pub step-client : {v : Client} {slots lengths : List ℕ} → (place ≡ 0 → ⊥) → place ≤ 8
-      → v ≡ clientAfter k (front (k .number) initial) (lengthIn k (w .lengths)) (slotIn k (w .slots)) (getD (w .clients) (place - 1) noClient)
-      → Turned k (clientTurn k (front (k .number) initial) (lengthIn k (w .lengths)) (slotIn k (w .slots)) (getD (w .clients) (place - 1) noClient)) at (clientSize k) (w .slots) slots (w .lengths) lengths out out₁
-      → Stepped initial k w at out out₁ (record { server = w .server; clients = set (w .clients) (place - 1) v; slots = slots; lengths = lengths })
-  step-client z y q t =
-      stepped (simp (ne-eqb place 0 z, le-leb place 8 y) (t .answer))
-      (simp (ne-eqb place 0 z, le-leb place 8 y) (world-is refl (ap (set (w .clients) (place - 1)) q) (t .slot-bytes) (t .slot-length)))
+  module _ (z : place ≡ 0 → ⊥) (y : place ≤ 8) where
+    pub step-sent-client : {slots lengths : List ℕ} → sends k ≡ true
+        → Turned k (clientSends k (lengthIn k (w .lengths)) (slotIn k (w .slots)) (getD (w .clients) (place - 1) noClient)) at 4 (w .slots) slots (w .lengths) lengths out out₁
+        → Stepped initial k w at out out₁ (record { server = w .server; clients = w .clients; slots = slots; lengths = lengths })
+    unfolding clientTurn
+    step-sent-client on t =
+        stepped (simp (ne-eqb place 0 z, le-leb place 8 y, on, sends-no-dump (k .op) on) (t .answer))
+        (simp (ne-eqb place 0 z, le-leb place 8 y, on)
+        (world-is refl (sym (set-getD (w .clients) (place - 1) noClient)) (t .slot-bytes) (t .slot-length)))
+
+    pub step-client : {v : Client} → sends k ≡ false
+        → v ≡ clientChanged k (front (k .number) initial) (front (lengthIn k (w .lengths)) (slotIn k (w .slots))) (getD (w .clients) (place - 1) noClient) .client
+        → Put at (clientSize k) (clientAnswer k (clientChanged k (front (k .number) initial) (front (lengthIn k (w .lengths)) (slotIn k (w .slots))) (getD (w .clients) (place - 1) noClient))) out out₁
+        → Stepped initial k w at out out₁ (record { server = w .server; clients = set (w .clients) (place - 1) v; slots = w .slots; lengths = w .lengths })
+    unfolding clientTurn
+    step-client off q p =
+        stepped (simp (ne-eqb place 0 z, le-leb place 8 y, off) p)
+        (simp (ne-eqb place 0 z, le-leb place 8 y, off)
+        (world-is refl (ap (set (w .clients) (place - 1)) q) (sym (slot-same (slotOf k) (w .slots))) (sym (set-getD (w .lengths) (slotOf k) 0))))
 
   -- at the slots alone, or nowhere
   pub step-slot : {slots lengths : List ℕ} → (place ≡ 0 → ⊥) → 8 < place

@@ -16,7 +16,7 @@ use Rattle.calls.specs.declared.call.Call.{Call}
 use Rattle.driver.specs.declared.drive.World.{World}
 use Rattle.driver.specs.declared.drive.Driven.{Driven}
 use Rattle.calls.specs.Calls.{callOf, placeOf, sizeOf}
-use Rattle.turns.specs.Turn.{Turn, Turned, slotOf, slotPut, slotAt, slotIn, lengthIn, front, changedBytes, clientSize, clientAfter, clientTurn, serverAfter, serverTurn, slotTurn}
+use Rattle.turns.specs.Turn.{Turn, slotOf, slotPut, slotAt, front, changedBytes, clientAfter, clientTurn, serverAfter, serverTurn, slotTurn}
 
 -- all zeros, as refused openings return them
 unfoldable pub start : World
@@ -79,11 +79,6 @@ turnOf initial k w =
 unfoldable pub after : List ℕ → Call → World → World
 after initial k w =
     stepAt (placeOf k) (front (k .number) initial) k (getD (w .lengths) (slotOf k) 0) (slotAt (slotOf k) (w .slots)) w
-
--- What a call at a client leaves: the client, and beside it what every call leaves.
-pub record AtClient (k : Call) (initial : List ℕ) (c : Client) (at : ℕ) (slots slots₁ lengths lengths₁ out out₁ : List ℕ) (c₁ : Client) : Type 0 where
-  pub end : c₁ ≡ clientAfter k (front (k .number) initial) (lengthIn k lengths) (slotIn k slots) c
-  pub turn : Turned k (clientTurn k (front (k .number) initial) (lengthIn k lengths) (slotIn k slots) c) at (clientSize k) slots slots₁ lengths lengths₁ out out₁
 
 -- ---- a list of calls
 

@@ -3,11 +3,9 @@ ghost use mathlib.Core.Path.{_≡_};
 ghost use mathlib.Core.Bool.{cond};
 ghost use Prim.Native.Nat.{_+_, _*_, _≤_};
 ghost use lib.ListN.{length};
-ghost use Rattle.turns.specs.Turn.{clientSize};
 ghost use Rattle.driver.specs.Answers.{answers, Wrote};
-ghost use Rattle.driver.specs.Drive.{start, AtClient, run, afterAll, callsOf, Drove};
+ghost use Rattle.driver.specs.Drive.{start, run, afterAll, callsOf, Drove};
 use calls::call;
-use calls::call::Call;
 use calls::header;
 use client::Client;
 use server::Server;
@@ -72,28 +70,8 @@ fn leave(
     }
 }
 
-// A call at a client, which hands the client back.
-fn at_client(
-    c: Client,
-    k: Call,
-    initial: &[u32],
-    slots: &mut [u8],
-    lengths: &mut [u8],
-    out: &mut [u8],
-    at: usize,
-) -> Client
-    requires { ⌜ (length (now slots) ≡ 1280) × (length (now lengths) ≡ 64) × (at + clientSize k ≤ length (now out)) ⌝ }
-    ensures { λ r. ⌜ AtClient k (now (initial .entry)) c at (now (slots .entry)) (now (slots .exit)) (now (lengths .entry)) (now (lengths .exit)) (now (out .entry)) (now (out .exit)) r ⌝ }
-{
-    if call::sends(k) {
-        turns::send_client(c, k, slots, lengths, out, at);
-        return c;
-    }
-    turns::change_client(c, k, initial, slots, lengths, out, at)
-}
-
-// From the start, one call after another, `count` of them. A sending at the server does not hand it back: it is the largest end, and its
-// sendings are most of the calls.
+// From the start, one call after another, `count` of them. What a call changes comes back from its turn; the rest stays. A call at an end is no
+// function of its own, since that would hand the end back after a sending too.
 fn drive(calls: &[u8], count: usize, initial: &[u32], quiet: bool, out: &mut [u8]) -> Driven
     requires { ⌜ 16 * count ≤ length (now calls) ⌝ }
     ensures { λ r. ⌜ Drove quiet (run quiet (now (initial .entry)) (length (now (out .entry))) start (callsOf count (now (calls .entry)))) (now (out .entry)) (now (out .exit)) r ⌝ }
@@ -124,7 +102,11 @@ fn drive(calls: &[u8], count: usize, initial: &[u32], quiet: bool, out: &mut [u8
         }
         if place <= 8 {
             let c = clients[place - 1];
-            let c = at_client(c, k, initial, &mut slots, &mut lengths, out, here);
+            if call::sends(k) {
+                turns::send_client(c, k, &mut slots, &mut lengths, out, here);
+                continue;
+            }
+            let c = turns::change_client(c, k, initial, &slots, &lengths, out, here);
             clients[place - 1] = c;
             continue;
         }
