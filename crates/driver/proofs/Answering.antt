@@ -30,14 +30,13 @@ headed-items c n h = leb-true c 160 (and-left (leb c 160) (leb (2 + 4 * c) n) h)
 pub headed-length : (c n : ℕ) → headed c n ≡ true → 2 + 4 * c ≤ n
 headed-length c n h = leb-true (2 + 4 * c) n (and-right (leb c 160) (leb (2 + 4 * c) n) h)
 
-module _ (s : List ℕ) (c : ℕ) (items : List ℕ) (w : World) (e : c ≡ twoAt s 0) (i : take c items ≡ itemsFrom c 2 s) (b : w ≡ start) where
+module _ (s : List ℕ) (c : ℕ) (items : List ℕ) (e : c ≡ twoAt s 0) (i : take c items ≡ itemsFrom c 2 s) where
   -- a run as the code makes it
   pub run-is : (quiet : Bool) (room n m : ℕ) → m ≡ n
-      → run quiet (take c items) room w (callsOf m (take (length s - (2 + 4 * c)) (drop (2 + 4 * c) s)))
+      → run quiet (take c items) room start (callsOf m (take (length s - (2 + 4 * c)) (drop (2 + 4 * c) s)))
       ≡ run quiet (itemsIn s) room start (callsOf n (drop (bodyAt s) s))
   run-is quiet room n m f =
-      ap (λ (l : List ℕ). run quiet l room w (callsOf m (take (length s - (2 + 4 * c)) (drop (2 + 4 * c) s)))) i
-      ∙ ap (λ (u : World). run quiet (itemsFrom c 2 s) room u (callsOf m (take (length s - (2 + 4 * c)) (drop (2 + 4 * c) s)))) b
+      ap (λ (l : List ℕ). run quiet l room start (callsOf m (take (length s - (2 + 4 * c)) (drop (2 + 4 * c) s)))) i
       ∙ ap (λ (l : List ℕ). run quiet (itemsFrom c 2 s) room start (callsOf m l)) (whole-drop s (2 + 4 * c))
       ∙ ap (λ (k : ℕ). run quiet (itemsFrom c 2 s) room start (callsOf k (drop (2 + 4 * c) s))) f
       ∙ ap (λ (k : ℕ). run quiet (itemsFrom k 2 s) room start (callsOf n (drop (2 + 4 * k) s))) e
@@ -46,12 +45,12 @@ module _ (s : List ℕ) (c : ℕ) (items : List ℕ) (w : World) (e : c ≡ twoA
   count-is = ap (λ (k : ℕ). (length s - (2 + 4 * k)) / 16) e
 
   pub wrote-answers : (before after : List ℕ) (d : Driven) → headed c (length s) ≡ true
-      → Drove false (run false (take c items) (length before) w
+      → Drove false (run false (take c items) (length before) start
       (callsOf ((length s - (2 + 4 * c)) / 16) (take (length s - (2 + 4 * c)) (drop (2 + 4 * c) s)))) before after d
       → Wrote (answers s (length before)) before after (d .written)
   unfolding answers
   wrote-answers before after d h r =
-      let q : answers s (length before) ≡ run false (take c items) (length before) w
+      let q : answers s (length before) ≡ run false (take c items) (length before) start
       (callsOf ((length s - (2 + 4 * c)) / 16) (take (length s - (2 + 4 * c)) (drop (2 + 4 * c) s))) .bytes =
       ap (λ (t : Bool). cond t (run false (itemsIn s) (length before) start (callsOf (countIn s) (drop (bodyAt s) s)) .bytes) [])
       (sym (ap (λ (k : ℕ). headed k (length s)) e) ∙ h)
@@ -94,10 +93,9 @@ pub last-is : (s : List ℕ) (c : ℕ) (k : Call) → c ≡ twoAt s 0
 last-is s c k e h =
     h ∙ ap (λ (n : ℕ). callOf (drop (2 + 4 * n + 16 * ((length s - (2 + 4 * n)) / 16 - 1)) s)) e
 
-pub quiet-world : (initial : List ℕ) (ks : List Call) (w : World) (unread unread₁ : List ℕ) (d : Driven) → w ≡ start → 6218 ≤ length unread
-    → Drove true (run true initial (length unread) w ks) unread unread₁ d → d .world ≡ afterAll initial start ks
-quiet-world initial ks w unread unread₁ d b l r =
-    r .world ∙ ap (λ (u : World). run true initial (length unread) u ks .world) b ∙ quiet-run initial (length unread) start ks l
+pub quiet-world : (initial : List ℕ) (ks : List Call) (unread unread₁ : List ℕ) (d : Driven) → 6218 ≤ length unread
+    → Drove true (run true initial (length unread) start ks) unread unread₁ d → d .world ≡ afterAll initial start ks
+quiet-world initial ks unread unread₁ d l r = r .world ∙ quiet-run initial (length unread) start ks l
 
 module _ (s : List ℕ) (c : ℕ) (items : List ℕ) (e : c ≡ twoAt s 0) (i : take c items ≡ itemsFrom c 2 s) where
   world-is : (w : World) → w ≡ afterAll (take c items) start (callsOf ((length s - (2 + 4 * c)) / 16 - 1) (take (length s - (2 + 4 * c)) (drop (2 + 4 * c) s)))

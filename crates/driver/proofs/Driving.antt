@@ -275,10 +275,21 @@ module _ {quiet : Bool} {initial : List ℕ} {w₀ : World} {calls : List ℕ} {
 
 -- ---- the state before all calls
 
-pub start-is : (s : fromServer.Answer) (c : fromClient.Answer) (none : List ℕ) → none ≡ [] → s ≡ server.opened 0 none → c ≡ client.opened 0 0 none
-    → _≡_ {A = World} (record { server = s .server; clients = replicate 8 (c .client); slots = replicate 1280 170; lengths = replicate 64 0 }) start
+pub server-is : (a : fromServer.Answer) → a ≡ server.opened 0 [] → a .server ≡ start .server
 unfolding start
-start-is s c none e p q =
-    world-is (ap (λ (a : fromServer.Answer). a .server) (p ∙ ap (server.opened 0) e))
-    (ap (λ (a : fromClient.Answer). replicate 8 (a .client)) (q ∙ ap (client.opened 0 0) e))
-    refl refl
+server-is a e = ap (λ (x : fromServer.Answer). x .server) e
+
+pub clients-are : (a : fromClient.Answer) → a ≡ client.opened 0 0 [] → replicate 8 (a .client) ≡ start .clients
+unfolding start
+clients-are a e = ap (λ (x : fromClient.Answer). replicate 8 (x .client)) e
+
+pub start-is : {s : Server} {cs : List Client} → s ≡ start .server → cs ≡ start .clients
+    → _≡_ {A = World} (record { server = s; clients = cs; slots = replicate 1280 170; lengths = replicate 64 0 }) start
+unfolding start
+start-is p q = world-is p q refl refl
+
+pub going-begin : (quiet : Bool) (initial : List ℕ) {s : Server} {cs : List Client} (calls : List ℕ) (count : ℕ) (before : List ℕ) → s ≡ start .server → cs ≡ start .clients
+    → Going quiet initial start calls count before 0 0 (record { server = s; clients = cs; slots = replicate 1280 170; lengths = replicate 64 0 }) before
+going-begin quiet initial {s} {cs} calls count before p q =
+    let w : World = record { server = s; clients = cs; slots = replicate 1280 170; lengths = replicate 64 0 } in
+    subst (λ (u : World). Going quiet initial u calls count before 0 0 w before) (start-is p q) (going-start quiet initial w calls count before refl refl)

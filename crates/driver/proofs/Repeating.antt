@@ -8,13 +8,14 @@ use mathlib.Core.List.{List, [], _∷_, _++_}
 use lib.Dec.{eqb, leb}
 use lib.ListN.{length, getD, take, drop, set, length-drop}
 use lib.Seq.{length-take-le, take-suc, take-suc-set, getD-drop}
-use borrow.Author.Tests.{eqb-false, eq-eqb, ne-eqb, le-leb, leb-true}
+use borrow.Author.Tests.{eqb-true, eqb-false, eq-eqb, ne-eqb, le-leb, leb-true}
 use Rattle.model.specs.Questions as model
 use Rattle.model.proofs.Tests.{and-left, and-right}
 use Rattle.endpoint.specs.declared.Sent.{Sent}
 use Rattle.endpoint.specs.Sending.{answered}
 use Rattle.client.specs.declared.Client.{Client}
 use Rattle.client.specs.declared.Answer as fromClient
+use Rattle.client.specs.Answers as client
 use Rattle.server.specs.declared.Server.{Server}
 use Rattle.server.specs.declared.Answer as fromServer
 use Rattle.server.specs.Calls as server
@@ -23,7 +24,7 @@ use Rattle.calls.specs.Calls.{atEnd, canSet, isCall, placeOf, sends}
 use Rattle.calls.specs.Dump.{answerBytes}
 use Rattle.driver.specs.declared.drive.World.{World}
 use Rattle.turns.specs.Turn.{Turn, front, slotOf, slotIn, lengthIn, sentBytes, changedBytes, changedTurn, clientAnswer, clientSends, serverAnswer, serverSends, clientSent, clientChanged, clientReply, clientTurn, serverSent, serverChanged, serverReply, serverTurn}
-use Rattle.driver.specs.Drive.{noClient, turnAt, turnOf, Replied}
+use Rattle.driver.specs.Drive.{noClient, turnAt, turnOf, changeOf, editedBytes, Replied}
 use Rattle.turns.proofs.Turns.{never}
 
 -- ---- copying 20 bytes
@@ -67,6 +68,24 @@ server-takes : (k : Call) (bytes : List ℕ) (v : Server) → k .op ≡ 5
     ≡ changedBytes (serverChanged k [] bytes v .refusal) (serverChanged k [] bytes v .passed)
 unfolding serverChanged
 server-takes k bytes v e = simp e
+
+-- an edit is what its call asks for, and what a client is asked for besides is a taking
+module _ (k : Call) (bytes : List ℕ) (c : Client) where
+  pub client-edits : 1 ≤ k .op → k .op ≤ 2
+      → editedBytes c (changeOf k) ≡ changedBytes (clientChanged k [] bytes c .refusal) (clientChanged k [] bytes c .passed)
+  unfolding clientChanged
+  client-edits a b = go (eqb (k .op) 1) refl
+    where
+      go : (t : Bool) → eqb (k .op) 1 ≡ t
+          → editedBytes c (changeOf k) ≡ changedBytes (clientChanged k [] bytes c .refusal) (clientChanged k [] bytes c .passed)
+      go true e = simp (eqb-true (k .op) 1 e)
+      go false e = let f : k .op ≡ 2 = omega (arith, eqb-false (k .op) 1 e) in simp f
+
+  pub client-takes : k .op ≡ 5
+      → changedBytes (client.taken c bytes .refusal) (client.taken c bytes .passed)
+      ≡ changedBytes (clientChanged k [] bytes c .refusal) (clientChanged k [] bytes c .passed)
+  unfolding clientChanged
+  client-takes e = simp e
 
 -- a reply is that of a sending, or that of any other call
 when-sent : {t : Bool} {b : List ℕ} (x y : List ℕ) → t ≡ true → b ≡ x → b ≡ cond t x y

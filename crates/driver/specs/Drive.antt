@@ -7,6 +7,8 @@ use lib.Dec.{leb, eqb}
 use lib.ListN.{length, getD, take, drop, set, replicate}
 use lib.Seq.{sets}
 use Rattle.client.specs.declared.Client.{Client}
+use Rattle.client.specs.declared.editing.Change.{Change}
+use Rattle.client.specs.declared.editing.Change.the-variants.{Delete, Insert}
 use Rattle.client.specs.Answers as client
 use Rattle.server.specs.declared.Server.{Server}
 use Rattle.server.specs.Calls as server
@@ -14,7 +16,7 @@ use Rattle.calls.specs.declared.call.Call.{Call}
 use Rattle.driver.specs.declared.drive.World.{World}
 use Rattle.driver.specs.declared.drive.Driven.{Driven}
 use Rattle.calls.specs.Calls.{callOf, placeOf, sizeOf}
-use Rattle.turns.specs.Turn.{Turn, slotOf, slotPut, slotAt, front, clientAfter, clientTurn, serverAfter, serverTurn, slotTurn}
+use Rattle.turns.specs.Turn.{Turn, slotOf, slotPut, slotAt, front, changedBytes, clientAfter, clientTurn, serverAfter, serverTurn, slotTurn}
 
 -- all zeros, as refused openings return them
 unfoldable pub start : World
@@ -119,6 +121,13 @@ pub record Drove (quiet : Bool) (r : Run) (before after : List ℕ) (d : Driven)
   pub count : d .written ≡ length (r .bytes)
   pub world : d .world ≡ r .world
   pub wrote : quiet ≡ false → after ≡ sets before 0 (r .bytes)
+
+-- what an edit's call asks for, and the answer of an edit
+abbrev pub changeOf : Call → Change
+changeOf k = cond (eqb (k .op) 1) (Insert (k .position) (k .value)) (Delete (k .position))
+
+abbrev pub editedBytes : Client → Change → List ℕ
+editedBytes c d = changedBytes (client.changed c d .refusal) (client.changed c d .passed)
 
 -- The bytes are the answer of a call that opens no end, whatever the items to open with.
 pub record Replied (k : Call) (w : World) (bytes : List ℕ) : Type 0 where

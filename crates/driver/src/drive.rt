@@ -2,7 +2,6 @@
 ghost use mathlib.Core.Path.{_≡_};
 ghost use mathlib.Core.Bool.{cond};
 ghost use Prim.Native.Nat.{_+_, _*_, _≤_};
-ghost use mathlib.Core.List.{[]};
 ghost use lib.ListN.{length};
 ghost use Rattle.driver.specs.Answers.{answers, Wrote};
 ghost use Rattle.driver.specs.Drive.{start, run, afterAll, callsOf, Drove};
@@ -33,24 +32,22 @@ fn further(quiet: bool, at: usize, size: usize) -> usize
     if quiet { at } else { at + size }
 }
 
-// Ends that are all zeros, as refused openings return them, and empty slots.
-fn start(none: &[u32]) -> World
-    requires { ⌜ now none ≡ [] ⌝ }
-    ensures { λ r. ⌜ r ≡ start ⌝ }
+// Ends that are all zeros, as refused openings return them.
+fn no_server() -> Server
+    ensures { λ r. ⌜ r ≡ start .server ⌝ }
 {
-    let s = Server::open(0, none);
-    let server = s.server;
-    let c = Client::open(0, 0, none);
-    let client = c.client;
-    let clients = [client; 8];
-    let slots = [170u8; 1280];
-    let lengths = [0u8; 64];
-    World {
-        server,
-        clients,
-        slots,
-        lengths,
-    }
+    let none = [0u32; 1];
+    let a = Server::open(0, &none[..0]);
+    a.server
+}
+
+fn no_clients() -> [Client; 8]
+    ensures { λ r. ⌜ r ≡ start .clients ⌝ }
+{
+    let none = [0u32; 1];
+    let a = Client::open(0, 0, &none[..0]);
+    let client = a.client;
+    [client; 8]
 }
 
 fn leave(
@@ -73,22 +70,16 @@ fn leave(
     }
 }
 
-// One call after another, `count` of them. What a call changes comes back from its turn; the rest stays.
-fn drive(
-    w: World,
-    calls: &[u8],
-    count: usize,
-    initial: &[u32],
-    quiet: bool,
-    out: &mut [u8],
-) -> Driven
+// From the start, one call after another, `count` of them. What a call changes comes back from its turn; the rest stays. A call at an end is no
+// function of its own, since that would hand the end back after a sending too.
+fn drive(calls: &[u8], count: usize, initial: &[u32], quiet: bool, out: &mut [u8]) -> Driven
     requires { ⌜ 16 * count ≤ length (now calls) ⌝ }
-    ensures { λ r. ⌜ Drove quiet (run quiet (now (initial .entry)) (length (now (out .entry))) w (callsOf count (now (calls .entry)))) (now (out .entry)) (now (out .exit)) r ⌝ }
+    ensures { λ r. ⌜ Drove quiet (run quiet (now (initial .entry)) (length (now (out .entry))) start (callsOf count (now (calls .entry)))) (now (out .entry)) (now (out .exit)) r ⌝ }
 {
-    let mut server = w.server;
-    let mut clients = w.clients;
-    let mut slots = w.slots;
-    let mut lengths = w.lengths;
+    let mut server = no_server();
+    let mut clients = no_clients();
+    let mut slots = [170u8; 1280];
+    let mut lengths = [0u8; 64];
     let mut at = 0;
     let mut i = 0;
     while i < count {
@@ -130,8 +121,7 @@ pub fn drive_quietly(calls: &[u8], count: usize, initial: &[u32]) -> World
     ensures { λ r. ⌜ r ≡ afterAll (now (initial .entry)) start (callsOf count (now (calls .entry))) ⌝ }
 {
     let mut unread = [0u8; 6218];
-    let w = start(&initial[..0]);
-    let d = drive(w, calls, count, initial, true, &mut unread);
+    let d = drive(calls, count, initial, true, &mut unread);
     d.world
 }
 
@@ -144,8 +134,7 @@ pub fn run(calls: &[u8], out: &mut [u8]) -> usize
         let from = 2 + 4 * c;
         let count = (calls.len() - from) / 16;
         let items = header::items_in(calls, c);
-        let w = start(&items[..0]);
-        let d = drive(w, &calls[from..], count, &items[..c], false, out);
+        let d = drive(&calls[from..], count, &items[..c], false, out);
         return d.written;
     }
     0

@@ -1,18 +1,20 @@
-// For timing: one call, done again and again on the same end. An edit or a taking is handed the end, which is one copy of it in each
-// turn. A sending changes no end and is lent its arrays, so that a turn copies only the 20 bytes of a slot.
+// For timing: one call, done again and again on the same end. A taking is handed the end, which is one copy of it in each turn. An edit is
+// made eight times in a row on one copy of the client's arrays, so that a turn is not mostly the copy; its answer is the first's. A sending
+// changes no end and is lent its arrays, so that a turn copies only the 20 bytes of a slot.
 ghost use mathlib.Core.Path.{_≡_};
 ghost use Prim.Native.Nat.{_+_, _≤_, _%_, min};
 ghost use mathlib.Core.Bool.{true, false};
 ghost use mathlib.Core.List.{[]};
 ghost use lib.ListN.{length, take, drop};
 ghost use Rattle.client.specs.Store.{clientOf, Sizes as ClientSizes};
+ghost use Rattle.client.specs.Answers.{taken};
 ghost use Rattle.server.specs.View.{serverOf};
 ghost use Rattle.server.specs.Sound.{Sizes as ServerSizes};
 ghost use Rattle.server.specs.Calls.{takes};
 ghost use Rattle.calls.specs.Calls.{isCall, sends};
 ghost use Rattle.calls.specs.Dump.{answerBytes};
 ghost use Rattle.driver.specs.Answers.{repeated, Wrote};
-ghost use Rattle.driver.specs.Drive.{Replied};
+ghost use Rattle.driver.specs.Drive.{changeOf, editedBytes, Replied};
 ghost use Rattle.turns.specs.Turn.{clientChanged, clientSent, serverSent, changedBytes, sentBytes};
 use crate::drive;
 use crate::drive::World;
@@ -21,8 +23,12 @@ use calls::call::Call;
 use calls::dump;
 use calls::header;
 use client::Client;
+use client::editing::Change;
 use endpoint::Sent;
 use server::Server;
+
+// How many edits are made on one copy of a client.
+const BURST: u32 = 8;
 
 // The three numbers of an answer.
 pub struct Reply {
@@ -65,41 +71,79 @@ fn slot_at(slots: &[u8], first: usize) -> [u8; 20]
 
 // ---- a client
 
-// An edit or a taking.
-fn once_client(c: Client, k: Call, bytes: &[u8]) -> Reply
-    requires { ⌜ (1 ≤ k .op) × (k .op ≤ 5) × (sends k ≡ false) ⌝ }
-    ensures { λ r. ⌜ answerBytes (r .refusal) (r .written) (r .passed) ≡ changedBytes (clientChanged k [] (now (bytes .entry)) c .refusal) (clientChanged k [] (now (bytes .entry)) c .passed) ⌝ }
+// What an edit's call asks for.
+fn change_of(k: Call) -> Change
+    ensures { λ r. ⌜ r ≡ changeOf k ⌝ }
 {
-    let op = k.op;
-    match op {
-        1 => {
-            let a = c.insert(k.position, k.value);
-            return changed(a.refusal, a.passed);
-        }
-        2 => {
-            let a = c.delete(k.position);
-            return changed(a.refusal, a.passed);
-        }
-        _ => {
-            let a = c.take(bytes);
-            return changed(a.refusal, a.passed);
-        }
+    if k.op == 1 {
+        return Change::Insert(k.position, k.value);
     }
+    Change::Delete(k.position)
 }
 
-// n bytes of the slot are its message.
-fn repeat_client(c: Client, k: Call, slot: [u8; 20], n: usize, times: u32) -> Reply
-    requires { ⌜ (1 ≤ k .op) × (k .op ≤ 5) × (sends k ≡ false) × (n ≤ 20) ⌝ }
-    ensures { λ r. ⌜ answerBytes (r .refusal) (r .written) (r .passed) ≡ changedBytes (clientChanged k [] (take n slot) c .refusal) (clientChanged k [] (take n slot) c .passed) ⌝ }
+// The same edit, made on what the last one left. Only the first answers: the others are made for their time.
+fn burst(
+    q: client::Counts,
+    items: &mut [u32],
+    places: &mut [u32],
+    pending: &mut [u32],
+    change: Change,
+) -> Reply
+    requires { ⌜ ClientSizes (now items) (now places) (now pending) ⌝ }
+    ensures { λ r. ⌜ answerBytes (r .refusal) (r .written) (r .passed) ≡ editedBytes (clientOf q (now (items .entry)) (now (places .entry)) (now (pending .entry))) change ⌝ }
 {
+    let first = client::editing::edit_lent(q, items, places, pending, change);
+    let mut last = first;
+    let mut made = 1;
+    while made < BURST {
+        last = client::editing::edit_lent(last.counts, items, places, pending, change);
+        made += 1;
+    }
+    changed(first.refusal, first.passed)
+}
+
+// Each turn finds the client as it was.
+fn repeat_edits(c: Client, change: Change, times: u32) -> Reply
+    ensures { λ r. ⌜ answerBytes (r .refusal) (r .written) (r .passed) ≡ editedBytes c change ⌝ }
+{
+    let q = c.counts();
     let mut i = 1;
     loop {
-        let r = once_client(c, k, &slot[..n]);
+        let mut items = c.items;
+        let mut places = c.pending_places;
+        let mut pending = c.pending_items;
+        let r = burst(q, &mut items, &mut places, &mut pending, change);
         if times <= i {
             return r;
         }
         i += 1;
     }
+}
+
+// The same message taken twice would be refused, so each turn has the whole client anew. n bytes of the slot are its message.
+fn repeat_taking(c: Client, slot: [u8; 20], n: usize, times: u32) -> Reply
+    requires { ⌜ n ≤ 20 ⌝ }
+    ensures { λ r. ⌜ answerBytes (r .refusal) (r .written) (r .passed) ≡ changedBytes (taken c (take n slot) .refusal) (taken c (take n slot) .passed) ⌝ }
+{
+    let mut i = 1;
+    loop {
+        let a = c.take(&slot[..n]);
+        if times <= i {
+            return changed(a.refusal, a.passed);
+        }
+        i += 1;
+    }
+}
+
+// An edit or a taking.
+fn repeat_client(c: Client, k: Call, slot: [u8; 20], n: usize, times: u32) -> Reply
+    requires { ⌜ (1 ≤ k .op) × (k .op ≤ 5) × (sends k ≡ false) × (n ≤ 20) ⌝ }
+    ensures { λ r. ⌜ answerBytes (r .refusal) (r .written) (r .passed) ≡ changedBytes (clientChanged k [] (take n slot) c .refusal) (clientChanged k [] (take n slot) c .passed) ⌝ }
+{
+    if k.op <= 2 {
+        return repeat_edits(c, change_of(k), times);
+    }
+    repeat_taking(c, slot, n, times)
 }
 
 // A sending, from the numbers of a client and its arrays.
@@ -228,7 +272,7 @@ fn repeat(w: World, k: Call, times: u32) -> Reply
     repeat_client(c, k, slot, n, times)
 }
 
-// Runs all calls but the last, does the last one `times` times on what they leave, and writes its answer.
+// Runs all calls but the last, does the last one in `times` turns on what they leave, and writes its answer.
 pub fn run_again(calls: &[u8], times: u32, out: &mut [u8]) -> usize
     ensures { λ r. ⌜ Wrote (repeated (now (calls .entry)) (length (now (out .entry)))) (now (out .entry)) (now (out .exit)) r ⌝ }
 {
