@@ -1,3 +1,2 @@
 pub mod Driving
 pub mod Answering
-pub mod Repeating

@@ -17,19 +17,6 @@ unfoldable pub answers : List ℕ → ℕ → List ℕ
 answers s room =
     cond (headed (twoAt s 0) (length s)) (run false (itemsIn s) room start (callsOf (countIn s) (drop (bodyAt s) s)) .bytes) []
 
-abbrev pub lastCall : List ℕ → Call
-lastCall s = callOf (drop (bodyAt s + 16 * (countIn s - 1)) s)
-
-abbrev pub beforeLast : List ℕ → World
-beforeLast s = afterAll (itemsIn s) start (callsOf (countIn s - 1) (drop (bodyAt s) s))
-
--- The answer of the last call, on what the calls before it leave: it does not hang on how often the call is done.
-unfoldable pub repeated : List ℕ → ℕ → List ℕ
-repeated s room =
-    cond ((headed (twoAt s 0) (length s) && leb 1 (countIn s)) && canRepeat (lastCall s) room)
-    (take 4 (turnOf (itemsIn s) (lastCall s) (beforeLast s) .bytes))
-    []
-
 -- The bytes stand at the front of the output, whose other bytes stay, and their count is returned.
 pub record Wrote (bytes before after : List ℕ) (count : ℕ) : Type 0 where
   pub length : count ≡ length bytes

@@ -121,14 +121,3 @@ pub record Drove (quiet : Bool) (r : Run) (before after : List ℕ) (d : Driven)
   pub count : d .written ≡ length (r .bytes)
   pub world : d .world ≡ r .world
   pub wrote : quiet ≡ false → after ≡ sets before 0 (r .bytes)
-
--- what an edit's call asks for, and the answer of an edit
-abbrev pub changeOf : Call → Change
-changeOf k = cond (eqb (k .op) 1) (Insert (k .position) (k .value)) (Delete (k .position))
-
-abbrev pub editedBytes : Client → Change → List ℕ
-editedBytes c d = changedBytes (client.changed c d .refusal) (client.changed c d .passed)
-
--- The bytes are the answer of a call that opens no end, whatever the items to open with.
-pub record Replied (k : Call) (w : World) (bytes : List ℕ) : Type 0 where
-  pub answer : (initial : List ℕ) → bytes ≡ take 4 (turnOf initial k w .bytes)

@@ -162,7 +162,16 @@ pub fn sound<'a>(
         return line_empty(places, items, from);
     }
     let slots = (count + 7) / 8 * 8;
-    slots_kept(places, items, from, slots as u32, count as u32, n, line, own)
+    slots_kept(
+        places,
+        items,
+        from,
+        slots as u32,
+        count as u32,
+        n,
+        line,
+        own,
+    )
         & unused_empty(places, items, from + slots, from + 64)
 }
 

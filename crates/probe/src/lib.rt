@@ -2,7 +2,8 @@
 ghost use lib.ListN.{length};
 ghost use Rattle.script.specs.Output.{output};
 ghost use Rattle.text.specs.Sink.{Printed};
-ghost use Rattle.driver.specs.Answers.{answers, repeated, Wrote};
+ghost use Rattle.driver.specs.Answers.{answers, Wrote};
+ghost use Rattle.timing.specs.Repeat.{repeated};
 
 // Runs the calls, and writes their answers one after another.
 #[no_mangle]
@@ -12,12 +13,12 @@ pub extern "C" fn probe_run(calls: &[u8], out: &mut [u8]) -> usize
     driver::run(calls, out)
 }
 
-// Runs all calls but the last, does the last one `times` times on what they leave, and writes its answer.
+// Runs all calls but the last, repeats the last one `times` times on what they leave, and writes its answer.
 #[no_mangle]
 pub extern "C" fn probe_repeat(calls: &[u8], times: u32, out: &mut [u8]) -> usize
     ensures { λ r. ⌜ Wrote (repeated (now (calls .entry)) (length (now (out .entry)))) (now (out .entry)) (now (out .exit)) r ⌝ }
 {
-    driver::run_again(calls, times, out)
+    timing::run_again(calls, times, out)
 }
 
 // The run program with its input and output in memory.

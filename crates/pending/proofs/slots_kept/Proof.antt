@@ -51,13 +51,13 @@ loop-less : tie.Need-loop-less Inv-loop μ-loop
 loop-less c = omega arith
 
 loop-again : tie.Need-loop-again Inv-loop μ-loop
-loop-again c = 
+loop-again c =
     let l = c .before .before .before .before in
     let s = l .before .before .before in
     (omega arith, all-turn (test s) (l .loop .j) (s .args .slots) (l .loop .kept) (c .is-kept .result) (omega (arith, c .before .before .before .loop-test)) (c .is-kept .ensures) ∙ l .loop .inv .1)
 
 returns : tie.Need-returns Inv-loop μ-loop
-returns c = 
+returns c =
     let l = c .before in
     let s = l .before .before .before in
     all-end (test s) (l .loop .j) (s .args .slots) (l .loop .kept) (omega arith) ∙ l .loop .inv .1 ∙ all-count (test s) 0 (s .args .slots) (s .args .slots) (omega arith)

@@ -50,13 +50,13 @@ cast-slots-kept-2 : tie.Need-cast-slots-kept-2
 cast-slots-kept-2 c = search needs
 
 slots-kept-requires : tie.Need-slots-kept-requires
-slots-kept-requires c κs = 
+slots-kept-requires c κs =
     let s = c .before .before .before .before in
     let e = eights-hold (s .args .count) (c .before .if1 .left) .1 in
     (omega (arith, e, s .pre .places), omega (arith, e, s .pre .items))
 
 add-unused-empty : tie.Need-add-unused-empty
-add-unused-empty c = 
+add-unused-empty c =
     let s = c .before .before .before .before .before in
     omega (arith, eights-hold (s .args .count) (c .before .before .if1 .left) .1, s .pre .places)
 
@@ -64,7 +64,7 @@ add-unused-empty-2 : tie.Need-add-unused-empty-2
 add-unused-empty-2 c = search needs
 
 unused-empty-requires : tie.Need-unused-empty-requires
-unused-empty-requires c κs = 
+unused-empty-requires c κs =
     let s = c .before .before .before .before .before in
     (omega (arith, eights-hold (s .args .count) (c .before .before .if1 .left) .1), (s .pre .places, s .pre .items))
 
