@@ -30,13 +30,15 @@ use Rattle.endpoint.proofs.Line.{edit-then}
 use Rattle.endpoint.proofs.Room.{roomy-model, roomy-room}
 use Rattle.lines.specs.declared.Counts.{Counts}
 use Rattle.server.specs.declared.Server.{Server}
-use Rattle.lines.specs.declared.taking.Decision.{Decision}
+use Rattle.arrivals.specs.declared.Decision.{Decision}
 use Rattle.lines.specs.Lines.{pendingCount}
 use Rattle.server.specs.View.{countsOf, linesFrom, view}
 use Rattle.server.specs.Sound.{Sound}
-use Rattle.lines.specs.Taking.{editAsked, ackAsked, roomyAt, leftAsked, leftAt, refusing, ackAccepted, ackDecided, editAccepted, editDecided, decided, stays, stayingAt, Seen, Ready, Roomy}
-use Rattle.lines.proofs.Asked.{asks-yes, Here, ack-here, edit-here, left-ready, left-line, left-items, left-seen}
-use Rattle.lines.proofs.Decided.{ack-yes, edit-yes}
+use Rattle.lines.specs.Taking.{stayingAt, Seen, Roomy}
+use Rattle.arrivals.specs.Deciding.{editAsked, ackAsked, roomyAt, leftAsked, leftAt, refusing, ackAccepted, ackDecided, editAccepted, editDecided, decided, stays, Ready}
+use Rattle.lines.proofs.Asked.{asks-yes}
+use Rattle.arrivals.proofs.Asked.{Here, ack-here, edit-here, left-ready, left-line, left-items, left-seen}
+use Rattle.arrivals.proofs.Decided.{ack-yes, edit-yes}
 use Rattle.server.proofs.Places.{each-first}
 use Rattle.server.proofs.Whole.{line, means, facts, lines-few, lines-count, len-view, at-view, at-facts, line-of}
 

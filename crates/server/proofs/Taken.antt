@@ -24,12 +24,13 @@ use Rattle.pending.proofs.Slots.{edits-length, filled-length, filled-push}
 use Rattle.endpoint.specs.Items.{stored}
 use Rattle.endpoint.proofs.Room.{room-stored, room-length}
 use Rattle.server.specs.declared.Server.{Server}
-use Rattle.lines.specs.declared.taking.Decision.{Decision}
+use Rattle.arrivals.specs.declared.Decision.{Decision}
 use Rattle.lines.specs.Lines.{pendingCount}
 use Rattle.server.specs.View.{countsOf, view, store}
 use Rattle.server.specs.Sound.{soundStruct, Sized, Sound}
 use Rattle.server.specs.Calls.{refused, answered, takes}
-use Rattle.lines.specs.Taking.{keeps, decided, stays, stayingAt, Raised, Few, Written}
+use Rattle.lines.specs.Taking.{keeps, stayingAt, Raised, Few, Written}
+use Rattle.arrivals.specs.Deciding.{decided, stays}
 use Rattle.server.proofs.Rows.{Row, store-is}
 use Rattle.server.proofs.Whole.{means, lines-few, items-are, len-view, at-view, made-few, lines-row}
 use Rattle.lines.proofs.Writing.{keeps-own}

@@ -57,7 +57,7 @@ pub fn take_lent(
             return refused(3, k);
         };
         let mut later = [0u32; 64];
-        let d = taking::decide(k, places, pending, m, &mut later);
+        let d = arrivals::decide(k, places, pending, m, &mut later);
         if d.refusal == 0 {
             let i = d.at;
             let e = d.edit;

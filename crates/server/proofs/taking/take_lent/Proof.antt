@@ -7,8 +7,9 @@ use lib.ListN.{length}
 use Rattle.ot.specs.declared.Edit.{Edit}
 use Rattle.wire.specs.declared.Message.{Message}
 use Rattle.model.specs.Server as model
-use Rattle.lines.specs.declared.taking.Decision.{Decision}
-use Rattle.lines.specs.Taking.{stays, stayingAt, Written}
+use Rattle.arrivals.specs.declared.Decision.{Decision}
+use Rattle.lines.specs.Taking.{stayingAt, Written}
+use Rattle.arrivals.specs.Deciding.{stays}
 use Rattle.server.specs.declared.Server.{Server}
 use Rattle.server.specs.declared.Answer.{Answer}
 use Rattle.server.specs.declared.taking.Changed.{Changed}

@@ -15,9 +15,9 @@ use Rattle.model.specs.Cross.{insertsOf}
 use Rattle.model.proofs.Tests.{yes-all}
 use Rattle.pending.specs.declared.Crossed.{Crossed}
 use Rattle.pending.specs.Slots.{crossed}
 use Rattle.lines.specs.declared.Counts.{Counts}
-use Rattle.lines.specs.declared.taking.Decision.{Decision}
-use Rattle.lines.specs.Taking.{editAsked, ackAsked, lastAsked, leftAsked, leftAt, refusing, ackAccepted, ackDecided, editAccepted, editDecided, Decided}
+use Rattle.arrivals.specs.declared.Decision.{Decision}
+use Rattle.arrivals.specs.Deciding.{editAsked, ackAsked, lastAsked, leftAsked, leftAt, refusing, ackAccepted, ackDecided, editAccepted, editDecided, Decided}
 
 pub last-few : (k : Counts) (at : ℕ) (e form : Edit) (placed : Bool) → asks (lastAsked k at e form placed) ≡ 0 → getD (k .inserts) at 0 + insertsOf e ≤ maxInserts
 last-few k at e form placed z =

@@ -3,12 +3,11 @@ use native.Mathlib.Omega.{arith}
 use denote.Ref.{now}
 use mathlib.Core.Path.{sym, _∙_}
 use Prim.Native.Nat.{_-_}
-use Rattle.lines.specs.Taking.{editDecided, editStays}
-use Rattle.lines.proofs.Asked.{edit-here, left-ready}
-use Rattle.lines.proofs.Decided.{refused-decided, edit-no, edit-late, edit-made, late-asked, last-few}
-use borrow.Author.Needs.{needs}
-use Rattle.lines.proofs.taking.decide_edit.Statement.{statement}
-use Rattle.lines.proofs.taking.decide_edit.Tie as tie
+use Rattle.arrivals.specs.Deciding.{editDecided, editStays}
+use Rattle.arrivals.proofs.Asked.{edit-here, left-ready}
+use Rattle.arrivals.proofs.Decided.{refused-decided, edit-no, edit-late, edit-made, late-asked, last-few}
+use Rattle.arrivals.proofs.decide_edit.Statement.{statement}
+use Rattle.arrivals.proofs.decide_edit.Tie as tie
 
 -- src/taking.rt:172:9
 ask-edit-requires : tie.Need-ask-edit-requires

@@ -5,12 +5,11 @@ use mathlib.Core.Path.{ap, sym, _∙_}
 use Prim.Native.Nat.{_-_}
 use Rattle.pending.specs.Slots.{placeOf, filled}
 use Rattle.pending.proofs.Crossing.{over-nothing}
-use Rattle.lines.specs.Taking.{leftAt, ackDecided}
-use Rattle.lines.proofs.Asked.{ack-here, left-ready}
-use Rattle.lines.proofs.Decided.{refused-decided, ack-no, ack-made}
-use borrow.Author.Needs.{needs}
-use Rattle.lines.proofs.taking.decide_ack.Statement.{statement}
-use Rattle.lines.proofs.taking.decide_ack.Tie as tie
+use Rattle.arrivals.specs.Deciding.{leftAt, ackDecided}
+use Rattle.arrivals.proofs.Asked.{ack-here, left-ready}
+use Rattle.arrivals.proofs.Decided.{refused-decided, ack-no, ack-made}
+use Rattle.arrivals.proofs.decide_ack.Statement.{statement}
+use Rattle.arrivals.proofs.decide_ack.Tie as tie
 
 -- src/taking.rt:140:9
 ask-ack-requires : tie.Need-ask-ack-requires
