@@ -1,5 +1,7 @@
-// What a message makes of the server's lines, decided before anything is written: the questions of an edit and of an acknowledgement,
-// and the decision. The server's end lends its arrays.
+// What a message makes of the server's lines. It is decided before anything is written: the questions of an edit and of an
+// acknowledgement, and the decision. The server's end lends its arrays.
+pub mod accepting;
+
 ghost use mathlib.Core.Path.{_≡_};
 ghost use mathlib.Core.Bool.{true};
 ghost use Prim.Native.Nat.{_≤_, _<_, _-_};

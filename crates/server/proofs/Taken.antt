@@ -24,13 +24,15 @@ use Rattle.pending.proofs.Slots.{edits-length, filled-length, filled-push}
 use Rattle.endpoint.specs.Items.{stored}
 use Rattle.endpoint.proofs.Room.{room-stored, room-length}
 use Rattle.server.specs.declared.Server.{Server}
+use Rattle.lines.specs.declared.Counts.{Counts}
 use Rattle.arrivals.specs.declared.Decision.{Decision}
 use Rattle.lines.specs.Lines.{pendingCount}
-use Rattle.server.specs.View.{countsOf, view, store}
+use Rattle.server.specs.View.{countsOf, serverOf, view, store}
 use Rattle.server.specs.Sound.{soundStruct, Sized, Sound}
 use Rattle.server.specs.Calls.{refused, answered, takes}
 use Rattle.lines.specs.Taking.{keeps, stayingAt, Raised, Few, Written}
 use Rattle.arrivals.specs.Deciding.{decided, stays}
+use Rattle.arrivals.specs.Accepting.{Acceptable, Counted}
 use Rattle.server.proofs.Rows.{Row, store-is}
 use Rattle.server.proofs.Whole.{means, lines-few, items-are, len-view, at-view, made-few, lines-row}
 use Rattle.lines.proofs.Writing.{keeps-own}
@@ -58,6 +60,18 @@ module _ (s : Server) (h : Sound s) (d : Decision) (es : List Edit) (m : model.S
 
   pub later-length : (later : List ℕ) → later ≡ filled placeOf es → length later ≡ maxPending
   later-length later e = ap length e ∙ filled-length placeOf es (dec .few-pending)
+
+  pub acceptable : (later : List ℕ) → later ≡ filled placeOf es → Acceptable (countsOf s) d later (s .«pending_places») (s .«pending_items»)
+  acceptable later e =
+      record {
+        at = written-at;
+        few = written-few;
+        roomy = dec .roomy;
+        seen = dec .own-seen;
+        own = later-length later e;
+        places = omega (arith, h .sized .places);
+        items = omega (arith, h .sized .items);
+      }
 
   -- the slots of a line
   module _ (word : Edit → ℕ) (part before now′ : List ℕ) (k : Written (d .others) (d .at) (s .made) (s .acked) (word (d .edit)) part before now′) where
@@ -192,12 +206,20 @@ module _ (s : Server) (h : Sound s) (d : Decision) (es : List Edit) (m : model.S
     unfolding view
     items-view = items-are s h
 
-    pub written : next ≡ store m
+    written : next ≡ store m
     written =
         store-is m (omega (arith, dec .count, lines-few s h)) next sized (dec .n) (dec .initial)
         (a .length ∙ room-length (d .edit) (s .len) (view s .items) (sym (len-view s h)) (dec .room) ∙ ap length (sym (dec .items)))
         (a .items ∙ room-stored (d .edit) (s .len) (s .items) (view s .items) items-view (sym (len-view s h)) (dec .room) ∙ ap (padded 0 maxItems) (sym (dec .items)))
         row
+
+  -- the same with the counts as accepting leaves them
+  pub accepted : (size : ℕ) (items ps xs later : List ℕ) (c : Counts) → later ≡ filled placeOf es → Edited (d .edit) (s .len) (s .items) items size
+      → Written (d .others) (d .at) (s .made) (s .acked) (placeOf (d .edit)) later (s .«pending_places») ps
+      → Written (d .others) (d .at) (s .made) (s .acked) (itemOf (d .edit)) (stayingAt (countsOf s) (d .at) (d .acked) (s .«pending_items»)) (s .«pending_items») xs
+      → Counted (countsOf s) size d c → serverOf c items ps xs ≡ store m
+  accepted size items ps xs later c kept a p x g =
+      ap (λ (k : Counts). serverOf k items ps xs) (g .rest) ∙ written size items (c .made) ps xs later kept a p x (g .made)
 
 -- ---- the answers
 
