@@ -111,9 +111,9 @@ unfolding sent
 sent-none q bytes lent n = simp (ne-eqb q 0 n)
 
 module _ (s : Server) (l k : ℕ) (lent : List ℕ) where
-  pub sends-no : soundStruct s ≡ false → sentAs (record { refusal = 2; written = 0 }) lent ≡ sends s l k lent
+  pub sends-no : (r : Bool) → r ≡ soundStruct s → r ≡ false → sentAs (record { refusal = 2; written = 0 }) lent ≡ sends s l k lent
   unfolding sends sent
-  sends-no e = sym (ap (λ (b : Bool). cond b (model.sendServer (view s) l k lent) (sent 2 [] lent)) e)
+  sends-no r e f = sym (ap (λ (b : Bool). cond b (model.sendServer (view s) l k lent) (sent 2 [] lent)) (sym e ∙ f))
 
   module _ (h : Sound s) where
     sends-yes : model.sendServer (view s) l k lent ≡ sends s l k lent
@@ -180,9 +180,9 @@ module _ (s : Server) (l k : ℕ) (lent : List ℕ) where
 -- ---- telling
 
 module _ (s : Server) (l : ℕ) (lent : List ℕ) where
-  pub tells-no : soundStruct s ≡ false → sentAs (record { refusal = 2; written = 0 }) lent ≡ tells s l lent
+  pub tells-no : (r : Bool) → r ≡ soundStruct s → r ≡ false → sentAs (record { refusal = 2; written = 0 }) lent ≡ tells s l lent
   unfolding tells sent
-  tells-no e = sym (ap (λ (b : Bool). cond b (model.tellServer (view s) l lent) (sent 2 [] lent)) e)
+  tells-no r e f = sym (ap (λ (b : Bool). cond b (model.tellServer (view s) l lent) (sent 2 [] lent)) (sym e ∙ f))
 
   module _ (h : Sound s) where
     tells-yes : model.tellServer (view s) l lent ≡ tells s l lent

@@ -224,9 +224,9 @@ module _ (s : Server) (h : Sound s) (d : Decision) (es : List Edit) (m : model.S
 -- ---- the answers
 
 module _ (s : Server) (bytes : List ℕ) where
-  pub take-unsound : soundStruct s ≡ false → refused s 2 ≡ takes s bytes
+  pub take-unsound : (r : Bool) → r ≡ soundStruct s → r ≡ false → refused s 2 ≡ takes s bytes
   unfolding takes
-  take-unsound t = sym (ap (λ (b : Bool). cond b (answered s (model.takeServer (view s) bytes)) (refused s 2)) t)
+  take-unsound r e f = sym (ap (λ (b : Bool). cond b (answered s (model.takeServer (view s) bytes)) (refused s 2)) (sym e ∙ f))
 
   module _ (h : Sound s) where
     take-sound : answered s (model.takeServer (view s) bytes) ≡ takes s bytes

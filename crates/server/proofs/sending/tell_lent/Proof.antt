@@ -22,7 +22,7 @@ sound c = c .before .is-sound .ensures .1 (c .if1 .taken)
 
 -- src/sending.rt:67:8
 is-sound-requires : tie.Need-is-sound-requires
-is-sound-requires c κs = search needs
+is-sound-requires c κs = c .before .before .before .before .before .before .before .before .before .before .before .before .before .pre
 
 -- src/sending.rt:80:22
 sub-i : tie.Need-sub-i
@@ -70,7 +70,7 @@ returns-2 c =
 returns-3 : tie.Need-returns-3
 returns-3 c =
     let s = c .before .before .before .before .before .before .before .before .before .before .before .before .before .before .before in
-    tells-no (whole s) (s .args .line) (s .args .out .now) (sym (c .before .is-sound .ensures .0) ∙ c .if1 .left)
+    tells-no (whole s) (s .args .line) (s .args .out .now) (c .before .is-sound .result) (c .before .is-sound .ensures .0) (c .if1 .left)
 
 pub tell-lent-spec : {M : Type 1} → statement M
 tell-lent-spec =

@@ -17,7 +17,7 @@ abbrev untouched : tie.Start → Changed → Answer
 untouched c r = answerOf r (c .args .items .now) (c .args .places .now) (c .args .pending .now)
 
 is-sound-requires : tie.Need-is-sound-requires
-is-sound-requires c κs = search needs
+is-sound-requires c κs = c .before .before .before .before .before .before .before .before .before .before .before .before .before .before .before .before .pre
 
 take-sound-requires : tie.Need-take-sound-requires
 take-sound-requires c κs = (c .before .before .before .before .before .before .before .before .before .before .before .before .before .before .before .before .before .before .before .before .before .pre .list, c .before .before .before .before .is-sound .ensures .1 (c .before .before .before .if1 .taken))
@@ -31,7 +31,7 @@ refused-requires c κs = search needs
 returns-2 : tie.Need-returns-2
 returns-2 c =
     let s = c .before .before .before .before .before .before .before .before .before .before .before .before .before .before .before .before .before .before .before in
-    ap (untouched s) (c .refused .ensures) ∙ take-unsound (whole s) (s .args .bytes .now) (sym (c .before .before .is-sound .ensures .0) ∙ c .before .if1 .left)
+    ap (untouched s) (c .refused .ensures) ∙ take-unsound (whole s) (s .args .bytes .now) (c .before .before .is-sound .result) (c .before .before .is-sound .ensures .0) (c .before .if1 .left)
 
 pub take-lent-spec : {M : Type 1} → statement M
 take-lent-spec =
