@@ -1,99 +1,111 @@
 use borrow.Author.Needs.{needs}
 use native.Mathlib.Omega.{arith}
-use denote.Ref.{now}
-use mathlib.Core.Path.{ap, sym, _∙_}
-use Prim.Native.Nat.{_-_}
+use mathlib.Core.Path.{_≡_, ap, sym, _∙_}
+use Prim.Native.Nat.{_+_, _-_, _*_, _<_}
+use lib.ListN.{getD}
+use Rattle.model.specs.Limits.{maxLines, maxPending}
+use Rattle.model.specs.Questions.{asks}
 use Rattle.pending.specs.Slots.{placeOf, filled}
+use Rattle.pending.specs.Slots as slots
 use Rattle.pending.proofs.Crossing.{over-nothing}
-use Rattle.arrivals.specs.Deciding.{leftAt, ackDecided}
-use Rattle.arrivals.proofs.Asked.{ack-here, left-ready}
+use Rattle.arrivals.specs.Deciding.{leftAt, ackAsked, ackDecided}
+use Rattle.arrivals.proofs.Asked.{Here, ack-here, left-ready}
 use Rattle.arrivals.proofs.Decided.{refused-decided, ack-no, ack-made}
 use Rattle.arrivals.proofs.decide_ack.Statement.{statement}
 use Rattle.arrivals.proofs.decide_ack.Tie as tie
 
--- src/taking.rt:140:9
+-- ---- the questions were answered yes
+
+abbrev entry : tie.Then1 → tie.Start
+entry c = c .before .before .before .before
+
+asked : (c : tie.Then1) → asks (ackAsked (entry c .args .t1) (entry c .args .line) (entry c .args .direction) (entry c .args .seen)) ≡ 0
+asked c = sym (c .before .ask-ack .ensures) ∙ c .if1 .taken
+
+here : (c : tie.Then1) → Here (entry c .args .t1) (entry c .args .line) (entry c .args .seen)
+here c = ack-here (entry c .args .t1) (entry c .args .line) (entry c .args .direction) (entry c .args .seen) (asked c)
+
+eight : (c : tie.Then1) → entry c .args .line - 1 < maxLines
+eight c = omega (arith, here c .used, entry c .pre .0 .few)
+
+left : (c : tie.Then1) → slots.Ready (maxPending * (entry c .args .line - 1) + (entry c .args .seen - getD (entry c .args .t1 .acked) (entry c .args .line - 1) 0)) (getD (entry c .args .t1 .made) (entry c .args .line - 1) 0 - entry c .args .seen) (entry c .args .places .now) (entry c .args .items .now)
+left c = left-ready (entry c .args .t1) (entry c .args .places .now) (entry c .args .items .now) (entry c .pre .0) (entry c .args .line) (entry c .args .seen) (here c)
+
+-- ---- the needs
+
 ask-ack-requires : tie.Need-ask-ack-requires
 ask-ack-requires c κs = c .before .before .pre .0 .few
 
--- src/taking.rt:142:18
 sub-i : tie.Need-sub-i
-sub-i c = let h = ack-here (c .before .before .before .before .args .t1) (c .before .before .before .before .args .line) (c .before .before .before .before .args .direction) (c .before .before .before .before .args .seen) (sym (c .before .ask-ack .ensures) ∙ c .if1 .taken) in omega (arith, c .before .before .before .before .pre .0 .few, h .low, h .used, h .old, h .new)
+sub-i c = omega (arith, eight c, here c)
 
--- src/taking.rt:142:17
 cast-i : tie.Need-cast-i
-cast-i c = let h = ack-here (c .before .before .before .before .args .t1) (c .before .before .before .before .args .line) (c .before .before .before .before .args .direction) (c .before .before .before .before .args .seen) (sym (c .before .ask-ack .ensures) ∙ c .if1 .taken) in omega (arith, c .before .before .before .before .pre .0 .few, h .low, h .used, h .old, h .new)
+cast-i c = omega (arith, eight c, here c)
 
--- src/taking.rt:143:20
 mul-from : tie.Need-mul-from
-mul-from c = let h = ack-here (c .before .before .before .before .args .t1) (c .before .before .before .before .args .line) (c .before .before .before .before .args .direction) (c .before .before .before .before .args .seen) (sym (c .before .ask-ack .ensures) ∙ c .if1 .taken) in omega (arith, c .before .before .before .before .pre .0 .few, h .low, h .used, h .old, h .new)
+mul-from c = omega (arith, eight c, here c)
 
--- src/taking.rt:143:37
 mul-from-2 : tie.Need-mul-from-2
-mul-from-2 c = let h = ack-here (c .before .before .before .before .args .t1) (c .before .before .before .before .args .line) (c .before .before .before .before .args .direction) (c .before .before .before .before .args .seen) (sym (c .before .ask-ack .ensures) ∙ c .if1 .taken) in omega (arith, c .before .before .before .before .pre .0 .few, h .low, h .used, h .old, h .new)
+mul-from-2 c = omega (arith, eight c, here c)
 
--- src/taking.rt:143:37
 element-copy-out-from : tie.Need-element-copy-out-from
-element-copy-out-from c = let h = ack-here (c .before .before .before .before .args .t1) (c .before .before .before .before .args .line) (c .before .before .before .before .args .direction) (c .before .before .before .before .args .seen) (sym (c .before .ask-ack .ensures) ∙ c .if1 .taken) in omega (arith, c .before .before .before .before .pre .0 .few, h .low, h .used, h .old, h .new)
+element-copy-out-from c = omega (arith, eight c, here c)
 
--- src/taking.rt:143:30
 sub-from : tie.Need-sub-from
-sub-from c = let h = ack-here (c .before .before .before .before .before .args .t1) (c .before .before .before .before .before .args .line) (c .before .before .before .before .before .args .direction) (c .before .before .before .before .before .args .seen) (sym (c .before .before .ask-ack .ensures) ∙ c .before .if1 .taken) in omega (arith, c .before .before .before .before .before .pre .0 .few, h .low, h .used, h .old, h .new)
+sub-from c = omega (arith, eight (c .before), here (c .before))
 
--- src/taking.rt:143:29
 cast-from : tie.Need-cast-from
-cast-from c = let h = ack-here (c .before .before .before .before .before .args .t1) (c .before .before .before .before .before .args .line) (c .before .before .before .before .before .args .direction) (c .before .before .before .before .before .args .seen) (sym (c .before .before .ask-ack .ensures) ∙ c .before .if1 .taken) in omega (arith, c .before .before .before .before .before .pre .0 .few, h .low, h .used, h .old, h .new)
+cast-from c = omega (arith, eight (c .before), here (c .before))
 
--- src/taking.rt:143:20
 add-from : tie.Need-add-from
-add-from c = let h = ack-here (c .before .before .before .before .before .args .t1) (c .before .before .before .before .before .args .line) (c .before .before .before .before .before .args .direction) (c .before .before .before .before .before .args .seen) (sym (c .before .before .ask-ack .ensures) ∙ c .before .if1 .taken) in omega (arith, c .before .before .before .before .before .pre .0 .few, h .low, h .used, h .old, h .new)
+add-from c = omega (arith, eight (c .before), here (c .before))
 
--- src/taking.rt:144:22
 mul-count : tie.Need-mul-count
-mul-count c = let h = ack-here (c .before .before .before .before .before .args .t1) (c .before .before .before .before .before .args .line) (c .before .before .before .before .before .args .direction) (c .before .before .before .before .before .args .seen) (sym (c .before .before .ask-ack .ensures) ∙ c .before .if1 .taken) in omega (arith, c .before .before .before .before .before .pre .0 .few, h .low, h .used, h .old, h .new)
+mul-count c = omega (arith, eight (c .before))
 
--- src/taking.rt:144:22
 element-copy-out-count : tie.Need-element-copy-out-count
-element-copy-out-count c = let h = ack-here (c .before .before .before .before .before .args .t1) (c .before .before .before .before .before .args .line) (c .before .before .before .before .before .args .direction) (c .before .before .before .before .before .args .seen) (sym (c .before .before .ask-ack .ensures) ∙ c .before .if1 .taken) in omega (arith, c .before .before .before .before .before .pre .0 .few, h .low, h .used, h .old, h .new)
+element-copy-out-count c = omega (arith, eight (c .before))
 
--- src/taking.rt:144:22
 sub-count : tie.Need-sub-count
-sub-count c = let h = ack-here (c .before .before .before .before .before .before .args .t1) (c .before .before .before .before .before .before .args .line) (c .before .before .before .before .before .before .args .direction) (c .before .before .before .before .before .before .args .seen) (sym (c .before .before .before .ask-ack .ensures) ∙ c .before .before .if1 .taken) in omega (arith, c .before .before .before .before .before .before .pre .0 .few, h .low, h .used, h .old, h .new)
+sub-count c = omega (arith, here (c .before .before))
 
--- src/taking.rt:144:21
 cast-count : tie.Need-cast-count
-cast-count c = let h = ack-here (c .before .before .before .before .before .before .args .t1) (c .before .before .before .before .before .before .args .line) (c .before .before .before .before .before .before .args .direction) (c .before .before .before .before .before .before .args .seen) (sym (c .before .before .before .ask-ack .ensures) ∙ c .before .before .if1 .taken) in omega (arith, left-ready (c .before .before .before .before .before .before .args .t1) (now (c .before .before .before .before .before .before .args .places)) (now (c .before .before .before .before .before .before .args .items)) (c .before .before .before .before .before .before .pre .0) (c .before .before .before .before .before .before .args .line) (c .before .before .before .before .before .before .args .seen) h .few)
+cast-count c = omega (arith, left (c .before .before) .few)
 
--- src/taking.rt:145:9
 cross-requires : tie.Need-cross-requires
-cross-requires c κs = let h = ack-here (c .before .before .before .before .before .before .before .args .t1) (c .before .before .before .before .before .before .before .args .line) (c .before .before .before .before .before .before .before .args .direction) (c .before .before .before .before .before .before .before .args .seen) (sym (c .before .before .before .before .ask-ack .ensures) ∙ c .before .before .before .if1 .taken) in (omega arith, (left-ready (c .before .before .before .before .before .before .before .args .t1) (now (c .before .before .before .before .before .before .before .args .places)) (now (c .before .before .before .before .before .before .before .args .items)) (c .before .before .before .before .before .before .before .pre .0) (c .before .before .before .before .before .before .before .args .line) (c .before .before .before .before .before .before .before .args .seen) h, c .before .before .before .before .before .before .before .pre .1))
+cross-requires c κs = (omega arith, (left (c .before .before .before), entry (c .before .before .before) .pre .1))
 
--- src/taking.rt:150:20
 mul-t22 : tie.Need-mul-t22
-mul-t22 c = let h = ack-here (c .before .before .before .before .before .before .before .before .args .t1) (c .before .before .before .before .before .before .before .before .args .line) (c .before .before .before .before .before .before .before .before .args .direction) (c .before .before .before .before .before .before .before .before .args .seen) (sym (c .before .before .before .before .before .ask-ack .ensures) ∙ c .before .before .before .before .if1 .taken) in omega (arith, c .before .before .before .before .before .before .before .before .pre .0 .few, h .low, h .used, h .old, h .new)
+mul-t22 c = omega (arith, eight (c .before .before .before .before))
 
--- src/taking.rt:150:20
 element-copy-out-t20 : tie.Need-element-copy-out-t20
-element-copy-out-t20 c = let h = ack-here (c .before .before .before .before .before .before .before .before .args .t1) (c .before .before .before .before .before .before .before .before .args .line) (c .before .before .before .before .before .before .before .before .args .direction) (c .before .before .before .before .before .before .before .before .args .seen) (sym (c .before .before .before .before .before .ask-ack .ensures) ∙ c .before .before .before .before .if1 .taken) in omega (arith, c .before .before .before .before .before .before .before .before .pre .0 .few, h .low, h .used, h .old, h .new)
+element-copy-out-t20 c = omega (arith, eight (c .before .before .before .before))
 
--- src/taking.rt:152:22
 mul-t17 : tie.Need-mul-t17
-mul-t17 c = let h = ack-here (c .before .before .before .before .before .before .before .before .before .args .t1) (c .before .before .before .before .before .before .before .before .before .args .line) (c .before .before .before .before .before .before .before .before .before .args .direction) (c .before .before .before .before .before .before .before .before .before .args .seen) (sym (c .before .before .before .before .before .before .ask-ack .ensures) ∙ c .before .before .before .before .before .if1 .taken) in omega (arith, c .before .before .before .before .before .before .before .before .before .pre .0 .few, h .low, h .used, h .old, h .new)
+mul-t17 c = omega (arith, eight (c .before .before .before .before .before))
 
--- src/taking.rt:152:22
 element-copy-out-t21 : tie.Need-element-copy-out-t21
-element-copy-out-t21 c = let h = ack-here (c .before .before .before .before .before .before .before .before .before .args .t1) (c .before .before .before .before .before .before .before .before .before .args .line) (c .before .before .before .before .before .before .before .before .before .args .direction) (c .before .before .before .before .before .before .before .before .before .args .seen) (sym (c .before .before .before .before .before .before .ask-ack .ensures) ∙ c .before .before .before .before .before .if1 .taken) in omega (arith, c .before .before .before .before .before .before .before .before .before .pre .0 .few, h .low, h .used, h .old, h .new)
+element-copy-out-t21 c = omega (arith, eight (c .before .before .before .before .before))
 
--- src/taking.rt:146:9
 returns : tie.Need-returns
-returns c = let z = sym (c .before .before .before .before .before .before .before .ask-ack .ensures) ∙ c .before .before .before .before .before .before .if1 .taken in record { is = ack-made (c .before .before .before .before .before .before .before .before .before .before .args .t1) (c .before .before .before .before .before .before .before .before .before .before .args .line) (c .before .before .before .before .before .before .before .before .before .before .args .direction) (c .before .before .before .before .before .before .before .before .before .before .args .seen) z; kept = λ y. c .before .before .cross .ensures .1 ∙ ap (filled placeOf) (over-nothing (leftAt (c .before .before .before .before .before .before .before .before .before .before .args .t1) (now (c .before .before .before .before .before .before .before .before .before .before .args .places)) (now (c .before .before .before .before .before .before .before .before .before .before .args .items)) (c .before .before .before .before .before .before .before .before .before .before .args .line - 1) (c .before .before .before .before .before .before .before .before .before .before .args .seen))) }
+returns c =
+    let t = c .before .before .before .before .before .before in
+    let s = entry t .args in
+    record {
+      is = ack-made (s .t1) (s .line) (s .direction) (s .seen) (asked t);
+      kept =
+          λ y. c .before .before .cross .ensures .1
+          ∙ ap (filled placeOf) (over-nothing (leftAt (s .t1) (s .places .now) (s .items .now) (s .line - 1) (s .seen)));
+    }
 
--- src/taking.rt:157:5
 refusing-requires : tie.Need-refusing-requires
 refusing-requires c κs = search needs
 
--- src/taking.rt:128:1
 returns-2 : tie.Need-returns-2
-returns-2 c = refused-decided (c .before .before .ask-ack .result) (ackDecided (c .before .before .before .before .before .args .t1) (c .before .before .before .before .before .args .line) (c .before .before .before .before .before .args .direction) (c .before .before .before .before .before .args .seen)) (c .refusing .result) (leftAt (c .before .before .before .before .before .args .t1) (now (c .before .before .before .before .before .args .places)) (now (c .before .before .before .before .before .args .items)) (c .before .before .before .before .before .args .line - 1) (c .before .before .before .before .before .args .seen)) (c .before .before .before .before .before .args .later .now) (c .before .if1 .left) (c .refusing .ensures) (ack-no (c .before .before .before .before .before .args .t1) (c .before .before .before .before .before .args .line) (c .before .before .before .before .before .args .direction) (c .before .before .before .before .before .args .seen) (c .before .before .ask-ack .result) (c .before .before .ask-ack .ensures) (c .before .if1 .left))
+returns-2 c =
+    let s = c .before .before .before .before .before .args in
+    refused-decided (c .before .before .ask-ack .result) (ackDecided (s .t1) (s .line) (s .direction) (s .seen)) (c .refusing .result) (leftAt (s .t1) (s .places .now) (s .items .now) (s .line - 1) (s .seen)) (s .later .now) (c .before .if1 .left) (c .refusing .ensures)
+    (ack-no (s .t1) (s .line) (s .direction) (s .seen) (c .before .before .ask-ack .result) (c .before .before .ask-ack .ensures) (c .before .if1 .left))
 
 pub decide-ack-spec : {M : Type 1} → statement M
 decide-ack-spec =
