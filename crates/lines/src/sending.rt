@@ -1,7 +1,10 @@
-// Sending a pending edit of a line.
+// Sending: a pending edit of a line, or an acknowledgement.
 ghost use mathlib.Core.Path.{_≡_};
-ghost use Prim.Native.Nat.{_≤_};
-ghost use Rattle.model.specs.Questions.{asks};
+ghost use mathlib.Core.Bool.{true};
+ghost use Prim.Native.Nat.{_≤_, _-_};
+ghost use lib.ListN.{getD};
+ghost use Rattle.wire.specs.declared.Message.the-variants.{Ack};
+ghost use Rattle.model.specs.Questions.{asks, between};
 ghost use Rattle.lines.specs.Sending.{sendAsked, messageAt};
 use crate::Counts;
 use wire::Header;
@@ -36,4 +39,13 @@ pub fn message<'a>(c: Counts, places: &'a [u32], items: &'a [u32], line: u8, k: 
         seen: c.taken[i],
     };
     wire::of_edit(h, pending::at(places, items, at))
+}
+
+// The acknowledgement of what was taken on a line in use.
+pub fn told(c: Counts, line: u8) -> Message
+    requires { ⌜ (c .n ≤ 8) × (between 1 (c .n) line ≡ true) ⌝ }
+    ensures { λ r. ⌜ r ≡ Ack line 1 (getD (c .taken) (line - 1) 0) ⌝ }
+{
+    let i = (line - 1) as usize;
+    Message::Ack(line, 1, c.taken[i])
 }

@@ -202,10 +202,11 @@ module _ (s : Server) (l : ℕ) (lent : List ℕ) where
         asks-yes 2 (model.soundServer (view s)) (ask 4 (between 1 (s .n) l) ∷ tellLast) (means s h) ∙ asks-no 4 (between 1 (s .n) l) tellLast t in
         sym (ap (λ (r : ℕ). sent r (bytesOf (message.Ack l 1 (model.lineOf (view s) l .taken))) lent) q) ∙ tells-yes
 
-    pub tell-done : between 1 (s .n) l ≡ true → finished 0 (message.Ack l 1 (getD (s .taken) (l - 1) 0)) lent ≡ tells s l lent
+    pub tell-done : (m : Message) → between 1 (s .n) l ≡ true → m ≡ message.Ack l 1 (getD (s .taken) (l - 1) 0) → finished 0 m lent ≡ tells s l lent
     unfolding model.tellServer view bytesOf
-    tell-done t =
+    tell-done m t e =
         let q : asks tellQuestions ≡ asks tellLast =
         asks-yes 2 (model.soundServer (view s)) (ask 4 (between 1 (s .n) l) ∷ tellLast) (means s h) ∙ asks-yes 4 (between 1 (s .n) l) tellLast t in
-        ap (λ (w : model.Line). finished 0 (message.Ack l 1 (w .taken)) lent) (sym (line-of s h l t))
+        ap (λ (w : Message). finished 0 w lent) e
+        ∙ ap (λ (w : model.Line). finished 0 (message.Ack l 1 (w .taken)) lent) (sym (line-of s h l t))
         ∙ sym (ap (λ (r : ℕ). sent r (bytesOf (message.Ack l 1 (model.lineOf (view s) l .taken))) lent) q) ∙ tells-yes

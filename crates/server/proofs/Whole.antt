@@ -288,10 +288,7 @@ module _ (s : Server) (h : Sound s) where
         omega (arith, at-facts .made, sum-few (s .n) (takenSum (used s)) 1 (used s) (facts .lines), lines-count, lines-few)
 
   module _ (l : ℕ) (t : between 1 (s .n) l ≡ true) where
-    pub line-low : 1 ≤ l
-    line-low = between-true 1 (s .n) l t .0
-
-    pub place-used : l - 1 < s .n
+    place-used : l - 1 < s .n
     place-used = let b = between-true 1 (s .n) l t in omega arith
 
     pub line-of : model.lineOf (view s) l ≡ line s (l - 1)
