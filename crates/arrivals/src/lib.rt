@@ -1,7 +1,5 @@
 // What a message makes of the server's lines. It is decided before anything is written: the questions of an edit and of an
-// acknowledgement, and the decision. The server's end lends its arrays.
-pub mod accepting;
-
+// acknowledgement, the decision, and then the slots. The server's end lends its arrays.
 ghost use mathlib.Core.Path.{_≡_};
 ghost use mathlib.Core.Bool.{true};
 ghost use Prim.Native.Nat.{_≤_, _<_, _-_};
@@ -9,15 +7,19 @@ ghost use lib.Dec.{eqb};
 ghost use lib.ListN.{replicate};
 ghost use Rattle.ot.specs.Edit.{positionOf};
 ghost use Rattle.wire.specs.Message.{inRange};
+ghost use Rattle.wire.specs.Bytes.{parsed};
 ghost use Rattle.model.specs.Limits.{maxItems, maxPending};
 ghost use Rattle.model.specs.Cross.{priority};
 ghost use Rattle.model.specs.Questions.{asks};
-ghost use Rattle.pending.specs.Slots.{allFrom};
-ghost use Rattle.arrivals.specs.Deciding.{roomyAt, editAsked, lastAsked, ackAsked, refusing, leftAt, editDecided, ackDecided, decided, editStays, stays, Decided, Ready};
+ghost use Rattle.pending.specs.Slots.{allFrom, placeOf, itemOf};
+ghost use Rattle.lines.specs.Taking.{stayingAt, Written};
+ghost use Rattle.arrivals.specs.Deciding.{roomyAt, editAsked, lastAsked, ackAsked, refusing, leftAt, editDecided, ackDecided, decided, editStays, stays, readDecided, readStays, Decided, Ready};
+ghost use Rattle.arrivals.specs.Accepting.{Acceptable};
 use lines::Counts;
 use ot::Edit;
 use wire::Header;
 use wire::Message;
+use wire::Read;
 
 // What a message makes of an end: 0 or the number of the question that says no, how many pending edits the edit was transformed past;
 // the place of the line that it came on, counted from 0, with the counts of that line; the edit to apply, and how many of the lines it is
@@ -189,7 +191,7 @@ fn decide_edit<'a>(
     refusing(refusal)
 }
 
-pub fn decide<'a>(
+fn decide<'a>(
     k: Counts,
     places: &'a [u32],
     items: &'a [u32],
@@ -207,4 +209,41 @@ pub fn decide<'a>(
         Message::Nothing(h) => decide_edit(k, places, items, h, Edit::Nothing, later),
         Message::Ack(l, d, s) => decide_ack(k, places, items, l, d, s, later),
     }
+}
+
+// Bytes that a client sent: exactly one message.
+pub fn decide_bytes<'a>(
+    k: Counts,
+    places: &'a [u32],
+    items: &'a [u32],
+    bytes: &[u8],
+    later: &mut [u32; 64],
+) -> Decision
+    requires { ⌜ Ready k (now places) (now items) × (now later ≡ replicate maxPending 0) ⌝ }
+    ensures { λ r. ⌜ Decided (readDecided k (now (places .entry)) (now (items .entry)) (parsed (now (bytes .entry)))) (readStays k (now (places .entry)) (now (items .entry)) (parsed (now (bytes .entry)))) (now (later .exit)) r ⌝ }
+{
+    let Read::Message(m) = wire::parse(bytes) else {
+        return refusing(3);
+    };
+    decide(k, places, items, m, later)
+}
+
+// ---- what is written
+
+// The slots: those of the line that the message came on, and one more for each of the others. later has the places of the line's own.
+pub fn write_slots(
+    k: Counts,
+    places: &mut [u32; 512],
+    items: &mut [u32; 512],
+    d: Decision,
+    later: &[u32],
+)
+    requires { ⌜ Acceptable k d (now later) (now places) (now items) ⌝ }
+    ensures own { λ r. ⌜ Written (d .others) (d .at) (k .made) (k .acked) (placeOf (d .edit)) (now (later .entry)) (now (places .entry)) (now (places .exit)) ⌝ }
+    ensures same { λ r. ⌜ Written (d .others) (d .at) (k .made) (k .acked) (itemOf (d .edit)) (stayingAt k (d .at) (d .acked) (now (items .entry))) (now (items .entry)) (now (items .exit)) ⌝ }
+{
+    let at = d.at;
+    let e = d.edit;
+    lines::taking::write_places(places, later, k, at, d.others, pending::place_of(e));
+    lines::taking::write_items(items, k, at, d.acked, d.others, pending::item_of(e));
 }

@@ -10,34 +10,26 @@ use lib.Seq.{getD-set-same, getD-set-other}
 use borrow.Author.Tests.{eqb-true, eqb-false, eq-eqb, ne-eqb, ltb-true}
 use Rattle.ot.specs.declared.Edit.{Edit}
 use Rattle.ot.specs.Items.{Edited, padded}
-use Rattle.wire.specs.declared.Message.{Message}
-use Rattle.wire.specs.declared.Read.{Read}
-use Rattle.wire.specs.declared.Read.the-variants as read
-use Rattle.wire.specs.Message.{inRange}
 use Rattle.wire.specs.Bytes.{parsed}
-use Rattle.wire.proofs.Codec.{codec}
 use Rattle.model.specs.Limits.{maxLines, maxItems, maxPending}
-use Rattle.model.specs.Questions.{ask, asks, answer}
 use Rattle.model.specs.Server as model
 use Rattle.pending.specs.Slots.{placeOf, itemOf, stretch, filled}
 use Rattle.pending.proofs.Slots.{edits-length, filled-length, filled-push}
 use Rattle.endpoint.specs.Items.{stored}
 use Rattle.endpoint.proofs.Room.{room-stored, room-length}
 use Rattle.server.specs.declared.Server.{Server}
-use Rattle.lines.specs.declared.Counts.{Counts}
 use Rattle.arrivals.specs.declared.Decision.{Decision}
 use Rattle.lines.specs.Lines.{pendingCount}
-use Rattle.server.specs.View.{countsOf, serverOf, view, store}
+use Rattle.server.specs.View.{countsOf, view, store}
 use Rattle.server.specs.Sound.{soundStruct, Sized, Sound}
 use Rattle.server.specs.Calls.{refused, answered, takes}
 use Rattle.lines.specs.Taking.{keeps, stayingAt, Raised, Few, Written}
-use Rattle.arrivals.specs.Deciding.{decided, stays}
-use Rattle.arrivals.specs.Accepting.{Acceptable, Counted}
+use Rattle.arrivals.specs.Deciding.{readDecided, readStays}
+use Rattle.arrivals.specs.Accepting.{Acceptable}
 use Rattle.server.proofs.Rows.{Row, store-is}
 use Rattle.server.proofs.Whole.{means, lines-few, items-are, len-view, at-view, made-few, lines-row}
 use Rattle.lines.proofs.Writing.{keeps-own}
-use Rattle.lines.proofs.Asked.{asks-yes, asks-no}
-use Rattle.server.proofs.Deciding.{Decides, Right, message-right}
+use Rattle.server.proofs.Deciding.{Decides, Right, read-right}
 
 -- ---- what is written
 
@@ -206,20 +198,12 @@ module _ (s : Server) (h : Sound s) (d : Decision) (es : List Edit) (m : model.S
     unfolding view
     items-view = items-are s h
 
-    written : next ≡ store m
+    pub written : next ≡ store m
     written =
         store-is m (omega (arith, dec .count, lines-few s h)) next sized (dec .n) (dec .initial)
         (a .length ∙ room-length (d .edit) (s .len) (view s .items) (sym (len-view s h)) (dec .room) ∙ ap length (sym (dec .items)))
         (a .items ∙ room-stored (d .edit) (s .len) (s .items) (view s .items) items-view (sym (len-view s h)) (dec .room) ∙ ap (padded 0 maxItems) (sym (dec .items)))
         row
-
-  -- the same with the counts as accepting leaves them
-  pub accepted : (size : ℕ) (items ps xs later : List ℕ) (c : Counts) → later ≡ filled placeOf es → Edited (d .edit) (s .len) (s .items) items size
-      → Written (d .others) (d .at) (s .made) (s .acked) (placeOf (d .edit)) later (s .«pending_places») ps
-      → Written (d .others) (d .at) (s .made) (s .acked) (itemOf (d .edit)) (stayingAt (countsOf s) (d .at) (d .acked) (s .«pending_items»)) (s .«pending_items») xs
-      → Counted (countsOf s) size d c → serverOf c items ps xs ≡ store m
-  accepted size items ps xs later c kept a p x g =
-      ap (λ (k : Counts). serverOf k items ps xs) (g .rest) ∙ written size items (c .made) ps xs later kept a p x (g .made)
 
 -- ---- the answers
 
@@ -233,46 +217,30 @@ module _ (s : Server) (bytes : List ℕ) where
     unfolding takes
     take-sound = sym (ap (λ (b : Bool). cond b (answered s (model.takeServer (view s) bytes)) (refused s 2)) (h .well))
 
-    pub take-unread : (r : Read) → r ≡ parsed bytes → r ≡ read.Refused → refused s 3 ≡ takes s bytes
-    unfolding model.takeServer answered answer
-    take-unread r f z =
-        let q : asks (ask 2 (model.soundServer (view s)) ∷ ask 3 false ∷ []) ≡ 3 =
-        asks-yes 2 (model.soundServer (view s)) (ask 3 false ∷ []) (means s h) ∙ asks-no 3 false [] refl in
-        sym (ap (λ (k : ℕ). answered s (answer k (view s) (view s) 0)) q)
-        ∙ ap (λ (x : Read). answered s (model.serverReads (view s) x)) (sym z ∙ f)
-        ∙ take-sound
+    abbrev stayed : List Edit
+    stayed = readStays (countsOf s) (s .«pending_places») (s .«pending_items») (parsed bytes)
 
-    module _ (r : Read) (m : Message) (f : r ≡ parsed bytes) (z : r ≡ read.Message m) where
-      pub take-ranged : inRange m ≡ true
-      take-ranged = codec .read-in-range bytes m (sym f ∙ z)
-
-      take-read : answered s (model.serverTakes (view s) m) ≡ takes s bytes
+    module _ (d : Decision) (g : d ≡ readDecided (countsOf s) (s .«pending_places») (s .«pending_items») (parsed bytes)) where
+      right : Right s d stayed (model.takeServer (view s) bytes)
       unfolding model.takeServer
-      take-read = ap (λ (x : Read). answered s (model.serverReads (view s) x)) (sym z ∙ f) ∙ take-sound
+      right = subst (λ (x : Decision). Right s x stayed (model.serverReads (view s) (parsed bytes))) (sym g) (read-right s h (parsed bytes))
 
-      abbrev stayed : List Edit
-      stayed = stays (countsOf s) (s .«pending_places») (s .«pending_items») m
+      pub take-refused : (d .refusal ≡ 0 → ⊥) → refused s (d .refusal) ≡ takes s bytes
+      unfolding answered
+      take-refused n =
+          let a = model.takeServer (view s) bytes in
+          (λ j. record { refusal = right .refusal j; passed = sym (right .none-passed n) j; server = s })
+          ∙ sym (ap (λ (b : Bool). record { refusal = a .refusal; passed = a .passed; server = cond b (store (a .end)) s }) (ne-eqb (a .refusal) 0 (λ y. n (right .refusal ∙ y))))
+          ∙ take-sound
 
-      module _ (d : Decision) (g : d ≡ decided (countsOf s) (s .«pending_places») (s .«pending_items») m) where
-        right : Right s d stayed (model.serverTakes (view s) m)
-        right = subst (λ (x : Decision). Right s x stayed (model.serverTakes (view s) m)) (sym g) (message-right s h m)
+      pub take-decides : d .refusal ≡ 0 → Decides s d stayed (model.takeServer (view s) bytes .end)
+      take-decides y = right .becomes y
 
-        pub take-refused : (d .refusal ≡ 0 → ⊥) → refused s (d .refusal) ≡ takes s bytes
-        unfolding answered
-        take-refused n =
-            let a = model.serverTakes (view s) m in
-            (λ j. record { refusal = right .refusal j; passed = sym (right .none-passed n) j; server = s })
-            ∙ sym (ap (λ (b : Bool). record { refusal = a .refusal; passed = a .passed; server = cond b (store (a .end)) s }) (ne-eqb (a .refusal) 0 (λ y. n (right .refusal ∙ y))))
-            ∙ take-read
-
-        pub take-decides : d .refusal ≡ 0 → Decides s d stayed (model.serverTakes (view s) m .end)
-        take-decides y = right .becomes y
-
-        pub take-done : (t : Server) → d .refusal ≡ 0 → t ≡ store (model.serverTakes (view s) m .end) → record { refusal = 0; passed = d .passed; server = t } ≡ takes s bytes
-        unfolding answered
-        take-done t y e =
-            let a = model.serverTakes (view s) m in
-            let zero′ : 0 ≡ a .refusal = sym y ∙ right .refusal in
-            (λ j. record { refusal = zero′ j; passed = right .passed y j; server = e j })
-            ∙ sym (ap (λ (b : Bool). record { refusal = a .refusal; passed = a .passed; server = cond b (store (a .end)) s }) (eq-eqb (a .refusal) 0 (sym zero′)))
-            ∙ take-read
+      pub take-done : (t : Server) → d .refusal ≡ 0 → t ≡ store (model.takeServer (view s) bytes .end) → record { refusal = 0; passed = d .passed; server = t } ≡ takes s bytes
+      unfolding answered
+      take-done t y e =
+          let a = model.takeServer (view s) bytes in
+          let zero′ : 0 ≡ a .refusal = sym y ∙ right .refusal in
+          (λ j. record { refusal = zero′ j; passed = right .passed y j; server = e j })
+          ∙ sym (ap (λ (b : Bool). record { refusal = a .refusal; passed = a .passed; server = cond b (store (a .end)) s }) (eq-eqb (a .refusal) 0 (sym zero′)))
+          ∙ take-sound

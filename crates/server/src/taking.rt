@@ -1,16 +1,13 @@
 // Taking: a message of a client, an edit or an acknowledgement.
 ghost use mathlib.Core.Path.{_≡_};
-ghost use lib.ListN.{length};
-ghost use Rattle.model.specs.Limits.{maxItems};
 ghost use Rattle.server.specs.View.{serverOf};
-ghost use Rattle.server.specs.Sound.{Sound, Sizes};
+ghost use Rattle.server.specs.Sound.{Sizes};
 ghost use Rattle.server.specs.Calls.{unchanged, answerOf, takes};
 use crate::Answer;
 use crate::Server;
 use crate::is_sound;
-use arrivals::accepting;
 use lines::Counts;
-use wire::Read;
+use lines::taking;
 
 // What taking answers where the arrays are lent: 0 or the number of the question that said no, how many pending edits an edit was
 // transformed past, and the counts as they are now.
@@ -31,40 +28,10 @@ fn refused(refusal: u8, k: Counts) -> Changed
     }
 }
 
-// Bytes for an end that question 2 said yes to.
-fn take_sound(
-    k: Counts,
-    items: &mut [u32; 512],
-    places: &mut [u32; 512],
-    pending: &mut [u32; 512],
-    bytes: &[u8],
-) -> Changed
-    requires { ⌜ (length (now items) ≡ maxItems) × Sound (serverOf k (now items) (now places) (now pending)) ⌝ }
-    ensures { λ r. ⌜ answerOf r (now (items .exit)) (now (places .exit)) (now (pending .exit)) ≡ takes (serverOf k (now (items .entry)) (now (places .entry)) (now (pending .entry))) (now (bytes .entry)) ⌝ }
-{
-    let Read::Message(m) = wire::parse(bytes) else {
-        return refused(3, k);
-    };
-    let mut later = [0u32; 64];
-    let d = arrivals::decide(k, places, pending, m, &mut later);
-    if d.refusal == 0 {
-        accepting::write_slots(k, places, pending, d, &later);
-        let e = d.edit;
-        let len = ot::apply(items, k.len, e);
-        let counts = accepting::counted(k, len, d);
-        return Changed {
-            refusal: 0,
-            passed: d.passed,
-            counts,
-        };
-    }
-    refused(d.refusal, k)
-}
-
 // Bytes that a client sent: exactly one message. The end's arrays are lent and written in place, since an end by value is copied at
 // each call; a refusal writes nothing.
 pub fn take_lent(
-    k: Counts,
+    mut k: Counts,
     items: &mut [u32; 512],
     places: &mut [u32; 512],
     pending: &mut [u32; 512],
@@ -85,7 +52,24 @@ pub fn take_lent(
         places,
         pending,
     ) {
-        return take_sound(k, items, places, pending, bytes);
+        let mut later = [0u32; 64];
+        let d = arrivals::decide_bytes(k, places, pending, bytes, &mut later);
+        if d.refusal == 0 {
+            let i = d.at;
+            let e = d.edit;
+            arrivals::write_slots(k, places, pending, d, &later);
+            k.len = ot::apply(items, k.len, e);
+            taking::raise(&mut k.made, d.others, i);
+            k.taken[i] = d.taken;
+            k.acked[i] = d.acked;
+            k.inserts[i] = d.inserts;
+            return Changed {
+                refusal: 0,
+                passed: d.passed,
+                counts: k,
+            };
+        }
+        return refused(d.refusal, k);
     }
     refused(2, k)
 }

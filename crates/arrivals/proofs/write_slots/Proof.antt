@@ -2,8 +2,8 @@ use borrow.Author.Needs.{needs}
 use mathlib.Core.Path.{_≡_, subst}
 use Prim.Native.Nat.{ℕ}
 use Rattle.lines.specs.Taking.{stayingAt, Written}
-use Rattle.arrivals.proofs.accepting.write_slots.Statement.{statement}
-use Rattle.arrivals.proofs.accepting.write_slots.Tie as tie
+use Rattle.arrivals.proofs.write_slots.Statement.{statement}
+use Rattle.arrivals.proofs.write_slots.Tie as tie
 
 place-of-requires : tie.Need-place-of-requires
 place-of-requires c κs = search needs
