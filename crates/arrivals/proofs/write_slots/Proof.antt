@@ -23,8 +23,7 @@ write-items-requires c κs =
 
 returns : tie.Need-returns
 returns c =
-    let s = c .before .before .before .before .before .before .before .args in
-    (
+    let s = c .before .before .before .before .before .before .before .args in (
       subst (λ (w : ℕ). Written (s .d .others) (s .d .at) (s .k .made) (s .k .acked) w (s .later .now) (s .places .now) (c .before .before .before .write-places .last .0)) (c .before .before .before .before .place-of .ensures) (c .before .before .before .write-places .ensures),
       subst (λ (w : ℕ). Written (s .d .others) (s .d .at) (s .k .made) (s .k .acked) w (stayingAt (s .k) (s .d .at) (s .d .acked) (s .items .now)) (s .items .now) (c .write-items .last .0)) (c .before .item-of .ensures) (c .write-items .ensures),
     )
