@@ -288,6 +288,12 @@ module _ (s : Server) (h : Sound s) where
         omega (arith, at-facts .made, sum-few (s .n) (takenSum (used s)) 1 (used s) (facts .lines), lines-count, lines-few)
 
   module _ (l : ℕ) (t : between 1 (s .n) l ≡ true) where
+    pub line-low : 1 ≤ l
+    line-low = between-true 1 (s .n) l t .0
+
+    pub line-high : l ≤ 8
+    line-high = let b = between-true 1 (s .n) l t in omega (arith, lines-few)
+
     place-used : l - 1 < s .n
     place-used = let b = between-true 1 (s .n) l t in omega arith
 

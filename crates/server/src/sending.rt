@@ -76,7 +76,7 @@ pub fn tell_lent<'a>(
         pending,
     ) {
         if (1 <= line) & (line <= k.n) {
-            return endpoint::finish(0, sending::told(k, line), out);
+            return endpoint::finish(0, sending::told(&k.taken, line), out);
         }
         return Sent {
             refusal: 4,

@@ -3,7 +3,7 @@ use mathlib.Core.Path.{_∙_}
 use Rattle.server.specs.declared.Server.{Server}
 use Rattle.server.specs.View.{serverOf}
 use Rattle.server.specs.Sound.{Sound}
-use Rattle.server.proofs.Whole.{lines-few}
+use Rattle.server.proofs.Whole.{line-low, line-high}
 use Rattle.server.proofs.Answers.{tells-no, tell-elsewhere, tell-done}
 use Rattle.server.proofs.sending.tell_lent.Statement.{statement}
 use Rattle.server.proofs.sending.tell_lent.Tie as tie
@@ -23,7 +23,10 @@ is-sound-requires : tie.Need-is-sound-requires
 is-sound-requires c κs = c .before .before .before .before .before .before .before .before .before .before .before .before .before .pre
 
 told-requires : tie.Need-told-requires
-told-requires c κs = (lines-few (whole (entry (c .before))) (sound (c .before)), c .if2 .taken)
+told-requires c κs =
+    let t = c .before .before .before .before in
+    let e = whole (entry t) in
+    (sound t .sized .taken, (line-low e (sound t) (entry t .args .line) (c .before .before .before .if2 .taken), line-high e (sound t) (entry t .args .line) (c .before .before .before .if2 .taken)))
 
 finish-requires : tie.Need-finish-requires
 finish-requires c κs = search needs
@@ -33,9 +36,9 @@ same-length c = search needs
 
 returns : tie.Need-returns
 returns c =
-    let t = c .before .before .before .before .before .before in
+    let t = c .before .before .before .before .before .before .before .before .before in
     let s = entry t in
-    c .before .before .finish .ensures ∙ tell-done (whole s) (s .args .line) (s .args .out .now) (sound t) (c .before .before .before .before .told .result) (c .before .before .before .before .before .if2 .taken) (c .before .before .before .before .told .ensures)
+    c .before .before .finish .ensures ∙ tell-done (whole s) (s .args .line) (s .args .out .now) (sound t) (c .before .before .before .before .told .result) (c .before .before .before .before .before .before .before .before .if2 .taken) (c .before .before .before .before .told .ensures)
 
 returns-2 : tie.Need-returns-2
 returns-2 c =
