@@ -1,5 +1,6 @@
 use borrow.Author.Needs.{needs}
 use mathlib.Core.Path.{_∙_}
+use native.Mathlib.Omega.{arith}
 use Rattle.server.specs.declared.Server.{Server}
 use Rattle.server.specs.View.{serverOf}
 use Rattle.server.specs.Sound.{Sound}
@@ -26,7 +27,7 @@ told-requires : tie.Need-told-requires
 told-requires c κs =
     let t = c .before .before .before .before in
     let e = whole (entry t) in
-    (sound t .sized .taken, (line-low e (sound t) (entry t .args .line) (c .before .before .before .if2 .taken), line-high e (sound t) (entry t .args .line) (c .before .before .before .if2 .taken)))
+    (omega (arith, sound t .sized), (line-low e (sound t) (entry t .args .line) (c .before .before .before .if2 .taken), line-high e (sound t) (entry t .args .line) (c .before .before .before .if2 .taken)))
 
 finish-requires : tie.Need-finish-requires
 finish-requires c κs = search needs

@@ -87,7 +87,7 @@ apply-requires c κs = (entry (well (c .before .before .before .before .before))
 raise-requires : tie.Need-raise-requires
 raise-requires c κs =
     let t = c .before .before .before .before .before .before .before in
-    (written-few (end t) (sound (well t)) (decision t) (left t) (after t) (decides t), (sound (well t) .sized .made, written-made (end t) (sound (well t)) (decision t) (left t) (after t) (decides t)))
+    (omega (arith, written-few (end t) (sound (well t)) (decision t) (left t) (after t) (decides t)), (sound (well t) .sized .made, λ j lt. written-made (end t) (sound (well t)) (decision t) (left t) (after t) (decides t) j (omega (arith, lt))))
 
 mul-k : tie.Need-mul-k
 mul-k c = omega (arith, at-few (c .before .before .before .before .before .before .before .before))
