@@ -1,5 +1,5 @@
-// The lines of the server, each with its counts and its pending edits: question 2 about them, and what a message makes of one of them
-// and of the others. The server's end lends its arrays.
+// The lines of the server, each with its counts and its pending edits: question 2 about them, sending, and what is written once a
+// message was accepted. The server's end lends its arrays.
 pub mod sending;
 pub mod taking;
 
@@ -34,14 +34,14 @@ impl Counts {
 // ---- question 2: every test is made whatever the others find, so that no loop has a branch
 
 // A count, in a type that the sum of eight fits.
-fn wide(x: u16) -> u32
+pub fn wide(x: u16) -> u32
     ensures { λ r. ⌜ (r ≡ x) × (r ≤ 65535) ⌝ }
 {
     x as u32
 }
 
 // How many edits of a line are pending: 0 where acked is the larger.
-fn less(made: u16, acked: u16) -> u16
+pub fn less(made: u16, acked: u16) -> u16
     ensures { λ r. ⌜ r ≡ made - acked ⌝ }
 {
     if acked < made { made - acked } else { 0 }

@@ -1,6 +1,8 @@
-// Sending a pending edit of a line.
+// Sending: a pending edit of a line, or an acknowledgement.
 ghost use mathlib.Core.Path.{_≡_};
-ghost use Prim.Native.Nat.{_≤_};
+ghost use Prim.Native.Nat.{_≤_, _-_};
+ghost use lib.ListN.{length, getD};
+ghost use Rattle.wire.specs.declared.Message.the-variants.{Ack};
 ghost use Rattle.model.specs.Questions.{asks};
 ghost use Rattle.lines.specs.Sending.{sendAsked, messageAt};
 use crate::Counts;
@@ -36,4 +38,13 @@ pub fn message<'a>(c: Counts, places: &'a [u32], items: &'a [u32], line: u8, k: 
         seen: c.taken[i],
     };
     wire::of_edit(h, pending::at(places, items, at))
+}
+
+// The acknowledgement of what was taken on a line. The counts are lent: by value they would be copied to read one.
+pub fn told(taken: &[u16], line: u8) -> Message
+    requires { ⌜ (length (now taken) ≡ 8) × ((1 ≤ line) × (line ≤ 8)) ⌝ }
+    ensures { λ r. ⌜ r ≡ Ack line 1 (getD (now (taken .entry)) (line - 1) 0) ⌝ }
+{
+    let i = (line - 1) as usize;
+    Message::Ack(line, 1, taken[i])
 }

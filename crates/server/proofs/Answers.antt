@@ -111,9 +111,9 @@ unfolding sent
 sent-none q bytes lent n = simp (ne-eqb q 0 n)
 
 module _ (s : Server) (l k : ℕ) (lent : List ℕ) where
-  pub sends-no : soundStruct s ≡ false → sentAs (record { refusal = 2; written = 0 }) lent ≡ sends s l k lent
+  pub sends-no : (r : Bool) → r ≡ soundStruct s → r ≡ false → sentAs (record { refusal = 2; written = 0 }) lent ≡ sends s l k lent
   unfolding sends sent
-  sends-no e = sym (ap (λ (b : Bool). cond b (model.sendServer (view s) l k lent) (sent 2 [] lent)) e)
+  sends-no r e f = sym (ap (λ (b : Bool). cond b (model.sendServer (view s) l k lent) (sent 2 [] lent)) (sym e ∙ f))
 
   module _ (h : Sound s) where
     sends-yes : model.sendServer (view s) l k lent ≡ sends s l k lent
@@ -180,9 +180,9 @@ module _ (s : Server) (l k : ℕ) (lent : List ℕ) where
 -- ---- telling
 
 module _ (s : Server) (l : ℕ) (lent : List ℕ) where
-  pub tells-no : soundStruct s ≡ false → sentAs (record { refusal = 2; written = 0 }) lent ≡ tells s l lent
+  pub tells-no : (r : Bool) → r ≡ soundStruct s → r ≡ false → sentAs (record { refusal = 2; written = 0 }) lent ≡ tells s l lent
   unfolding tells sent
-  tells-no e = sym (ap (λ (b : Bool). cond b (model.tellServer (view s) l lent) (sent 2 [] lent)) e)
+  tells-no r e f = sym (ap (λ (b : Bool). cond b (model.tellServer (view s) l lent) (sent 2 [] lent)) (sym e ∙ f))
 
   module _ (h : Sound s) where
     tells-yes : model.tellServer (view s) l lent ≡ tells s l lent
@@ -202,10 +202,11 @@ module _ (s : Server) (l : ℕ) (lent : List ℕ) where
         asks-yes 2 (model.soundServer (view s)) (ask 4 (between 1 (s .n) l) ∷ tellLast) (means s h) ∙ asks-no 4 (between 1 (s .n) l) tellLast t in
         sym (ap (λ (r : ℕ). sent r (bytesOf (message.Ack l 1 (model.lineOf (view s) l .taken))) lent) q) ∙ tells-yes
 
-    pub tell-done : between 1 (s .n) l ≡ true → finished 0 (message.Ack l 1 (getD (s .taken) (l - 1) 0)) lent ≡ tells s l lent
+    pub tell-done : (m : Message) → between 1 (s .n) l ≡ true → m ≡ message.Ack l 1 (getD (s .taken) (l - 1) 0) → finished 0 m lent ≡ tells s l lent
     unfolding model.tellServer view bytesOf
-    tell-done t =
+    tell-done m t e =
         let q : asks tellQuestions ≡ asks tellLast =
         asks-yes 2 (model.soundServer (view s)) (ask 4 (between 1 (s .n) l) ∷ tellLast) (means s h) ∙ asks-yes 4 (between 1 (s .n) l) tellLast t in
-        ap (λ (w : model.Line). finished 0 (message.Ack l 1 (w .taken)) lent) (sym (line-of s h l t))
+        ap (λ (w : Message). finished 0 w lent) e
+        ∙ ap (λ (w : model.Line). finished 0 (message.Ack l 1 (w .taken)) lent) (sym (line-of s h l t))
         ∙ sym (ap (λ (r : ℕ). sent r (bytesOf (message.Ack l 1 (model.lineOf (view s) l .taken))) lent) q) ∙ tells-yes

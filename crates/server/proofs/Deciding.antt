@@ -14,6 +14,8 @@ use Rattle.ot.specs.Items.{Room, sizeAfter}
 use Rattle.wire.specs.declared.Header.{Header}
 use Rattle.wire.specs.declared.Message.{Message}
 use Rattle.wire.specs.declared.Message.the-variants as message
+use Rattle.wire.specs.declared.Read.{Read}
+use Rattle.wire.specs.declared.Read.the-variants as read
 use Rattle.model.specs.Limits.{maxItems, maxInserts, maxPending}
 use Rattle.model.specs.Questions.{Question, ask, asks, every, between, Answer, answer}
 use Rattle.model.specs.Cross.{past, over, allPlaced, priority, insertsOf}
@@ -30,13 +32,15 @@ use Rattle.endpoint.proofs.Line.{edit-then}
 use Rattle.endpoint.proofs.Room.{roomy-model, roomy-room}
 use Rattle.lines.specs.declared.Counts.{Counts}
 use Rattle.server.specs.declared.Server.{Server}
-use Rattle.lines.specs.declared.taking.Decision.{Decision}
+use Rattle.arrivals.specs.declared.Decision.{Decision}
 use Rattle.lines.specs.Lines.{pendingCount}
 use Rattle.server.specs.View.{countsOf, linesFrom, view}
 use Rattle.server.specs.Sound.{Sound}
-use Rattle.lines.specs.Taking.{editAsked, ackAsked, roomyAt, leftAsked, leftAt, refusing, ackAccepted, ackDecided, editAccepted, editDecided, decided, stays, stayingAt, Seen, Ready, Roomy}
-use Rattle.lines.proofs.Asked.{asks-yes, Here, ack-here, edit-here, left-ready, left-line, left-items, left-seen}
-use Rattle.lines.proofs.Decided.{ack-yes, edit-yes}
+use Rattle.lines.specs.Taking.{stayingAt, Seen, Roomy}
+use Rattle.arrivals.specs.Deciding.{editAsked, ackAsked, roomyAt, leftAsked, leftAt, refusing, ackAccepted, ackDecided, editAccepted, editDecided, decided, stays, readDecided, readStays, Ready}
+use Rattle.lines.proofs.Asked.{asks-yes}
+use Rattle.arrivals.proofs.Asked.{Here, ack-here, edit-here, left-ready, left-line, left-items, left-seen}
+use Rattle.arrivals.proofs.Decided.{ack-yes, edit-yes}
 use Rattle.server.proofs.Places.{each-first}
 use Rattle.server.proofs.Whole.{line, means, facts, lines-few, lines-count, len-view, at-view, at-facts, line-of}
 
@@ -420,8 +424,18 @@ module _ (s : Server) (h : Sound s) where
 
   -- ---- any message
 
-  pub message-right : (m : Message) → Right s (decided k ps xs m) (stays k ps xs m) (model.serverTakes (view s) m)
+  message-right : (m : Message) → Right s (decided k ps xs m) (stays k ps xs m) (model.serverTakes (view s) m)
   message-right (message.Insert hd p x r) = edit-right hd (Insert p x r)
   message-right (message.Delete hd p) = edit-right hd (Delete p)
   message-right (message.Nothing hd) = edit-right hd Nothing
   message-right (message.Ack l d seen) = ack-right l d seen
+
+  -- ---- and bytes, by what was read of them
+
+  pub read-right : (r : Read) → Right s (readDecided k ps xs r) (readStays k ps xs r) (model.serverReads (view s) r)
+  unfolding refusing
+  read-right read.Refused =
+      let q : asks (ask 2 (model.soundServer (view s)) ∷ ask 3 false ∷ []) ≡ 3 = asks-yes 2 (model.soundServer (view s)) (ask 3 false ∷ []) (means s h) in
+      right-of s (refusing 3) [] (asks (ask 2 (model.soundServer (view s)) ∷ ask 3 false ∷ [])) (view s) (view s) 0 (sym q)
+      (λ z. absurd (eqb-false 3 0 refl (sym q ∙ z))) (λ z. absurd (eqb-false 3 0 refl (sym q ∙ z)))
+  read-right (read.Message m) = message-right m

@@ -10,31 +10,26 @@ use lib.Seq.{getD-set-same, getD-set-other}
 use borrow.Author.Tests.{eqb-true, eqb-false, eq-eqb, ne-eqb, ltb-true}
 use Rattle.ot.specs.declared.Edit.{Edit}
 use Rattle.ot.specs.Items.{Edited, padded}
-use Rattle.wire.specs.declared.Message.{Message}
-use Rattle.wire.specs.declared.Read.{Read}
-use Rattle.wire.specs.declared.Read.the-variants as read
-use Rattle.wire.specs.Message.{inRange}
 use Rattle.wire.specs.Bytes.{parsed}
-use Rattle.wire.proofs.Codec.{codec}
 use Rattle.model.specs.Limits.{maxLines, maxItems, maxPending}
-use Rattle.model.specs.Questions.{ask, asks, answer}
 use Rattle.model.specs.Server as model
 use Rattle.pending.specs.Slots.{placeOf, itemOf, stretch, filled}
 use Rattle.pending.proofs.Slots.{edits-length, filled-length, filled-push}
 use Rattle.endpoint.specs.Items.{stored}
 use Rattle.endpoint.proofs.Room.{room-stored, room-length}
 use Rattle.server.specs.declared.Server.{Server}
-use Rattle.lines.specs.declared.taking.Decision.{Decision}
+use Rattle.arrivals.specs.declared.Decision.{Decision}
 use Rattle.lines.specs.Lines.{pendingCount}
 use Rattle.server.specs.View.{countsOf, view, store}
 use Rattle.server.specs.Sound.{soundStruct, Sized, Sound}
 use Rattle.server.specs.Calls.{refused, answered, takes}
-use Rattle.lines.specs.Taking.{keeps, decided, stays, stayingAt, Raised, Few, Written}
+use Rattle.lines.specs.Taking.{keeps, stayingAt, Raised, Few, Written}
+use Rattle.arrivals.specs.Deciding.{readDecided, readStays}
+use Rattle.arrivals.specs.Accepting.{Acceptable}
 use Rattle.server.proofs.Rows.{Row, store-is}
 use Rattle.server.proofs.Whole.{means, lines-few, items-are, len-view, at-view, made-few, lines-row}
 use Rattle.lines.proofs.Writing.{keeps-own}
-use Rattle.lines.proofs.Asked.{asks-yes, asks-no}
-use Rattle.server.proofs.Deciding.{Decides, Right, message-right}
+use Rattle.server.proofs.Deciding.{Decides, Right, read-right}
 
 -- ---- what is written
 
@@ -57,6 +52,18 @@ module _ (s : Server) (h : Sound s) (d : Decision) (es : List Edit) (m : model.S
 
   pub later-length : (later : List ℕ) → later ≡ filled placeOf es → length later ≡ maxPending
   later-length later e = ap length e ∙ filled-length placeOf es (dec .few-pending)
+
+  pub acceptable : (later : List ℕ) → later ≡ filled placeOf es → Acceptable (countsOf s) d later (s .«pending_places») (s .«pending_items»)
+  acceptable later e =
+      record {
+        at = written-at;
+        few = written-few;
+        roomy = dec .roomy;
+        seen = dec .own-seen;
+        own = later-length later e;
+        places = omega (arith, h .sized .places);
+        items = omega (arith, h .sized .items);
+      }
 
   -- the slots of a line
   module _ (word : Edit → ℕ) (part before now′ : List ℕ) (k : Written (d .others) (d .at) (s .made) (s .acked) (word (d .edit)) part before now′) where
@@ -201,55 +208,39 @@ module _ (s : Server) (h : Sound s) (d : Decision) (es : List Edit) (m : model.S
 -- ---- the answers
 
 module _ (s : Server) (bytes : List ℕ) where
-  pub take-unsound : soundStruct s ≡ false → refused s 2 ≡ takes s bytes
+  pub take-unsound : (r : Bool) → r ≡ soundStruct s → r ≡ false → refused s 2 ≡ takes s bytes
   unfolding takes
-  take-unsound t = sym (ap (λ (b : Bool). cond b (answered s (model.takeServer (view s) bytes)) (refused s 2)) t)
+  take-unsound r e f = sym (ap (λ (b : Bool). cond b (answered s (model.takeServer (view s) bytes)) (refused s 2)) (sym e ∙ f))
 
   module _ (h : Sound s) where
     take-sound : answered s (model.takeServer (view s) bytes) ≡ takes s bytes
     unfolding takes
     take-sound = sym (ap (λ (b : Bool). cond b (answered s (model.takeServer (view s) bytes)) (refused s 2)) (h .well))
 
-    pub take-unread : (r : Read) → r ≡ parsed bytes → r ≡ read.Refused → refused s 3 ≡ takes s bytes
-    unfolding model.takeServer answered answer
-    take-unread r f z =
-        let q : asks (ask 2 (model.soundServer (view s)) ∷ ask 3 false ∷ []) ≡ 3 =
-        asks-yes 2 (model.soundServer (view s)) (ask 3 false ∷ []) (means s h) ∙ asks-no 3 false [] refl in
-        sym (ap (λ (k : ℕ). answered s (answer k (view s) (view s) 0)) q)
-        ∙ ap (λ (x : Read). answered s (model.serverReads (view s) x)) (sym z ∙ f)
-        ∙ take-sound
+    abbrev stayed : List Edit
+    stayed = readStays (countsOf s) (s .«pending_places») (s .«pending_items») (parsed bytes)
 
-    module _ (r : Read) (m : Message) (f : r ≡ parsed bytes) (z : r ≡ read.Message m) where
-      pub take-ranged : inRange m ≡ true
-      take-ranged = codec .read-in-range bytes m (sym f ∙ z)
-
-      take-read : answered s (model.serverTakes (view s) m) ≡ takes s bytes
+    module _ (d : Decision) (g : d ≡ readDecided (countsOf s) (s .«pending_places») (s .«pending_items») (parsed bytes)) where
+      right : Right s d stayed (model.takeServer (view s) bytes)
       unfolding model.takeServer
-      take-read = ap (λ (x : Read). answered s (model.serverReads (view s) x)) (sym z ∙ f) ∙ take-sound
+      right = subst (λ (x : Decision). Right s x stayed (model.serverReads (view s) (parsed bytes))) (sym g) (read-right s h (parsed bytes))
 
-      abbrev stayed : List Edit
-      stayed = stays (countsOf s) (s .«pending_places») (s .«pending_items») m
+      pub take-refused : (d .refusal ≡ 0 → ⊥) → refused s (d .refusal) ≡ takes s bytes
+      unfolding answered
+      take-refused n =
+          let a = model.takeServer (view s) bytes in
+          (λ j. record { refusal = right .refusal j; passed = sym (right .none-passed n) j; server = s })
+          ∙ sym (ap (λ (b : Bool). record { refusal = a .refusal; passed = a .passed; server = cond b (store (a .end)) s }) (ne-eqb (a .refusal) 0 (λ y. n (right .refusal ∙ y))))
+          ∙ take-sound
 
-      module _ (d : Decision) (g : d ≡ decided (countsOf s) (s .«pending_places») (s .«pending_items») m) where
-        right : Right s d stayed (model.serverTakes (view s) m)
-        right = subst (λ (x : Decision). Right s x stayed (model.serverTakes (view s) m)) (sym g) (message-right s h m)
+      pub take-decides : d .refusal ≡ 0 → Decides s d stayed (model.takeServer (view s) bytes .end)
+      take-decides y = right .becomes y
 
-        pub take-refused : (d .refusal ≡ 0 → ⊥) → refused s (d .refusal) ≡ takes s bytes
-        unfolding answered
-        take-refused n =
-            let a = model.serverTakes (view s) m in
-            (λ j. record { refusal = right .refusal j; passed = sym (right .none-passed n) j; server = s })
-            ∙ sym (ap (λ (b : Bool). record { refusal = a .refusal; passed = a .passed; server = cond b (store (a .end)) s }) (ne-eqb (a .refusal) 0 (λ y. n (right .refusal ∙ y))))
-            ∙ take-read
-
-        pub take-decides : d .refusal ≡ 0 → Decides s d stayed (model.serverTakes (view s) m .end)
-        take-decides y = right .becomes y
-
-        pub take-done : (t : Server) → d .refusal ≡ 0 → t ≡ store (model.serverTakes (view s) m .end) → record { refusal = 0; passed = d .passed; server = t } ≡ takes s bytes
-        unfolding answered
-        take-done t y e =
-            let a = model.serverTakes (view s) m in
-            let zero′ : 0 ≡ a .refusal = sym y ∙ right .refusal in
-            (λ j. record { refusal = zero′ j; passed = right .passed y j; server = e j })
-            ∙ sym (ap (λ (b : Bool). record { refusal = a .refusal; passed = a .passed; server = cond b (store (a .end)) s }) (eq-eqb (a .refusal) 0 (sym zero′)))
-            ∙ take-read
+      pub take-done : (t : Server) → d .refusal ≡ 0 → t ≡ store (model.takeServer (view s) bytes .end) → record { refusal = 0; passed = d .passed; server = t } ≡ takes s bytes
+      unfolding answered
+      take-done t y e =
+          let a = model.takeServer (view s) bytes in
+          let zero′ : 0 ≡ a .refusal = sym y ∙ right .refusal in
+          (λ j. record { refusal = zero′ j; passed = right .passed y j; server = e j })
+          ∙ sym (ap (λ (b : Bool). record { refusal = a .refusal; passed = a .passed; server = cond b (store (a .end)) s }) (eq-eqb (a .refusal) 0 (sym zero′)))
+          ∙ take-sound

@@ -291,7 +291,10 @@ module _ (s : Server) (h : Sound s) where
     pub line-low : 1 ≤ l
     line-low = between-true 1 (s .n) l t .0
 
-    pub place-used : l - 1 < s .n
+    pub line-high : l ≤ 8
+    line-high = let b = between-true 1 (s .n) l t in omega (arith, lines-few)
+
+    place-used : l - 1 < s .n
     place-used = let b = between-true 1 (s .n) l t in omega arith
 
     pub line-of : model.lineOf (view s) l ≡ line s (l - 1)

@@ -9,7 +9,6 @@ use crate::is_sound;
 use endpoint::Sent;
 use lines::Counts;
 use lines::sending;
-use wire::Message;
 
 // Number n of the pending edits of a line, in its present form.
 pub fn send_lent<'a>(
@@ -77,8 +76,7 @@ pub fn tell_lent<'a>(
         pending,
     ) {
         if (1 <= line) & (line <= k.n) {
-            let i = (line - 1) as usize;
-            return endpoint::finish(0, Message::Ack(line, 1, k.taken[i]), out);
+            return endpoint::finish(0, sending::told(&k.taken, line), out);
         }
         return Sent {
             refusal: 4,

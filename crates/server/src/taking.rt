@@ -8,7 +8,6 @@ use crate::Server;
 use crate::is_sound;
 use lines::Counts;
 use lines::taking;
-use wire::Read;
 
 // What taking answers where the arrays are lent: 0 or the number of the question that said no, how many pending edits an edit was
 // transformed past, and the counts as they are now.
@@ -53,18 +52,12 @@ pub fn take_lent(
         places,
         pending,
     ) {
-        let Read::Message(m) = wire::parse(bytes) else {
-            return refused(3, k);
-        };
         let mut later = [0u32; 64];
-        let d = taking::decide(k, places, pending, m, &mut later);
+        let d = arrivals::decide_bytes(k, places, pending, bytes, &mut later);
         if d.refusal == 0 {
             let i = d.at;
             let e = d.edit;
-            let place = pending::place_of(e);
-            taking::write_places(places, &later, k, i, d.others, place);
-            let item = pending::item_of(e);
-            taking::write_items(pending, k, i, d.acked, d.others, item);
+            arrivals::write_slots(k, places, pending, d, &later);
             k.len = ot::apply(items, k.len, e);
             taking::raise(&mut k.made, d.others, i);
             k.taken[i] = d.taken;

@@ -21,7 +21,7 @@ sound c = c .before .is-sound .ensures .1 (c .if1 .taken)
 
 -- src/sending.rt:27:8
 is-sound-requires : tie.Need-is-sound-requires
-is-sound-requires c κs = search needs
+is-sound-requires c κs = c .before .before .before .before .before .before .before .before .before .before .before .before .before .pre
 
 -- src/sending.rt:39:13
 ask-send-requires : tie.Need-ask-send-requires
@@ -62,7 +62,7 @@ returns-2 c =
 returns-3 : tie.Need-returns-3
 returns-3 c =
     let s = c .before .before .before .before .before .before .before .before .before .before .before .before .before .before .before in
-    sends-no (whole s) (s .args .line) (s .args .n) (s .args .out .now) (sym (c .before .is-sound .ensures .0) ∙ c .if1 .left)
+    sends-no (whole s) (s .args .line) (s .args .n) (s .args .out .now) (c .before .is-sound .result) (c .before .is-sound .ensures .0) (c .if1 .left)
 
 pub send-lent-spec : {M : Type 1} → statement M
 send-lent-spec =

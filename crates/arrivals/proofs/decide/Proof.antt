@@ -6,10 +6,9 @@ use mathlib.Core.Bool.{true}
 use Rattle.wire.specs.declared.Message.{Message}
 use Rattle.wire.specs.Message.{inRange}
 use Rattle.wire.proofs.Ranges.{insert-bounds, delete-bounds}
-use Rattle.lines.specs.Taking.{decided, stays, Decided}
-use borrow.Author.Needs.{needs}
-use Rattle.lines.proofs.taking.decide.Statement.{statement}
-use Rattle.lines.proofs.taking.decide.Tie as tie
+use Rattle.arrivals.specs.Deciding.{decided, stays, Decided}
+use Rattle.arrivals.proofs.decide.Statement.{statement}
+use Rattle.arrivals.proofs.decide.Tie as tie
 
 -- src/taking.rt:207:25
 enum-known-m : tie.Need-enum-known-m

@@ -1,7 +1,7 @@
 use mathlib.Core.Path.{refl}
-use Rattle.lines.specs.Taking.{refusing}
-use Rattle.lines.proofs.taking.refusing.Statement.{statement}
-use Rattle.lines.proofs.taking.refusing.Tie as tie
+use Rattle.arrivals.specs.Deciding.{refusing}
+use Rattle.arrivals.proofs.refusing.Statement.{statement}
+use Rattle.arrivals.proofs.refusing.Tie as tie
 
 returns : tie.Need-returns
 unfolding refusing

@@ -6,9 +6,9 @@ use Prim.Native.Nat.{ℕ, _-_, _≤_}
 use lib.Dec.{eqb, ltb}
 use Rattle.pending.specs.Slots.{allFrom}
 use Rattle.pending.proofs.Tests.{all-turn, all-end}
-use Rattle.lines.specs.Taking.{roomyAt}
-use Rattle.lines.proofs.taking.others_roomy.Statement.{statement}
-use Rattle.lines.proofs.taking.others_roomy.Tie as tie
+use Rattle.arrivals.specs.Deciding.{roomyAt}
+use Rattle.arrivals.proofs.others_roomy.Statement.{statement}
+use Rattle.arrivals.proofs.others_roomy.Tie as tie
 
 abbrev Inv-loop : tie.InvT-loop
 Inv-loop at k roomy₀ n i₀ roomy i = (i ≤ n) × ((n ≡ k .n) × ((roomy && allFrom (roomyAt k at) i (k .n - i)) ≡ allFrom (roomyAt k at) 0 (k .n)))

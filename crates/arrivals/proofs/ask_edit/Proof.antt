@@ -9,9 +9,9 @@ use Rattle.model.specs.Questions.{between}
 use Rattle.model.specs.Cross.{priority}
 use Rattle.model.proofs.Tests.{and-left, and-right}
 use Rattle.endpoint.specs.Line.{editQuestions}
 use Rattle.lines.proofs.Asked.{asks-yes, asks-no, on-line}
-use Rattle.lines.proofs.taking.ask_edit.Statement.{statement}
-use Rattle.lines.proofs.taking.ask_edit.Tie as tie
+use Rattle.arrivals.proofs.ask_edit.Statement.{statement}
+use Rattle.arrivals.proofs.ask_edit.Tie as tie
 
 is-own-requires : tie.Need-is-own-requires
 is-own-requires c κs = search needs

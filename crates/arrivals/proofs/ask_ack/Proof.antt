@@ -8,9 +8,9 @@ use Prim.Native.Nat.{_-_}
 use Rattle.model.specs.Questions.{between}
 use Rattle.model.proofs.Tests.{and-right}
 use Rattle.endpoint.specs.Line.{seenQuestions}
 use Rattle.lines.proofs.Asked.{asks-yes, asks-no, on-line}
-use Rattle.lines.proofs.taking.ask_ack.Statement.{statement}
-use Rattle.lines.proofs.taking.ask_ack.Tie as tie
+use Rattle.arrivals.proofs.ask_ack.Statement.{statement}
+use Rattle.arrivals.proofs.ask_ack.Tie as tie
 
 sub-i : tie.Need-sub-i
 sub-i c = omega (arith, c .before .pre, on-line (c .before .args .t1 .n) (c .before .args .line) (and-right (eqb (c .before .args .direction) 0) (between 1 (c .before .args .t1 .n) (c .before .args .line)) (c .if1 .taken)))

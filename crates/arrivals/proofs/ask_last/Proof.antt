@@ -1,9 +1,9 @@
 use borrow.Author.Needs.{needs}
 use mathlib.Core.Path.{sym, _∙_}
 use native.Mathlib.Omega.{arith}
-use Rattle.lines.proofs.Asked.{last-0, last-9, last-10, last-12}
-use Rattle.lines.proofs.taking.ask_last.Statement.{statement}
-use Rattle.lines.proofs.taking.ask_last.Tie as tie
+use Rattle.arrivals.proofs.Asked.{last-0, last-9, last-10, last-12}
+use Rattle.arrivals.proofs.ask_last.Statement.{statement}
+use Rattle.arrivals.proofs.ask_last.Tie as tie
 
 has-room-requires : tie.Need-has-room-requires
 has-room-requires c κs = search needs

@@ -1,6 +1,6 @@
 use borrow.Author.Needs.{needs}
-use Rattle.lines.proofs.taking.is_own.Statement.{statement}
-use Rattle.lines.proofs.taking.is_own.Tie as tie
+use Rattle.arrivals.proofs.is_own.Statement.{statement}
+use Rattle.arrivals.proofs.is_own.Tie as tie
 
 enum-told : tie.Need-enum-told
 enum-told c = search needs
