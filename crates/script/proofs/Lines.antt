@@ -72,13 +72,13 @@ module _ (j : ℕ) (own ps xs : List ℕ) (r : Place j own ps xs) where
       }
 
   module _ (x y z : List ℕ) (sx : length x ≡ maxItems) (sy : length y ≡ maxPending) (sz : length z ≡ maxPending) where
-    put-own : Put maxItems j own (lentBack maxItems j own x) x
+    pub put-own : Put maxItems j own (lentBack maxItems j own x) x
     put-own = put-lent maxItems j own _ _ refl refl own-fits x sx
 
-    put-places : Put maxPending j ps (lentBack maxPending j ps y) y
+    pub put-places : Put maxPending j ps (lentBack maxPending j ps y) y
     put-places = put-lent maxPending j ps _ _ refl refl places-fit y sy
 
-    put-pending : Put maxPending j xs (lentBack maxPending j xs z) z
+    pub put-pending : Put maxPending j xs (lentBack maxPending j xs z) z
     put-pending = put-lent maxPending j xs _ _ refl refl pending-fit z sz
 
     pub only-there : Only j own (lentBack maxItems j own x) ps (lentBack maxPending j ps y) xs (lentBack maxPending j xs z)
@@ -88,6 +88,7 @@ module _ (j : ℕ) (own ps xs : List ℕ) (r : Place j own ps xs) where
     pub stepped-there : (t : Turned) (items places pending : List ℕ) (s : Server) (k : Counts) (o : Order)
         → steppedOf t items places pending x y z ≡ ordered s (client.clientOf k (lentPart maxItems j own) (lentPart maxPending j ps) (lentPart maxPending j xs)) o
         → steppedAt t items places pending j (lentBack maxItems j own x) (lentBack maxPending j ps y) (lentBack maxPending j xs z) ≡ ordered s (clientAt k j own ps xs) o
+    unfolding steppedAt clientAt
     stepped-there t items places pending s k o p =
         (λ u. steppedOf t items places pending (put-own .here u) (put-places .here u) (put-pending .here u))
         ∙ p
@@ -108,6 +109,7 @@ module _ (ks : List Counts) (own ps xs : List ℕ) (l : Laid ks own ps xs) (j : 
         }
 
     pub clients-back : set (clientsIn ks own ps xs) j (clientAt k j own′ ps′ xs′) ≡ clientsIn (set ks j k) own′ ps′ xs′
+    unfolding clientAt
     clients-back =
         ends-put client.clientOf noCounts maxItems maxPending j maxLines ks k own own′ ps ps′ xs xs′ (part maxItems j own′) (part maxPending j ps′) (part maxPending j xs′)
         (omega (arith, l .counts-size)) small (record { here = refl; others = only .items; size = so }) (record { here = refl; others = only .places; size = sp })
@@ -137,6 +139,7 @@ module _ (input out : List ℕ) (i to : ℕ) (s : lines.Counts) (items places pe
 
       pub going-turn : (out′ : List ℕ) (to′ : ℕ) → sink out′ to′ ≡ puts (replied (t .refusal)) (sink out to)
           → Running input out′ (r .after) to′ (endsOf (t .server) items′ places′ pending′ (set ks (o .line - 1) (t .client)) own′ ps′ xs′) z
+      unfolding steppedAt clientAt
       going-turn out′ to′ q =
           let small = turn-line .1 in
           let c : Client = clientAt (getD ks (o .line - 1) noCounts) (o .line - 1) own ps xs in

@@ -30,10 +30,10 @@ pub record Only (j : ℕ) (own own′ ps ps′ xs xs′ : List ℕ) : Type 0 whe
   pub pending : Elsewhere maxPending j xs xs′
 
 -- the client in place j, with its numbers
-abbrev pub clientAt : Counts → ℕ → List ℕ → List ℕ → List ℕ → Client
+unfoldable pub clientAt : Counts → ℕ → List ℕ → List ℕ → List ℕ → Client
 clientAt k j own places pending = clientOf k (part maxItems j own) (part maxPending j places) (part maxPending j pending)
 
 -- what an order leaves of the server and of the client in place j
-abbrev pub steppedAt : Turned → List ℕ → List ℕ → List ℕ → ℕ → List ℕ → List ℕ → List ℕ → Stepped
+unfoldable pub steppedAt : Turned → List ℕ → List ℕ → List ℕ → ℕ → List ℕ → List ℕ → List ℕ → Stepped
 steppedAt t items places pending j own ownPlaces ownPending =
     steppedOf t items places pending (part maxItems j own) (part maxPending j ownPlaces) (part maxPending j ownPending)

@@ -1,7 +1,8 @@
 use mathlib.Core.Path.{_∙_}
 use denote.Ref.{now}
 use Rattle.server.specs.View.{serverOf}
-use Rattle.script.proofs.Lines.{lent-sizes, only-there, stepped-there}
+use Rattle.script.proofs.Lines.{lent-sizes, put-own, put-places, put-pending, only-there, stepped-there}
+use native.Mathlib.Omega.{arith}
 use borrow.Author.Needs.{needs}
 use Rattle.script.proofs.program.at_place.Statement.{statement}
 use Rattle.script.proofs.program.at_place.Tie as tie
@@ -11,71 +12,71 @@ use Rattle.bench.proofs.ends.turn.Reads as turn-reads
 
 -- src/program.rt:66:16
 mul-from : tie.Need-mul-from
-mul-from c = search needs
+mul-from c = let h = c .before .before .before .pre .1 .small in omega (arith, h)
 
 -- src/program.rt:67:15
 add-end : tie.Need-add-end
-add-end c = search needs
+add-end c = let h = c .before .before .before .pre .1 .small in omega (arith, h)
 
 -- src/program.rt:68:17
 mul-first : tie.Need-mul-first
-mul-first c = search needs
+mul-first c = let h = c .before .before .before .pre .1 .small in omega (arith, h)
 
 -- src/program.rt:69:16
 add-last : tie.Need-add-last
-add-last c = search needs
+add-last c = let h = c .before .before .before .pre .1 .small in omega (arith, h)
 
 -- src/program.rt:76:9
 mul-turn : tie.Need-mul-turn
-mul-turn c = search needs
+mul-turn c = let h = c .before .before .before .before .before .before .pre .1 .small in omega (arith, h)
 
 -- src/program.rt:76:9
 sub-turn : tie.Need-sub-turn
-sub-turn c = search needs
+sub-turn c = omega arith
 
 -- src/program.rt:76:9
 part-turn-start : tie.Need-part-turn-start
-part-turn-start c = search needs
+part-turn-start c = omega arith
 
 -- src/program.rt:76:9
 part-turn-end : tie.Need-part-turn-end
-part-turn-end c = search needs
+part-turn-end c = let p = c .before .before .before .before .before .before .pre .1 in omega (arith, p .small, p .items-size)
 
 -- src/program.rt:77:9
 mul-turn-2 : tie.Need-mul-turn-2
-mul-turn-2 c = search needs
+mul-turn-2 c = let h = c .before .before .before .before .before .before .before .pre .1 .small in omega (arith, h)
 
 -- src/program.rt:77:9
 sub-turn-2 : tie.Need-sub-turn-2
-sub-turn-2 c = search needs
+sub-turn-2 c = omega arith
 
 -- src/program.rt:77:9
 part-turn-start-2 : tie.Need-part-turn-start-2
-part-turn-start-2 c = search needs
+part-turn-start-2 c = omega arith
 
 -- src/program.rt:77:9
 part-turn-end-2 : tie.Need-part-turn-end-2
-part-turn-end-2 c = search needs
+part-turn-end-2 c = let p = c .before .before .before .before .before .before .before .pre .1 in omega (arith, p .small, p .places-size)
 
 -- src/program.rt:78:9
 mul-turn-3 : tie.Need-mul-turn-3
-mul-turn-3 c = search needs
+mul-turn-3 c = let h = c .before .before .before .before .before .before .before .before .pre .1 .small in omega (arith, h)
 
 -- src/program.rt:78:9
 sub-turn-3 : tie.Need-sub-turn-3
-sub-turn-3 c = search needs
+sub-turn-3 c = omega arith
 
 -- src/program.rt:78:9
 part-turn-start-3 : tie.Need-part-turn-start-3
-part-turn-start-3 c = search needs
+part-turn-start-3 c = omega arith
 
 -- src/program.rt:78:9
 part-turn-end-3 : tie.Need-part-turn-end-3
-part-turn-end-3 c = search needs
+part-turn-end-3 c = let p = c .before .before .before .before .before .before .before .before .pre .1 in omega (arith, p .small, p .pending-size)
 
 -- src/program.rt:70:5
 turn-requires : tie.Need-turn-requires
-turn-requires c κs = search needs
+turn-requires c κs = let a = c .before .before .before .before .before .before .before .before .before .args in (c .before .before .before .before .before .before .before .before .before .pre .0, lent-sizes (a .j) (now (a .own)) (now (a .own-places)) (now (a .own-pending)) (c .before .before .before .before .before .before .before .before .before .pre .1))
 
 -- src/program.rt:51:1
 same-length : tie.Need-same-length
