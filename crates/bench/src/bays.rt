@@ -40,8 +40,16 @@ fn fill(clients: [Client; 8], items: &mut [u32], places: &mut [u32], pending: &m
     requires { ⌜ Room (now items) (now places) (now pending) ⌝ }
     ensures { λ r. ⌜ Standing clients (baysOf r (now (items .exit)) (now (places .exit)) (now (pending .exit))) ⌝ }
 {
-    let first = clients[0];
-    let mut counts = [first.counts(); 8];
+    let none = Counts {
+        n: 0,
+        line: 0,
+        made: 0,
+        taken: 0,
+        acked: 0,
+        inserts: 0,
+        len: 0,
+    };
+    let mut counts = [none; 8];
     for j in 0..8 {
         let c = clients[j];
         counts[j] = c.counts();

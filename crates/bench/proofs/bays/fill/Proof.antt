@@ -28,17 +28,9 @@ abbrev μ-loop : tie.MeasureT-loop
 eight : (c : tie.Start Inv-loop μ-loop) → length (c .args .t1) ≡ 8
 eight c = search needs
 
--- src/bays.rt:43:17
-array-copy-out-first : tie.Need-array-copy-out-first Inv-loop μ-loop
-array-copy-out-first c = search needs
-
--- src/bays.rt:44:23
-counts-requires : tie.Need-counts-requires Inv-loop μ-loop
-counts-requires c κs = search needs
-
 -- src/bays.rt:45:5
 loop-holds : tie.Need-loop-holds Inv-loop μ-loop
-loop-holds c = filling-start (c .before .before .before .before .before .args .t1) _ _ _ _ (record { counts-size = refl; items-size = c .before .before .before .before .before .pre .items-size; places-size = c .before .before .before .before .before .pre .places-size; pending-size = c .before .before .before .before .before .pre .pending-size })
+loop-holds c = filling-start (c .before .before .before .args .t1) _ _ _ _ (record { counts-size = refl; items-size = c .before .before .before .pre .items-size; places-size = c .before .before .before .pre .places-size; pending-size = c .before .before .before .pre .pending-size })
 
 -- src/bays.rt:46:17
 mul-c : tie.Need-mul-c Inv-loop μ-loop
@@ -49,8 +41,8 @@ array-copy-out-c : tie.Need-array-copy-out-c Inv-loop μ-loop
 array-copy-out-c c = search needs
 
 -- src/bays.rt:47:21
-counts-requires-2 : tie.Need-counts-requires-2 Inv-loop μ-loop
-counts-requires-2 c κs = search needs
+counts-requires : tie.Need-counts-requires Inv-loop μ-loop
+counts-requires c κs = search needs
 
 -- src/bays.rt:47:9
 mul-counts : tie.Need-mul-counts Inv-loop μ-loop
@@ -94,23 +86,23 @@ loop-less c = omega arith
 
 -- src/bays.rt:45:5
 loop-again : tie.Need-loop-again Inv-loop μ-loop
-loop-again c = let l = c .before .before .before .before .before .before .before .before .before .before .before .before .before .before .before .before .before .before .before .before .before .before .before .before .loop in let a = eight (c .before .before .before .before .before .before .before .before .before .before .before .before .before .before .before .before .before .before .before .before .before .before .before .before .before .before .before .before .before .before) in let v : Client = getD (c .before .before .before .before .before .before .before .before .before .before .before .before .before .before .before .before .before .before .before .before .before .before .before .before .before .before .before .before .before .before .args .t1) (l .j) noClient in filling-turn (c .before .before .before .before .before .before .before .before .before .before .before .before .before .before .before .before .before .before .before .before .before .before .before .before .before .before .before .before .before .before .args .t1) a (l .counts) (c .before .before .before .before .before .before .before .before .before .before .before .before .before .before .before .before .before .before .before .before .before .counts2 .result) (l .items) _ (l .places) _ (l .pending) _ (l .j) v noClient (omega arith) refl (c .before .before .before .before .before .before .before .before .before .before .before .before .before .before .before .before .before .before .before .before .before .counts2 .ensures) (l .inv) (put-is 512 (l .j) (l .items) _ (v .items) (c .before .before .before .before .before .before .before .before .before .before .before .before .before .before .before .before .before .put-at-arg3 .given .0) (omega (arith, l .inv .laid .items-size)) (c .before .before .before .before .before .before .before .before .before .before .before .before .before .before .before .before .put-at .ensures)) (put-is 64 (l .j) (l .places) _ (v .«pending_places») (c .before .before .before .before .before .before .before .before .before .before .put-at-arg6 .given .0) (omega (arith, l .inv .laid .places-size)) (c .before .before .before .before .before .before .before .before .before .put-at2 .ensures)) (put-is 64 (l .j) (l .pending) _ (v .«pending_items») (c .before .before .before .put-at-arg9 .given .0) (omega (arith, l .inv .laid .pending-size)) (c .before .before .put-at3 .ensures))
+loop-again c = let l = c .before .before .before .before .before .before .before .before .before .before .before .before .before .before .before .before .before .before .before .before .before .before .before .before .loop in let k = c .before .before .before .before .before .before .before .before .before .before .before .before .before .before .before .before .before .before .before .before .before .counts in let v : Client = getD (c .before .before .before .before .before .before .before .before .before .before .before .before .before .before .before .before .before .before .before .before .before .before .before .before .before .before .before .before .args .t1) (l .j) noClient in filling-turn (c .before .before .before .before .before .before .before .before .before .before .before .before .before .before .before .before .before .before .before .before .before .before .before .before .before .before .before .before .args .t1) (eight (c .before .before .before .before .before .before .before .before .before .before .before .before .before .before .before .before .before .before .before .before .before .before .before .before .before .before .before .before)) (l .counts) (k .result) (l .items) _ (l .places) _ (l .pending) _ (l .j) v noClient (omega arith) refl (k .ensures) (l .inv) (put-is 512 (l .j) (l .items) _ (v .items) (c .before .before .before .before .before .before .before .before .before .before .before .before .before .before .before .before .before .put-at-arg3 .given .0) (omega (arith, l .inv .laid .items-size)) (c .before .before .before .before .before .before .before .before .before .before .before .before .before .before .before .before .put-at .ensures)) (put-is 64 (l .j) (l .places) _ (v .«pending_places») (c .before .before .before .before .before .before .before .before .before .before .put-at-arg6 .given .0) (omega (arith, l .inv .laid .places-size)) (c .before .before .before .before .before .before .before .before .before .put-at2 .ensures)) (put-is 64 (l .j) (l .pending) _ (v .«pending_items») (c .before .before .before .put-at-arg9 .given .0) (omega (arith, l .inv .laid .pending-size)) (c .before .before .put-at3 .ensures))
 
 -- src/bays.rt:39:1
 same-length : tie.Need-same-length Inv-loop μ-loop
-same-length c = c .before .loop .inv .laid .items-size ∙ sym (c .before .before .before .before .before .before .before .pre .items-size)
+same-length c = c .before .loop .inv .laid .items-size ∙ sym (c .before .before .before .before .before .pre .items-size)
 
 -- src/bays.rt:39:1
 same-length-2 : tie.Need-same-length-2 Inv-loop μ-loop
-same-length-2 c = c .before .loop .inv .laid .places-size ∙ sym (c .before .before .before .before .before .before .before .pre .places-size)
+same-length-2 c = c .before .loop .inv .laid .places-size ∙ sym (c .before .before .before .before .before .pre .places-size)
 
 -- src/bays.rt:39:1
 same-length-3 : tie.Need-same-length-3 Inv-loop μ-loop
-same-length-3 c = c .before .loop .inv .laid .pending-size ∙ sym (c .before .before .before .before .before .before .before .pre .pending-size)
+same-length-3 c = c .before .loop .inv .laid .pending-size ∙ sym (c .before .before .before .before .before .pre .pending-size)
 
 -- src/bays.rt:39:1
 returns : tie.Need-returns Inv-loop μ-loop
-returns c = let a = eight (c .before .before .before .before .before .before .before) in record { laid = c .before .loop .inv .laid; standing = filling-end (c .before .before .before .before .before .before .before .args .t1) a (c .before .loop .counts) (c .before .loop .items) (c .before .loop .places) (c .before .loop .pending) (c .before .loop .j) (omega arith) (c .before .loop .inv) }
+returns c = record { laid = c .before .loop .inv .laid; standing = filling-end (c .before .before .before .before .before .args .t1) (eight (c .before .before .before .before .before)) (c .before .loop .counts) (c .before .loop .items) (c .before .loop .places) (c .before .loop .pending) (c .before .loop .j) (omega arith) (c .before .loop .inv) }
 
 pub fill-spec : {M : Type 1} → statement M
 fill-spec =
@@ -118,12 +110,10 @@ fill-spec =
     (tie.spec
     Inv-loop
     μ-loop
-    array-copy-out-first
-    counts-requires
     loop-holds
     mul-c
     array-copy-out-c
-    counts-requires-2
+    counts-requires
     mul-counts
     array-set-from-counts
     mul-put-at
