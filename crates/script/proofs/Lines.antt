@@ -51,16 +51,21 @@ lentBack w j a x = take (w * j) a ++ (x ++ drop (w * j + w - w * j) (drop (w * j
 abbrev pub lentPart : ℕ → ℕ → List ℕ → List ℕ
 lentPart w j a = take (w * j + w - w * j) (drop (w * j) a)
 
+-- a part that comes back as long as it was leaves the array as long as it was
+pub lent-size : (w j : ℕ) (a x : List ℕ) → w * j + w ≤ length a → length x ≡ length (lentPart w j a) → length (lentBack w j a x) ≡ length a
+lent-size w j a x fits e =
+    put-lent w j a _ _ refl refl fits x (e ∙ ap length (lent-is w j a _ _ refl refl) ∙ part-length w j a _ _ refl refl fits) .size
+
 -- ---- one place
 
 module _ (j : ℕ) (own ps xs : List ℕ) (r : Place j own ps xs) where
-  own-fits : maxItems * j + maxItems ≤ length own
+  pub own-fits : maxItems * j + maxItems ≤ length own
   own-fits = omega (arith, r .small, r .items-size)
 
-  places-fit : maxPending * j + maxPending ≤ length ps
+  pub places-fit : maxPending * j + maxPending ≤ length ps
   places-fit = omega (arith, r .small, r .places-size)
 
-  pending-fit : maxPending * j + maxPending ≤ length xs
+  pub pending-fit : maxPending * j + maxPending ≤ length xs
   pending-fit = omega (arith, r .small, r .pending-size)
 
   pub lent-sizes : client.Sizes (lentPart maxItems j own) (lentPart maxPending j ps) (lentPart maxPending j xs)
@@ -72,13 +77,13 @@ module _ (j : ℕ) (own ps xs : List ℕ) (r : Place j own ps xs) where
       }
 
   module _ (x y z : List ℕ) (sx : length x ≡ maxItems) (sy : length y ≡ maxPending) (sz : length z ≡ maxPending) where
-    pub put-own : Put maxItems j own (lentBack maxItems j own x) x
+    put-own : Put maxItems j own (lentBack maxItems j own x) x
     put-own = put-lent maxItems j own _ _ refl refl own-fits x sx
 
-    pub put-places : Put maxPending j ps (lentBack maxPending j ps y) y
+    put-places : Put maxPending j ps (lentBack maxPending j ps y) y
     put-places = put-lent maxPending j ps _ _ refl refl places-fit y sy
 
-    pub put-pending : Put maxPending j xs (lentBack maxPending j xs z) z
+    put-pending : Put maxPending j xs (lentBack maxPending j xs z) z
     put-pending = put-lent maxPending j xs _ _ refl refl pending-fit z sz
 
     pub only-there : Only j own (lentBack maxItems j own x) ps (lentBack maxPending j ps y) xs (lentBack maxPending j xs z)

@@ -1,9 +1,8 @@
 use mathlib.Core.Path.{_∙_}
 use denote.Ref.{now}
 use Rattle.server.specs.View.{serverOf}
-use Rattle.script.proofs.Lines.{lent-sizes, put-own, put-places, put-pending, only-there, stepped-there}
+use Rattle.script.proofs.Lines.{lent-size, own-fits, places-fit, pending-fit, lent-sizes, only-there, stepped-there}
 use native.Mathlib.Omega.{arith}
-use borrow.Author.Needs.{needs}
 use Rattle.script.proofs.program.at_place.Statement.{statement}
 use Rattle.script.proofs.program.at_place.Tie as tie
 use Rattle.script.proofs.program.at_place.Reads as reads
@@ -80,15 +79,15 @@ turn-requires c κs = let a = c .before .before .before .before .before .before 
 
 -- src/program.rt:51:1
 same-length : tie.Need-same-length
-same-length c = search needs
+same-length c = let a = c .before .before .before .before .before .before .before .before .before .before .before .before .before .before .before .before .args in let t = c .before .before .before .before .before .before .turn in lent-size 512 (a .j) (now (a .own)) (t .last .1 .1 .1 .1 .1 .0) (own-fits (a .j) (now (a .own)) (now (a .own-places)) (now (a .own-pending)) (c .before .before .before .before .before .before .before .before .before .before .before .before .before .before .before .before .pre .1)) (t .kept .1 .1 .1 .1 .1 .0)
 
 -- src/program.rt:51:1
 same-length-2 : tie.Need-same-length-2
-same-length-2 c = search needs
+same-length-2 c = let a = c .before .before .before .before .before .before .before .before .before .before .before .before .before .before .before .before .args in let t = c .before .before .before .before .before .before .turn in lent-size 64 (a .j) (now (a .own-places)) (t .last .1 .1 .1 .1 .1 .1 .0) (places-fit (a .j) (now (a .own)) (now (a .own-places)) (now (a .own-pending)) (c .before .before .before .before .before .before .before .before .before .before .before .before .before .before .before .before .pre .1)) (t .kept .1 .1 .1 .1 .1 .1 .0)
 
 -- src/program.rt:51:1
 same-length-3 : tie.Need-same-length-3
-same-length-3 c = search needs
+same-length-3 c = let a = c .before .before .before .before .before .before .before .before .before .before .before .before .before .before .before .before .args in let t = c .before .before .before .before .before .before .turn in lent-size 64 (a .j) (now (a .own-pending)) (t .last .1 .1 .1 .1 .1 .1 .1 .0) (pending-fit (a .j) (now (a .own)) (now (a .own-places)) (now (a .own-pending)) (c .before .before .before .before .before .before .before .before .before .before .before .before .before .before .before .before .pre .1)) (t .kept .1 .1 .1 .1 .1 .1 .1 .0)
 
 -- src/program.rt:51:1
 returns : tie.Need-returns
