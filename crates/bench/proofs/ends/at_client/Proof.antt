@@ -16,19 +16,19 @@ change-of-requires c κs = search needs
 
 -- src/ends.rt:92:9
 edit-lent-requires : tie.Need-edit-lent-requires
-edit-lent-requires c κs = search needs
+edit-lent-requires c κs = c .before .before .before .before .before .before .before .before .before .before .before .pre
 
 -- src/ends.rt:92:9
 same-length : tie.Need-same-length
-same-length c = search needs
+same-length c = c .before .before .before .before .before .before .edit-lent .kept .1 .0
 
 -- src/ends.rt:92:9
 same-length-2 : tie.Need-same-length-2
-same-length-2 c = search needs
+same-length-2 c = c .before .before .before .before .before .before .edit-lent .kept .1 .1 .0
 
 -- src/ends.rt:92:9
 same-length-3 : tie.Need-same-length-3
-same-length-3 c = search needs
+same-length-3 c = c .before .before .before .before .before .before .edit-lent .kept .1 .1 .1 .0
 
 -- src/ends.rt:92:9
 returns : tie.Need-returns
@@ -36,19 +36,19 @@ returns c = let a = c .before .before .before .before .before .before .before .b
 
 -- src/ends.rt:94:5
 take-lent-requires : tie.Need-take-lent-requires
-take-lent-requires c κs = search needs
+take-lent-requires c κs = c .before .before .before .before .before .before .before .before .before .before .pre
 
 -- src/ends.rt:80:1
 same-length-4 : tie.Need-same-length-4
-same-length-4 c = search needs
+same-length-4 c = c .before .before .before .before .before .before .take-lent .kept .1 .0
 
 -- src/ends.rt:80:1
 same-length-5 : tie.Need-same-length-5
-same-length-5 c = search needs
+same-length-5 c = c .before .before .before .before .before .before .take-lent .kept .1 .1 .0
 
 -- src/ends.rt:80:1
 same-length-6 : tie.Need-same-length-6
-same-length-6 c = search needs
+same-length-6 c = c .before .before .before .before .before .before .take-lent .kept .1 .1 .1 .0
 
 -- src/ends.rt:80:1
 returns-2 : tie.Need-returns-2
