@@ -70,15 +70,15 @@ loop-again c = let l = c .before .before .before .before .before .before .before
 
 -- src/program.rt:107:18
 sub-j : tie.Need-sub-j Inv-loop μ-loop
-sub-j c = let h = line (c) in search needs
+sub-j c = let h = line (c) in omega (arith, h .0, h .1)
 
 -- src/program.rt:107:17
 cast-j : tie.Need-cast-j Inv-loop μ-loop
-cast-j c = let h = line (c) in search needs
+cast-j c = let h = line (c) in omega (arith, h .0, h .1)
 
 -- src/program.rt:113:13
 mul-at-place : tie.Need-mul-at-place Inv-loop μ-loop
-mul-at-place c = let h = line (c .before .before .before) in search needs
+mul-at-place c = let h = line (c .before .before .before) in omega (arith, h .0, h .1)
 
 -- src/program.rt:113:13
 array-copy-out-at-place : tie.Need-array-copy-out-at-place Inv-loop μ-loop
