@@ -36,7 +36,12 @@ fn put_at(words: &mut [u32], from: usize, part: &[u32])
 }
 
 // Puts the clients into arrays that are lent, and gives their numbers.
-fn fill(clients: [Client; 8], items: &mut [u32], places: &mut [u32], pending: &mut [u32]) -> [Counts; 8]
+fn fill(
+    clients: [Client; 8],
+    items: &mut [u32],
+    places: &mut [u32],
+    pending: &mut [u32],
+) -> [Counts; 8]
     requires { ⌜ Room (now items) (now places) (now pending) ⌝ }
     ensures { λ r. ⌜ Standing clients (baysOf r (now (items .exit)) (now (places .exit)) (now (pending .exit))) ⌝ }
 {
