@@ -169,13 +169,13 @@ module _ (input out : List ℕ) (i to : ℕ) (s : lines.Counts) (items places pe
             omega arith;
       }
 
-  pub going-end : length input ≤ i → (out₁ out₂ : List ℕ) (to₁ to₂ : ℕ) → sink out₁ to₁ ≡ puts (serverList (take (s .len) items)) (sink out to)
-      → sink out₂ to₂ ≡ puts (listsFrom ks own 0 (s .n)) (sink out₁ to₁) → sink out₂ to₂ ≡ z
+  pub going-end : length input ≤ i → (out₂ : List ℕ) (to₂ : ℕ) → sink out₂ to₂ ≡ puts (listsFrom ks own 0 (s .n)) (puts (serverList (take (s .len) items)) (sink out to))
+      → sink out₂ to₂ ≡ z
   unfolding server.view
-  going-end h out₁ out₂ to₁ to₂ p q =
-      then (serverList (take (s .len) items)) (clientLists 1 (viewEnds e .clients)) (sink out to) p
+  going-end h out₂ to₂ q =
+      then (serverList (take (s .len) items)) (clientLists 1 (viewEnds e .clients)) (sink out to) refl
       (q
-      ∙ ap (λ (t : List ℕ). puts t (sink out₁ to₁))
+      ∙ ap (λ (t : List ℕ). puts t (puts (serverList (take (s .len) items)) (sink out to)))
       (lists-are ks own ps xs 0 (s .n)
       ∙ ap (λ (cs : List Client). clientLists 1 (map client.view cs))
       (sym (ends-take client.clientOf noCounts maxItems maxPending ks own ps xs (s .n) 0 maxLines (lines-few e (g .whole))))))

@@ -19,9 +19,10 @@ use text::server_list;
 use text::unknown;
 ghost use mathlib.Core.Path.{_≡_};
 ghost use Prim.Native.Nat.{_≤_};
-ghost use lib.ListN.{drop};
+ghost use lib.ListN.{length, take, drop};
 ghost use Rattle.text.specs.Sink.{sink, puts as Sink·puts, Printed};
 ghost use Rattle.text.specs.Text.{linesOf};
+ghost use Rattle.text.specs.Lines.{serverList};
 ghost use Rattle.script.specs.Opening.{maxHeld, held};
 ghost use Rattle.script.specs.Output.{ran, started as Output·started, output};
 ghost use Rattle.bench.specs.Ends.{Whole, viewEnds, opening, ordered};
@@ -45,6 +46,23 @@ fn client_lists(out: &mut [u8], at: usize, n: u8, counts: [Counts; 8], items: &[
         to = client_list(out, to, i, &items[from..end]);
     }
     to
+}
+
+// The server's list, and then those of the clients.
+fn lists(
+    out: &mut [u8],
+    at: usize,
+    len: usize,
+    items: &[u32],
+    n: u8,
+    counts: [Counts; 8],
+    own: &[u32],
+) -> usize
+    requires { ⌜ (len ≤ length (now items)) × Shown n counts (now own) ⌝ }
+    ensures { λ r. ⌜ sink (now (out .exit)) r ≡ Sink·puts (listsFrom counts (now (own .entry)) 0 n) (Sink·puts (serverList (take len (now (items .entry)))) (sink (now (out .entry)) at)) ⌝ }
+{
+    let to = server_list(out, at, &items[..len]);
+    client_lists(out, to, n, counts, own)
 }
 
 // An order at the server and at the client in place j, whose own parts of the clients' arrays are lent.
@@ -123,9 +141,7 @@ fn commands(input: &[u8], mut i: usize, out: &mut [u8], mut at: usize, ends: End
         counts[j] = c;
         at = reply(out, at, t.refusal);
     }
-    let len = s.len as usize;
-    let to = server_list(out, at, &items[..len]);
-    client_lists(out, to, s.n, counts, &own)
+    lists(out, at, s.len as usize, &items, s.n, counts, &own)
 }
 
 // The clients of lines 1 to n. Opening refuses a line past n, and then gives an end that is all zeros.

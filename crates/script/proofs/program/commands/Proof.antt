@@ -4,7 +4,6 @@ use native.Mathlib.Omega.{arith}
 use borrow.Author.Needs.{needs}
 use denote.Ref.{now}
 use lib.ListN.{length, drop}
-use lib.Seq.{length-take-le}
 use Rattle.text.specs.Sink.{sink, puts}
 use Rattle.text.specs.Text.{linesOf}
 use Rattle.bench.specs.declared.ends.Ends.{Ends}
@@ -19,11 +18,10 @@ use Rattle.script.proofs.program.commands.Reads as reads
 use Rattle.script.proofs.program.commands.Lts as lts
 use Rattle.bench.proofs.bays.side_by_side.Reads as side-by-side-reads
 use Rattle.script.proofs.program.at_place.Reads as at-place-reads
-use Rattle.script.proofs.program.client_lists.Reads as client-lists-reads
+use Rattle.script.proofs.program.lists.Reads as lists-reads
 use Rattle.server.proofs.Server.counts.Reads as counts-reads
 use Rattle.text.proofs.line_at.Reads as line-at-reads
 use Rattle.text.proofs.reply.Reads as reply-reads
-use Rattle.text.proofs.server_list.Reads as server-list-reads
 use Rattle.text.proofs.unknown.Reads as unknown-reads
 
 abbrev Inv-loop : tie.InvT-loop
@@ -120,37 +118,23 @@ loop-less-2 c = let h = c .before .before .before .before .before .before .befor
 loop-again-2 : tie.Need-loop-again-2 Inv-loop μ-loop
 loop-again-2 c = let l = c .before .before .before .before .before .before .before .before .before .before .before .before .before .before .before .before .before .before .before .before .before .before .before .loop in let r = c .before .before .before .before .before .before .before .before .before .before .before .before .before .before .before .before .before .before .before .before .before .line-at in let t = c .before .before .before .before .before .before .before .before .before .at-place in let low = c .before .before .before .before .before .before .before .before .before .before .before .before .before .before .before .before .before .before .if1 .left in (c .before .before .reply .kept .0 ∙ l .inv .0, going-laid _ _ (l .i) _ (l .s) (l .items) (l .places) (l .pending) (l .counts) (l .own) (l .own-places) (l .own-pending) _ (l .inv .1) (l .inv .2) (r .result) (r .ensures) _ refl low (t .result) (t .last .1 .0) (t .last .1 .1 .0) (t .last .1 .1 .1 .0) (t .last .1 .1 .1 .1 .1 .1 .0) (t .last .1 .1 .1 .1 .1 .1 .1 .0) (t .last .1 .1 .1 .1 .1 .1 .1 .1 .0) (t .kept .1 .1 .1 .1 .1 .1 .0) (t .kept .1 .1 .1 .1 .1 .1 .1 .0) (t .kept .1 .1 .1 .1 .1 .1 .1 .1 .0) (t .ensures), going-turn _ _ (l .i) _ (l .s) (l .items) (l .places) (l .pending) (l .counts) (l .own) (l .own-places) (l .own-pending) _ (l .inv .1) (l .inv .2) (r .result) (r .ensures) _ refl low (t .result) (t .last .1 .0) (t .last .1 .1 .0) (t .last .1 .1 .1 .0) (t .last .1 .1 .1 .1 .1 .1 .0) (t .last .1 .1 .1 .1 .1 .1 .1 .0) (t .last .1 .1 .1 .1 .1 .1 .1 .1 .0) (t .kept .1 .1 .1 .1 .1 .1 .0) (t .kept .1 .1 .1 .1 .1 .1 .1 .0) (t .kept .1 .1 .1 .1 .1 .1 .1 .1 .0) (t .ensures) _ _ (c .before .before .reply .ensures))
 
--- src/program.rt:126:15
-cast-len : tie.Need-cast-len Inv-loop μ-loop
-cast-len c = search needs
+cast-lists : tie.Need-cast-lists Inv-loop μ-loop
+cast-lists c = search needs
 
--- src/program.rt:127:35
-array-share-prefix-items : tie.Need-array-share-prefix-items Inv-loop μ-loop
-array-share-prefix-items c = let l = c .before .before .before .loop in server-fits (endsOf (l .s) (l .items) (l .places) (l .pending) (l .counts) (l .own) (l .own-places) (l .own-pending)) (l .inv .2 .whole)
+slice-aggregate-lists : tie.Need-slice-aggregate-lists Inv-loop μ-loop
+slice-aggregate-lists c = let l = c .before .before .before .before .loop in sym (server-sizes _ _ (l .i) _ (l .s) (l .items) (l .places) (l .pending) (l .counts) (l .own) (l .own-places) (l .own-pending) _ (l .inv .1) (l .inv .2) .list)
 
--- src/program.rt:127:35
-slice-aggregate-server-list : tie.Need-slice-aggregate-server-list Inv-loop μ-loop
-slice-aggregate-server-list c = let l = c .before .before .before .before .loop in sym (length-take-le (l .s .len) (l .items) (server-fits (endsOf (l .s) (l .items) (l .places) (l .pending) (l .counts) (l .own) (l .own-places) (l .own-pending)) (l .inv .2 .whole)))
+slice-aggregate-lists-2 : tie.Need-slice-aggregate-lists-2 Inv-loop μ-loop
+slice-aggregate-lists-2 c = sym (c .before .before .before .before .before .loop .inv .1 .items-size)
 
--- src/program.rt:127:9
-server-list-requires : tie.Need-server-list-requires Inv-loop μ-loop
-server-list-requires c κs = search needs
+lists-requires : tie.Need-lists-requires Inv-loop μ-loop
+lists-requires c κs = let l = c .before .before .before .before .before .loop in (server-fits (endsOf (l .s) (l .items) (l .places) (l .pending) (l .counts) (l .own) (l .own-places) (l .own-pending)) (l .inv .2 .whole), shown _ _ (l .i) _ (l .s) (l .items) (l .places) (l .pending) (l .counts) (l .own) (l .own-places) (l .own-pending) _ (l .inv .1) (l .inv .2))
 
--- src/program.rt:128:40
-slice-aggregate-client-lists : tie.Need-slice-aggregate-client-lists Inv-loop μ-loop
-slice-aggregate-client-lists c = sym (c .before .before .before .before .before .before .before .before .before .loop .inv .1 .items-size)
-
--- src/program.rt:128:5
-client-lists-requires : tie.Need-client-lists-requires Inv-loop μ-loop
-client-lists-requires c κs = let l = c .before .before .before .before .before .before .before .before .before .loop in shown _ _ (l .i) _ (l .s) (l .items) (l .places) (l .pending) (l .counts) (l .own) (l .own-places) (l .own-pending) _ (l .inv .1) (l .inv .2)
-
--- src/program.rt:84:1
 same-length : tie.Need-same-length Inv-loop μ-loop
-same-length c = c .before .before .client-lists .kept .0 ∙ c .before .before .before .before .before .before .before .server-list .kept .0 ∙ c .before .before .before .before .before .before .before .before .before .before .before .before .loop .inv .0
+same-length c = c .before .before .lists .kept .0 ∙ c .before .before .before .before .before .before .before .before .loop .inv .0
 
--- src/program.rt:84:1
 returns : tie.Need-returns Inv-loop μ-loop
-returns c = let l = c .before .before .before .before .before .before .before .before .before .before .before .before .loop in let a = c .before .before .before .before .before .before .before .before .before .before .before .before .before .before .before .before .before .before .before .before .before .before .before .before .before .before .args in let s = c .before .before .before .before .before .before .before .before .before .before .before .before .before .before .before .before .before .before .before .before .before .before .counts in let b = c .before .before .before .before .before .before .before .before .before .before .before .before .before .before .before .before .before .side-by-side in going-end _ _ (l .i) _ (l .s) (l .items) (l .places) (l .pending) (l .counts) (l .own) (l .own-places) (l .own-pending) _ (l .inv .1) (l .inv .2) (c .before .before .before .before .before .before .before .before .before .before .before .loop-test .left) _ _ _ _ (c .before .before .before .before .before .before .before .server-list .ensures) (c .before .before .client-lists .ensures) ∙ ap (λ (e : Ends). puts (ran (viewEnds e) (linesOf (drop (a .i) (now (a .input))))) (sink (now (a .out)) (a .at))) (apart (a .ends) (s .result) (b .result) (s .ensures) (b .ensures))
+returns c = let l = c .before .before .before .before .before .before .before .before .loop in let a = c .before .before .before .before .before .before .before .before .before .before .before .before .before .before .before .before .before .before .before .before .before .before .args in let s = c .before .before .before .before .before .before .before .before .before .before .before .before .before .before .before .before .before .before .counts in let b = c .before .before .before .before .before .before .before .before .before .before .before .before .before .side-by-side in going-end _ _ (l .i) _ (l .s) (l .items) (l .places) (l .pending) (l .counts) (l .own) (l .own-places) (l .own-pending) _ (l .inv .1) (l .inv .2) (c .before .before .before .before .before .before .before .loop-test .left) _ _ (c .before .before .lists .ensures) ∙ ap (λ (e : Ends). puts (ran (viewEnds e) (linesOf (drop (a .i) (now (a .input))))) (sink (now (a .out)) (a .at))) (apart (a .ends) (s .result) (b .result) (s .ensures) (b .ensures))
 
 pub commands-spec : {M : Type 1} → statement M
 commands-spec =
@@ -178,11 +162,9 @@ commands-spec =
     reply-requires
     loop-less-2
     loop-again-2
-    cast-len
-    array-share-prefix-items
-    slice-aggregate-server-list
-    server-list-requires
-    slice-aggregate-client-lists
-    client-lists-requires
+    cast-lists
+    slice-aggregate-lists
+    slice-aggregate-lists-2
+    lists-requires
     same-length
     returns)
