@@ -11,17 +11,20 @@ use Rattle.client.specs.declared.Client.{Client}
 use Rattle.line.specs.declared.Counts.{Counts}
 use Rattle.client.specs.Store as client
 use Rattle.bench.specs.Bays.{noCounts, clientsIn, Laid}
-use Rattle.bench.proofs.Flat.{Put, lent-is, part-length, put-lent, ends-length, ends-put}
+use Rattle.bench.proofs.Flat.{Put, put-written, ends-length, ends-put}
 
 -- ---- filling the arrays: those of the first j clients stand there
 
--- part i of an array is lent, and x is put there
-module _ (w i : ℕ) (a : List ℕ) (lo hi : ℕ) (from : lo ≡ w * i) (to : hi ≡ lo + w) (within : hi ≤ length a) (x : List ℕ) (size : length x ≡ w) where
-  pub lent-alike : length (take (hi - lo) (drop lo a)) ≡ length x
-  lent-alike = ap length (lent-is w i a lo hi from to) ∙ part-length w i a lo hi from to within ∙ sym size
+-- a part of an array is lent, and x is put there
+pub put-back : (a x y : List ℕ) (from to : ℕ) → to ≡ from + length x → y ≡ x
+    → take from a ++ (y ++ drop (to - from) (drop from a)) ≡ take from a ++ (x ++ drop (length x) (drop from a))
+put-back a x y from to e p =
+    let n : to - from ≡ length x = omega arith in
+    ap₂ (λ (z : List ℕ) (m : ℕ). take from a ++ (z ++ drop m (drop from a))) p n
 
-  pub put-copied : (y : List ℕ) → y ≡ x → Put w i a (take lo a ++ (y ++ drop (hi - lo) (drop lo a))) x
-  put-copied y e = subst (λ (z : List ℕ). Put w i a (take lo a ++ (z ++ drop (hi - lo) (drop lo a))) x) (sym e) (put-lent w i a lo hi from to within x size)
+pub put-is : (w i : ℕ) (a b x : List ℕ) → length x ≡ w → w * i + w ≤ length a → b ≡ take (w * i) a ++ (x ++ drop (length x) (drop (w * i) a)) → Put w i a b x
+put-is w i a b x size fits e =
+    subst (λ (c : List ℕ). Put w i a c x) (sym (e ∙ ap (λ (m : ℕ). take (w * i) a ++ (x ++ drop m (drop (w * i) a))) size)) (put-written w i a x fits size)
 
 module _ (clients : List Client) where
   pub record Filling (ks : List Counts) (items places pending : List ℕ) (j : ℕ) : Type 0 where

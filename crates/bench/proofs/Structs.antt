@@ -1,7 +1,7 @@
 -- What the calls of the structs do to the bench that they stand for.
 use Prim.Native.Nat.{ℕ, zero, suc, _+_, _-_, _<_, _≤_}
 use mathlib.Core.Path.{_≡_, refl, sym, ap, ap₂, _∙_, subst}
-use mathlib.Core.Bool.{Bool, true, false, cond}
+use mathlib.Core.Bool.{Bool, true, false, true≢false, false≢true, _||_, cond}
 use mathlib.Core.List.{List, [], _∷_, _++_, map}
 use native.Mathlib.Omega.{arith}
 use borrow.Author.Tests.{eqb-true, eqb-false, eq-eqb, ne-eqb, le-leb, lt-leb, leb-true, leb-false}
@@ -22,8 +22,11 @@ use Rattle.model.proofs.SoundServer.{server-facts}
 use Rattle.pending.proofs.Pad.{pad-length}
 use Rattle.client.specs.declared.Client.{Client}
 use Rattle.client.specs.declared.Answer as clientAnswer
+use Rattle.client.specs.declared.Changed.{Changed}
 use Rattle.client.specs.Store as client
-use Rattle.client.specs.Answers.{guarded, given, refusedWith, guardedSending}
+use Rattle.client.specs.declared.editing.Change.{Change}
+use Rattle.client.specs.declared.editing.Change.the-variants as change
+use Rattle.client.specs.Answers.{guarded, given, refusedWith, guardedSending, answerOf, inserted, deleted, changed, taken}
 use Rattle.server.specs.declared.Server.{Server}
 use Rattle.server.specs.declared.Answer as serverAnswer
 use Rattle.server.specs.View as server
@@ -39,7 +42,7 @@ use Rattle.text.specs.Command.{Command, Bad, Insert, Delete, Up, Down, Ack, Tol
 use Rattle.bench.specs.Bench.{Bench, Step, clientOf, onClient, onServer, delivered, room, step}
 use Rattle.endpoint.specs.declared.Sent as endpoint
 use Rattle.endpoint.specs.Sending.{answered as answeredAs}
-use Rattle.bench.specs.Ends.{Stepped, viewEnds, storeEnds, Whole, sentBy, changedBy, unsent as unsentBy, atServer, atClient, delivered as deliveredTo, ordered}
+use Rattle.bench.specs.Ends.{Stepped, viewEnds, storeEnds, Whole, sentBy, changeOf, changedBy, unsent as unsentBy, atServer, atClient, delivered as deliveredTo, ordered}
 use Rattle.text.proofs.Sinks.{both}
 use Rattle.bench.proofs.Benches.{every-at}
 
@@ -366,3 +369,25 @@ module _ (s : Server) (c : Client) (o : Order) (b : endpoint.Sent) (m : List ℕ
 
   pub ordered-client : b .refusal ≡ 0 → o .verb < 5 → atClient s (changedBy c o (take (b .written) m)) ≡ ordered s c o
   ordered-client z h = by true false (eq-eqb (b .refusal) 0 z) (lt-leb 5 (o .verb) h)
+
+-- ---- an order at the client, from the question whether it is an edit
+
+module _ (c : Client) (o : Order) (bytes : List ℕ) (t : Changed) (xs ys zs : List ℕ) where
+  pub changed-edit : (d : Change) → answerOf t xs ys zs ≡ changed c d → d ≡ changeOf o → (eqb (o .verb) 1 || eqb (o .verb) 2) ≡ true → answerOf t xs ys zs ≡ changedBy c o bytes
+  unfolding changeOf changedBy
+  changed-edit d p e h = p ∙ ap (changed c) e ∙ go (eqb (o .verb) 1) (eqb (o .verb) 2) h
+    where
+      go : (t u : Bool) → (t || u) ≡ true
+          → changed c (cond t (change.Insert (o .number) (o .item)) (change.Delete (o .number))) ≡ cond t (inserted c (o .number) (o .item)) (cond u (deleted c (o .number)) (taken c bytes))
+      go true u h = refl
+      go false true h = refl
+      go false false h = absurd (false≢true h)
+
+  pub changed-take : answerOf t xs ys zs ≡ taken c bytes → (eqb (o .verb) 1 || eqb (o .verb) 2) ≡ false → answerOf t xs ys zs ≡ changedBy c o bytes
+  unfolding changedBy
+  changed-take p h = p ∙ go (eqb (o .verb) 1) (eqb (o .verb) 2) h
+    where
+      go : (t u : Bool) → (t || u) ≡ false → taken c bytes ≡ cond t (inserted c (o .number) (o .item)) (cond u (deleted c (o .number)) (taken c bytes))
+      go true u h = absurd (true≢false h)
+      go false true h = absurd (true≢false h)
+      go false false h = refl

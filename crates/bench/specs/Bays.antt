@@ -27,3 +27,12 @@ pub record Laid (ks : List Counts) (items places pending : List ℕ) : Type 0 wh
 pub record Standing (clients : List Client) (b : Bays) : Type 0 where
   pub laid : Laid (b .counts) (b .items) (b .places) (b .pending)
   pub standing : clientsIn (b .counts) (b .items) (b .places) (b .pending) ≡ clients
+
+-- what arrays that are filled have before: their lengths
+pub record Room (items places pending : List ℕ) : Type 0 where
+  pub items-size : length items ≡ 4096
+  pub places-size : length places ≡ 512
+  pub pending-size : length pending ≡ 512
+
+abbrev pub baysOf : List Counts → List ℕ → List ℕ → List ℕ → Bays
+baysOf ks items places pending = record { counts = ks; items = items; places = places; pending = pending }

@@ -11,6 +11,8 @@ use Rattle.model.specs.Questions.{Sent}
 use Rattle.model.specs.Client.{noClient, openClient}
 use Rattle.client.specs.declared.Client.{Client}
 use Rattle.client.specs.declared.Answer as clientAnswer
+use Rattle.client.specs.declared.editing.Change.{Change}
+use Rattle.client.specs.declared.editing.Change.the-variants as change
 use Rattle.client.specs.Store as client
 use Rattle.client.specs.Answers.{inserted, deleted, taken, sentEdit, sentAck}
 use Rattle.server.specs.declared.Server.{Server}
@@ -43,6 +45,10 @@ sentBy s c o lent =
     (cond (eqb (o .verb) 6) (sentAck c (o .line) lent)
     (cond (eqb (o .verb) 3) (sends s (o .line) (o .number) lent)
     (cond (eqb (o .verb) 4) (tells s (o .line) lent) (record { refusal = 0; written = 0; buffer = lent }))))
+
+-- the edit that an order asks for: an insert, or else a delete
+unfoldable pub changeOf : Order → Change
+changeOf o = cond (eqb (o .verb) 1) (change.Insert (o .number) (o .item)) (change.Delete (o .number))
 
 -- the client's own edit, or what it takes
 unfoldable pub changedBy : Client → Order → List ℕ → clientAnswer.Answer

@@ -17,7 +17,7 @@ ghost use Rattle.client.specs.Store as client;
 ghost use Rattle.client.specs.Answers.{answerOf};
 ghost use Rattle.server.specs.View.{serverOf};
 ghost use Rattle.server.specs.Sound.{Sizes};
-ghost use Rattle.bench.specs.Ends.{sentBy, changedBy, ordered, steppedOf};
+ghost use Rattle.bench.specs.Ends.{sentBy, changeOf, changedBy, ordered, steppedOf};
 
 // The server, and the clients of lines 1 to n in the first n places.
 pub struct Ends {
@@ -66,6 +66,16 @@ fn sent<'a>(
     }
 }
 
+// The edit that an order asks for.
+fn change_of(o: Order) -> Change
+    ensures { λ r. ⌜ r ≡ changeOf o ⌝ }
+{
+    if o.verb == INS {
+        return Change::Insert(o.number, o.item);
+    }
+    Change::Delete(o.number)
+}
+
 // The client's own edit, or what it takes.
 fn at_client(
     c: Counts,
@@ -78,17 +88,8 @@ fn at_client(
     requires { ⌜ client.Sizes (now items) (now places) (now pending) ⌝ }
     ensures { λ r. ⌜ answerOf r (now (items .exit)) (now (places .exit)) (now (pending .exit)) ≡ changedBy (client.clientOf c (now (items .entry)) (now (places .entry)) (now (pending .entry))) o (now (bytes .entry)) ⌝ }
 {
-    if o.verb == INS {
-        return client::editing::edit_lent(
-            c,
-            items,
-            places,
-            pending,
-            Change::Insert(o.number, o.item),
-        );
-    }
-    if o.verb == DEL {
-        return client::editing::edit_lent(c, items, places, pending, Change::Delete(o.number));
+    if (o.verb == INS) | (o.verb == DEL) {
+        return client::editing::edit_lent(c, items, places, pending, change_of(o));
     }
     client::taking::take_lent(c, items, places, pending, bytes)
 }

@@ -25,6 +25,7 @@ use Rattle.bench.specs.declared.ends.Turned.{Turned}
 use Rattle.bench.specs.Flat.{part, endsFrom}
 use Rattle.bench.specs.Bays.{noCounts, clientsIn, Laid, Standing}
 use Rattle.script.specs.Shown.{Shown, listsFrom}
+use Rattle.script.specs.Place.{Place, Only, clientAt, steppedAt}
 use Rattle.script.specs.Output.{clientLists, lists}
 use Rattle.bench.specs.Ends.{Whole, viewEnds, steppedOf, ordered}
 use Rattle.bench.proofs.Flat.{Put, lent-is, part-length, put-lent, ends-of, ends-take, ends-put}
@@ -50,15 +51,22 @@ lentBack w j a x = take (w * j) a ++ (x ++ drop (w * j + w - w * j) (drop (w * j
 abbrev pub lentPart : ℕ → ℕ → List ℕ → List ℕ
 lentPart w j a = take (w * j + w - w * j) (drop (w * j) a)
 
-module _ (ks : List Counts) (own ps xs : List ℕ) (l : Laid ks own ps xs) (j : ℕ) (small : j < 8) where
-  own-fits : maxItems * j + maxItems ≤ length own
-  own-fits = omega (arith, l .items-size)
+-- a part that comes back as long as it was leaves the array as long as it was
+pub lent-size : (w j : ℕ) (a x : List ℕ) → w * j + w ≤ length a → length x ≡ length (lentPart w j a) → length (lentBack w j a x) ≡ length a
+lent-size w j a x fits e =
+    put-lent w j a _ _ refl refl fits x (e ∙ ap length (lent-is w j a _ _ refl refl) ∙ part-length w j a _ _ refl refl fits) .size
 
-  places-fit : maxPending * j + maxPending ≤ length ps
-  places-fit = omega (arith, l .places-size)
+-- ---- one place
 
-  pending-fit : maxPending * j + maxPending ≤ length xs
-  pending-fit = omega (arith, l .pending-size)
+module _ (j : ℕ) (own ps xs : List ℕ) (r : Place j own ps xs) where
+  pub own-fits : maxItems * j + maxItems ≤ length own
+  own-fits = omega (arith, r .small, r .items-size)
+
+  pub places-fit : maxPending * j + maxPending ≤ length ps
+  places-fit = omega (arith, r .small, r .places-size)
+
+  pub pending-fit : maxPending * j + maxPending ≤ length xs
+  pending-fit = omega (arith, r .small, r .pending-size)
 
   pub lent-sizes : client.Sizes (lentPart maxItems j own) (lentPart maxPending j ps) (lentPart maxPending j xs)
   lent-sizes =
@@ -68,14 +76,7 @@ module _ (ks : List Counts) (own ps xs : List ℕ) (l : Laid ks own ps xs) (j : 
         pending-size = ap length (lent-is maxPending j xs _ _ refl refl) ∙ part-length maxPending j xs _ _ refl refl pending-fit;
       }
 
-  -- the client that stands there, from the parts that are lent
-  pub lent-client : (d : Client) → client.clientOf (getD ks j noCounts) (lentPart maxItems j own) (lentPart maxPending j ps) (lentPart maxPending j xs) ≡ getD (clientsIn ks own ps xs) j d
-  lent-client d =
-      ap (λ (a : List ℕ). client.clientOf (getD ks j noCounts) a (lentPart maxPending j ps) (lentPart maxPending j xs)) (lent-is maxItems j own _ _ refl refl)
-      ∙ ap₂ (client.clientOf (getD ks j noCounts) (part maxItems j own)) (lent-is maxPending j ps _ _ refl refl) (lent-is maxPending j xs _ _ refl refl)
-      ∙ sym (ends-of client.clientOf noCounts maxItems maxPending ks own ps xs maxLines j d small)
-
-  module _ (k : Counts) (x y z : List ℕ) (sx : length x ≡ maxItems) (sy : length y ≡ maxPending) (sz : length z ≡ maxPending) where
+  module _ (x y z : List ℕ) (sx : length x ≡ maxItems) (sy : length y ≡ maxPending) (sz : length z ≡ maxPending) where
     put-own : Put maxItems j own (lentBack maxItems j own x) x
     put-own = put-lent maxItems j own _ _ refl refl own-fits x sx
 
@@ -85,20 +86,39 @@ module _ (ks : List Counts) (own ps xs : List ℕ) (l : Laid ks own ps xs) (j : 
     put-pending : Put maxPending j xs (lentBack maxPending j xs z) z
     put-pending = put-lent maxPending j xs _ _ refl refl pending-fit z sz
 
-    pub laid-back : Laid (set ks j k) (lentBack maxItems j own x) (lentBack maxPending j ps y) (lentBack maxPending j xs z)
+    pub only-there : Only j own (lentBack maxItems j own x) ps (lentBack maxPending j ps y) xs (lentBack maxPending j xs z)
+    only-there = record { items = put-own .others; places = put-places .others; pending = put-pending .others }
+
+    -- what the parts that were lent became is the client there
+    pub stepped-there : (t : Turned) (items places pending : List ℕ) (s : Server) (k : Counts) (o : Order)
+        → steppedOf t items places pending x y z ≡ ordered s (client.clientOf k (lentPart maxItems j own) (lentPart maxPending j ps) (lentPart maxPending j xs)) o
+        → steppedAt t items places pending j (lentBack maxItems j own x) (lentBack maxPending j ps y) (lentBack maxPending j xs z) ≡ ordered s (clientAt k j own ps xs) o
+    unfolding steppedAt clientAt
+    stepped-there t items places pending s k o p =
+        (λ u. steppedOf t items places pending (put-own .here u) (put-places .here u) (put-pending .here u))
+        ∙ p
+        ∙ (λ u. ordered s (client.clientOf k (lent-is maxItems j own _ _ refl refl u) (lent-is maxPending j ps _ _ refl refl u) (lent-is maxPending j xs _ _ refl refl u)) o)
+
+module _ (ks : List Counts) (own ps xs : List ℕ) (l : Laid ks own ps xs) (j : ℕ) (small : j < 8) where
+  pub place : Place j own ps xs
+  place = record { small = small; items-size = l .items-size; places-size = l .places-size; pending-size = l .pending-size }
+
+  module _ (k : Counts) (own′ ps′ xs′ : List ℕ) (so : length own′ ≡ length own) (sp : length ps′ ≡ length ps) (sx : length xs′ ≡ length xs) (only : Only j own own′ ps ps′ xs xs′) where
+    pub laid-back : Laid (set ks j k) own′ ps′ xs′
     laid-back =
         record {
           counts-size = length-set ks j k ∙ l .counts-size;
-          items-size = put-own .size ∙ l .items-size;
-          places-size = put-places .size ∙ l .places-size;
-          pending-size = put-pending .size ∙ l .pending-size;
+          items-size = so ∙ l .items-size;
+          places-size = sp ∙ l .places-size;
+          pending-size = sx ∙ l .pending-size;
         }
 
-    pub clients-back : set (clientsIn ks own ps xs) j (client.clientOf k x y z)
-        ≡ clientsIn (set ks j k) (lentBack maxItems j own x) (lentBack maxPending j ps y) (lentBack maxPending j xs z)
+    pub clients-back : set (clientsIn ks own ps xs) j (clientAt k j own′ ps′ xs′) ≡ clientsIn (set ks j k) own′ ps′ xs′
+    unfolding clientAt
     clients-back =
-        ends-put client.clientOf noCounts maxItems maxPending j maxLines ks k own (lentBack maxItems j own x) ps (lentBack maxPending j ps y) xs (lentBack maxPending j xs z) x y z
-        (omega (arith, l .counts-size)) small put-own put-places put-pending
+        ends-put client.clientOf noCounts maxItems maxPending j maxLines ks k own own′ ps ps′ xs xs′ (part maxItems j own′) (part maxPending j ps′) (part maxPending j xs′)
+        (omega (arith, l .counts-size)) small (record { here = refl; others = only .items; size = so }) (record { here = refl; others = only .places; size = sp })
+        (record { here = refl; others = only .pending; size = sx })
 
 -- ---- one line
 
@@ -116,20 +136,22 @@ module _ (input out : List ℕ) (i to : ℕ) (s : lines.Counts) (items places pe
     pub turn-line : (1 ≤ o .line) × (o .line - 1 < 8)
     turn-line = order-line input out i to e z g r p o po low
 
-    pub going-turn : (t : Turned) (items′ places′ pending′ x y v : List ℕ) → length x ≡ maxItems → length y ≡ maxPending → length v ≡ maxPending
-        → steppedOf t items′ places′ pending′ x y v
-        ≡ ordered (server.serverOf s items places pending)
-        (client.clientOf (getD ks (o .line - 1) noCounts) (lentPart maxItems (o .line - 1) own) (lentPart maxPending (o .line - 1) ps) (lentPart maxPending (o .line - 1) xs)) o
-        → (out′ : List ℕ) (to′ : ℕ) → sink out′ to′ ≡ puts (replied (t .refusal)) (sink out to)
-        → Running input out′ (r .after) to′
-        (endsOf (t .server) items′ places′ pending′ (set ks (o .line - 1) (t .client)) (lentBack maxItems (o .line - 1) own x) (lentBack maxPending (o .line - 1) ps y)
-        (lentBack maxPending (o .line - 1) xs v)) z
-    going-turn t items′ places′ pending′ x y v sx sy sv pt out′ to′ q =
-        let small = turn-line .1 in
-        let c : Client = client.clientOf (getD ks (o .line - 1) noCounts) (lentPart maxItems (o .line - 1) own) (lentPart maxPending (o .line - 1) ps) (lentPart maxPending (o .line - 1) xs) in
-        subst (λ (cs : List Client). Running input out′ (r .after) to′ (record { server = server.serverOf (t .server) items′ places′ pending′; clients = cs }) z)
-        (clients-back ks own ps xs l (o .line - 1) small (t .client) x y v sx sy sv)
-        (running-turn input out i to e z g r p o po low c c (lent-client ks own ps xs l (o .line - 1) small c) (steppedOf t items′ places′ pending′ x y v) pt out′ to′ q)
+    module _ (t : Turned) (items′ places′ pending′ own′ ps′ xs′ : List ℕ) (so : length own′ ≡ length own) (sp : length ps′ ≡ length ps) (sx : length xs′ ≡ length xs)
+        (done : (steppedAt t items′ places′ pending′ (o .line - 1) own′ ps′ xs′ ≡ ordered (server.serverOf s items places pending) (clientAt (getD ks (o .line - 1) noCounts) (o .line - 1) own ps xs) o)
+        × Only (o .line - 1) own own′ ps ps′ xs xs′) where
+      pub going-laid : Laid (set ks (o .line - 1) (t .client)) own′ ps′ xs′
+      going-laid = laid-back ks own ps xs l (o .line - 1) (turn-line .1) (t .client) own′ ps′ xs′ so sp sx (done .1)
+
+      pub going-turn : (out′ : List ℕ) (to′ : ℕ) → sink out′ to′ ≡ puts (replied (t .refusal)) (sink out to)
+          → Running input out′ (r .after) to′ (endsOf (t .server) items′ places′ pending′ (set ks (o .line - 1) (t .client)) own′ ps′ xs′) z
+      unfolding steppedAt clientAt
+      going-turn out′ to′ q =
+          let small = turn-line .1 in
+          let c : Client = clientAt (getD ks (o .line - 1) noCounts) (o .line - 1) own ps xs in
+          subst (λ (cs : List Client). Running input out′ (r .after) to′ (record { server = server.serverOf (t .server) items′ places′ pending′; clients = cs }) z)
+          (clients-back ks own ps xs l (o .line - 1) small (t .client) own′ ps′ xs′ so sp sx (done .1))
+          (running-turn input out i to e z g r p o po low c c (sym (ends-of client.clientOf noCounts maxItems maxPending ks own ps xs maxLines (o .line - 1) c small))
+          (steppedAt t items′ places′ pending′ (o .line - 1) own′ ps′ xs′) (done .0) out′ to′ q)
 
   -- ---- the lists
 
@@ -147,13 +169,13 @@ module _ (input out : List ℕ) (i to : ℕ) (s : lines.Counts) (items places pe
             omega arith;
       }
 
-  pub going-end : length input ≤ i → (out₁ out₂ : List ℕ) (to₁ to₂ : ℕ) → sink out₁ to₁ ≡ puts (serverList (take (s .len) items)) (sink out to)
-      → sink out₂ to₂ ≡ puts (listsFrom ks own 0 (s .n)) (sink out₁ to₁) → sink out₂ to₂ ≡ z
+  pub going-end : length input ≤ i → (out₂ : List ℕ) (to₂ : ℕ) → sink out₂ to₂ ≡ puts (listsFrom ks own 0 (s .n)) (puts (serverList (take (s .len) items)) (sink out to))
+      → sink out₂ to₂ ≡ z
   unfolding server.view
-  going-end h out₁ out₂ to₁ to₂ p q =
-      then (serverList (take (s .len) items)) (clientLists 1 (viewEnds e .clients)) (sink out to) p
+  going-end h out₂ to₂ q =
+      then (serverList (take (s .len) items)) (clientLists 1 (viewEnds e .clients)) (sink out to) refl
       (q
-      ∙ ap (λ (t : List ℕ). puts t (sink out₁ to₁))
+      ∙ ap (λ (t : List ℕ). puts t (puts (serverList (take (s .len) items)) (sink out to)))
       (lists-are ks own ps xs 0 (s .n)
       ∙ ap (λ (cs : List Client). clientLists 1 (map client.view cs))
       (sym (ends-take client.clientOf noCounts maxItems maxPending ks own ps xs (s .n) 0 maxLines (lines-few e (g .whole))))))

@@ -44,3 +44,7 @@ module _ (ks : List Counts) (items : List ℕ) where
         ∙ ap₂ (λ (j : ℕ) (l : List ℕ). puts (listsFrom ks items j (n - (i + 1))) (puts (clientList j l) z)) next shown
         ∙ sym (puts-append (clientList (suc i) (take (getD ks i noCounts .len) (part maxItems i items))) (listsFrom ks items (suc i) (n - (i + 1))) z)
         ∙ ap (λ (k : ℕ). puts (listsFrom ks items i k) z) (sym left) ∙ h
+
+-- one text after another
+pub in-turn : (t : List ℕ) (a b c : Sink) → c ≡ puts t b → b ≡ a → c ≡ puts t a
+in-turn t a b c p q = p ∙ ap (puts t) q

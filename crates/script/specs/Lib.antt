@@ -1,3 +1,4 @@
 pub mod Opening
 pub mod Shown
+pub mod Place
 pub mod Output

@@ -3,11 +3,13 @@ use crate::opening::First;
 use crate::opening::read_first;
 use bench::bays::side_by_side;
 use bench::ends::Ends;
+use bench::ends::Turned;
 use bench::ends::turn;
 use client::Client;
 use client::Counts;
 use server::Server;
 use text::INS;
+use text::Order;
 use text::client_list;
 use text::end;
 use text::line_at;
@@ -17,12 +19,16 @@ use text::server_list;
 use text::unknown;
 ghost use mathlib.Core.Path.{_≡_};
 ghost use Prim.Native.Nat.{_≤_};
-ghost use lib.ListN.{drop};
+ghost use lib.ListN.{length, take, drop};
 ghost use Rattle.text.specs.Sink.{sink, puts as Sink·puts, Printed};
 ghost use Rattle.text.specs.Text.{linesOf};
+ghost use Rattle.text.specs.Lines.{serverList};
 ghost use Rattle.script.specs.Opening.{maxHeld, held};
 ghost use Rattle.script.specs.Output.{ran, started as Output·started, output};
-ghost use Rattle.bench.specs.Ends.{Whole, viewEnds, opening};
+ghost use Rattle.bench.specs.Ends.{Whole, viewEnds, opening, ordered};
+ghost use Rattle.server.specs.Sound.{Sizes};
+ghost use Rattle.server.specs.View.{serverOf};
+ghost use Rattle.script.specs.Place.{Place, Only, clientAt, steppedAt};
 ghost use Rattle.script.specs.Shown.{Shown, listsFrom};
 
 // The lists of the clients, in line order.
@@ -40,6 +46,56 @@ fn client_lists(out: &mut [u8], at: usize, n: u8, counts: [Counts; 8], items: &[
         to = client_list(out, to, i, &items[from..end]);
     }
     to
+}
+
+// The server's list, and then those of the clients.
+fn lists(
+    out: &mut [u8],
+    at: usize,
+    len: usize,
+    items: &[u32],
+    n: u8,
+    counts: [Counts; 8],
+    own: &[u32],
+) -> usize
+    requires { ⌜ (len ≤ length (now items)) × Shown n counts (now own) ⌝ }
+    ensures { λ r. ⌜ sink (now (out .exit)) r ≡ Sink·puts (listsFrom counts (now (own .entry)) 0 n) (Sink·puts (serverList (take len (now (items .entry)))) (sink (now (out .entry)) at)) ⌝ }
+{
+    let to = server_list(out, at, &items[..len]);
+    client_lists(out, to, n, counts, own)
+}
+
+// An order at the server and at the client in place j, whose own parts of the clients' arrays are lent.
+fn at_place(
+    s: lines::Counts,
+    items: &mut [u32; 512],
+    places: &mut [u32; 512],
+    pending: &mut [u32; 512],
+    c: Counts,
+    j: usize,
+    own: &mut [u32],
+    own_places: &mut [u32],
+    own_pending: &mut [u32],
+    o: Order,
+) -> Turned
+    requires { ⌜ Sizes s (now items) (now places) (now pending) × Place j (now own) (now «own_places») (now «own_pending») ⌝ }
+    ensures { λ r. ⌜ (steppedAt r (now (items .exit)) (now (places .exit)) (now (pending .exit)) j (now (own .exit)) (now («own_places» .exit)) (now («own_pending» .exit)) ≡ ordered (serverOf s (now (items .entry)) (now (places .entry)) (now (pending .entry))) (clientAt c j (now (own .entry)) (now («own_places» .entry)) (now («own_pending» .entry))) o) × Only j (now (own .entry)) (now (own .exit)) (now («own_places» .entry)) (now («own_places» .exit)) (now («own_pending» .entry)) (now («own_pending» .exit)) ⌝ }
+{
+    let from = 512 * j;
+    let end = from + 512;
+    let first = 64 * j;
+    let last = first + 64;
+    turn(
+        s,
+        items,
+        places,
+        pending,
+        c,
+        &mut own[from..end],
+        &mut own_places[first..last],
+        &mut own_pending[first..last],
+        o,
+    )
 }
 
 // The lines from a place of the input on, and the lists. The ends are taken apart, so that a line changes them in place.
@@ -67,19 +123,16 @@ fn commands(input: &[u8], mut i: usize, out: &mut [u8], mut at: usize, ends: End
             continue;
         }
         let j = (o.line - 1) as usize;
-        let from = 512 * j;
-        let end = from + 512;
-        let first = 64 * j;
-        let last = first + 64;
-        let t = turn(
+        let t = at_place(
             s,
             &mut items,
             &mut places,
             &mut pending,
             counts[j],
-            &mut own[from..end],
-            &mut own_places[first..last],
-            &mut own_pending[first..last],
+            j,
+            &mut own,
+            &mut own_places,
+            &mut own_pending,
             o,
         );
         let after = t.server;
@@ -88,9 +141,7 @@ fn commands(input: &[u8], mut i: usize, out: &mut [u8], mut at: usize, ends: End
         counts[j] = c;
         at = reply(out, at, t.refusal);
     }
-    let len = s.len as usize;
-    let to = server_list(out, at, &items[..len]);
-    client_lists(out, to, s.n, counts, &own)
+    lists(out, at, s.len as usize, &items, s.n, counts, &own)
 }
 
 // The clients of lines 1 to n. Opening refuses a line past n, and then gives an end that is all zeros.

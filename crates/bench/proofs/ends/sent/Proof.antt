@@ -1,6 +1,5 @@
 use borrow.Author.Tests.{eq-eqb, ne-eqb}
 use Rattle.bench.specs.Ends.{sentBy}
-use borrow.Author.Needs.{needs}
 use Rattle.bench.proofs.ends.sent.Statement.{statement}
 use Rattle.bench.proofs.ends.sent.Tie as tie
 use Rattle.bench.proofs.ends.sent.Reads as reads
@@ -12,11 +11,11 @@ use Rattle.server.proofs.sending.tell_lent.Reads as sending-tell-lent-reads′
 
 -- src/ends.rt:52:9
 send-lent-requires : tie.Need-send-lent-requires
-send-lent-requires c κs = search needs
+send-lent-requires c κs = c .before .before .before .before .before .before .before .before .before .before .pre .1
 
 -- src/ends.rt:52:9
 same-length : tie.Need-same-length
-same-length c = search needs
+same-length c = c .before .before .send-lent .kept .1 .1 .1 .1 .1 .1 .0
 
 -- src/ends.rt:52:9
 returns : tie.Need-returns
@@ -25,11 +24,11 @@ returns c = rw (eq-eqb (c .before .before .before .before .before .before .befor
 
 -- src/ends.rt:55:9
 tell-lent-requires : tie.Need-tell-lent-requires
-tell-lent-requires c κs = search needs
+tell-lent-requires c κs = c .before .before .before .before .before .before .before .before .before .before .before .before .pre .1
 
 -- src/ends.rt:55:9
 same-length-2 : tie.Need-same-length-2
-same-length-2 c = search needs
+same-length-2 c = c .before .before .tell-lent .kept .1 .1 .1 .1 .1 .0
 
 -- src/ends.rt:55:9
 returns-2 : tie.Need-returns-2
@@ -38,11 +37,11 @@ returns-2 c = rw (ne-eqb (c .before .before .before .before .before .before .bef
 
 -- src/ends.rt:58:9
 send-lent-requires-2 : tie.Need-send-lent-requires-2
-send-lent-requires-2 c κs = search needs
+send-lent-requires-2 c κs = c .before .before .before .before .before .before .before .before .before .before .before .before .before .before .pre .0
 
 -- src/ends.rt:58:9
 same-length-3 : tie.Need-same-length-3
-same-length-3 c = search needs
+same-length-3 c = c .before .before .send-lent2 .kept .1 .1 .1 .1 .1 .1 .0
 
 -- src/ends.rt:58:9
 returns-3 : tie.Need-returns-3
@@ -51,11 +50,11 @@ returns-3 c = rw (ne-eqb (c .before .before .before .before .before .before .bef
 
 -- src/ends.rt:61:9
 tell-lent-requires-2 : tie.Need-tell-lent-requires-2
-tell-lent-requires-2 c κs = search needs
+tell-lent-requires-2 c κs = c .before .before .before .before .before .before .before .before .before .before .before .before .before .before .before .before .pre .0
 
 -- src/ends.rt:61:9
 same-length-4 : tie.Need-same-length-4
-same-length-4 c = search needs
+same-length-4 c = c .before .before .tell-lent2 .kept .1 .1 .1 .1 .1 .0
 
 -- src/ends.rt:61:9
 returns-4 : tie.Need-returns-4

@@ -3,7 +3,7 @@ use Rattle.client.specs.Store.{clientOf}
 use Rattle.bench.specs.Ends.{atServer, atClient}
 use Rattle.bench.proofs.Structs.{sent-within, ordered-unsent, ordered-up, ordered-client}
 use lib.Seq.{length-take-le}
-use mathlib.Core.Path.{ap, sym, _∙_}
+use mathlib.Core.Path.{refl, ap, sym, _∙_}
 use denote.Ref.{now}
 use borrow.Author.Needs.{needs}
 use Rattle.bench.proofs.ends.turn.Statement.{statement}
@@ -20,19 +20,19 @@ slice-aggregate-sent c = search needs
 
 -- src/ends.rt:106:9
 sent-requires : tie.Need-sent-requires
-sent-requires c κs = search needs
+sent-requires c κs = c .before .before .before .before .before .before .before .before .before .before .before .before .before .pre
 
 -- src/ends.rt:108:9
 same-length : tie.Need-same-length
-same-length c = search needs
+same-length c = refl
 
 -- src/ends.rt:108:9
 same-length-2 : tie.Need-same-length-2
-same-length-2 c = search needs
+same-length-2 c = refl
 
 -- src/ends.rt:108:9
 same-length-3 : tie.Need-same-length-3
-same-length-3 c = search needs
+same-length-3 c = refl
 
 -- src/ends.rt:108:9
 returns : tie.Need-returns
@@ -48,19 +48,19 @@ slice-aggregate-take-lent c = sym (length-take-le (c .before .before .before .be
 
 -- src/ends.rt:116:13
 take-lent-requires : tie.Need-take-lent-requires
-take-lent-requires c κs = search needs
+take-lent-requires c κs = c .before .before .before .before .before .before .before .before .before .before .before .before .before .before .before .before .before .before .before .before .before .before .before .pre .0
 
 -- src/ends.rt:118:9
 same-length-4 : tie.Need-same-length-4
-same-length-4 c = search needs
+same-length-4 c = refl
 
 -- src/ends.rt:118:9
 same-length-5 : tie.Need-same-length-5
-same-length-5 c = search needs
+same-length-5 c = refl
 
 -- src/ends.rt:118:9
 same-length-6 : tie.Need-same-length-6
-same-length-6 c = search needs
+same-length-6 c = refl
 
 -- src/ends.rt:118:9
 returns-2 : tie.Need-returns-2
@@ -76,19 +76,19 @@ slice-aggregate-at-client c = sym (length-take-le (c .before .before .before .be
 
 -- src/ends.rt:124:9
 at-client-requires : tie.Need-at-client-requires
-at-client-requires c κs = search needs
+at-client-requires c κs = c .before .before .before .before .before .before .before .before .before .before .before .before .before .before .before .before .before .before .before .before .before .before .before .pre .1
 
 -- src/ends.rt:91:1
 same-length-7 : tie.Need-same-length-7
-same-length-7 c = search needs
+same-length-7 c = c .before .before .before .before .before .before .before .at-client .kept .1 .0
 
 -- src/ends.rt:91:1
 same-length-8 : tie.Need-same-length-8
-same-length-8 c = search needs
+same-length-8 c = c .before .before .before .before .before .before .before .at-client .kept .1 .1 .0
 
 -- src/ends.rt:91:1
 same-length-9 : tie.Need-same-length-9
-same-length-9 c = search needs
+same-length-9 c = c .before .before .before .before .before .before .before .at-client .kept .1 .1 .1 .0
 
 -- src/ends.rt:91:1
 returns-3 : tie.Need-returns-3

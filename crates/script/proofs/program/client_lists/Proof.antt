@@ -26,11 +26,11 @@ loop-holds c = (omega arith, refl, ap (λ (k : ℕ). puts (listsFrom (c .before 
 
 -- src/program.rt:36:24
 cast-c : tie.Need-cast-c Inv-loop μ-loop
-cast-c c = search needs
+cast-c c = omega arith
 
 -- src/program.rt:36:17
 mul-c : tie.Need-mul-c Inv-loop μ-loop
-mul-c c = search needs
+mul-c c = omega (arith, c .before .before .before .before .pre .few)
 
 -- src/program.rt:36:17
 array-copy-out-c : tie.Need-array-copy-out-c Inv-loop μ-loop
@@ -38,15 +38,15 @@ array-copy-out-c c = omega (arith, c .before .before .before .before .pre .few)
 
 -- src/program.rt:37:26
 cast-from : tie.Need-cast-from Inv-loop μ-loop
-cast-from c = search needs
+cast-from c = omega arith
 
 -- src/program.rt:37:20
 mul-from : tie.Need-mul-from Inv-loop μ-loop
-mul-from c = search needs
+mul-from c = omega (arith, c .before .before .before .before .before .pre .few)
 
 -- src/program.rt:38:26
 cast-end : tie.Need-cast-end Inv-loop μ-loop
-cast-end c = search needs
+cast-end c = omega arith
 
 -- src/program.rt:38:19
 add-end : tie.Need-add-end Inv-loop μ-loop
@@ -54,11 +54,11 @@ add-end c = omega (arith, (c .before .before .before .before .before .before .pr
 
 -- src/program.rt:39:9
 add-i : tie.Need-add-i Inv-loop μ-loop
-add-i c = search needs
+add-i c = omega arith
 
 -- src/program.rt:40:38
 mul-client-list : tie.Need-mul-client-list Inv-loop μ-loop
-mul-client-list c = search needs
+mul-client-list c = omega (arith, c .before .before .before .before .before .before .before .pre .few)
 
 -- src/program.rt:40:38
 sub-client-list : tie.Need-sub-client-list Inv-loop μ-loop
