@@ -10,8 +10,6 @@ use Rattle.ot.specs.declared.Edit.{Edit}
 use Rattle.ot.specs.declared.Edit.the-variants.{Nothing}
 use Rattle.wire.specs.declared.Header.{Header}
 use Rattle.wire.specs.declared.Message.{Message}
-use Rattle.wire.specs.declared.Read.{Read}
-use Rattle.wire.specs.declared.Read.the-variants as read
 use Rattle.model.specs.Limits.{maxInserts}
 use Rattle.model.specs.Questions.{asks}
 use Rattle.model.specs.Cross.{insertsOf}
@@ -20,7 +18,7 @@ use Rattle.pending.specs.declared.Crossed.{Crossed}
 use Rattle.pending.specs.Slots.{crossed}
 use Rattle.lines.specs.declared.Counts.{Counts}
 use Rattle.arrivals.specs.declared.Decision.{Decision}
-use Rattle.arrivals.specs.Deciding.{editAsked, ackAsked, lastAsked, leftAsked, leftAt, refusing, ackAccepted, ackDecided, editAccepted, editDecided, decided, stays, readDecided, readStays, Decided}
+use Rattle.arrivals.specs.Deciding.{editAsked, ackAsked, lastAsked, leftAsked, leftAt, refusing, ackAccepted, ackDecided, editAccepted, editDecided, decided, stays, Decided}
 
 pub last-few : (k : Counts) (at : ℕ) (e form : Edit) (placed : Bool) → asks (lastAsked k at e form placed) ≡ 0 → getD (k .inserts) at 0 + insertsOf e ≤ maxInserts
 last-few k at e form placed z =
@@ -31,16 +29,6 @@ last-few k at e form placed z =
 pub refused-decided : (q : ℕ) (d r : Decision) (es : List Edit) (later : List ℕ) → (q ≡ 0 → ⊥) → r ≡ refusing q → refusing q ≡ d → Decided d es later r
 unfolding refusing
 refused-decided q d r es later n e f = record { is = e ∙ f; kept = λ z. absurd (n (sym (ap (λ (x : Decision). x .refusal) e) ∙ z)) }
-
--- bytes, by what was read of them
-module _ (k : Counts) (ps xs later : List ℕ) (p r : Read) (e : r ≡ p) (d : Decision) where
-  pub unread-decided : r ≡ read.Refused → d ≡ refusing 3 → Decided (readDecided k ps xs p) (readStays k ps xs p) later d
-  unread-decided z f =
-      subst (λ (x : Read). Decided (readDecided k ps xs x) (readStays k ps xs x) later d) (sym z ∙ e)
-      (refused-decided 3 (refusing 3) d [] later (eqb-false 3 0 refl) f refl)
-
-  pub read-decided : (m : Message) → r ≡ read.Message m → Decided (decided k ps xs m) (stays k ps xs m) later d → Decided (readDecided k ps xs p) (readStays k ps xs p) later d
-  read-decided m z f = subst (λ (x : Read). Decided (readDecided k ps xs x) (readStays k ps xs x) later d) (sym z ∙ e) f
 
 module _ (k : Counts) (line direction seen : ℕ) where
   pub ack-no : (q : ℕ) → q ≡ asks (ackAsked k line direction seen) → (q ≡ 0 → ⊥) → refusing q ≡ ackDecided k line direction seen

@@ -10,8 +10,6 @@ use Rattle.ot.specs.declared.Edit.the-variants.{Nothing, Delete, Insert}
 use Rattle.wire.specs.declared.Header.{Header}
 use Rattle.wire.specs.declared.Message.{Message}
 use Rattle.wire.specs.declared.Message.the-variants as message
-use Rattle.wire.specs.declared.Read.{Read}
-use Rattle.wire.specs.declared.Read.the-variants as read
 use Rattle.model.specs.Limits.{maxLines, maxInserts, maxEdits, maxPending}
 use Rattle.model.specs.Questions.{Question, ask, asks, between}
 use Rattle.model.specs.Cross.{past, over, allPlaced, priority, insertsOf}
@@ -123,15 +121,6 @@ stays k ps xs (message.Insert h p x r) = editStays k ps xs h (Insert p x r)
 stays k ps xs (message.Delete h p) = editStays k ps xs h (Delete p)
 stays k ps xs (message.Nothing h) = editStays k ps xs h Nothing
 stays k ps xs (message.Ack l d seen) = leftAt k ps xs (l - 1) seen
-
--- the same of what was read of bytes; question 3 refuses what is no message
-abbrev pub readDecided : Counts → List ℕ → List ℕ → Read → Decision
-readDecided k ps xs read.Refused = refusing 3
-readDecided k ps xs (read.Message m) = decided k ps xs m
-
-abbrev pub readStays : Counts → List ℕ → List ℕ → Read → List Edit
-readStays k ps xs read.Refused = []
-readStays k ps xs (read.Message m) = stays k ps xs m
 
 -- r is the decision d, and where it accepts, the lent array has the places of the edits es
 pub record Decided (d : Decision) (es : List Edit) (later : List ℕ) (r : Decision) : Type 0 where

@@ -7,19 +7,17 @@ ghost use lib.Dec.{eqb};
 ghost use lib.ListN.{replicate};
 ghost use Rattle.ot.specs.Edit.{positionOf};
 ghost use Rattle.wire.specs.Message.{inRange};
-ghost use Rattle.wire.specs.Bytes.{parsed};
 ghost use Rattle.model.specs.Limits.{maxItems, maxPending};
 ghost use Rattle.model.specs.Cross.{priority};
 ghost use Rattle.model.specs.Questions.{asks};
 ghost use Rattle.pending.specs.Slots.{allFrom, placeOf, itemOf};
 ghost use Rattle.lines.specs.Taking.{stayingAt, Written};
-ghost use Rattle.arrivals.specs.Deciding.{roomyAt, editAsked, lastAsked, ackAsked, refusing, leftAt, editDecided, ackDecided, decided, editStays, stays, readDecided, readStays, Decided, Ready};
+ghost use Rattle.arrivals.specs.Deciding.{roomyAt, editAsked, lastAsked, ackAsked, refusing, leftAt, editDecided, ackDecided, decided, editStays, stays, Decided, Ready};
 ghost use Rattle.arrivals.specs.Accepting.{Acceptable};
 use lines::Counts;
 use ot::Edit;
 use wire::Header;
 use wire::Message;
-use wire::Read;
 
 // What a message makes of an end: 0 or the number of the question that says no, how many pending edits the edit was transformed past;
 // the place of the line that it came on, counted from 0, with the counts of that line; the edit to apply, and how many of the lines it is
@@ -191,7 +189,7 @@ fn decide_edit<'a>(
     refusing(refusal)
 }
 
-fn decide<'a>(
+pub fn decide<'a>(
     k: Counts,
     places: &'a [u32],
     items: &'a [u32],
@@ -209,23 +207,6 @@ fn decide<'a>(
         Message::Nothing(h) => decide_edit(k, places, items, h, Edit::Nothing, later),
         Message::Ack(l, d, s) => decide_ack(k, places, items, l, d, s, later),
     }
-}
-
-// Bytes that a client sent: exactly one message.
-pub fn decide_bytes<'a>(
-    k: Counts,
-    places: &'a [u32],
-    items: &'a [u32],
-    bytes: &[u8],
-    later: &mut [u32; 64],
-) -> Decision
-    requires { ⌜ Ready k (now places) (now items) × (now later ≡ replicate maxPending 0) ⌝ }
-    ensures { λ r. ⌜ Decided (readDecided k (now (places .entry)) (now (items .entry)) (parsed (now (bytes .entry)))) (readStays k (now (places .entry)) (now (items .entry)) (parsed (now (bytes .entry)))) (now (later .exit)) r ⌝ }
-{
-    let Read::Message(m) = wire::parse(bytes) else {
-        return refusing(3);
-    };
-    decide(k, places, items, m, later)
 }
 
 // ---- what is written

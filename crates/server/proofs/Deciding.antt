@@ -37,12 +37,21 @@ use Rattle.lines.specs.Lines.{pendingCount}
 use Rattle.server.specs.View.{countsOf, linesFrom, view}
 use Rattle.server.specs.Sound.{Sound}
 use Rattle.lines.specs.Taking.{stayingAt, Seen, Roomy}
-use Rattle.arrivals.specs.Deciding.{editAsked, ackAsked, roomyAt, leftAsked, leftAt, refusing, ackAccepted, ackDecided, editAccepted, editDecided, decided, stays, readDecided, readStays, Ready}
+use Rattle.arrivals.specs.Deciding.{editAsked, ackAsked, roomyAt, leftAsked, leftAt, refusing, ackAccepted, ackDecided, editAccepted, editDecided, decided, stays, Ready}
 use Rattle.lines.proofs.Asked.{asks-yes}
 use Rattle.arrivals.proofs.Asked.{Here, ack-here, edit-here, left-ready, left-line, left-items, left-seen}
 use Rattle.arrivals.proofs.Decided.{ack-yes, edit-yes}
 use Rattle.server.proofs.Places.{each-first}
 use Rattle.server.proofs.Whole.{line, means, facts, lines-few, lines-count, len-view, at-view, at-facts, line-of}
+
+-- ---- what a message makes of an end, by what was read of bytes; question 3 refuses what is no message
+abbrev pub readDecided : Counts → List ℕ → List ℕ → Read → Decision
+readDecided k ps xs read.Refused = refusing 3
+readDecided k ps xs (read.Message m) = decided k ps xs m
+
+abbrev pub readStays : Counts → List ℕ → List ℕ → Read → List Edit
+readStays k ps xs read.Refused = []
+readStays k ps xs (read.Message m) = stays k ps xs m
 
 -- ---- question 12: every line but one
 

@@ -10,6 +10,8 @@ use lib.Seq.{getD-set-same, getD-set-other}
 use borrow.Author.Tests.{eqb-true, eqb-false, eq-eqb, ne-eqb, ltb-true}
 use Rattle.ot.specs.declared.Edit.{Edit}
 use Rattle.ot.specs.Items.{Edited, padded}
+use Rattle.wire.specs.declared.Read.{Read}
+use Rattle.wire.specs.declared.Read.the-variants as read
 use Rattle.wire.specs.Bytes.{parsed}
 use Rattle.model.specs.Limits.{maxLines, maxItems, maxPending}
 use Rattle.model.specs.Server as model
@@ -24,12 +26,12 @@ use Rattle.server.specs.View.{countsOf, view, store}
 use Rattle.server.specs.Sound.{soundStruct, Sized, Sound}
 use Rattle.server.specs.Calls.{refused, answered, takes}
 use Rattle.lines.specs.Taking.{keeps, stayingAt, Raised, Few, Written}
-use Rattle.arrivals.specs.Deciding.{readDecided, readStays}
+use Rattle.arrivals.specs.Deciding.{refusing}
 use Rattle.arrivals.specs.Accepting.{Acceptable}
 use Rattle.server.proofs.Rows.{Row, store-is}
 use Rattle.server.proofs.Whole.{means, lines-few, items-are, len-view, at-view, made-few, lines-row}
 use Rattle.lines.proofs.Writing.{keeps-own}
-use Rattle.server.proofs.Deciding.{Decides, Right, read-right}
+use Rattle.server.proofs.Deciding.{readDecided, readStays, Decides, Right, read-right}
 
 -- ---- what is written
 
@@ -244,3 +246,9 @@ module _ (s : Server) (bytes : List ℕ) where
           (λ j. record { refusal = zero′ j; passed = right .passed y j; server = e j })
           ∙ sym (ap (λ (b : Bool). record { refusal = a .refusal; passed = a .passed; server = cond b (store (a .end)) s }) (eq-eqb (a .refusal) 0 (sym zero′)))
           ∙ take-sound
+
+    -- question 3
+    pub take-unread : (r : Read) → r ≡ parsed bytes → r ≡ read.Refused → refused s 3 ≡ takes s bytes
+    unfolding refusing
+    take-unread r e z =
+        take-refused (refusing 3) (ap (readDecided (countsOf s) (s .«pending_places») (s .«pending_items»)) (sym z ∙ e)) (eqb-false 3 0 refl)

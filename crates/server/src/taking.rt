@@ -8,6 +8,7 @@ use crate::Server;
 use crate::is_sound;
 use lines::Counts;
 use lines::taking;
+use wire::Read;
 
 // What taking answers where the arrays are lent: 0 or the number of the question that said no, how many pending edits an edit was
 // transformed past, and the counts as they are now.
@@ -52,8 +53,11 @@ pub fn take_lent(
         places,
         pending,
     ) {
+        let Read::Message(m) = wire::parse(bytes) else {
+            return refused(3, k);
+        };
         let mut later = [0u32; 64];
-        let d = arrivals::decide_bytes(k, places, pending, bytes, &mut later);
+        let d = arrivals::decide(k, places, pending, m, &mut later);
         if d.refusal == 0 {
             let i = d.at;
             let e = d.edit;
