@@ -14,10 +14,11 @@ use Rattle.model.specs.Limits.{maxLines, maxPending, maxInserts}
 use Rattle.model.specs.Questions.{ask, asks, between}
 use Rattle.model.specs.Cross.{priority, insertsOf}
 use Rattle.model.proofs.Tests.{and-left, and-right, yes-all}
-use Rattle.pending.specs.Slots.{itemOf, editsFrom, filled, allFrom, Whole}
+use Rattle.pending.specs.Crossing as crossing
+use Rattle.slots.specs.Slots.{itemOf, editsFrom, filled, allFrom, Whole}
 use Rattle.endpoint.specs.Items.{roomy}
-use Rattle.pending.specs.Slots as slots
-use Rattle.pending.proofs.Slots.{edits-drop, kept-items, kept-ready}
+use Rattle.slots.proofs.Slots.{edits-drop, kept-items}
+use Rattle.pending.proofs.Crossing.{kept-ready}
 use Rattle.lines.specs.declared.Counts.{Counts}
 use Rattle.lines.specs.Lines.{pendingCount}
 use Rattle.lines.specs.Taking.{Seen}
@@ -71,9 +72,9 @@ module _ (k : Counts) where
     left-count : pendingCount k i - gone ≡ getD (k .made) i 0 - seen
     left-count = omega (arith, h .old)
 
-    pub left-ready : slots.Ready (maxPending * i + gone) (getD (k .made) i 0 - seen) ps xs
+    pub left-ready : crossing.Ready (maxPending * i + gone) (getD (k .made) i 0 - seen) ps xs
     left-ready =
-        subst (λ (n : ℕ). slots.Ready (maxPending * i + gone) n ps xs) left-count
+        subst (λ (n : ℕ). crossing.Ready (maxPending * i + gone) n ps xs) left-count
         (kept-ready (maxPending * i) (pendingCount k i) ps xs (r .kept i eight) whole gone (omega (arith, h .new)))
 
     pub left-line : drop gone (editsFrom ps xs (maxPending * i) (pendingCount k i)) ≡ leftAt k ps xs i seen

@@ -15,7 +15,7 @@ use Rattle.model.specs.Questions.{asks}
 use Rattle.model.specs.Cross.{insertsOf}
 use Rattle.model.proofs.Tests.{yes-all}
 use Rattle.pending.specs.declared.Crossed.{Crossed}
-use Rattle.pending.specs.Slots.{crossed}
+use Rattle.pending.specs.Crossing.{crossed}
 use Rattle.lines.specs.declared.Counts.{Counts}
 use Rattle.arrivals.specs.declared.Decision.{Decision}
 use Rattle.arrivals.specs.Deciding.{editAsked, ackAsked, lastAsked, leftAsked, leftAt, refusing, ackAccepted, ackDecided, editAccepted, editDecided, decided, stays, Decided}

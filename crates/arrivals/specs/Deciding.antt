@@ -13,7 +13,8 @@ use Rattle.wire.specs.declared.Message.the-variants as message
 use Rattle.model.specs.Limits.{maxLines, maxInserts, maxEdits, maxPending}
 use Rattle.model.specs.Questions.{Question, ask, asks, between}
 use Rattle.model.specs.Cross.{past, over, allPlaced, priority, insertsOf}
-use Rattle.pending.specs.Slots.{placeOf, editsFrom, filled, allFrom, steps}
+use Rattle.slots.specs.Slots.{placeOf, editsFrom, filled, allFrom}
+use Rattle.pending.specs.Crossing.{steps}
 use Rattle.endpoint.specs.Items.{roomy}
 use Rattle.endpoint.specs.Line.{seenQuestions, editQuestions}
 use Rattle.lines.specs.declared.Counts.{Counts}

@@ -10,7 +10,7 @@ ghost use Rattle.wire.specs.Message.{inRange};
 ghost use Rattle.model.specs.Limits.{maxItems, maxPending};
 ghost use Rattle.model.specs.Cross.{priority};
 ghost use Rattle.model.specs.Questions.{asks};
-ghost use Rattle.pending.specs.Slots.{allFrom, placeOf, itemOf};
+ghost use Rattle.slots.specs.Slots.{allFrom, placeOf, itemOf};
 ghost use Rattle.lines.specs.Taking.{stayingAt, Written};
 ghost use Rattle.arrivals.specs.Deciding.{roomyAt, editAsked, lastAsked, ackAsked, refusing, leftAt, editDecided, ackDecided, decided, editStays, stays, Decided, Ready};
 ghost use Rattle.arrivals.specs.Accepting.{Acceptable};
@@ -225,6 +225,6 @@ pub fn write_slots(
 {
     let at = d.at;
     let e = d.edit;
-    lines::taking::write_places(places, later, k, at, d.others, pending::place_of(e));
-    lines::taking::write_items(items, k, at, d.acked, d.others, pending::item_of(e));
+    lines::taking::write_places(places, later, k, at, d.others, slots::place_of(e));
+    lines::taking::write_items(items, k, at, d.acked, d.others, slots::item_of(e));
 }

@@ -19,7 +19,7 @@ use Rattle.model.specs.Questions.{Answer, answer, Sent, sent}
 use Rattle.model.specs.Client as models
 use Rattle.model.specs.Server as serverModels
 use Rattle.model.proofs.SoundServer.{server-facts}
-use Rattle.pending.proofs.Pad.{pad-length}
+use Rattle.slots.proofs.Pad.{pad-length}
 use Rattle.client.specs.declared.Client.{Client}
 use Rattle.client.specs.declared.Answer as clientAnswer
 use Rattle.client.specs.declared.Changed.{Changed}

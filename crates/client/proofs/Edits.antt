@@ -17,8 +17,8 @@ use Rattle.model.specs.Client.{soundClient, editClient}
 use Rattle.model.specs.Client as client
 use Rattle.model.proofs.Tests.{Yes, yes-all}
 use Rattle.model.proofs.SoundClient.{ClientFacts, client-facts}
-use Rattle.pending.specs.Slots.{placeOf, itemOf, filled}
-use Rattle.pending.proofs.Slots.{edits-length, filled-push}
+use Rattle.slots.specs.Slots.{placeOf, itemOf, filled}
+use Rattle.slots.proofs.Slots.{edits-length, filled-push}
 use Rattle.endpoint.specs.Items.{stored, roomy}
 use Rattle.endpoint.proofs.Room.{roomy-model, roomy-room, room-stored, room-length}
 use Rattle.line.specs.Asking.{editAsked}

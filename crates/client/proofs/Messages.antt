@@ -15,9 +15,9 @@ use Rattle.wire.specs.Message.{messageOf}
 use Rattle.wire.specs.Bytes.{bytesOf}
 use Rattle.model.specs.Questions as model
 use Rattle.model.specs.Client.{clientMessage, sendClient, tellClient}
-use Rattle.pending.specs.Slots.{placeOf, itemOf, editOf, editAt}
-use Rattle.pending.proofs.Slot.{zero-slot}
-use Rattle.pending.proofs.Slots.{edits-length, edits-at, filled-at}
+use Rattle.slots.specs.Slots.{placeOf, itemOf, editOf, editAt}
+use Rattle.slots.proofs.Slot.{zero-slot}
+use Rattle.slots.proofs.Slots.{edits-length, edits-at, filled-at}
 use Rattle.endpoint.specs.Sending.{finished}
 use Rattle.endpoint.proofs.Line.{asks-append}
 use Rattle.line.specs.Asking.{lineQuestion, sendQuestions, messageAt}

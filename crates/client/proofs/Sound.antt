@@ -12,10 +12,10 @@ use Rattle.model.specs.Limits.{maxItems, maxPending}
 use Rattle.model.specs.Questions.{every}
 use Rattle.model.specs.Client.{clientTests, soundClient}
 use Rattle.model.proofs.Tests.{both, and-left, and-right, hold, held}
-use Rattle.pending.specs.Slots.{placeOf, itemOf, filled, soundSlots, Kept, Whole}
-use Rattle.pending.specs.Slots as slots
-use Rattle.pending.proofs.Slots.{edits-length, stretch-all}
-use Rattle.pending.proofs.Tests.{sound-kept}
+use Rattle.slots.specs.Slots.{placeOf, itemOf, filled, soundSlots, Kept, Whole}
+use Rattle.slots.specs.Slots as slots
+use Rattle.slots.proofs.Slots.{edits-length, stretch-all}
+use Rattle.slots.proofs.Tests.{sound-kept}
 use Rattle.endpoint.specs.Items.{stored, allZero}
 use Rattle.endpoint.proofs.Bools.{bool-ext}
 use Rattle.endpoint.proofs.Items.{stored-of}

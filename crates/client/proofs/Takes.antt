@@ -22,8 +22,8 @@ use Rattle.model.specs.Cross.{past, over, allPlaced}
 use Rattle.model.specs.Questions.{ask, asks, Answer, answer}
 use Rattle.model.specs.Client as client
 use Rattle.model.proofs.Tests.{yes-all, and-right}
-use Rattle.pending.specs.Slots.{placeOf, itemOf, filled}
-use Rattle.pending.proofs.Slots.{edits-length, filled-length, kept-items}
+use Rattle.slots.specs.Slots.{placeOf, itemOf, filled}
+use Rattle.slots.proofs.Slots.{edits-length, filled-length, kept-items}
 use Rattle.pending.proofs.Crossing.{filled-over}
 use Rattle.endpoint.specs.Items.{stored, roomy}
 use Rattle.endpoint.proofs.Room.{roomy-model, roomy-room, room-stored, room-length}

@@ -67,8 +67,8 @@ pub fn edit_lent(
         return crate::refused(refusal, k);
     }
     let count = (k.made - k.acked) as usize;
-    places[count] = pending::place_of(e);
-    pending[count] = pending::item_of(e);
+    places[count] = slots::place_of(e);
+    pending[count] = slots::item_of(e);
     let len = ot::apply(items, k.len, e);
     let made = k.made + 1;
     let inserts = k.inserts + endpoint::inserts_of(e);

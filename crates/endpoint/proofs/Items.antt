@@ -13,8 +13,8 @@ use borrow.Author.Tests.{eqb-true}
 use Rattle.model.specs.Limits.{maxItems}
 use Rattle.model.proofs.Tests.{and-left, and-right}
 use Rattle.ot.specs.Items.{padded}
-use Rattle.pending.proofs.Pad.{pad-of, fill-turn, fill-end}
-use Rattle.pending.proofs.Zero.{or-zero}
+use Rattle.slots.proofs.Pad.{pad-of, fill-turn, fill-end}
+use Rattle.slots.proofs.Zero.{or-zero}
 use Rattle.ot.proofs.Sweep.{swept}
 use Rattle.endpoint.specs.Items.{stored, allZero}
 use Rattle.endpoint.proofs.Bools.{and-true, and-assoc}

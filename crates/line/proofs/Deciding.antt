@@ -22,9 +22,10 @@ use Rattle.model.specs.Questions.{Question, ask, asks, answer}
 use Rattle.model.proofs.Cross.{length-over}
 use Rattle.model.proofs.Tests.{yes-all}
 use Rattle.pending.specs.declared.Crossed.{Crossed}
-use Rattle.pending.specs.Slots.{placeOf, itemOf, editsFrom, filled, steps, crossed, Kept, Whole, Ready}
-use Rattle.pending.proofs.Slots.{edits-length, edits-drop, kept-places, kept-items, kept-ready}
-use Rattle.pending.proofs.Crossing.{steps-length}
+use Rattle.slots.specs.Slots.{placeOf, itemOf, editsFrom, filled, Kept, Whole}
+use Rattle.pending.specs.Crossing.{steps, crossed, Ready}
+use Rattle.slots.proofs.Slots.{edits-length, edits-drop, kept-places, kept-items}
+use Rattle.pending.proofs.Crossing.{steps-length, kept-ready}
 use Rattle.endpoint.specs.Items.{roomy}
 use Rattle.endpoint.specs.Line.{thenAsked}
 use Rattle.endpoint.proofs.Line.{asks-append}

@@ -8,7 +8,7 @@ use Rattle.ot.specs.declared.Edit.the-variants.{Nothing, Delete, Insert}
 use Rattle.wire.specs.declared.Message.{Message}
 use Rattle.wire.specs.Message.{messageOf}
 use Rattle.model.specs.Cross.{insertsOf}
-use Rattle.pending.specs.Slots.{editAt}
+use Rattle.slots.specs.Slots.{editAt}
 use Rattle.line.specs.Asking.{messageAt}
 
 pub inserts-few : (e : Edit) → insertsOf e ≤ 1

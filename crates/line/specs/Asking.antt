@@ -5,7 +5,7 @@ use lib.Dec.{leb, ltb, eqb}
 use Rattle.ot.specs.declared.Edit.{Edit}
 use Rattle.wire.specs.declared.Message.{Message}
 use Rattle.wire.specs.Message.{messageOf}
-use Rattle.pending.specs.Slots.{editAt}
+use Rattle.slots.specs.Slots.{editAt}
 use Rattle.model.specs.Limits.{maxInserts, maxEdits, maxPending}
 use Rattle.model.specs.Cross.{insertsOf}
 use Rattle.model.specs.Questions as model

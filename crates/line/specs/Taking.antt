@@ -15,7 +15,7 @@ use Rattle.model.specs.Limits.{maxOthers, maxPending}
 use Rattle.model.specs.Cross.{past, over, allPlaced, priority}
 use Rattle.model.specs.Questions.{Question, ask, asks}
 use Rattle.model.specs.Client.{other}
-use Rattle.pending.specs.Slots.{placeOf, filled, Kept, Whole}
+use Rattle.slots.specs.Slots.{placeOf, filled, Kept, Whole}
 use Rattle.endpoint.specs.Items.{roomy}
 use Rattle.endpoint.specs.Line.{seenQuestions, editQuestions}
 use Rattle.line.specs.declared.Counts.{Counts}

@@ -46,5 +46,5 @@ pub fn message<'a>(
         number: k,
         seen: taken,
     };
-    wire::of_edit(h, pending::at(places, items, i))
+    wire::of_edit(h, slots::at(places, items, i))
 }

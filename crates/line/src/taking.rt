@@ -10,7 +10,7 @@ ghost use Rattle.model.specs.Limits.{maxItems, maxPending};
 ghost use Rattle.model.specs.Cross.{priority, over};
 ghost use Rattle.model.specs.Questions.{asks};
 ghost use Rattle.model.specs.Client as client;
-ghost use Rattle.pending.specs.Slots.{editsFrom};
+ghost use Rattle.slots.specs.Slots.{editsFrom};
 ghost use Rattle.line.specs.Taking.{Between, takeAsked, ackAsked, askedEdit, askedAck, asked, refusing, left, editDecided, decided, staying, Decidable, Decided, Droppable};
 use crate::Counts;
 use ot::Edit;

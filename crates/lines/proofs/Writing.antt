@@ -12,9 +12,9 @@ use borrow.Author.Tests.{lt-ltb, le-ltb, ltb-true, ltb-false, eqb-true, eqb-fals
 use Rattle.ot.specs.Items.{padded}
 use Rattle.ot.proofs.Sweep.{swept, swept-store, swept-to}
 use Rattle.model.specs.Limits.{maxLines, maxPending}
-use Rattle.pending.specs.Slots.{stretch}
-use Rattle.pending.proofs.Slots.{stretch-set, stretch-length}
-use Rattle.pending.proofs.Pad.{pad-length}
+use Rattle.slots.specs.Slots.{stretch}
+use Rattle.slots.proofs.Slots.{stretch-set, stretch-length}
+use Rattle.slots.proofs.Pad.{pad-length}
 use Rattle.lines.specs.declared.Counts.{Counts}
 use Rattle.lines.specs.Lines.{sumFrom, pendingCount}
 use Rattle.lines.specs.Taking.{keeps, staying, Filled, Seen, Replaced, Kept, Raised, Written}

@@ -7,7 +7,7 @@ use lib.ListN.{getD}
 use Rattle.model.specs.Limits.{maxLines, maxInserts, maxEdits, maxPending}
 use Rattle.model.specs.Questions.{every}
 use Rattle.model.specs.Client.{other}
-use Rattle.pending.specs.Slots.{soundSlots, Kept}
+use Rattle.slots.specs.Slots.{soundSlots, Kept}
 use Rattle.lines.specs.declared.Counts.{Counts}
 
 abbrev pub counts : ℕ → ℕ → ℕ → List ℕ → List ℕ → List ℕ → List ℕ → Counts

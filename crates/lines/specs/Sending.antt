@@ -8,7 +8,7 @@ use Rattle.model.specs.Questions as model
 use Rattle.wire.specs.declared.Message.{Message}
 use Rattle.wire.specs.Message.{messageOf}
 use Rattle.model.specs.Limits.{maxPending}
-use Rattle.pending.specs.Slots.{editAt}
+use Rattle.slots.specs.Slots.{editAt}
 use Rattle.lines.specs.declared.Counts.{Counts}
 
 -- questions 4 and 13 of sending number k, by the counts

@@ -8,7 +8,7 @@ ghost use mathlib.Core.Bool.{cond};
 ghost use mathlib.Core.List.{[]};
 ghost use Prim.Native.Nat.{_+_, _-_, _≤_};
 ghost use lib.ListN.{length};
-ghost use Rattle.pending.specs.Slots.{allFrom};
+ghost use Rattle.slots.specs.Slots.{allFrom};
 ghost use Rattle.lines.specs.Lines.{counts, sumFrom, countsSound, countsZero, countsAt, slotsAt};
 
 // The small part of an end. Functions that only ask get it and lent arrays, since an end by value is copied at each call.
@@ -138,7 +138,7 @@ pub fn slots_sound<'a>(
     for i in 0..8 {
         let count = less(made[i], acked[i]) as usize;
         let line = i as u8 + 1;
-        well = well & pending::sound(places, items, 64 * i, count, n, line, false);
+        well = well & slots::sound(places, items, 64 * i, count, n, line, false);
     }
     well
 }

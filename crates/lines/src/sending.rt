@@ -37,7 +37,7 @@ pub fn message<'a>(c: Counts, places: &'a [u32], items: &'a [u32], line: u8, k: 
         number: k,
         seen: c.taken[i],
     };
-    wire::of_edit(h, pending::at(places, items, at))
+    wire::of_edit(h, slots::at(places, items, at))
 }
 
 // The acknowledgement of what was taken on a line. The counts are lent: by value they would be copied to read one.

@@ -1,5 +1,5 @@
 -- The loop that takes an arriving edit past the pending ones: its invariant, one turn, and the end.
-use Prim.Native.Nat.{ℕ, zero, suc, _+_, _≤_, _<_}
+use Prim.Native.Nat.{ℕ, zero, suc, _+_, _-_, _≤_, _<_}
 use native.Mathlib.Nat.{le-of-suc-le-suc, not-suc-le-zero}
 use native.Mathlib.Numerals.{add-one}
 use native.Mathlib.Omega.{arith}
@@ -19,11 +19,12 @@ use Rattle.ot.proofs.Sweep.{swept}
 use Rattle.model.specs.Limits.{maxPending, maxItems}
 use Rattle.model.specs.Cross.{past, over, placed, allPlaced}
 use Rattle.model.proofs.Tests.{and-left, and-right, between-true}
-use Rattle.model.proofs.Cross.{length-over}
+use Rattle.model.proofs.Cross.{length-over, placed-drop}
 use Rattle.pending.specs.declared.Crossed.{Crossed}
-use Rattle.pending.specs.Slots.{placeOf, itemOf, editAt, editsFrom, filled, steps, crossed, Ready}
-use Rattle.pending.proofs.Pad.{fill-turn, fill-end}
-use Rattle.pending.proofs.Slots.{edits-length, edits-at}
+use Rattle.slots.specs.Slots.{placeOf, itemOf, editAt, editsFrom, filled, Kept, Whole}
+use Rattle.pending.specs.Crossing.{steps, crossed, Ready}
+use Rattle.slots.proofs.Pad.{fill-turn, fill-end}
+use Rattle.slots.proofs.Slots.{edits-length, edits-at, edits-drop}
 
 -- One step more of each of the model's recursions.
 past-more : (e : Edit) (es : List Edit) (i : ℕ) → i < length es → past e (take (suc i) es) ≡ transformed (past e (take i es)) (getD es i Nothing)
@@ -165,3 +166,14 @@ over-nothing [] = refl
 over-nothing (Nothing ∷ es) = ap (λ (l : List Edit). Nothing ∷ l) (over-nothing es)
 over-nothing (Delete p ∷ es) = ap (λ (l : List Edit). Delete p ∷ l) (over-nothing es)
 over-nothing (Insert p x r ∷ es) = ap (λ (l : List Edit). Insert p x r ∷ l) (over-nothing es)
+
+-- what is left of a line that passed the test, once its first k edits are dropped, may cross an edit
+pub kept-ready : (from count : ℕ) (ps xs : List ℕ) → Kept from count ps xs → Whole from ps xs → (k : ℕ) → k ≤ count → Ready (from + k) (count - k) ps xs
+kept-ready from count ps xs kept room k h =
+    record {
+      few = omega (arith, kept .few);
+      places = omega (arith, kept .few, room .places);
+      items = omega (arith, kept .few, room .items);
+      placed =
+          ap allPlaced (sym (edits-drop ps xs from count k)) ∙ placed-drop k (editsFrom ps xs from count) (kept .placed);
+    }

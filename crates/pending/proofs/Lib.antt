@@ -1,6 +1,1 @@
-pub mod Zero
-pub mod Pad
-pub mod Slot
-pub mod Slots
-pub mod Tests
 pub mod Crossing

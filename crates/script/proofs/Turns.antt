@@ -12,7 +12,7 @@ use Rattle.model.specs.Questions.{every, Sent}
 use Rattle.model.specs.Client as models
 use Rattle.model.specs.Server as serverModels
 use Rattle.model.proofs.Tests.{between-true}
-use Rattle.pending.proofs.Pad.{pad-take}
+use Rattle.slots.proofs.Pad.{pad-take}
 use Rattle.client.specs.declared.Client.{Client}
 use Rattle.client.specs.Store as client
 use Rattle.server.specs.declared.Server.{Server}

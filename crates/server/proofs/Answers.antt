@@ -20,9 +20,9 @@ use Rattle.model.specs.Questions.{Question, ask, asks, every, between, answer, 
 use Rattle.model.specs.Client.{pendingAt}
 use Rattle.model.specs.Server as model
 use Rattle.model.proofs.Tests.{and-left, and-right, yes-all}
-use Rattle.pending.specs.Slots.{stretch, filled}
-use Rattle.pending.proofs.Pad.{pad-drop}
-use Rattle.pending.proofs.Slots.{edits-at}
+use Rattle.slots.specs.Slots.{stretch, filled}
+use Rattle.slots.proofs.Pad.{pad-drop}
+use Rattle.slots.proofs.Slots.{edits-at}
 use Rattle.endpoint.specs.Items.{initialItems}
 use Rattle.endpoint.specs.Sending.{answered as sentAs, finished}
 use Rattle.server.specs.declared.Server.{Server}

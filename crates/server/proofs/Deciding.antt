@@ -23,8 +23,8 @@ use Rattle.model.specs.Server as model
 use Rattle.model.proofs.Tests.{and-left, and-right, yes-all}
 use Rattle.model.proofs.Cross.{length-over}
 use Rattle.model.proofs.SoundServer.{length-atPlace}
-use Rattle.pending.specs.Slots.{itemOf, filled, allFrom}
-use Rattle.pending.proofs.Slots.{edits-length}
+use Rattle.slots.specs.Slots.{itemOf, filled, allFrom}
+use Rattle.slots.proofs.Slots.{edits-length}
 use Rattle.pending.proofs.Crossing.{steps-length, filled-over}
 use Rattle.endpoint.specs.Items.{roomy}
 use Rattle.endpoint.specs.Line.{seenQuestions, editQuestions, thenAsked}

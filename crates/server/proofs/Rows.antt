@@ -13,9 +13,9 @@ use Rattle.ot.specs.declared.Edit.{Edit}
 use Rattle.ot.specs.Items.{padded}
 use Rattle.model.specs.Limits.{maxLines, maxPending, maxItems}
 use Rattle.model.specs.Server as model
-use Rattle.pending.specs.Slots.{placeOf, itemOf, stretch, filled}
-use Rattle.pending.proofs.Pad.{pad-getD, pad-length}
-use Rattle.pending.proofs.Slots.{filled-length}
+use Rattle.slots.specs.Slots.{placeOf, itemOf, stretch, filled}
+use Rattle.slots.proofs.Pad.{pad-getD, pad-length}
+use Rattle.slots.proofs.Slots.{filled-length}
 use Rattle.server.specs.declared.Server.{Server}
 use Rattle.server.specs.View.{slotsOf, allLines, store}
 use Rattle.server.specs.Sound.{Sized}

@@ -17,10 +17,10 @@ use Rattle.model.specs.Client.{other}
 use Rattle.model.specs.Server as model
 use Rattle.model.proofs.Tests.{both, held}
 use Rattle.model.proofs.SoundServer.{LineFacts, ServerFacts, server-facts, takenSum}
-use Rattle.pending.specs.Slots.{editsFrom, allFrom, tidyAt, emptyAt}
-use Rattle.pending.proofs.Pad.{pad-length, pad-take, pad-drop}
-use Rattle.pending.proofs.Slot.{other-ranks}
-use Rattle.pending.proofs.Tests.{filled-edits, filled-tidy, filled-empty}
+use Rattle.slots.specs.Slots.{editsFrom, allFrom, tidyAt, emptyAt}
+use Rattle.slots.proofs.Pad.{pad-length, pad-take, pad-drop}
+use Rattle.slots.proofs.Slot.{other-ranks}
+use Rattle.slots.proofs.Tests.{filled-edits, filled-tidy, filled-empty}
 use Rattle.endpoint.specs.Items.{allZero}
 use Rattle.server.specs.declared.Server.{Server}
 use Rattle.lines.specs.Lines.{pendingCount}

@@ -15,8 +15,8 @@ use Rattle.wire.specs.declared.Read.the-variants as read
 use Rattle.wire.specs.Bytes.{parsed}
 use Rattle.model.specs.Limits.{maxLines, maxItems, maxPending}
 use Rattle.model.specs.Server as model
-use Rattle.pending.specs.Slots.{placeOf, itemOf, stretch, filled}
-use Rattle.pending.proofs.Slots.{edits-length, filled-length, filled-push}
+use Rattle.slots.specs.Slots.{placeOf, itemOf, stretch, filled}
+use Rattle.slots.proofs.Slots.{edits-length, filled-length, filled-push}
 use Rattle.endpoint.specs.Items.{stored}
 use Rattle.endpoint.proofs.Room.{room-stored, room-length}
 use Rattle.server.specs.declared.Server.{Server}

@@ -15,10 +15,10 @@ use Rattle.model.specs.Client.{other}
 use Rattle.model.specs.Server as model
 use Rattle.model.proofs.Tests.{both, and-left, and-right, hold, held, between-true}
 use Rattle.model.proofs.SoundServer.{LineFacts, LinesFacts, ServerFacts, server-facts, takenSum}
-use Rattle.pending.specs.Slots.{placeOf, itemOf, editsFrom, filled, allFrom, emptyAt}
-use Rattle.pending.proofs.Pad.{pad-length}
-use Rattle.pending.proofs.Slot.{bool-ext}
-use Rattle.pending.proofs.Tests.{sound-kept}
+use Rattle.slots.specs.Slots.{placeOf, itemOf, editsFrom, filled, allFrom, emptyAt}
+use Rattle.slots.proofs.Pad.{pad-length}
+use Rattle.slots.proofs.Slot.{bool-ext}
+use Rattle.slots.proofs.Tests.{sound-kept}
 use Rattle.endpoint.specs.Items.{allZero}
 use Rattle.endpoint.proofs.Items.{stored-of}
 use Rattle.server.specs.declared.Server.{Server}

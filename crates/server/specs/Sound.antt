@@ -9,7 +9,7 @@ use Rattle.model.specs.Limits.{maxLines, maxInserts, maxEdits, maxItems, maxPen
 use Rattle.model.specs.Questions.{every}
 use Rattle.model.specs.Client.{other}
 use Rattle.model.specs.Server.{soundServer}
-use Rattle.pending.specs.Slots.{allFrom, tidyAt, emptyAt, soundSlots, Kept}
+use Rattle.slots.specs.Slots.{allFrom, tidyAt, emptyAt, soundSlots, Kept}
 use Rattle.endpoint.specs.Items.{allZero}
 use Rattle.lines.specs.declared.Counts.{Counts}
 use Rattle.lines.specs.Lines.{countsZero, pendingCount, AllKept}

@@ -6,7 +6,7 @@ use Rattle.ot.specs.declared.Edit.{Edit}
 use Rattle.ot.specs.Items.{padded}
 use Rattle.model.specs.Limits.{maxLines, maxPending, maxItems}
 use Rattle.model.specs.Server as model
-use Rattle.pending.specs.Slots.{placeOf, itemOf, editsFrom, filled}
+use Rattle.slots.specs.Slots.{placeOf, itemOf, editsFrom, filled}
 use Rattle.server.specs.declared.Server.{Server}
 use Rattle.lines.specs.declared.Counts.{Counts}
 use Rattle.lines.specs.Lines.{counts, pendingCount}

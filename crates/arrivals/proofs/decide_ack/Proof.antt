@@ -5,8 +5,8 @@ use Prim.Native.Nat.{_+_, _-_, _*_, _<_}
 use lib.ListN.{getD}
 use Rattle.model.specs.Limits.{maxLines, maxPending}
 use Rattle.model.specs.Questions.{asks}
-use Rattle.pending.specs.Slots.{placeOf, filled}
-use Rattle.pending.specs.Slots as slots
+use Rattle.pending.specs.Crossing as crossing
+use Rattle.slots.specs.Slots.{placeOf, filled}
 use Rattle.pending.proofs.Crossing.{over-nothing}
 use Rattle.arrivals.specs.Deciding.{leftAt, ackAsked, ackDecided}
 use Rattle.arrivals.proofs.Asked.{Here, ack-here, left-ready}
@@ -28,7 +28,7 @@ here c = ack-here (entry c .args .t1) (entry c .args .line) (entry c .args .dire
 eight : (c : tie.Then1) → entry c .args .line - 1 < maxLines
 eight c = omega (arith, here c .used, entry c .pre .0 .few)
 
-left : (c : tie.Then1) → slots.Ready (maxPending * (entry c .args .line - 1) + (entry c .args .seen - getD (entry c .args .t1 .acked) (entry c .args .line - 1) 0)) (getD (entry c .args .t1 .made) (entry c .args .line - 1) 0 - entry c .args .seen) (entry c .args .places .now) (entry c .args .items .now)
+left : (c : tie.Then1) → crossing.Ready (maxPending * (entry c .args .line - 1) + (entry c .args .seen - getD (entry c .args .t1 .acked) (entry c .args .line - 1) 0)) (getD (entry c .args .t1 .made) (entry c .args .line - 1) 0 - entry c .args .seen) (entry c .args .places .now) (entry c .args .items .now)
 left c = left-ready (entry c .args .t1) (entry c .args .places .now) (entry c .args .items .now) (entry c .pre .0) (entry c .args .line) (entry c .args .seen) (here c)
 
 -- ---- the needs

@@ -5,7 +5,7 @@ use Prim.Native.Nat.{_+_, _-_, _*_, _<_}
 use lib.ListN.{getD}
 use Rattle.model.specs.Limits.{maxLines, maxPending}
 use Rattle.model.specs.Questions.{asks}
-use Rattle.pending.specs.Slots as slots
+use Rattle.pending.specs.Crossing as crossing
 use Rattle.arrivals.specs.Deciding.{editAsked, editDecided, editStays}
 use Rattle.arrivals.proofs.Asked.{Here, edit-here, left-ready}
 use Rattle.arrivals.proofs.Decided.{refused-decided, edit-no, edit-late, edit-made, late-asked, last-few}
@@ -26,7 +26,7 @@ here c = edit-here (entry c .args .t1) (entry c .args .h) (entry c .args .e) (as
 eight : (c : tie.Then1) → entry c .args .h .line - 1 < maxLines
 eight c = omega (arith, here c .used, entry c .pre .1 .0 .few)
 
-left : (c : tie.Then1) → slots.Ready (maxPending * (entry c .args .h .line - 1) + (entry c .args .h .seen - getD (entry c .args .t1 .acked) (entry c .args .h .line - 1) 0)) (getD (entry c .args .t1 .made) (entry c .args .h .line - 1) 0 - entry c .args .h .seen) (entry c .args .places .now) (entry c .args .items .now)
+left : (c : tie.Then1) → crossing.Ready (maxPending * (entry c .args .h .line - 1) + (entry c .args .h .seen - getD (entry c .args .t1 .acked) (entry c .args .h .line - 1) 0)) (getD (entry c .args .t1 .made) (entry c .args .h .line - 1) 0 - entry c .args .h .seen) (entry c .args .places .now) (entry c .args .items .now)
 left c = left-ready (entry c .args .t1) (entry c .args .places .now) (entry c .args .items .now) (entry c .pre .1 .0) (entry c .args .h .line) (entry c .args .h .seen) (here c)
 
 -- ---- the needs

@@ -4,8 +4,8 @@ use mathlib.Core.Bool.{_&&_, _||_}
 use native.Mathlib.Omega.{arith}
 use Prim.Native.Nat.{ℕ, _-_, _≤_}
 use lib.Dec.{eqb, ltb}
-use Rattle.pending.specs.Slots.{allFrom}
-use Rattle.pending.proofs.Tests.{all-turn, all-end}
+use Rattle.slots.specs.Slots.{allFrom}
+use Rattle.slots.proofs.Tests.{all-turn, all-end}
 use Rattle.arrivals.specs.Deciding.{roomyAt}
 use Rattle.arrivals.proofs.others_roomy.Statement.{statement}
 use Rattle.arrivals.proofs.others_roomy.Tie as tie

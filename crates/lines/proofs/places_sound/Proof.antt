@@ -4,8 +4,8 @@ use denote.Ref.{now}
 use mathlib.Core.Path.{_≡_, refl, _∙_}
 use mathlib.Core.Bool.{_&&_}
 use Prim.Native.Nat.{_-_, _≤_}
-use Rattle.pending.specs.Slots.{allFrom}
-use Rattle.pending.proofs.Tests.{all-turn, all-end}
+use Rattle.slots.specs.Slots.{allFrom}
+use Rattle.slots.proofs.Tests.{all-turn, all-end}
 use Rattle.lines.specs.Lines.{counts}
 use Rattle.lines.specs.Lines.{countsAt}
 use Rattle.lines.proofs.places_sound.Statement.{statement}

@@ -1,4 +1,4 @@
-use Rattle.pending.proofs.Pad.{fill-turn, fill-end}
+use Rattle.slots.proofs.Pad.{fill-turn, fill-end}
 use Rattle.model.specs.Limits.{maxPending}
 use Rattle.ot.proofs.Sweep.{swept}
 use Rattle.ot.specs.Items.{padded}

@@ -1,6 +1,6 @@
 use Rattle.pending.proofs.Crossing.{Crossing, crossing-none, crossing-turn, crossing-end, current-position, ready-few, ready-position}
-use Rattle.pending.proofs.Slots.{edits-length, edits-at}
-use Rattle.pending.specs.Slots.{editsFrom}
+use Rattle.slots.proofs.Slots.{edits-length, edits-at}
+use Rattle.slots.specs.Slots.{editsFrom}
 use Rattle.ot.specs.Edit.{positionOf}
 use mathlib.Core.Path.{ap, _∙_, sym}
 use denote.Ref.{now}

@@ -1,4 +1,4 @@
-use Rattle.pending.specs.Slots.{filled}
+use Rattle.slots.specs.Slots.{filled}
 use mathlib.Core.Path.{refl}
 use Rattle.client.proofs.Client.fresh.Statement.{statement}
 use Rattle.client.proofs.Client.fresh.Tie as tie

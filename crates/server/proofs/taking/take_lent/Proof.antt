@@ -11,7 +11,7 @@ use Rattle.wire.specs.declared.Read.the-variants as read
 use Rattle.wire.specs.Bytes.{parsed}
 use Rattle.wire.proofs.Codec.{codec}
 use Rattle.model.specs.Server as model
-use Rattle.pending.specs.Slots.{placeOf, filled}
+use Rattle.slots.specs.Slots.{placeOf, filled}
 use Rattle.arrivals.specs.declared.Decision.{Decision}
 use Rattle.server.specs.declared.Server.{Server}
 use Rattle.server.specs.declared.Answer.{Answer}

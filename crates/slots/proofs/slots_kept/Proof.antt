@@ -1,13 +1,13 @@
-use Rattle.pending.proofs.Tests.{all-turn, all-end, all-count}
-use Rattle.pending.specs.Slots.{rightPriority, keptAt, allFrom}
+use Rattle.slots.proofs.Tests.{all-turn, all-end, all-count}
+use Rattle.slots.specs.Slots.{rightPriority, keptAt, allFrom}
 use mathlib.Core.Bool.{Bool, _&&_}
 use mathlib.Core.Path.{_≡_, refl, _∙_}
 use denote.Ref.{now}
 use borrow.Author.Needs.{needs}
 use native.Mathlib.Omega.{arith}
 use Prim.Native.Nat.{ℕ, _-_, _≤_}
-use Rattle.pending.proofs.slots_kept.Statement.{statement}
-use Rattle.pending.proofs.slots_kept.Tie as tie
+use Rattle.slots.proofs.slots_kept.Statement.{statement}
+use Rattle.slots.proofs.slots_kept.Tie as tie
 
 abbrev Inv-loop : tie.InvT-loop
 Inv-loop places items from slots count n line own kept₀ j₀ kept j =

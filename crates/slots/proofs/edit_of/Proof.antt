@@ -1,8 +1,8 @@
-use Rattle.pending.specs.Slots.{editOf}
+use Rattle.slots.specs.Slots.{editOf}
 use borrow.Author.Tests.{eq-eqb, ne-eqb}
 use borrow.Author.Needs.{needs}
-use Rattle.pending.proofs.edit_of.Statement.{statement}
-use Rattle.pending.proofs.edit_of.Tie as tie
+use Rattle.slots.proofs.edit_of.Statement.{statement}
+use Rattle.slots.proofs.edit_of.Tie as tie
 
 cast-p : tie.Need-cast-p
 cast-p c = search needs

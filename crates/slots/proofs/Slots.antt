@@ -14,9 +14,8 @@ use Rattle.ot.specs.declared.Edit.the-variants.{Nothing}
 use Rattle.ot.specs.Items.{padded}
 use Rattle.model.specs.Limits.{maxPending}
 use Rattle.model.specs.Cross.{allPlaced}
-use Rattle.model.proofs.Cross.{placed-drop}
-use Rattle.pending.specs.Slots.{placeOf, itemOf, editOf, editAt, editsFrom, stretch, filled, Kept, Whole, Ready}
-use Rattle.pending.proofs.Pad.{pad-getD, pad-length, pad-take, pad-drop, pad-snoc}
+use Rattle.slots.specs.Slots.{placeOf, itemOf, editOf, editAt, editsFrom, stretch, filled, Kept, Whole}
+use Rattle.slots.proofs.Pad.{pad-getD, pad-length, pad-take, pad-drop, pad-snoc}
 
 -- ---- the edits that slots mean
 
@@ -159,14 +158,3 @@ module _ (from count : ℕ) (ps xs : List ℕ) (kept : Kept from count ps xs) wh
     pub kept-items : (k : ℕ) → padded 0 maxPending (take (count - k) (drop (from + k) xs)) ≡ filled itemOf (drop k (editsFrom ps xs from count))
     kept-items k =
         whole-rest itemOf refl from xs (editsFrom ps xs from count) (kept .items) count k (edits-length ps xs from count) (kept .few) (room .items)
-
-    -- and what is left of it may cross an edit
-    pub kept-ready : (k : ℕ) → k ≤ count → Ready (from + k) (count - k) ps xs
-    kept-ready k h =
-        record {
-          few = omega (arith, kept .few);
-          places = omega (arith, kept .few, room .places);
-          items = omega (arith, kept .few, room .items);
-          placed =
-              ap allPlaced (sym (edits-drop ps xs from count k)) ∙ placed-drop k (editsFrom ps xs from count) (kept .placed);
-        }

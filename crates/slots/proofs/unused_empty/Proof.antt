@@ -1,13 +1,13 @@
-use Rattle.pending.proofs.Tests.{all-end, gather-turn}
-use Rattle.pending.specs.Slots.{emptyAt, allFrom}
+use Rattle.slots.proofs.Tests.{all-end, gather-turn}
+use Rattle.slots.specs.Slots.{emptyAt, allFrom}
 use mathlib.Core.Bool.{_&&_}
 use mathlib.Core.Path.{_≡_, refl, _∙_}
 use lib.Dec.{eqb}
 use denote.Ref.{now}
 use native.Mathlib.Omega.{arith}
 use Prim.Native.Nat.{_-_, _≤_}
-use Rattle.pending.proofs.unused_empty.Statement.{statement}
-use Rattle.pending.proofs.unused_empty.Tie as tie
+use Rattle.slots.proofs.unused_empty.Statement.{statement}
+use Rattle.slots.proofs.unused_empty.Tie as tie
 
 abbrev Inv-loop : tie.InvT-loop
 Inv-loop places items from to all₀ i₀ all i =

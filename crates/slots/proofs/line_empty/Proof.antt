@@ -1,5 +1,5 @@
-use Rattle.pending.proofs.Tests.{leftEmpty, line-start, line-turn, line-end}
-use Rattle.pending.specs.Slots.{emptyAt, allFrom}
+use Rattle.slots.proofs.Tests.{leftEmpty, line-start, line-turn, line-end}
+use Rattle.slots.specs.Slots.{emptyAt, allFrom}
 use Rattle.model.specs.Limits.{maxPending}
 use mathlib.Core.Bool.{_&&_}
 use mathlib.Core.Path.{_≡_, _∙_}
@@ -7,8 +7,8 @@ use lib.Dec.{eqb}
 use denote.Ref.{now}
 use native.Mathlib.Omega.{arith}
 use Prim.Native.Nat.{_-_, _≤_}
-use Rattle.pending.proofs.line_empty.Statement.{statement}
-use Rattle.pending.proofs.line_empty.Tie as tie
+use Rattle.slots.proofs.line_empty.Statement.{statement}
+use Rattle.slots.proofs.line_empty.Tie as tie
 
 abbrev Inv-loop : tie.InvT-loop
 Inv-loop places items from all₀ i₀ all i =

@@ -13,7 +13,7 @@ use Rattle.model.specs.Limits.{maxItems}
 use Rattle.model.specs.Cross.{placed, priority}
 use Rattle.model.specs.Client.{other}
 use Rattle.model.proofs.Tests.{both, and-left, and-right, between-true, true-between}
-use Rattle.pending.specs.Slots.{placeOf, itemOf, editFrom, editOf, tidy, rightPriority, rightSlot}
+use Rattle.slots.specs.Slots.{placeOf, itemOf, editFrom, editOf, tidy, rightPriority, rightSlot}
 
 pub bool-ext : (a b : Bool) → (a ≡ true → b ≡ true) → (b ≡ true → a ≡ true) → a ≡ b
 bool-ext true b f g = sym (f refl)

@@ -17,10 +17,10 @@ use Rattle.ot.specs.Laws.{within}
 use Rattle.model.specs.Limits.{maxPending}
 use Rattle.model.specs.Cross.{placed, allPlaced, priority, priorities}
 use Rattle.model.proofs.Tests.{both, and-left, and-right, hold, held}
-use Rattle.pending.specs.Slots.{placeOf, itemOf, editOf, tidy, editAt, editsFrom, stretch, filled, allFrom, tidyAt, emptyAt, rightSlot, rightAt, keptSlot, keptAt, soundTests, soundSlots, Kept, Tested, Whole}
-use Rattle.pending.proofs.Zero.{or-zero}
-use Rattle.pending.proofs.Slot.{bool-ext, tidy-place, tidy-item, Ranks, slot-edit, tidy-edit}
-use Rattle.pending.proofs.Slots.{edits-length, edits-at, stretch-at, stretch-length, filled-length, filled-at, whole-at}
+use Rattle.slots.specs.Slots.{placeOf, itemOf, editOf, tidy, editAt, editsFrom, stretch, filled, allFrom, tidyAt, emptyAt, rightSlot, rightAt, keptSlot, keptAt, soundTests, soundSlots, Kept, Tested, Whole}
+use Rattle.slots.proofs.Zero.{or-zero}
+use Rattle.slots.proofs.Slot.{bool-ext, tidy-place, tidy-item, Ranks, slot-edit, tidy-edit}
+use Rattle.slots.proofs.Slots.{edits-length, edits-at, stretch-at, stretch-length, filled-length, filled-at, whole-at}
 
 -- ---- a test of each of some numbers
 

@@ -2,8 +2,8 @@ use lib.ListN.{List·getD-eq-default}
 use mathlib.Core.Path.{sym}
 use denote.Ref.{now}
 use borrow.Author.Needs.{needs}
-use Rattle.pending.proofs.word_at.Statement.{statement}
-use Rattle.pending.proofs.word_at.Tie as tie
+use Rattle.slots.proofs.word_at.Statement.{statement}
+use Rattle.slots.proofs.word_at.Tie as tie
 
 mul-result : tie.Need-mul-result
 mul-result c = search needs

@@ -1,6 +1,6 @@
 use borrow.Author.Needs.{needs}
-use Rattle.pending.proofs.place_of.Statement.{statement}
-use Rattle.pending.proofs.place_of.Tie as tie
+use Rattle.slots.proofs.place_of.Statement.{statement}
+use Rattle.slots.proofs.place_of.Tie as tie
 
 enum-told : tie.Need-enum-told
 enum-told c = search needs

@@ -1,8 +1,8 @@
-use Rattle.pending.proofs.Tests.{kept-is}
-use Rattle.pending.specs.Slots.{rightPriority}
+use Rattle.slots.proofs.Tests.{kept-is}
+use Rattle.slots.specs.Slots.{rightPriority}
 use borrow.Author.Needs.{needs}
-use Rattle.pending.proofs.is_kept.Statement.{statement}
-use Rattle.pending.proofs.is_kept.Tie as tie
+use Rattle.slots.proofs.is_kept.Statement.{statement}
+use Rattle.slots.proofs.is_kept.Tie as tie
 
 is-right-requires : tie.Need-is-right-requires
 is-right-requires c κs = search needs

@@ -1,11 +1,11 @@
-use Rattle.pending.specs.Slots.{editOf}
+use Rattle.slots.specs.Slots.{editOf}
 use lib.ListN.{getD}
 use denote.Ref.{now}
 use mathlib.Core.Path.{ap, _∙_}
 use Prim.Native.Nat.{ℕ}
 use borrow.Author.Needs.{needs}
-use Rattle.pending.proofs.at.Statement.{statement}
-use Rattle.pending.proofs.at.Tie as tie
+use Rattle.slots.proofs.at.Statement.{statement}
+use Rattle.slots.proofs.at.Tie as tie
 
 word-at-requires : tie.Need-word-at-requires
 word-at-requires c κs = search needs

@@ -1,4 +1,4 @@
--- The pending edits of a line (01: its kept edits) as numbers in two arrays, and question 2's part about them.
+-- Pending edits (01: kept edits) as numbers in two arrays, and question 2's part about them.
 -- A slot is a number in each: its place, position * 256 + priority, and its item.
 use Prim.Native.Nat.{ℕ, zero, suc, _+_, _-_, _*_, _/_, _%_, _≤_}
 use mathlib.Core.Path.{_≡_}
@@ -8,13 +8,11 @@ use lib.Dec.{leb, ltb, eqb}
 use lib.ListN.{length, getD, take, drop}
 use Rattle.ot.specs.declared.Edit.{Edit}
 use Rattle.ot.specs.declared.Edit.the-variants.{Nothing, Delete, Insert}
-use Rattle.ot.specs.Edit.{transformed}
 use Rattle.ot.specs.Items.{padded}
 use Rattle.model.specs.Limits.{maxPending}
 use Rattle.model.specs.Questions.{every}
-use Rattle.model.specs.Cross.{past, over, placed, allPlaced, priority, priorities}
+use Rattle.model.specs.Cross.{placed, allPlaced, priority, priorities}
 use Rattle.model.specs.Client.{other}
-use Rattle.pending.specs.declared.Crossed.{Crossed}
 
 -- ---- one slot
 
@@ -123,21 +121,3 @@ pub record Tested (good : ℕ → Bool) (from count : ℕ) (ps xs : List ℕ) (r
 pub record Whole (from : ℕ) (ps xs : List ℕ) : Type 0 where
   pub places : from + maxPending ≤ length ps
   pub items : from + maxPending ≤ length xs
-
--- ---- crossing
-
--- What crossing asks of the slots. Those of a line that passed the test have it, all of them or the last of them.
-pub record Ready (from count : ℕ) (ps xs : List ℕ) : Type 0 where
-  pub few : count ≤ maxPending
-  pub places : from + count ≤ length ps
-  pub items : from + count ≤ length xs
-  pub placed : allPlaced (editsFrom ps xs from count) ≡ true
-
--- how many steps the arriving edit takes past the pending ones
-unfoldable pub steps : Edit → List Edit → ℕ
-steps e [] = 0
-steps e (p ∷ ps) = suc (steps (transformed e p) ps)
-
--- What an arriving edit becomes, question 9's test of the pending ones' later forms, and the count that the answer gives.
-abbrev pub crossed : Edit → List Edit → Crossed
-crossed e es = record { edit = past e es; placed = allPlaced (over e es); passed = steps e es }

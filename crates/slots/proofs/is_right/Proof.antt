@@ -1,7 +1,7 @@
-use Rattle.pending.proofs.Slot.{right-is}
+use Rattle.slots.proofs.Slot.{right-is}
 use borrow.Author.Needs.{needs}
-use Rattle.pending.proofs.is_right.Statement.{statement}
-use Rattle.pending.proofs.is_right.Tie as tie
+use Rattle.slots.proofs.is_right.Statement.{statement}
+use Rattle.slots.proofs.is_right.Tie as tie
 
 cast-r : tie.Need-cast-r
 cast-r c = search needs

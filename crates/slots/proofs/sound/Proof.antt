@@ -1,13 +1,13 @@
-use Rattle.pending.proofs.Tests.{sound-many, sound-none, sound-slots, tested}
-use Rattle.pending.specs.Slots.{soundSlots, rightPriority, Tested}
+use Rattle.slots.proofs.Tests.{sound-many, sound-none, sound-slots, tested}
+use Rattle.slots.specs.Slots.{soundSlots, rightPriority, Tested}
 use mathlib.Core.Bool.{Bool, false, _&&_}
 use mathlib.Core.Path.{_≡_, refl}
 use denote.Ref.{now}
 use native.Mathlib.Omega.{arith}
 use Prim.Native.Nat.{ℕ, _+_, _*_, _/_, _≤_}
 use borrow.Author.Needs.{needs}
-use Rattle.pending.proofs.sound.Statement.{statement}
-use Rattle.pending.proofs.sound.Tie as tie
+use Rattle.slots.proofs.sound.Statement.{statement}
+use Rattle.slots.proofs.sound.Tie as tie
 
 abbrev good : tie.Start → ℕ → Bool
 good s = rightPriority (s .args .n) (s .args .line) (s .args .own)

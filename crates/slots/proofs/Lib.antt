@@ -1,0 +1,5 @@
+pub mod Zero
+pub mod Pad
+pub mod Slot
+pub mod Slots
+pub mod Tests
