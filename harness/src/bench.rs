@@ -171,6 +171,7 @@ fn calls_table(subjects: &[&dyn Subject]) -> String {
         for times in &turns[1..] {
             let mut ratios: Vec<f64> = times.iter().zip(&turns[0]).map(|(one, plain)| one / plain).collect();
             let (half, low, high) = middle(&mut ratios);
+            assert!(half > 0.1, "{}: the compiler has taken the call out of the loop", task.name);
             write!(table, " {half:.2} ({low:.2} to {high:.2}) |").unwrap();
         }
         table.push('\n');
