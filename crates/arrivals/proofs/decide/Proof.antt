@@ -10,51 +10,39 @@ use Rattle.arrivals.specs.Deciding.{decided, stays, Decided}
 use Rattle.arrivals.proofs.decide.Statement.{statement}
 use Rattle.arrivals.proofs.decide.Tie as tie
 
--- src/taking.rt:207:25
 enum-known-m : tie.Need-enum-known-m
 enum-known-m c = search needs
 
--- src/taking.rt:208:13
 decide-edit-requires : tie.Need-decide-edit-requires
 decide-edit-requires c κs = (insert-bounds (c .before .before .m .given .0 .0) (c .before .before .m .given .0 .1 .0) (c .before .before .m .given .0 .1 .1 .0) (c .before .before .m .given .0 .1 .1 .1 .0) (subst (λ (x : Message). inRange x ≡ true) (c .before .before .m .given .1) (c .before .before .before .before .before .before .pre .0)) .position-high, c .before .before .before .before .before .before .pre .1)
 
--- src/taking.rt:210:25
 enum-known-m-2 : tie.Need-enum-known-m-2
 enum-known-m-2 c = search needs
 
--- src/taking.rt:210:34
 decide-edit-requires-2 : tie.Need-decide-edit-requires-2
 decide-edit-requires-2 c κs = (delete-bounds (c .before .before .m2 .given .0 .0) (c .before .before .m2 .given .0 .1 .0) (subst (λ (x : Message). inRange x ≡ true) (c .before .before .m2 .given .1) (c .before .before .before .before .before .before .pre .0)) .position-high, c .before .before .before .before .before .before .pre .1)
 
--- src/taking.rt:211:26
 enum-known-m-3 : tie.Need-enum-known-m-3
 enum-known-m-3 c = search needs
 
--- src/taking.rt:211:32
 decide-edit-requires-3 : tie.Need-decide-edit-requires-3
 decide-edit-requires-3 c κs = (omega arith, c .before .before .before .before .before .before .pre .1)
 
--- src/taking.rt:212:22
 enum-known-m-4 : tie.Need-enum-known-m-4
 enum-known-m-4 c = search needs
 
--- src/taking.rt:212:34
 decide-ack-requires : tie.Need-decide-ack-requires
 decide-ack-requires c κs = c .before .before .before .before .before .before .pre .1
 
--- src/taking.rt:196:1
 returns : tie.Need-returns
 returns c = subst (λ (m : Message). Decided (decided (c .before .before .before .before .before .before .before .args .k) (now (c .before .before .before .before .before .before .before .args .places)) (now (c .before .before .before .before .before .before .before .args .items)) m) (stays (c .before .before .before .before .before .before .before .args .k) (now (c .before .before .before .before .before .before .before .args .places)) (now (c .before .before .before .before .before .before .before .args .items)) m) (c .decide-edit .last .1 .1 .1 .1 .1 .0) (c .decide-edit .result)) (sym (c .before .before .before .m .given .1)) (c .decide-edit .ensures)
 
--- src/taking.rt:196:1
 returns-2 : tie.Need-returns-2
 returns-2 c = subst (λ (m : Message). Decided (decided (c .before .before .before .before .before .before .before .args .k) (now (c .before .before .before .before .before .before .before .args .places)) (now (c .before .before .before .before .before .before .before .args .items)) m) (stays (c .before .before .before .before .before .before .before .args .k) (now (c .before .before .before .before .before .before .before .args .places)) (now (c .before .before .before .before .before .before .before .args .items)) m) (c .decide-edit2 .last .1 .1 .1 .1 .1 .0) (c .decide-edit2 .result)) (sym (c .before .before .before .m2 .given .1)) (c .decide-edit2 .ensures)
 
--- src/taking.rt:196:1
 returns-3 : tie.Need-returns-3
 returns-3 c = subst (λ (m : Message). Decided (decided (c .before .before .before .before .before .before .before .args .k) (now (c .before .before .before .before .before .before .before .args .places)) (now (c .before .before .before .before .before .before .before .args .items)) m) (stays (c .before .before .before .before .before .before .before .args .k) (now (c .before .before .before .before .before .before .before .args .places)) (now (c .before .before .before .before .before .before .before .args .items)) m) (c .decide-edit3 .last .1 .1 .1 .1 .1 .0) (c .decide-edit3 .result)) (sym (c .before .before .before .m3 .given .1)) (c .decide-edit3 .ensures)
 
--- src/taking.rt:196:1
 returns-4 : tie.Need-returns-4
 returns-4 c = subst (λ (m : Message). Decided (decided (c .before .before .before .before .before .before .before .args .k) (now (c .before .before .before .before .before .before .before .args .places)) (now (c .before .before .before .before .before .before .before .args .items)) m) (stays (c .before .before .before .before .before .before .before .args .k) (now (c .before .before .before .before .before .before .before .args .places)) (now (c .before .before .before .before .before .before .before .args .items)) m) (c .decide-ack .last .1 .1 .1 .1 .1 .1 .0) (c .decide-ack .result)) (sym (c .before .before .before .m4 .given .1)) (c .decide-ack .ensures)
 

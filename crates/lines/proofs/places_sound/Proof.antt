@@ -17,59 +17,45 @@ Inv-loop n made taken acked inserts total well₀ i₀ well i = (i ≤ 8) × ((w
 abbrev μ-loop : tie.MeasureT-loop
 μ-loop n made taken acked inserts total well₀ i₀ well i = 8 - i
 
--- src/lib.rt:141:5
 loop-holds : tie.Need-loop-holds Inv-loop μ-loop
 loop-holds c = (omega arith, refl)
 
--- src/lib.rt:143:48
 mul-place-sound : tie.Need-mul-place-sound Inv-loop μ-loop
 mul-place-sound c = omega arith
 
--- src/lib.rt:143:48
 shared-slice-read-place-sound : tie.Need-shared-slice-read-place-sound Inv-loop μ-loop
 shared-slice-read-place-sound c = omega (arith, c .before .before .before .before .before .before .before .pre .0, c .before .before .before .before .before .before .before .pre .1 .0, c .before .before .before .before .before .before .before .pre .1 .1 .0, c .before .before .before .before .before .before .before .pre .1 .1 .1)
 
--- src/lib.rt:143:57
 mul-place-sound-2 : tie.Need-mul-place-sound-2 Inv-loop μ-loop
 mul-place-sound-2 c = omega arith
 
--- src/lib.rt:143:57
 shared-slice-read-place-sound-2 : tie.Need-shared-slice-read-place-sound-2 Inv-loop μ-loop
 shared-slice-read-place-sound-2 c = omega (arith, c .before .before .before .before .before .before .before .before .pre .0, c .before .before .before .before .before .before .before .before .pre .1 .0, c .before .before .before .before .before .before .before .before .pre .1 .1 .0, c .before .before .before .before .before .before .before .before .pre .1 .1 .1)
 
--- src/lib.rt:143:67
 mul-place-sound-3 : tie.Need-mul-place-sound-3 Inv-loop μ-loop
 mul-place-sound-3 c = omega arith
 
--- src/lib.rt:143:67
 shared-slice-read-place-sound-3 : tie.Need-shared-slice-read-place-sound-3 Inv-loop μ-loop
 shared-slice-read-place-sound-3 c = omega (arith, c .before .before .before .before .before .before .before .before .before .pre .0, c .before .before .before .before .before .before .before .before .before .pre .1 .0, c .before .before .before .before .before .before .before .before .before .pre .1 .1 .0, c .before .before .before .before .before .before .before .before .before .pre .1 .1 .1)
 
--- src/lib.rt:143:77
 mul-place-sound-4 : tie.Need-mul-place-sound-4 Inv-loop μ-loop
 mul-place-sound-4 c = omega arith
 
--- src/lib.rt:143:77
 shared-slice-read-place-sound-4 : tie.Need-shared-slice-read-place-sound-4 Inv-loop μ-loop
 shared-slice-read-place-sound-4 c = omega (arith, c .before .before .before .before .before .before .before .before .before .before .pre .0, c .before .before .before .before .before .before .before .before .before .before .pre .1 .0, c .before .before .before .before .before .before .before .before .before .before .pre .1 .1 .0, c .before .before .before .before .before .before .before .before .before .before .pre .1 .1 .1)
 
--- src/lib.rt:143:23
 place-sound-requires : tie.Need-place-sound-requires Inv-loop μ-loop
 place-sound-requires c κs = search needs
 
--- src/lib.rt:141:9
 add-i : tie.Need-add-i Inv-loop μ-loop
 add-i c = omega arith
 
--- src/lib.rt:141:5
 loop-less : tie.Need-loop-less Inv-loop μ-loop
 loop-less c = omega arith
 
--- src/lib.rt:141:5
 loop-again : tie.Need-loop-again Inv-loop μ-loop
 loop-again c = (omega arith, all-turn (countsAt (counts (c .before .before .before .before .before .before .before .before .before .before .before .args .n) 0 0 (now (c .before .before .before .before .before .before .before .before .before .before .before .args .made)) (now (c .before .before .before .before .before .before .before .before .before .before .before .args .taken)) (now (c .before .before .before .before .before .before .before .before .before .before .before .args .acked)) (now (c .before .before .before .before .before .before .before .before .before .before .before .args .inserts))) (c .before .before .before .before .before .before .before .before .before .before .before .args .total)) (c .before .before .before .before .before .before .loop .i) 8 (c .before .before .before .before .before .before .loop .well) (c .place-sound .result) (omega arith) (c .place-sound .ensures) ∙ c .before .before .before .before .before .before .loop .inv .1)
 
--- src/lib.rt:129:1
 returns : tie.Need-returns Inv-loop μ-loop
 returns c = all-end (countsAt (counts (c .before .before .before .before .before .before .args .n) 0 0 (now (c .before .before .before .before .before .before .args .made)) (now (c .before .before .before .before .before .before .args .taken)) (now (c .before .before .before .before .before .before .args .acked)) (now (c .before .before .before .before .before .before .args .inserts))) (c .before .before .before .before .before .before .args .total)) (c .before .loop .i) 8 (c .before .loop .well) (omega arith) ∙ c .before .loop .inv .1
 

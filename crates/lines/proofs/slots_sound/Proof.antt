@@ -18,63 +18,48 @@ Inv-loop n made acked places items well₀ i₀ well i = (i ≤ 8) × ((well && 
 abbrev μ-loop : tie.MeasureT-loop
 μ-loop n made acked places items well₀ i₀ well i = 8 - i
 
--- src/lib.rt:160:5
 loop-holds : tie.Need-loop-holds Inv-loop μ-loop
 loop-holds c = (omega arith, refl)
 
--- src/lib.rt:161:26
 mul-less : tie.Need-mul-less Inv-loop μ-loop
 mul-less c = omega arith
 
--- src/lib.rt:161:26
 shared-slice-read-less : tie.Need-shared-slice-read-less Inv-loop μ-loop
 shared-slice-read-less c = omega (arith, c .before .before .before .before .before .before .before .pre .0 .0, c .before .before .before .before .before .before .before .pre .0 .1)
 
--- src/lib.rt:161:35
 mul-less-2 : tie.Need-mul-less-2 Inv-loop μ-loop
 mul-less-2 c = omega arith
 
--- src/lib.rt:161:35
 shared-slice-read-less-2 : tie.Need-shared-slice-read-less-2 Inv-loop μ-loop
 shared-slice-read-less-2 c = omega (arith, c .before .before .before .before .before .before .before .before .pre .0 .0, c .before .before .before .before .before .before .before .before .pre .0 .1)
 
--- src/lib.rt:161:21
 less-requires : tie.Need-less-requires Inv-loop μ-loop
 less-requires c κs = search needs
 
--- src/lib.rt:161:21
 cast-count : tie.Need-cast-count Inv-loop μ-loop
 cast-count c = search needs
 
--- src/lib.rt:162:20
 cast-line : tie.Need-cast-line Inv-loop μ-loop
 cast-line c = search needs
 
--- src/lib.rt:162:20
 add-line : tie.Need-add-line Inv-loop μ-loop
 add-line c = search needs
 
--- src/lib.rt:163:53
 mul-sound : tie.Need-mul-sound Inv-loop μ-loop
 mul-sound c = search needs
 
--- src/lib.rt:163:23
 sound-requires : tie.Need-sound-requires Inv-loop μ-loop
 sound-requires c κs = record { places = omega (arith, c .before .before .before .before .before .before .before .before .before .pre .1 .0, c .before .before .before .loop-test); items = omega (arith, c .before .before .before .before .before .before .before .before .before .pre .1 .1, c .before .before .before .loop-test) }
 
--- src/lib.rt:160:9
 add-i : tie.Need-add-i Inv-loop μ-loop
 add-i c = omega arith
 
--- src/lib.rt:160:5
 loop-less : tie.Need-loop-less Inv-loop μ-loop
 loop-less c = omega arith
 
--- src/lib.rt:160:5
 loop-again : tie.Need-loop-again Inv-loop μ-loop
 loop-again c = let a = rw (c .before .less .ensures) at (c .sound .ensures .answer) in (omega arith, all-turn (slotsAt (counts (c .before .before .before .before .before .before .before .before .before .before .args .n) 0 0 (now (c .before .before .before .before .before .before .before .before .before .before .args .made)) [] (now (c .before .before .before .before .before .before .before .before .before .before .args .acked)) []) (now (c .before .before .before .before .before .before .before .before .before .before .args .places)) (now (c .before .before .before .before .before .before .before .before .before .before .args .items))) (c .before .before .before .before .before .loop .i) 8 (c .before .before .before .before .before .loop .well) (c .sound .result) (omega arith) a ∙ c .before .before .before .before .before .loop .inv .1)
 
--- src/lib.rt:149:1
 returns : tie.Need-returns Inv-loop μ-loop
 returns c = all-end (slotsAt (counts (c .before .before .before .before .before .before .args .n) 0 0 (now (c .before .before .before .before .before .before .args .made)) [] (now (c .before .before .before .before .before .before .args .acked)) []) (now (c .before .before .before .before .before .before .args .places)) (now (c .before .before .before .before .before .before .args .items))) (c .before .loop .i) 8 (c .before .loop .well) (omega arith) ∙ c .before .loop .inv .1
 

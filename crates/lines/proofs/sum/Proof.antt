@@ -14,39 +14,30 @@ Inv-loop n xs s₀ i₀ s i = (i ≤ n) × ((s + sumFrom xs i (n - i) ≡ sumFro
 abbrev μ-loop : tie.MeasureT-loop
 μ-loop n xs s₀ i₀ s i = n - i
 
--- src/lib.rt:85:5
 loop-holds : tie.Need-loop-holds Inv-loop μ-loop
 loop-holds c = (omega arith, (sum-start (now (c .before .args .xs)) (c .before .args .n), omega arith))
 
--- src/lib.rt:86:19
 mul-wide : tie.Need-mul-wide Inv-loop μ-loop
 mul-wide c = omega (arith, c .before .before .before .pre .0, c .before .before .before .pre .1)
 
--- src/lib.rt:86:19
 shared-slice-read-wide : tie.Need-shared-slice-read-wide Inv-loop μ-loop
 shared-slice-read-wide c = omega (arith, c .before .before .before .before .pre .0, c .before .before .before .before .pre .1)
 
--- src/lib.rt:86:14
 wide-requires : tie.Need-wide-requires Inv-loop μ-loop
 wide-requires c κs = search needs
 
--- src/lib.rt:86:9
 add-s : tie.Need-add-s Inv-loop μ-loop
 add-s c = omega (arith, c .before .before .before .before .before .pre .0)
 
--- src/lib.rt:85:9
 add-i : tie.Need-add-i Inv-loop μ-loop
 add-i c = omega arith
 
--- src/lib.rt:85:5
 loop-less : tie.Need-loop-less Inv-loop μ-loop
 loop-less c = omega arith
 
--- src/lib.rt:85:5
 loop-again : tie.Need-loop-again Inv-loop μ-loop
 loop-again c = (omega arith, (omega (arith, c .wide .ensures .0, sum-turn (now (c .before .before .before .before .before .args .xs)) (c .before .before .before .loop .i) (c .before .before .before .before .before .args .n) (omega arith)), omega arith))
 
--- src/lib.rt:80:1
 returns : tie.Need-returns Inv-loop μ-loop
 returns c = (omega (arith, sum-end (now (c .before .before .before .args .xs)) (c .before .loop .i) (c .before .before .before .args .n) (omega arith)), omega (arith, c .before .before .before .pre .0))
 

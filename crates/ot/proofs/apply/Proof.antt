@@ -4,108 +4,79 @@ use Rattle.ot.proofs.Array.{room-delete, room-insert, part-some, part-d
 use borrow.Author.Needs.{needs}
 use Rattle.ot.proofs.apply.Statement.{statement}
 use Rattle.ot.proofs.apply.Tie as tie
-use Rattle.ot.proofs.apply.Reads as reads
-use Rattle.ot.proofs.apply.Lts as lts
-use Rattle.ot.proofs.delete_front.Reads as delete-front-reads
-use Rattle.ot.proofs.insert_front.Reads as insert-front-reads
 
--- src/lib.rt:139:26
 enum-told : tie.Need-enum-told
 enum-told c = search needs
 
--- src/lib.rt:140:22
 enum-known-e : tie.Need-enum-known-e
 enum-known-e c = search needs
 
--- src/lib.rt:141:25
 sub-from : tie.Need-sub-from
 sub-from c = omega (arith, room-delete (c .before .e .given .1) (c .before .before .before .before .pre .1))
 
--- src/lib.rt:141:24
 cast-from : tie.Need-cast-from
 cast-from c = search needs
 
--- src/lib.rt:143:26
 mul-delete-front : tie.Need-mul-delete-front
 mul-delete-front c = search needs
 
--- src/lib.rt:143:26
 sub-delete-front : tie.Need-sub-delete-front
 sub-delete-front c = omega (arith, room-delete (c .before .e .given .1) (c .before .before .before .before .pre .1))
 
--- src/lib.rt:143:26
 part-delete-front-start : tie.Need-part-delete-front-start
 part-delete-front-start c = omega (arith, room-delete (c .before .e .given .1) (c .before .before .before .before .pre .1))
 
--- src/lib.rt:143:26
 part-delete-front-end : tie.Need-part-delete-front-end
 part-delete-front-end c = search needs
 
--- src/lib.rt:143:13
 delete-front-requires : tie.Need-delete-front-requires
 delete-front-requires c κs = let h = room-delete (c .before .before .e .given .1) (c .before .before .before .before .before .pre .1) in part-some (c .before .before .e .given .0 .0 - 1) (c .before .before .before .before .before .args .len) (c .before .before .before .before .before .args .items .now) (omega arith) (omega (arith, c .before .before .before .before .before .pre .0))
 
--- src/lib.rt:144:13
 sub-result : tie.Need-sub-result
 sub-result c = omega (arith, room-delete (c .before .before .before .before .before .e .given .1) (c .before .before .before .before .before .before .before .before .pre .1))
 
--- src/lib.rt:146:22
 enum-known-e-2 : tie.Need-enum-known-e-2
 enum-known-e-2 c = search needs
 
--- src/lib.rt:147:25
 sub-from-2 : tie.Need-sub-from-2
 sub-from-2 c = omega (arith, room-insert (c .before .e2 .given .1) (c .before .before .before .before .pre .1), c .before .before .before .before .pre .0)
 
--- src/lib.rt:147:24
 cast-from-2 : tie.Need-cast-from-2
 cast-from-2 c = search needs
 
--- src/lib.rt:148:22
 add-to : tie.Need-add-to
 add-to c = search needs
 
--- src/lib.rt:149:26
 mul-insert-front : tie.Need-mul-insert-front
 mul-insert-front c = search needs
 
--- src/lib.rt:149:26
 sub-insert-front : tie.Need-sub-insert-front
 sub-insert-front c = omega (arith, room-insert (c .before .e2 .given .1) (c .before .before .before .before .pre .1), c .before .before .before .before .pre .0)
 
--- src/lib.rt:149:26
 part-insert-front-start : tie.Need-part-insert-front-start
 part-insert-front-start c = omega (arith, room-insert (c .before .e2 .given .1) (c .before .before .before .before .pre .1), c .before .before .before .before .pre .0)
 
--- src/lib.rt:149:26
 part-insert-front-end : tie.Need-part-insert-front-end
 part-insert-front-end c = omega (arith, room-insert (c .before .e2 .given .1) (c .before .before .before .before .pre .1), c .before .before .before .before .pre .0)
 
--- src/lib.rt:149:13
 insert-front-requires : tie.Need-insert-front-requires
 insert-front-requires c κs = let h = room-insert (c .before .before .e2 .given .1) (c .before .before .before .before .before .pre .1) in part-some (c .before .before .e2 .given .0 .0 - 1) (c .before .before .before .before .before .args .len + 1) (c .before .before .before .before .before .args .items .now) (omega arith) (omega (arith, c .before .before .before .before .before .pre .0))
 
--- src/lib.rt:150:13
 add-result : tie.Need-add-result
 add-result c = search needs
 
--- src/lib.rt:134:1
 returns : tie.Need-returns
 returns c = edited-nothing (c .enum-told .given .1)
 
--- src/lib.rt:134:1
 same-length : tie.Need-same-length
 same-length c = search needs
 
--- src/lib.rt:134:1
 returns-2 : tie.Need-returns-2
 returns-2 c = let h = room-delete (c .before .before .before .before .before .e .given .1) (c .before .before .before .before .before .before .before .before .pre .1) in edited-delete (c .before .before .before .before .before .e .given .1) (part-deleted (c .before .before .before .before .before .e .given .0 .0 - 1) (c .before .before .before .before .before .before .before .before .args .len) (c .before .before .before .before .before .before .before .before .args .items .now) (c .before .before .delete-front .last .0) (omega arith) (omega (arith, c .before .before .before .before .before .before .before .before .pre .0)) (c .before .before .delete-front .ensures))
 
--- src/lib.rt:134:1
 same-length-2 : tie.Need-same-length-2
 same-length-2 c = search needs
 
--- src/lib.rt:134:1
 returns-3 : tie.Need-returns-3
 returns-3 c = let h = room-insert (c .before .before .before .before .before .e2 .given .1) (c .before .before .before .before .before .before .before .before .pre .1) in edited-insert (c .before .before .before .before .before .e2 .given .1) (part-inserted (c .before .before .before .before .before .e2 .given .0 .0 - 1) (c .before .before .before .before .before .before .before .before .args .len) _ (c .before .before .before .before .before .before .before .before .args .items .now) (c .before .before .insert-front .last .0) (omega arith) (omega (arith, c .before .before .before .before .before .before .before .before .pre .0)) (c .before .before .insert-front .ensures))
 

@@ -18,75 +18,57 @@ abbrev μ-loop : tie.MeasureT-loop
 μ-loop places items from count later₀ current₀ good₀ passed₀ later current good passed =
     count - passed
 
--- src/lib.rt:193:5
 loop-holds : tie.Need-loop-holds Inv-loop μ-loop
 loop-holds c = crossing-none (c .before .before .args .e) (editsFrom (now (c .before .before .args .places)) (now (c .before .before .args .items)) (c .before .before .args .from) (c .before .before .args .count)) (now (c .before .before .args .later)) (c .before .before .pre .1 .1)
 
--- src/lib.rt:194:17
 add-j : tie.Need-add-j Inv-loop μ-loop
 add-j c = omega (arith, c .before .before .before .before .pre .1 .0 .few, c .before .before .before .before .pre .1 .0 .places, c .before .loop .inv .turns, edits-length (now (c .before .before .before .before .args .places)) (now (c .before .before .before .before .args .items)) (c .before .before .before .before .args .from) (c .before .before .before .before .args .count))
 
--- src/lib.rt:195:25
 mul-edit-of : tie.Need-mul-edit-of Inv-loop μ-loop
 mul-edit-of c = omega arith
 
--- src/lib.rt:195:25
 shared-slice-read-edit-of : tie.Need-shared-slice-read-edit-of Inv-loop μ-loop
 shared-slice-read-edit-of c = omega arith
 
--- src/lib.rt:195:36
 mul-edit-of-2 : tie.Need-mul-edit-of-2 Inv-loop μ-loop
 mul-edit-of-2 c = omega arith
 
--- src/lib.rt:195:36
 shared-slice-read-edit-of-2 : tie.Need-shared-slice-read-edit-of-2 Inv-loop μ-loop
 shared-slice-read-edit-of-2 c = omega arith
 
--- src/lib.rt:195:13
 edit-of-requires : tie.Need-edit-of-requires Inv-loop μ-loop
 edit-of-requires c κs = search needs
 
--- src/lib.rt:196:13
 transform-requires : tie.Need-transform-requires Inv-loop μ-loop
 transform-requires c κs = omega (arith, ap positionOf (c .edit-of .ensures), ready-position (c .before .before .before .before .before .before .before .args .from) (c .before .before .before .before .before .before .before .args .count) (now (c .before .before .before .before .before .before .before .args .places)) (now (c .before .before .before .before .before .before .before .args .items)) (c .before .before .before .before .before .before .before .pre .1 .0) (c .before .before .before .before .loop .passed) (c .before .before .before .loop-test .taken))
 
--- src/lib.rt:197:25
 place-of-requires : tie.Need-place-of-requires Inv-loop μ-loop
 place-of-requires c κs = search needs
 
--- src/lib.rt:197:9
 mul-later : tie.Need-mul-later Inv-loop μ-loop
 mul-later c = omega arith
 
--- src/lib.rt:197:9
 element-write-later : tie.Need-element-write-later Inv-loop μ-loop
 element-write-later c = omega arith
 
--- src/lib.rt:198:23
 is-placed-requires : tie.Need-is-placed-requires Inv-loop μ-loop
 is-placed-requires c κs = search needs
 
--- src/lib.rt:199:9
 transform-requires-2 : tie.Need-transform-requires-2 Inv-loop μ-loop
 transform-requires-2 c κs = omega (arith, c .before .before .before .before .before .before .before .before .before .before .pre .0, current-position (c .before .before .before .before .before .before .before .before .before .before .args .e) (editsFrom (now (c .before .before .before .before .before .before .before .before .before .before .args .places)) (now (c .before .before .before .before .before .before .before .before .before .before .args .items)) (c .before .before .before .before .before .before .before .before .before .before .args .from) (c .before .before .before .before .before .before .before .before .before .before .args .count)) (ready-few (c .before .before .before .before .before .before .before .before .before .before .args .from) (c .before .before .before .before .before .before .before .before .before .before .args .count) (now (c .before .before .before .before .before .before .before .before .before .before .args .places)) (now (c .before .before .before .before .before .before .before .before .before .before .args .items)) (c .before .before .before .before .before .before .before .before .before .before .pre .1 .0)) (c .before .before .before .before .before .before .before .loop .passed) (c .before .before .before .before .before .before .before .loop .later) (c .before .before .before .before .before .before .before .loop .current) (c .before .before .before .before .before .before .before .loop .good) (c .before .before .before .before .before .before .before .loop .inv))
 
--- src/lib.rt:200:9
 add-passed : tie.Need-add-passed Inv-loop μ-loop
 add-passed c = omega (arith, c .before .before .before .before .before .before .before .before .before .before .before .pre .1 .0 .few, c .before .before .before .before .before .before .before .before .before .before .before .pre .1 .0 .places, c .before .before .before .before .before .before .before .before .loop .inv .turns, edits-length (now (c .before .before .before .before .before .before .before .before .before .before .before .args .places)) (now (c .before .before .before .before .before .before .before .before .before .before .before .args .items)) (c .before .before .before .before .before .before .before .before .before .before .before .args .from) (c .before .before .before .before .before .before .before .before .before .before .before .args .count))
 
--- src/lib.rt:193:5
 loop-less : tie.Need-loop-less Inv-loop μ-loop
 loop-less c = omega (arith, c .before .before .before .before .before .before .before .before .before .before .before .pre .1 .0 .few, c .before .before .before .before .before .before .before .before .before .before .before .pre .1 .0 .places, c .before .before .before .before .before .before .before .before .loop .inv .turns, edits-length (now (c .before .before .before .before .before .before .before .before .before .before .before .args .places)) (now (c .before .before .before .before .before .before .before .before .before .before .before .args .items)) (c .before .before .before .before .before .before .before .before .before .before .before .args .from) (c .before .before .before .before .before .before .before .before .before .before .before .args .count))
 
--- src/lib.rt:193:5
 loop-again : tie.Need-loop-again Inv-loop μ-loop
 loop-again c = crossing-turn (c .before .before .before .before .before .before .before .before .before .before .before .args .e) (editsFrom (now (c .before .before .before .before .before .before .before .before .before .before .before .args .places)) (now (c .before .before .before .before .before .before .before .before .before .before .before .args .items)) (c .before .before .before .before .before .before .before .before .before .before .before .args .from) (c .before .before .before .before .before .before .before .before .before .before .before .args .count)) (ready-few (c .before .before .before .before .before .before .before .before .before .before .before .args .from) (c .before .before .before .before .before .before .before .before .before .before .before .args .count) (now (c .before .before .before .before .before .before .before .before .before .before .before .args .places)) (now (c .before .before .before .before .before .before .before .before .before .before .before .args .items)) (c .before .before .before .before .before .before .before .before .before .before .before .pre .1 .0)) (c .before .before .before .before .before .before .before .before .loop .passed) (c .before .before .before .before .before .before .before .before .loop .later) (c .before .before .before .before .before .before .before .before .loop .current) (c .before .before .before .before .before .before .before .before .loop .good) (c .before .before .before .before .before .before .before .before .loop .inv) (c .before .before .before .before .edit-of .result) (c .before .before .before .transform .result) (c .transform2 .result) (c .before .before .place-of .result) (c .before .is-placed .result) (omega (arith, c .before .before .before .before .before .before .before .loop-test .taken, edits-length (now (c .before .before .before .before .before .before .before .before .before .before .before .args .places)) (now (c .before .before .before .before .before .before .before .before .before .before .before .args .items)) (c .before .before .before .before .before .before .before .before .before .before .before .args .from) (c .before .before .before .before .before .before .before .before .before .before .before .args .count))) (c .before .before .before .before .edit-of .ensures ∙ sym (edits-at (now (c .before .before .before .before .before .before .before .before .before .before .before .args .places)) (now (c .before .before .before .before .before .before .before .before .before .before .before .args .items)) (c .before .before .before .before .before .before .before .before .before .before .before .args .from) (c .before .before .before .before .before .before .before .before .before .before .before .args .count) (c .before .before .before .before .before .before .before .before .loop .passed) (c .before .before .before .before .before .before .before .loop-test .taken))) (c .before .before .before .transform .ensures) (c .before .before .place-of .ensures) (c .before .is-placed .ensures) (c .transform2 .ensures)
 
--- src/lib.rt:205:17
 cast-t22 : tie.Need-cast-t22 Inv-loop μ-loop
 cast-t22 c = omega (arith, c .before .before .before .before .pre .1 .0 .few, c .before .before .before .before .pre .1 .0 .places, c .before .loop .inv .turns, edits-length (now (c .before .before .before .before .args .places)) (now (c .before .before .before .before .args .items)) (c .before .before .before .before .args .from) (c .before .before .before .before .args .count))
 
--- src/lib.rt:179:1
 returns : tie.Need-returns Inv-loop μ-loop
 returns c = crossing-end (c .before .before .before .before .args .e) (editsFrom (now (c .before .before .before .before .args .places)) (now (c .before .before .before .before .args .items)) (c .before .before .before .before .args .from) (c .before .before .before .before .args .count)) (ready-few (c .before .before .before .before .args .from) (c .before .before .before .before .args .count) (now (c .before .before .before .before .args .places)) (now (c .before .before .before .before .args .items)) (c .before .before .before .before .pre .1 .0)) (c .before .loop .passed) (c .before .loop .later) (c .before .loop .current) (c .before .loop .good) (c .before .loop .inv) (omega (arith, c .loop-test .left, edits-length (now (c .before .before .before .before .args .places)) (now (c .before .before .before .before .args .items)) (c .before .before .before .before .args .from) (c .before .before .before .before .args .count)))
 

@@ -1,8 +1,6 @@
 use borrow.Author.Needs.{needs}
 use Rattle.probe.proofs.probe_repeat.Statement.{statement}
 use Rattle.probe.proofs.probe_repeat.Tie as tie
-use Rattle.probe.proofs.probe_repeat.Reads as reads
-use Rattle.probe.proofs.probe_repeat.Lts as lts
 
 run-again-requires : tie.Need-run-again-requires
 run-again-requires c κs = search needs

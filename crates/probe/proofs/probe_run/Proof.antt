@@ -1,8 +1,6 @@
 use borrow.Author.Needs.{needs}
 use Rattle.probe.proofs.probe_run.Statement.{statement}
 use Rattle.probe.proofs.probe_run.Tie as tie
-use Rattle.probe.proofs.probe_run.Reads as reads
-use Rattle.probe.proofs.probe_run.Lts as lts
 
 run-requires : tie.Need-run-requires
 run-requires c κs = search needs

@@ -1,8 +1,6 @@
 use borrow.Author.Needs.{needs}
 use Rattle.probe.proofs.probe_script.Statement.{statement}
 use Rattle.probe.proofs.probe_script.Tie as tie
-use Rattle.probe.proofs.probe_script.Reads as reads
-use Rattle.probe.proofs.probe_script.Lts as lts
 
 run-requires : tie.Need-run-requires
 run-requires c κs = search needs

@@ -12,37 +12,29 @@ use borrow.Author.Needs.{needs}
 use Rattle.server.proofs.is_sound.Statement.{statement}
 use Rattle.server.proofs.is_sound.Tie as tie
 
--- src/lib.rt:188:37
 sum-requires : tie.Need-sum-requires
 sum-requires c κs = (limits-few (c .before .before .before .before .before .before .before .before .args .n) (c .before .before .before .before .before .before .before .before .args .initial) (c .before .before .before .before .before .before .before .before .args .len) (c .if1 .taken), c .before .before .before .before .before .before .before .before .pre .sized .inserts)
 
--- src/lib.rt:188:20
 add-most : tie.Need-add-most
 add-most c = omega (arith, c .sum .ensures .1)
 
--- src/lib.rt:190:15
 zero-from-requires : tie.Need-zero-from-requires
 zero-from-requires c κs = search needs
 
--- src/lib.rt:191:60
 sum-requires-2 : tie.Need-sum-requires-2
 sum-requires-2 c κs = (limits-few (c .before .before .before .before .before .before .before .before .before .before .args .n) (c .before .before .before .before .before .before .before .before .before .before .args .initial) (c .before .before .before .before .before .before .before .before .before .before .args .len) (c .before .before .if1 .taken), c .before .before .before .before .before .before .before .before .before .before .pre .sized .taken)
 
--- src/lib.rt:191:15
 places-sound-requires : tie.Need-places-sound-requires
 places-sound-requires c κs = (c .before .before .before .before .before .before .before .before .before .before .before .pre .sized .made, (c .before .before .before .before .before .before .before .before .before .before .before .pre .sized .taken, (c .before .before .before .before .before .before .before .before .before .before .before .pre .sized .acked, c .before .before .before .before .before .before .before .before .before .before .before .pre .sized .inserts)))
 
--- src/lib.rt:192:15
 slots-sound-requires : tie.Need-slots-sound-requires
 slots-sound-requires c κs = ((c .before .before .before .before .before .before .before .before .before .before .before .before .pre .sized .made, c .before .before .before .before .before .before .before .before .before .before .before .before .pre .sized .acked), (omega (arith, c .before .before .before .before .before .before .before .before .before .before .before .before .pre .sized .places), omega (arith, c .before .before .before .before .before .before .before .before .before .before .before .before .pre .sized .items)))
 
--- src/lib.rt:189:9
 returns : tie.Need-returns
 returns c = let z : Sized (serverOf (counts (c .before .before .before .before .before .before .before .before .before .before .before .before .before .args .n) (c .before .before .before .before .before .before .before .before .before .before .before .before .before .args .initial) (c .before .before .before .before .before .before .before .before .before .before .before .before .before .args .len) (now (c .before .before .before .before .before .before .before .before .before .before .before .before .before .args .made)) (now (c .before .before .before .before .before .before .before .before .before .before .before .before .before .args .taken)) (now (c .before .before .before .before .before .before .before .before .before .before .before .before .before .args .acked)) (now (c .before .before .before .before .before .before .before .before .before .before .before .before .before .args .inserts))) (now (c .before .before .before .before .before .before .before .before .before .before .before .before .before .args .items)) (now (c .before .before .before .before .before .before .before .before .before .before .before .before .before .args .places)) (now (c .before .before .before .before .before .before .before .before .before .before .before .before .before .args .slots))) = c .before .before .before .before .before .before .before .before .before .before .before .before .before .pre .sized in
     let e = sound-yes (serverOf (counts (c .before .before .before .before .before .before .before .before .before .before .before .before .before .args .n) (c .before .before .before .before .before .before .before .before .before .before .before .before .before .args .initial) (c .before .before .before .before .before .before .before .before .before .before .before .before .before .args .len) (now (c .before .before .before .before .before .before .before .before .before .before .before .before .before .args .made)) (now (c .before .before .before .before .before .before .before .before .before .before .before .before .before .args .taken)) (now (c .before .before .before .before .before .before .before .before .before .before .before .before .before .args .acked)) (now (c .before .before .before .before .before .before .before .before .before .before .before .before .before .args .inserts))) (now (c .before .before .before .before .before .before .before .before .before .before .before .before .before .args .items)) (now (c .before .before .before .before .before .before .before .before .before .before .before .before .before .args .places)) (now (c .before .before .before .before .before .before .before .before .before .before .before .before .before .args .slots))) (c .before .before .before .before .before .before .before .before .before .before .before .before .before .pre .list) (c .before .before .before .before .before .before .before .before .before .before .before .before .before .args .initial + c .before .before .before .before .sum .result) (c .before .before .sum2 .result) (c .before .before .before .zero-from .result) (c .before .places-sound .result) (c .slots-sound .result) (c .before .before .before .before .before .if1 .taken) (ap (λ (n : ℕ). c .before .before .before .before .before .before .before .before .before .before .before .before .before .args .initial + n) (c .before .before .before .before .sum .ensures .0)) (c .before .before .sum2 .ensures .0) (c .before .before .before .zero-from .ensures) (c .before .places-sound .ensures) (c .slots-sound .ensures) in
     (e, λ y. struct-whole (serverOf (counts (c .before .before .before .before .before .before .before .before .before .before .before .before .before .args .n) (c .before .before .before .before .before .before .before .before .before .before .before .before .before .args .initial) (c .before .before .before .before .before .before .before .before .before .before .before .before .before .args .len) (now (c .before .before .before .before .before .before .before .before .before .before .before .before .before .args .made)) (now (c .before .before .before .before .before .before .before .before .before .before .before .before .before .args .taken)) (now (c .before .before .before .before .before .before .before .before .before .before .before .before .before .args .acked)) (now (c .before .before .before .before .before .before .before .before .before .before .before .before .before .args .inserts))) (now (c .before .before .before .before .before .before .before .before .before .before .before .before .before .args .items)) (now (c .before .before .before .before .before .before .before .before .before .before .before .before .before .args .places)) (now (c .before .before .before .before .before .before .before .before .before .before .before .before .before .args .slots))) (c .before .before .before .before .before .before .before .before .before .before .before .before .before .pre .list) z (sym e ∙ y))
 
--- src/lib.rt:169:1
 returns-2 : tie.Need-returns-2
 returns-2 c = (sound-no (serverOf (counts (c .before .before .before .before .before .before .before .before .args .n) (c .before .before .before .before .before .before .before .before .args .initial) (c .before .before .before .before .before .before .before .before .args .len) (now (c .before .before .before .before .before .before .before .before .args .made)) (now (c .before .before .before .before .before .before .before .before .args .taken)) (now (c .before .before .before .before .before .before .before .before .args .acked)) (now (c .before .before .before .before .before .before .before .before .args .inserts))) (now (c .before .before .before .before .before .before .before .before .args .items)) (now (c .before .before .before .before .before .before .before .before .args .places)) (now (c .before .before .before .before .before .before .before .before .args .slots))) (c .before .before .before .before .before .before .before .before .pre .list) (c .if1 .left), never)
 

@@ -17,39 +17,30 @@ abbrev μ-loop : tie.MeasureT-loop
 μ-loop places items from to all₀ i₀ all i =
     to - i
 
--- src/lib.rt:123:5
 loop-holds : tie.Need-loop-holds Inv-loop μ-loop
 loop-holds c = (c .pre .0, refl)
 
--- src/lib.rt:124:22
 mul-all : tie.Need-mul-all Inv-loop μ-loop
 mul-all c = omega arith
 
--- src/lib.rt:124:22
 shared-slice-read-all : tie.Need-shared-slice-read-all Inv-loop μ-loop
 shared-slice-read-all c = omega arith
 
--- src/lib.rt:124:34
 mul-all-2 : tie.Need-mul-all-2 Inv-loop μ-loop
 mul-all-2 c = omega arith
 
--- src/lib.rt:124:34
 shared-slice-read-all-2 : tie.Need-shared-slice-read-all-2 Inv-loop μ-loop
 shared-slice-read-all-2 c = omega arith
 
--- src/lib.rt:123:9
 add-i : tie.Need-add-i Inv-loop μ-loop
 add-i c = omega arith
 
--- src/lib.rt:123:5
 loop-less : tie.Need-loop-less Inv-loop μ-loop
 loop-less c = omega arith
 
--- src/lib.rt:123:5
 loop-again : tie.Need-loop-again Inv-loop μ-loop
 loop-again c = (omega arith, gather-turn (now (c .before .before .before .before .args .places)) (now (c .before .before .before .before .args .items)) (c .before .before .before .loop .i) (c .before .before .before .before .args .to) (c .before .before .before .loop .all) (omega (arith, c .before .before .loop-test)) ∙ c .before .before .before .loop .inv .1)
 
--- src/lib.rt:118:1
 returns : tie.Need-returns Inv-loop μ-loop
 returns c = all-end (emptyAt (now (c .before .before .args .places)) (now (c .before .before .args .items))) (c .before .loop .i) (c .before .before .args .to) (eqb (c .before .loop .all) 0) (omega arith) ∙ c .before .loop .inv .1
 

@@ -7,10 +7,6 @@ use Rattle.client.specs.declared.Answer.{Answer}
 use Rattle.turns.specs.Turn.{changedBytes}
 use Rattle.timing.proofs.burst.Statement.{statement}
 use Rattle.timing.proofs.burst.Tie as tie
-use Rattle.timing.proofs.burst.Reads as reads
-use Rattle.timing.proofs.burst.Lts as lts
-use Rattle.client.proofs.editing.edit_lent.Reads as edit-lent-reads
-use Rattle.timing.proofs.changed.Reads as changed-reads
 
 abbrev Inv-loop : tie.InvT-loop
 Inv-loop items₀ places₀ pending₀ change first last₀ made₀ items places pending last made = Sizes items places pending × (made ≤ 8)
@@ -18,47 +14,36 @@ Inv-loop items₀ places₀ pending₀ change first last₀ made₀ items places
 abbrev μ-loop : tie.MeasureT-loop
 μ-loop items₀ places₀ pending₀ change first last₀ made₀ items places pending last made = 8 - made
 
--- src/repeat.rt:95:9
 edit-lent-requires : tie.Need-edit-lent-requires Inv-loop μ-loop
 edit-lent-requires c κs = search needs
 
--- src/repeat.rt:98:5
 loop-holds : tie.Need-loop-holds Inv-loop μ-loop
 loop-holds c = (record { items-size = search needs; places-size = search needs; pending-size = search needs }, omega arith)
 
--- src/repeat.rt:99:9
 edit-lent-requires-2 : tie.Need-edit-lent-requires-2 Inv-loop μ-loop
 edit-lent-requires-2 c κs = search needs
 
--- src/repeat.rt:100:9
 add-made : tie.Need-add-made Inv-loop μ-loop
 add-made c = omega arith
 
--- src/repeat.rt:98:5
 loop-less : tie.Need-loop-less Inv-loop μ-loop
 loop-less c = omega arith
 
--- src/repeat.rt:98:5
 loop-again : tie.Need-loop-again Inv-loop μ-loop
 loop-again c = (record { items-size = search needs; places-size = search needs; pending-size = search needs }, omega arith)
 
--- src/repeat.rt:102:5
 changed-requires : tie.Need-changed-requires Inv-loop μ-loop
 changed-requires c κs = search needs
 
--- src/repeat.rt:85:1
 same-length : tie.Need-same-length Inv-loop μ-loop
 same-length c = omega (arith, c .before .before .loop .inv .0 .items-size)
 
--- src/repeat.rt:85:1
 same-length-2 : tie.Need-same-length-2 Inv-loop μ-loop
 same-length-2 c = omega (arith, c .before .before .loop .inv .0 .places-size)
 
--- src/repeat.rt:85:1
 same-length-3 : tie.Need-same-length-3 Inv-loop μ-loop
 same-length-3 c = omega (arith, c .before .before .loop .inv .0 .pending-size)
 
--- src/repeat.rt:85:1
 returns : tie.Need-returns Inv-loop μ-loop
 returns c = c .changed .ensures ∙ ap (λ (a : Answer). changedBytes (a .refusal) (a .passed)) (c .before .before .before .before .before .before .before .before .before .edit-lent .ensures)
 

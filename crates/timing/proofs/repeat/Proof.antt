@@ -5,38 +5,22 @@ use Rattle.timing.proofs.Repeating.{end-is, Found, at-server-sent, at-s
 use borrow.Author.Needs.{needs}
 use Rattle.timing.proofs.repeat.Statement.{statement}
 use Rattle.timing.proofs.repeat.Tie as tie
-use Rattle.timing.proofs.repeat.Reads as reads
-use Rattle.timing.proofs.repeat.Lts as lts
-use Rattle.calls.proofs.call.sends.Reads as sends-reads
-use Rattle.timing.proofs.repeat_client.Reads as repeat-client-reads
-use Rattle.timing.proofs.repeat_client_sent.Reads as repeat-client-sent-reads
-use Rattle.timing.proofs.repeat_server.Reads as repeat-server-reads
-use Rattle.timing.proofs.repeat_server_sent.Reads as repeat-server-sent-reads
-use Rattle.timing.proofs.slot_at.Reads as slot-at-reads
-use Rattle.turns.proofs.held.Reads as held-reads
-use Rattle.turns.proofs.slot_of.Reads as slot-of-reads
 
--- src/repeat.rt:212:28
 slice-aggregate-held : tie.Need-slice-aggregate-held
 slice-aggregate-held c = search needs
 
--- src/repeat.rt:212:9
 held-requires : tie.Need-held-requires
 held-requires c κs = search needs
 
--- src/repeat.rt:214:24
 slice-aggregate-slot-at : tie.Need-slice-aggregate-slot-at
 slice-aggregate-slot-at c = search needs
 
--- src/repeat.rt:214:37
 slot-of-requires : tie.Need-slot-of-requires
 slot-of-requires c κs = search needs
 
--- src/repeat.rt:214:32
 mul-slot-at : tie.Need-mul-slot-at
 mul-slot-at c = search needs
 
--- src/repeat.rt:214:9
 slot-at-requires : tie.Need-slot-at-requires
 slot-at-requires c κs = let h : length (c .before .before .before .before .before .before .args .w .slots) ≡ 1280 = search needs in omega (arith, c .slot-of .ensures)
 
@@ -58,55 +42,42 @@ found c =
       bytes = c .before .slot-at .ensures;
     }
 
--- src/repeat.rt:215:9
 sends-requires : tie.Need-sends-requires
 sends-requires c κs = search needs
 
--- src/repeat.rt:219:13
 repeat-server-sent-requires : tie.Need-repeat-server-sent-requires
 repeat-server-sent-requires c κs = search needs
 
--- src/repeat.rt:219:13
 returns : tie.Need-returns
 returns c = let s = c .before .before .before .before .before in at-server-sent (found s) (c .before .before .before .if1 .taken) (sym (s .sends .ensures) ∙ c .before .if2 .taken) (c .repeat-server-sent .ensures)
 
--- src/repeat.rt:221:9
 repeat-server-requires : tie.Need-repeat-server-requires
 repeat-server-requires c κs = omega (arith, c .before .before .before .before .before .before .before .before .before .held .ensures)
 
--- src/repeat.rt:221:9
 returns-2 : tie.Need-returns-2
 returns-2 c = let s = c .before .before .before .before .before in at-server-taken (found s) (c .before .before .before .if1 .taken) (sym (s .sends .ensures) ∙ c .before .if2 .left) (c .repeat-server .ensures)
 
--- src/repeat.rt:224:21
 cast-c : tie.Need-cast-c
 cast-c c = search needs
 
--- src/repeat.rt:224:21
 sub-c : tie.Need-sub-c
 sub-c c = search needs
 
--- src/repeat.rt:224:13
 mul-c : tie.Need-mul-c
 mul-c c = search needs
 
--- src/repeat.rt:224:13
 array-copy-out-c : tie.Need-array-copy-out-c
 array-copy-out-c c = let f = found (c .before .before .before .before) in omega (arith, end-is (entry (c .before .before .before .before) .args .k) (f .call) (f .most))
 
--- src/repeat.rt:226:9
 repeat-client-sent-requires : tie.Need-repeat-client-sent-requires
 repeat-client-sent-requires c κs = search needs
 
--- src/repeat.rt:226:9
 returns-3 : tie.Need-returns-3
 returns-3 c = let s = c .before .before .before .before .before .before .before in at-client-sent (found s) (c .before .before .before .before .before .if1 .left) (sym (s .sends .ensures) ∙ c .before .if3 .taken) (c .repeat-client-sent .ensures)
 
--- src/repeat.rt:228:5
 repeat-client-requires : tie.Need-repeat-client-requires
 repeat-client-requires c κs = let f = found (c .before .before .before .before .before .before) in (f .least, f .most, sym (c .before .before .before .before .before .before .sends .ensures) ∙ c .if3 .left, omega (arith, f .held))
 
--- src/repeat.rt:207:1
 returns-4 : tie.Need-returns-4
 returns-4 c = let s = c .before .before .before .before .before .before .before in at-client-changed (found s) (c .before .before .before .before .before .if1 .left) (sym (s .sends .ensures) ∙ c .before .if3 .left) (c .repeat-client .ensures)
 

@@ -6,29 +6,19 @@ use Rattle.timing.proofs.Repeating.{take-op, client-edits, client-takes
 use borrow.Author.Needs.{needs}
 use Rattle.timing.proofs.repeat_client.Statement.{statement}
 use Rattle.timing.proofs.repeat_client.Tie as tie
-use Rattle.timing.proofs.repeat_client.Reads as reads
-use Rattle.timing.proofs.repeat_client.Lts as lts
-use Rattle.timing.proofs.change_of.Reads as change-of-reads
-use Rattle.timing.proofs.repeat_edits.Reads as repeat-edits-reads
-use Rattle.timing.proofs.repeat_taking.Reads as repeat-taking-reads
 
--- src/repeat.rt:144:32
 change-of-requires : tie.Need-change-of-requires
 change-of-requires c κs = search needs
 
--- src/repeat.rt:144:9
 repeat-edits-requires : tie.Need-repeat-edits-requires
 repeat-edits-requires c κs = search needs
 
--- src/repeat.rt:144:9
 returns : tie.Need-returns
 returns c = let a = c .before .before .before .before .args in let p = c .before .before .before .before .pre in c .repeat-edits .ensures ∙ ap (editedBytes (a .c)) (c .before .change-of .ensures) ∙ client-edits (a .k) (take (a .n) (a .slot)) (a .c) (p .0) (c .before .before .if1 .taken)
 
--- src/repeat.rt:146:5
 repeat-taking-requires : tie.Need-repeat-taking-requires
 repeat-taking-requires c κs = search needs
 
--- src/repeat.rt:139:1
 returns-2 : tie.Need-returns-2
 returns-2 c = let a = c .before .before .before .args in let p = c .before .before .before .pre in c .repeat-taking .ensures ∙ client-takes (a .k) (take (a .n) (a .slot)) (a .c) (take-op (a .k) (omega (arith, c .before .if1 .left)) (p .1) (p .2))
 

@@ -9,11 +9,6 @@ use Rattle.turns.specs.Turn.{clientSent}
 use Rattle.timing.proofs.Repeating.{sent-same}
 use Rattle.timing.proofs.repeat_client_sent.Statement.{statement}
 use Rattle.timing.proofs.repeat_client_sent.Tie as tie
-use Rattle.timing.proofs.repeat_client_sent.Reads as reads
-use Rattle.timing.proofs.repeat_client_sent.Lts as lts
-use Rattle.client.proofs.Client.counts.Reads as counts-reads
-use Rattle.timing.proofs.once_client_sent.Reads as once-client-sent-reads
-use Rattle.turns.proofs.within.Reads as within-reads
 
 abbrev Inv-loop : tie.InvT-loop
 Inv-loop k slot times c q size i₀ i = 1 ≤ i
@@ -21,44 +16,34 @@ Inv-loop k slot times c q size i₀ i = 1 ≤ i
 abbrev μ-loop : tie.MeasureT-loop
 μ-loop k slot times c q size i₀ i = times - i
 
--- src/repeat.rt:127:9
 counts-requires : tie.Need-counts-requires Inv-loop μ-loop
 counts-requires c κs = search needs
 
--- src/repeat.rt:128:9
 within-requires : tie.Need-within-requires Inv-loop μ-loop
 within-requires c κs = search needs
 
--- src/repeat.rt:130:5
 loop-holds : tie.Need-loop-holds Inv-loop μ-loop
 loop-holds c = omega arith
 
--- src/repeat.rt:138:13
 array-borrow-prefix-lent : tie.Need-array-borrow-prefix-lent Inv-loop μ-loop
 array-borrow-prefix-lent c = search needs
 
--- src/repeat.rt:138:13
 slice-aggregate-once-client-sent : tie.Need-slice-aggregate-once-client-sent Inv-loop μ-loop
 slice-aggregate-once-client-sent c = sym (length-take-le (c .before .before .before .before .before .before .before .before .before .within .result) _ (search needs))
 
--- src/repeat.rt:132:13
 once-client-sent-requires : tie.Need-once-client-sent-requires Inv-loop μ-loop
 once-client-sent-requires c κs = search needs
 
--- src/repeat.rt:141:13
 returns : tie.Need-returns Inv-loop μ-loop
 returns c = let a = c .before .before .before .before .before .before .before .before .before .before .before .before .before .before .args in
     c .before .before .once-client-sent .ensures ∙ sent-same (λ (q : Counts). clientSent (a .k) (clientOf q (a .t1 .items) (a .t1 .«pending_places») (a .t1 .«pending_items»))) (a .slot) (c .before .before .before .before .before .before .before .before .before .before .before .before .before .counts .ensures) (c .before .before .before .before .before .before .before .before .before .before .before .before .within .ensures)
 
--- src/repeat.rt:143:9
 add-i : tie.Need-add-i Inv-loop μ-loop
 add-i c = omega arith
 
--- src/repeat.rt:130:5
 loop-less : tie.Need-loop-less Inv-loop μ-loop
 loop-less c = omega arith
 
--- src/repeat.rt:130:5
 loop-again : tie.Need-loop-again Inv-loop μ-loop
 loop-again c = omega arith
 

@@ -7,10 +7,6 @@ use Rattle.client.specs.Store.{clientOf}
 use Rattle.timing.specs.Repeat.{editedBytes}
 use Rattle.timing.proofs.repeat_edits.Statement.{statement}
 use Rattle.timing.proofs.repeat_edits.Tie as tie
-use Rattle.timing.proofs.repeat_edits.Reads as reads
-use Rattle.timing.proofs.repeat_edits.Lts as lts
-use Rattle.client.proofs.Client.counts.Reads as counts-reads
-use Rattle.timing.proofs.burst.Reads as burst-reads
 
 abbrev Inv-loop : tie.InvT-loop
 Inv-loop c change times q i₀ i = 1 ≤ i
@@ -18,43 +14,33 @@ Inv-loop c change times q i₀ i = 1 ≤ i
 abbrev μ-loop : tie.MeasureT-loop
 μ-loop c change times q i₀ i = times - i
 
--- src/repeat.rt:109:9
 counts-requires : tie.Need-counts-requires Inv-loop μ-loop
 counts-requires c κs = search needs
 
--- src/repeat.rt:111:5
 loop-holds : tie.Need-loop-holds Inv-loop μ-loop
 loop-holds c = omega arith
 
--- src/repeat.rt:115:26
 slice-aggregate-burst : tie.Need-slice-aggregate-burst Inv-loop μ-loop
 slice-aggregate-burst c = search needs
 
--- src/repeat.rt:115:38
 slice-aggregate-burst-2 : tie.Need-slice-aggregate-burst-2 Inv-loop μ-loop
 slice-aggregate-burst-2 c = search needs
 
--- src/repeat.rt:115:51
 slice-aggregate-burst-3 : tie.Need-slice-aggregate-burst-3 Inv-loop μ-loop
 slice-aggregate-burst-3 c = search needs
 
--- src/repeat.rt:115:13
 burst-requires : tie.Need-burst-requires Inv-loop μ-loop
 burst-requires c κs = search needs
 
--- src/repeat.rt:117:13
 returns : tie.Need-returns Inv-loop μ-loop
 returns c = c .before .before .before .before .burst .ensures ∙ ap (λ (q : Counts). editedBytes (clientOf q (c .before .before .before .before .before .before .before .before .before .before .before .before .before .args .c .items) (c .before .before .before .before .before .before .before .before .before .before .before .before .before .args .c .«pending_places») (c .before .before .before .before .before .before .before .before .before .before .before .before .before .args .c .«pending_items»)) (c .before .before .before .before .before .before .before .before .before .before .before .before .before .args .change)) (c .before .before .before .before .before .before .before .before .before .before .before .before .counts .ensures)
 
--- src/repeat.rt:119:9
 add-i : tie.Need-add-i Inv-loop μ-loop
 add-i c = omega arith
 
--- src/repeat.rt:111:5
 loop-less : tie.Need-loop-less Inv-loop μ-loop
 loop-less c = omega arith
 
--- src/repeat.rt:111:5
 loop-again : tie.Need-loop-again Inv-loop μ-loop
 loop-again c = omega arith
 

@@ -7,10 +7,6 @@ use Rattle.server.specs.declared.Answer.{Answer}
 use Rattle.turns.specs.Turn.{changedBytes}
 use Rattle.timing.proofs.repeat_server.Statement.{statement}
 use Rattle.timing.proofs.repeat_server.Tie as tie
-use Rattle.timing.proofs.repeat_server.Reads as reads
-use Rattle.timing.proofs.repeat_server.Lts as lts
-use Rattle.timing.proofs.changed.Reads as changed-reads
-use Rattle.server.proofs.Server.take.Reads as take-reads
 
 abbrev Inv-loop : tie.InvT-loop
 Inv-loop s n times slot i₀ i = 1 ≤ i
@@ -18,39 +14,30 @@ Inv-loop s n times slot i₀ i = 1 ≤ i
 abbrev μ-loop : tie.MeasureT-loop
 μ-loop s n times slot i₀ i = times - i
 
--- src/repeat.rt:155:5
 loop-holds : tie.Need-loop-holds Inv-loop μ-loop
 loop-holds c = omega arith
 
--- src/repeat.rt:156:24
 array-share-prefix-slot : tie.Need-array-share-prefix-slot Inv-loop μ-loop
 array-share-prefix-slot c = search needs
 
--- src/repeat.rt:156:24
 slice-aggregate-take : tie.Need-slice-aggregate-take Inv-loop μ-loop
 slice-aggregate-take c = sym (length-take-le (c .before .before .args .n) _ (search needs))
 
--- src/repeat.rt:156:13
 take-requires : tie.Need-take-requires Inv-loop μ-loop
 take-requires c κs = search needs
 
--- src/repeat.rt:158:13
 changed-requires : tie.Need-changed-requires Inv-loop μ-loop
 changed-requires c κs = search needs
 
--- src/repeat.rt:158:13
 returns : tie.Need-returns Inv-loop μ-loop
 returns c = c .changed .ensures ∙ ap (λ (a : Answer). changedBytes (a .refusal) (a .passed)) (c .before .before .take .ensures)
 
--- src/repeat.rt:160:9
 add-i : tie.Need-add-i Inv-loop μ-loop
 add-i c = omega arith
 
--- src/repeat.rt:155:5
 loop-less : tie.Need-loop-less Inv-loop μ-loop
 loop-less c = omega arith
 
--- src/repeat.rt:155:5
 loop-again : tie.Need-loop-again Inv-loop μ-loop
 loop-again c = omega arith
 

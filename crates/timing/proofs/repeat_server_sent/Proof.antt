@@ -10,11 +10,6 @@ use Rattle.turns.specs.Turn.{serverSent}
 use Rattle.timing.proofs.Repeating.{sent-same}
 use Rattle.timing.proofs.repeat_server_sent.Statement.{statement}
 use Rattle.timing.proofs.repeat_server_sent.Tie as tie
-use Rattle.timing.proofs.repeat_server_sent.Reads as reads
-use Rattle.timing.proofs.repeat_server_sent.Lts as lts
-use Rattle.timing.proofs.once_server_sent.Reads as once-server-sent-reads
-use Rattle.server.proofs.Server.counts.Reads as counts-reads
-use Rattle.turns.proofs.within.Reads as within-reads
 
 abbrev Inv-loop : tie.InvT-loop
 Inv-loop k slot times s q size i₀ i = 1 ≤ i
@@ -26,44 +21,34 @@ abbrev μ-loop : tie.MeasureT-loop
 sizes : (c : tie.Start Inv-loop μ-loop) → Sizes (countsOf (c .args .t1)) (c .args .t1 .items) (c .args .t1 .«pending_places») (c .args .t1 .«pending_items»)
 sizes c = search needs
 
--- src/repeat.rt:184:9
 counts-requires : tie.Need-counts-requires Inv-loop μ-loop
 counts-requires c κs = search needs
 
--- src/repeat.rt:185:9
 within-requires : tie.Need-within-requires Inv-loop μ-loop
 within-requires c κs = search needs
 
--- src/repeat.rt:187:5
 loop-holds : tie.Need-loop-holds Inv-loop μ-loop
 loop-holds c = omega arith
 
--- src/repeat.rt:195:13
 array-borrow-prefix-lent : tie.Need-array-borrow-prefix-lent Inv-loop μ-loop
 array-borrow-prefix-lent c = search needs
 
--- src/repeat.rt:195:13
 slice-aggregate-once-server-sent : tie.Need-slice-aggregate-once-server-sent Inv-loop μ-loop
 slice-aggregate-once-server-sent c = sym (length-take-le (c .before .before .before .before .before .before .before .before .before .within .result) _ (search needs))
 
--- src/repeat.rt:189:13
 once-server-sent-requires : tie.Need-once-server-sent-requires Inv-loop μ-loop
 once-server-sent-requires c κs = let s = c .before .before .before .before .before .before .before .before .before .before .before .args .t1 in subst (λ (q : Counts). Sizes q (s .items) (s .«pending_places») (s .«pending_items»)) (sym (c .before .before .before .before .before .before .before .before .before .before .counts .ensures)) (sizes (c .before .before .before .before .before .before .before .before .before .before .before))
 
--- src/repeat.rt:198:13
 returns : tie.Need-returns Inv-loop μ-loop
 returns c = let a = c .before .before .before .before .before .before .before .before .before .before .before .before .before .before .args in
     c .before .before .once-server-sent .ensures ∙ sent-same (λ (q : Counts). serverSent (a .k) (serverOf q (a .t1 .items) (a .t1 .«pending_places») (a .t1 .«pending_items»))) (a .slot) (c .before .before .before .before .before .before .before .before .before .before .before .before .before .counts .ensures) (c .before .before .before .before .before .before .before .before .before .before .before .before .within .ensures)
 
--- src/repeat.rt:200:9
 add-i : tie.Need-add-i Inv-loop μ-loop
 add-i c = omega arith
 
--- src/repeat.rt:187:5
 loop-less : tie.Need-loop-less Inv-loop μ-loop
 loop-less c = omega arith
 
--- src/repeat.rt:187:5
 loop-again : tie.Need-loop-again Inv-loop μ-loop
 loop-again c = omega arith
 

@@ -10,71 +10,49 @@ use Rattle.turns.proofs.Turns.{room, full, bytes-are, client-changed, c
 use borrow.Author.Needs.{needs}
 use Rattle.turns.proofs.change_client.Statement.{statement}
 use Rattle.turns.proofs.change_client.Tie as tie
-use Rattle.turns.proofs.change_client.Reads as reads
-use Rattle.turns.proofs.change_client.Lts as lts
-use Rattle.calls.proofs.dump.put_answer.Reads as put-answer-reads
-use Rattle.calls.proofs.dump.put_client.Reads as put-client-reads
-use Rattle.turns.proofs.changed_client.Reads as changed-client-reads
-use Rattle.turns.proofs.held.Reads as held-reads
-use Rattle.turns.proofs.slot_of.Reads as slot-of-reads
 
--- src/lib.rt:137:19
 slot-of-requires : tie.Need-slot-of-requires
 slot-of-requires c κs = search needs
 
--- src/lib.rt:137:14
 mul-lo : tie.Need-mul-lo
 mul-lo c = search needs
 
--- src/lib.rt:138:59
 held-requires : tie.Need-held-requires
 held-requires c κs = search needs
 
--- src/lib.rt:138:54
 add-changed-client : tie.Need-add-changed-client
 add-changed-client c = search needs
 
--- src/lib.rt:138:43
 sub-changed-client : tie.Need-sub-changed-client
 sub-changed-client c = search needs
 
--- src/lib.rt:138:43
 part-changed-client-start : tie.Need-part-changed-client-start
 part-changed-client-start c = search needs
 
--- src/lib.rt:138:43
 part-changed-client-end : tie.Need-part-changed-client-end
 part-changed-client-end c = search needs
 
--- src/lib.rt:138:9
 changed-client-requires : tie.Need-changed-client-requires
 changed-client-requires c κs = search needs
 
--- src/lib.rt:139:5
 put-answer-requires : tie.Need-put-answer-requires
 put-answer-requires c κs = room (eqb (c .before .before .before .before .before .before .before .before .before .args .k .op) 8) 2572 _ _ (c .before .before .before .before .before .before .before .before .before .pre .2)
 
--- src/lib.rt:142:31
 add-put-client : tie.Need-add-put-client
 add-put-client c = let f = c .before .before .before .before .before .before .before .before .before .before .before .before .before .before .before .before .fits in let g = c .before .before .before .before .before .before .before .before .before .before .before .before .before .before .before .before .good in let r = room (eqb (c .before .before .before .before .before .before .before .before .before .before .before .before .before .before .before .before .args .k .op) 8) 2572 _ _ (c .before .before .before .before .before .before .before .before .before .before .before .before .before .before .before .before .pre .2) in omega arith
 
--- src/lib.rt:142:9
 put-client-requires : tie.Need-put-client-requires
 put-client-requires c κs = rw (put-length (c .before .before .before .before .before .before .put-answer .ensures)) (full (eqb (c .before .before .before .before .before .before .before .before .before .before .before .before .before .before .before .before .args .k .op) 8) 2572 _ _ (eq-eqb _ _ (c .before .if1 .taken)) (c .before .before .before .before .before .before .before .before .before .before .before .before .before .before .before .before .pre .2))
 
--- src/lib.rt:143:9
 same-length : tie.Need-same-length
 same-length c = search needs
 
--- src/lib.rt:143:9
 returns : tie.Need-returns
 returns c = client-dumped (c .before .before .before .before .before .before .before .before .before .before .before .before .before .before .before .before .before .before .before .args .k) (c .before .before .before .before .before .before .before .before .before .before .before .changed-client .result) _ (c .before .before .before .before .before .before .before .before .before .before .before .changed-client .ensures ∙ ap (λ (b : List ℕ). clientChanged (c .before .before .before .before .before .before .before .before .before .before .before .before .before .before .before .before .before .before .before .args .k) (front (c .before .before .before .before .before .before .before .before .before .before .before .before .before .before .before .before .before .before .before .args .k .number) (c .before .before .before .before .before .before .before .before .before .before .before .before .before .before .before .before .before .before .before .args .initial .now)) b (c .before .before .before .before .before .before .before .before .before .before .before .before .before .before .before .before .before .before .before .args .c)) (bytes-are (c .before .before .before .before .before .before .before .before .before .before .before .before .before .before .before .before .before .before .before .args .k) (c .before .before .before .before .before .before .before .before .before .before .before .before .before .before .before .before .before .before .before .args .slots .now) (c .before .before .before .before .before .before .before .before .before .before .before .before .before .before .before .before .before .before .before .args .lengths .now) (c .before .before .before .before .before .before .before .before .before .before .before .before .before .before .slot-of .result) (c .before .before .before .before .before .before .before .before .before .before .before .before .before .before .before .before .before .before .before .pre .0) (c .before .before .before .before .before .before .before .before .before .before .before .before .before .before .slot-of .ensures) (c .before .before .before .before .before .before .before .before .before .before .before .before .before .held .result) (c .before .before .before .before .before .before .before .before .before .before .before .before .before .held .ensures))) (c .before .before .before .before .before .before .before .before .before .put-answer .ensures) (eq-eqb _ _ (c .before .before .before .before .if1 .taken)) (c .before .before .put-client .ensures)
 
--- src/lib.rt:132:1
 same-length-2 : tie.Need-same-length-2
 same-length-2 c = search needs
 
--- src/lib.rt:132:1
 returns-2 : tie.Need-returns-2
 returns-2 c = client-changed (c .before .before .before .before .before .before .before .before .before .before .before .before .before .before .before .args .k) (c .before .before .before .before .before .before .before .changed-client .result) _ (c .before .before .before .before .before .before .before .changed-client .ensures ∙ ap (λ (b : List ℕ). clientChanged (c .before .before .before .before .before .before .before .before .before .before .before .before .before .before .before .args .k) (front (c .before .before .before .before .before .before .before .before .before .before .before .before .before .before .before .args .k .number) (c .before .before .before .before .before .before .before .before .before .before .before .before .before .before .before .args .initial .now)) b (c .before .before .before .before .before .before .before .before .before .before .before .before .before .before .before .args .c)) (bytes-are (c .before .before .before .before .before .before .before .before .before .before .before .before .before .before .before .args .k) (c .before .before .before .before .before .before .before .before .before .before .before .before .before .before .before .args .slots .now) (c .before .before .before .before .before .before .before .before .before .before .before .before .before .before .before .args .lengths .now) (c .before .before .before .before .before .before .before .before .before .before .slot-of .result) (c .before .before .before .before .before .before .before .before .before .before .before .before .before .before .before .pre .0) (c .before .before .before .before .before .before .before .before .before .before .slot-of .ensures) (c .before .before .before .before .before .before .before .before .before .held .result) (c .before .before .before .before .before .before .before .before .before .held .ensures))) (c .before .before .before .before .before .put-answer .ensures) (ne-eqb _ _ (c .if1 .left))
 

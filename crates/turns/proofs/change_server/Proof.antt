@@ -10,71 +10,49 @@ use Rattle.turns.proofs.Turns.{room, full, bytes-are, server-changed, s
 use borrow.Author.Needs.{needs}
 use Rattle.turns.proofs.change_server.Statement.{statement}
 use Rattle.turns.proofs.change_server.Tie as tie
-use Rattle.turns.proofs.change_server.Reads as reads
-use Rattle.turns.proofs.change_server.Lts as lts
-use Rattle.calls.proofs.dump.put_answer.Reads as put-answer-reads
-use Rattle.calls.proofs.dump.put_server.Reads as put-server-reads
-use Rattle.turns.proofs.changed_server.Reads as changed-server-reads
-use Rattle.turns.proofs.held.Reads as held-reads
-use Rattle.turns.proofs.slot_of.Reads as slot-of-reads
 
--- src/lib.rt:184:19
 slot-of-requires : tie.Need-slot-of-requires
 slot-of-requires c κs = search needs
 
--- src/lib.rt:184:14
 mul-lo : tie.Need-mul-lo
 mul-lo c = search needs
 
--- src/lib.rt:185:59
 held-requires : tie.Need-held-requires
 held-requires c κs = search needs
 
--- src/lib.rt:185:54
 add-changed-server : tie.Need-add-changed-server
 add-changed-server c = search needs
 
--- src/lib.rt:185:43
 sub-changed-server : tie.Need-sub-changed-server
 sub-changed-server c = search needs
 
--- src/lib.rt:185:43
 part-changed-server-start : tie.Need-part-changed-server-start
 part-changed-server-start c = search needs
 
--- src/lib.rt:185:43
 part-changed-server-end : tie.Need-part-changed-server-end
 part-changed-server-end c = search needs
 
--- src/lib.rt:185:9
 changed-server-requires : tie.Need-changed-server-requires
 changed-server-requires c κs = search needs
 
--- src/lib.rt:186:5
 put-answer-requires : tie.Need-put-answer-requires
 put-answer-requires c κs = room (eqb (c .before .before .before .before .before .before .before .before .before .args .k .op) 8) 6214 _ _ (c .before .before .before .before .before .before .before .before .before .pre .2)
 
--- src/lib.rt:189:31
 add-put-server : tie.Need-add-put-server
 add-put-server c = let f = c .before .before .before .before .before .before .before .before .before .before .before .before .before .before .before .before .fits in let g = c .before .before .before .before .before .before .before .before .before .before .before .before .before .before .before .before .good in let r = room (eqb (c .before .before .before .before .before .before .before .before .before .before .before .before .before .before .before .before .args .k .op) 8) 6214 _ _ (c .before .before .before .before .before .before .before .before .before .before .before .before .before .before .before .before .pre .2) in omega arith
 
--- src/lib.rt:189:9
 put-server-requires : tie.Need-put-server-requires
 put-server-requires c κs = rw (put-length (c .before .before .before .before .before .before .put-answer .ensures)) (full (eqb (c .before .before .before .before .before .before .before .before .before .before .before .before .before .before .before .before .args .k .op) 8) 6214 _ _ (eq-eqb _ _ (c .before .if1 .taken)) (c .before .before .before .before .before .before .before .before .before .before .before .before .before .before .before .before .pre .2))
 
--- src/lib.rt:190:9
 same-length : tie.Need-same-length
 same-length c = search needs
 
--- src/lib.rt:190:9
 returns : tie.Need-returns
 returns c = server-dumped (c .before .before .before .before .before .before .before .before .before .before .before .before .before .before .before .before .before .before .before .args .k) (c .before .before .before .before .before .before .before .before .before .before .before .changed-server .result) _ (c .before .before .before .before .before .before .before .before .before .before .before .changed-server .ensures ∙ ap (λ (b : List ℕ). serverChanged (c .before .before .before .before .before .before .before .before .before .before .before .before .before .before .before .before .before .before .before .args .k) (front (c .before .before .before .before .before .before .before .before .before .before .before .before .before .before .before .before .before .before .before .args .k .number) (c .before .before .before .before .before .before .before .before .before .before .before .before .before .before .before .before .before .before .before .args .initial .now)) b (c .before .before .before .before .before .before .before .before .before .before .before .before .before .before .before .before .before .before .before .args .s)) (bytes-are (c .before .before .before .before .before .before .before .before .before .before .before .before .before .before .before .before .before .before .before .args .k) (c .before .before .before .before .before .before .before .before .before .before .before .before .before .before .before .before .before .before .before .args .slots .now) (c .before .before .before .before .before .before .before .before .before .before .before .before .before .before .before .before .before .before .before .args .lengths .now) (c .before .before .before .before .before .before .before .before .before .before .before .before .before .before .slot-of .result) (c .before .before .before .before .before .before .before .before .before .before .before .before .before .before .before .before .before .before .before .pre .0) (c .before .before .before .before .before .before .before .before .before .before .before .before .before .before .slot-of .ensures) (c .before .before .before .before .before .before .before .before .before .before .before .before .before .held .result) (c .before .before .before .before .before .before .before .before .before .before .before .before .before .held .ensures))) (c .before .before .before .before .before .before .before .before .before .put-answer .ensures) (eq-eqb _ _ (c .before .before .before .before .if1 .taken)) (c .before .before .put-server .ensures)
 
--- src/lib.rt:179:1
 same-length-2 : tie.Need-same-length-2
 same-length-2 c = search needs
 
--- src/lib.rt:179:1
 returns-2 : tie.Need-returns-2
 returns-2 c = server-changed (c .before .before .before .before .before .before .before .before .before .before .before .before .before .before .before .args .k) (c .before .before .before .before .before .before .before .changed-server .result) _ (c .before .before .before .before .before .before .before .changed-server .ensures ∙ ap (λ (b : List ℕ). serverChanged (c .before .before .before .before .before .before .before .before .before .before .before .before .before .before .before .args .k) (front (c .before .before .before .before .before .before .before .before .before .before .before .before .before .before .before .args .k .number) (c .before .before .before .before .before .before .before .before .before .before .before .before .before .before .before .args .initial .now)) b (c .before .before .before .before .before .before .before .before .before .before .before .before .before .before .before .args .s)) (bytes-are (c .before .before .before .before .before .before .before .before .before .before .before .before .before .before .before .args .k) (c .before .before .before .before .before .before .before .before .before .before .before .before .before .before .before .args .slots .now) (c .before .before .before .before .before .before .before .before .before .before .before .before .before .before .before .args .lengths .now) (c .before .before .before .before .before .before .before .before .before .before .slot-of .result) (c .before .before .before .before .before .before .before .before .before .before .before .before .before .before .before .pre .0) (c .before .before .before .before .before .before .before .before .before .before .slot-of .ensures) (c .before .before .before .before .before .before .before .before .before .held .result) (c .before .before .before .before .before .before .before .before .before .held .ensures))) (c .before .before .before .before .before .put-answer .ensures) (ne-eqb _ _ (c .if1 .left))
 

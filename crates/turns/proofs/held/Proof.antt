@@ -4,24 +4,16 @@ use lib.ListN.{getD}
 use borrow.Author.Needs.{needs}
 use Rattle.turns.proofs.held.Statement.{statement}
 use Rattle.turns.proofs.held.Tie as tie
-use Rattle.turns.proofs.held.Reads as reads
-use Rattle.turns.proofs.held.Lts as lts
-use Rattle.turns.proofs.slot_of.Reads as slot-of-reads
-use Rattle.turns.proofs.within.Reads as within-reads
 
--- src/lib.rt:42:20
 slot-of-requires : tie.Need-slot-of-requires
 slot-of-requires c κs = search needs
 
--- src/lib.rt:42:12
 shared-slice-read-within : tie.Need-shared-slice-read-within
 shared-slice-read-within c = search needs
 
--- src/lib.rt:42:5
 within-requires : tie.Need-within-requires
 within-requires c κs = search needs
 
--- src/lib.rt:38:1
 returns : tie.Need-returns
 returns c = c .within .ensures ∙ ap (λ (j : ℕ). min (getD (c .before .before .before .before .args .lengths .now) j 0) 20) (c .before .before .slot-of .ensures)
 

@@ -2,18 +2,13 @@ use borrow.Author.Tests.{eq-eqb, ne-eqb}
 use borrow.Author.Needs.{needs}
 use Rattle.turns.proofs.length_after.Statement.{statement}
 use Rattle.turns.proofs.length_after.Tie as tie
-use Rattle.turns.proofs.length_after.Reads as reads
-use Rattle.turns.proofs.length_after.Lts as lts
 
--- src/lib.rt:41:16
 cast-result : tie.Need-cast-result
 cast-result c = search needs
 
--- src/lib.rt:41:9
 returns : tie.Need-returns
 returns c = simp (eq-eqb _ _ (c .before .if1 .taken))
 
--- src/lib.rt:37:1
 returns-2 : tie.Need-returns-2
 returns-2 c = simp (ne-eqb _ _ (c .if1 .left))
 

@@ -6,28 +6,19 @@ use Rattle.turns.proofs.Turns.{front-length}
 use borrow.Author.Needs.{needs}
 use Rattle.turns.proofs.open_client.Statement.{statement}
 use Rattle.turns.proofs.open_client.Tie as tie
-use Rattle.turns.proofs.open_client.Reads as reads
-use Rattle.turns.proofs.open_client.Lts as lts
-use Rattle.client.proofs.Client.open.Reads as open-reads
-use Rattle.turns.proofs.least.Reads as least-reads
 
--- src/lib.rt:113:19
 cast-least : tie.Need-cast-least
 cast-least c = search needs
 
--- src/lib.rt:113:9
 least-requires : tie.Need-least-requires
 least-requires c κs = search needs
 
--- src/lib.rt:114:34
 slice-aggregate-open : tie.Need-slice-aggregate-open
 slice-aggregate-open c = front-length (c .before .before .before .before .args .initial .now) (c .before .before .before .before .args .k .number) (c .before .least .ensures)
 
--- src/lib.rt:114:5
 open-requires : tie.Need-open-requires
 open-requires c κs = search needs
 
--- src/lib.rt:110:1
 returns : tie.Need-returns
 returns c = c .«open» .ensures ∙ ap (λ (n : ℕ). client.opened (c .before .before .before .before .before .args .k .size) (c .before .before .before .before .before .args .k .line) (take n (c .before .before .before .before .before .args .initial .now))) (c .before .before .least .ensures)
 

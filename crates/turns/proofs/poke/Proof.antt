@@ -3,22 +3,16 @@ use lib.Seq.{set-out}
 use borrow.Author.Needs.{needs}
 use Rattle.turns.proofs.poke.Statement.{statement}
 use Rattle.turns.proofs.poke.Tie as tie
-use Rattle.turns.proofs.poke.Reads as reads
-use Rattle.turns.proofs.poke.Lts as lts
 
--- src/lib.rt:183:9
 slice-write-slot : tie.Need-slice-write-slot
 slice-write-slot c = search needs
 
--- src/lib.rt:179:1
 same-length : tie.Need-same-length
 same-length c = search needs
 
--- src/lib.rt:179:1
 returns : tie.Need-returns
 returns c = search needs
 
--- src/lib.rt:179:1
 returns-2 : tie.Need-returns-2
 returns-2 c = sym (set-out _ _ _ (c .if1 .left))
 

@@ -4,99 +4,70 @@ use Rattle.turns.proofs.Turns.{sent-turned, client-edit, client-ack}
 use borrow.Author.Needs.{needs}
 use Rattle.turns.proofs.send_client.Statement.{statement}
 use Rattle.turns.proofs.send_client.Tie as tie
-use Rattle.turns.proofs.send_client.Reads as reads
-use Rattle.turns.proofs.send_client.Lts as lts
-use Rattle.client.proofs.Client.send.Reads as send-reads
-use Rattle.client.proofs.Client.tell.Reads as tell-reads
-use Rattle.turns.proofs.within.Reads as within-reads
-use Rattle.turns.proofs.put_sent.Reads as put-sent-reads
-use Rattle.turns.proofs.slot_of.Reads as slot-of-reads
 
--- src/lib.rt:71:19
 slot-of-requires : tie.Need-slot-of-requires
 slot-of-requires c κs = search needs
 
--- src/lib.rt:71:14
 mul-lo : tie.Need-mul-lo
 mul-lo c = search needs
 
--- src/lib.rt:72:19
 within-requires : tie.Need-within-requires
 within-requires c κs = search needs
 
--- src/lib.rt:72:14
 add-hi : tie.Need-add-hi
 add-hi c = search needs
 
--- src/lib.rt:74:42
 sub-send : tie.Need-sub-send
 sub-send c = search needs
 
--- src/lib.rt:74:42
 part-send-start : tie.Need-part-send-start
 part-send-start c = search needs
 
--- src/lib.rt:74:42
 part-send-end : tie.Need-part-send-end
 part-send-end c = search needs
 
--- src/lib.rt:74:13
 send-requires : tie.Need-send-requires
 send-requires c κs = search needs
 
--- src/lib.rt:75:9
 put-sent-requires : tie.Need-put-sent-requires
 put-sent-requires c κs = search needs
 
--- src/lib.rt:76:9
 same-length : tie.Need-same-length
 same-length c = search needs
 
--- src/lib.rt:76:9
 same-length-2 : tie.Need-same-length-2
 same-length-2 c = search needs
 
--- src/lib.rt:76:9
 same-length-3 : tie.Need-same-length-3
 same-length-3 c = search needs
 
--- src/lib.rt:76:9
 returns : tie.Need-returns
 returns c = sent-turned (c .before .before .before .before .before .before .before .before .before .before .before .before .before .before .before .before .before .before .args .k) (c .before .before .before .before .before .before .before .before .before .before .before .before .before .before .before .before .before .before .args .slots .now) (c .before .before .before .before .before .before .before .before .before .before .before .before .before .before .before .before .before .before .args .lengths .now) (c .before .before .before .before .before .before .before .before .before .before .before .before .before .before .slot-of .result) (c .before .before .before .before .before .before .before .before .before .before .before .before .before .before .before .before .before .before .pre .0) (c .before .before .before .before .before .before .before .before .before .before .before .before .before .before .slot-of .ensures) (clientSent (c .before .before .before .before .before .before .before .before .before .before .before .before .before .before .before .before .before .before .args .k) (c .before .before .before .before .before .before .before .before .before .before .before .before .before .before .before .before .before .before .args .c)) (c .before .before .before .before .before .before .before .before .before .send .result) _ (c .before .before .before .before .before .before .before .before .before .before .before .before .before .within .result) (c .before .before .before .before .before .before .before .before .before .before .before .before .before .within .ensures) (c .before .before .before .before .before .before .before .before .before .send .ensures ∙ client-edit (c .before .before .before .before .before .before .before .before .before .before .before .before .before .before .before .before .before .before .args .k) (c .before .before .before .before .before .before .before .before .before .before .before .before .before .before .before .before .before .before .args .c) _ (c .before .before .before .before .before .before .before .before .before .before .before .if1 .taken)) (c .before .before .before .before .put-sent .ensures .0) (c .before .before .before .before .put-sent .ensures .1)
 
--- src/lib.rt:78:28
 sub-tell : tie.Need-sub-tell
 sub-tell c = search needs
 
--- src/lib.rt:78:28
 part-tell-start : tie.Need-part-tell-start
 part-tell-start c = search needs
 
--- src/lib.rt:78:28
 part-tell-end : tie.Need-part-tell-end
 part-tell-end c = search needs
 
--- src/lib.rt:78:9
 tell-requires : tie.Need-tell-requires
 tell-requires c κs = search needs
 
--- src/lib.rt:79:5
 put-sent-requires-2 : tie.Need-put-sent-requires-2
 put-sent-requires-2 c κs = search needs
 
--- src/lib.rt:67:1
 same-length-4 : tie.Need-same-length-4
 same-length-4 c = search needs
 
--- src/lib.rt:67:1
 same-length-5 : tie.Need-same-length-5
 same-length-5 c = search needs
 
--- src/lib.rt:67:1
 same-length-6 : tie.Need-same-length-6
 same-length-6 c = search needs
 
--- src/lib.rt:67:1
 returns-2 : tie.Need-returns-2
 returns-2 c = sent-turned (c .before .before .before .before .before .before .before .before .before .before .before .before .before .before .before .before .before .before .args .k) (c .before .before .before .before .before .before .before .before .before .before .before .before .before .before .before .before .before .before .args .slots .now) (c .before .before .before .before .before .before .before .before .before .before .before .before .before .before .before .before .before .before .args .lengths .now) (c .before .before .before .before .before .before .before .before .before .before .before .before .before .before .slot-of .result) (c .before .before .before .before .before .before .before .before .before .before .before .before .before .before .before .before .before .before .pre .0) (c .before .before .before .before .before .before .before .before .before .before .before .before .before .before .slot-of .ensures) (clientSent (c .before .before .before .before .before .before .before .before .before .before .before .before .before .before .before .before .before .before .args .k) (c .before .before .before .before .before .before .before .before .before .before .before .before .before .before .before .before .before .before .args .c)) (c .before .before .before .before .before .before .before .before .before .tell .result) _ (c .before .before .before .before .before .before .before .before .before .before .before .before .before .within .result) (c .before .before .before .before .before .before .before .before .before .before .before .before .before .within .ensures) (c .before .before .before .before .before .before .before .before .before .tell .ensures ∙ client-ack (c .before .before .before .before .before .before .before .before .before .before .before .before .before .before .before .before .before .before .args .k) (c .before .before .before .before .before .before .before .before .before .before .before .before .before .before .before .before .before .before .args .c) _ (c .before .before .before .before .before .before .before .before .before .before .before .if1 .left)) (c .before .before .before .before .put-sent2 .ensures .0) (c .before .before .before .before .put-sent2 .ensures .1)
 

@@ -3,69 +3,49 @@ use Rattle.turns.proofs.Turns.{slot-room, slot-full, slot-shown, slot-p
 use borrow.Author.Needs.{needs}
 use Rattle.turns.proofs.slot_turn.Statement.{statement}
 use Rattle.turns.proofs.slot_turn.Tie as tie
-use Rattle.turns.proofs.slot_turn.Reads as reads
-use Rattle.turns.proofs.slot_turn.Lts as lts
-use Rattle.calls.proofs.dump.put_answer.Reads as put-answer-reads
-use Rattle.calls.proofs.dump.put_slot.Reads as put-slot-reads
-use Rattle.turns.proofs.poke.Reads as poke-reads
 
--- src/lib.rt:193:9
 put-answer-requires : tie.Need-put-answer-requires
 put-answer-requires c κs = slot-room (c .before .before .before .before .args .k) (c .before .before .before .before .args .place) _ _ (c .before .before .before .before .pre .1)
 
--- src/lib.rt:195:33
 add-put-slot : tie.Need-add-put-slot
 add-put-slot c = search needs
 
--- src/lib.rt:195:13
 put-slot-requires : tie.Need-put-slot-requires
 put-slot-requires c κs = (c .before .before .before .before .before .before .before .before .before .before .before .pre .0, rw (put-length (c .before .before .before .before .before .before .put-answer .ensures)) (slot-full (c .before .before .before .before .before .before .before .before .before .before .before .args .k) (c .before .before .before .before .before .before .before .before .before .before .before .args .place) _ _ (c .before .before .before .before .before .before .before .before .if1 .taken) (c .before .before .if2 .taken) (c .before .before .before .before .before .before .before .before .before .before .before .pre .1)))
 
--- src/lib.rt:196:13
 same-length : tie.Need-same-length
 same-length c = search needs
 
--- src/lib.rt:196:13
 same-length-2 : tie.Need-same-length-2
 same-length-2 c = search needs
 
--- src/lib.rt:196:13
 returns : tie.Need-returns
 returns c = slot-shown (c .before .before .before .before .before .before .before .before .before .before .before .before .before .before .args .k) (c .before .before .before .before .before .before .before .before .before .before .before .before .before .before .args .place) (c .before .before .before .before .before .before .before .before .before .before .before .before .before .before .args .len) (c .before .before .before .before .before .before .before .before .before .before .before .before .before .before .args .slot .now) (c .before .before .before .before .before .before .before .before .before .before .before .if1 .taken) (c .before .before .before .before .before .if2 .taken) (c .before .before .before .before .before .before .before .before .before .put-answer .ensures) (c .before .before .put-slot .ensures)
 
--- src/lib.rt:198:20
 cast-poke : tie.Need-cast-poke
 cast-poke c = search needs
 
--- src/lib.rt:198:39
 cast-poke-2 : tie.Need-cast-poke-2
 cast-poke-2 c = search needs
 
--- src/lib.rt:198:9
 poke-requires : tie.Need-poke-requires
 poke-requires c κs = search needs
 
--- src/lib.rt:199:9
 same-length-3 : tie.Need-same-length-3
 same-length-3 c = search needs
 
--- src/lib.rt:199:9
 same-length-4 : tie.Need-same-length-4
 same-length-4 c = search needs
 
--- src/lib.rt:199:9
 returns-2 : tie.Need-returns-2
 returns-2 c = slot-poked (c .before .before .before .before .before .before .before .before .before .before .before .before .before .before .before .args .k) (c .before .before .before .before .before .before .before .before .before .before .before .before .before .before .before .args .place) (c .before .before .before .before .before .before .before .before .before .before .before .before .before .before .before .args .len) (c .before .before .before .before .before .before .before .before .before .before .before .before .before .before .before .args .slot .now) (c .before .before .before .before .before .before .before .before .before .before .before .before .if1 .taken) (c .before .before .before .before .before .before .if2 .left) (c .before .before .before .before .before .before .before .before .before .before .put-answer .ensures) (c .before .before .poke .ensures)
 
--- src/lib.rt:201:5
 put-answer-requires-2 : tie.Need-put-answer-requires-2
 put-answer-requires-2 c κs = slot-room (c .before .before .before .before .args .k) (c .before .before .before .before .args .place) _ _ (c .before .before .before .before .pre .1)
 
--- src/lib.rt:188:1
 same-length-5 : tie.Need-same-length-5
 same-length-5 c = search needs
 
--- src/lib.rt:188:1
 returns-3 : tie.Need-returns-3
 returns-3 c = slot-no-call (c .before .before .before .before .before .before .before .args .k) (c .before .before .before .before .before .before .before .args .place) (c .before .before .before .before .before .before .before .args .len) (c .before .before .before .before .before .before .before .args .slot .now) (c .before .before .before .before .if1 .left) (c .before .before .put-answer2 .ensures)
 

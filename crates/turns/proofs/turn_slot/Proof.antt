@@ -2,60 +2,43 @@ use Rattle.turns.proofs.Turns.{slot-turned}
 use borrow.Author.Needs.{needs}
 use Rattle.turns.proofs.turn_slot.Statement.{statement}
 use Rattle.turns.proofs.turn_slot.Tie as tie
-use Rattle.turns.proofs.turn_slot.Reads as reads
-use Rattle.turns.proofs.turn_slot.Lts as lts
-use Rattle.turns.proofs.slot_of.Reads as slot-of-reads
-use Rattle.turns.proofs.slot_turn.Reads as slot-turn-reads
 
--- src/lib.rt:227:9
 slot-of-requires : tie.Need-slot-of-requires
 slot-of-requires c κs = search needs
 
--- src/lib.rt:228:14
 mul-lo : tie.Need-mul-lo
 mul-lo c = search needs
 
--- src/lib.rt:229:38
 slice-read-slot-turn : tie.Need-slice-read-slot-turn
 slice-read-slot-turn c = search needs
 
--- src/lib.rt:229:65
 add-slot-turn : tie.Need-add-slot-turn
 add-slot-turn c = search needs
 
--- src/lib.rt:229:50
 sub-slot-turn : tie.Need-sub-slot-turn
 sub-slot-turn c = search needs
 
--- src/lib.rt:229:50
 part-slot-turn-start : tie.Need-part-slot-turn-start
 part-slot-turn-start c = search needs
 
--- src/lib.rt:229:50
 part-slot-turn-end : tie.Need-part-slot-turn-end
 part-slot-turn-end c = search needs
 
--- src/lib.rt:229:18
 slot-turn-requires : tie.Need-slot-turn-requires
 slot-turn-requires c κs = search needs
 
--- src/lib.rt:229:5
 slice-write-lengths : tie.Need-slice-write-lengths
 slice-write-lengths c = search needs
 
--- src/lib.rt:223:1
 same-length : tie.Need-same-length
 same-length c = search needs
 
--- src/lib.rt:223:1
 same-length-2 : tie.Need-same-length-2
 same-length-2 c = search needs
 
--- src/lib.rt:223:1
 same-length-3 : tie.Need-same-length-3
 same-length-3 c = search needs
 
--- src/lib.rt:223:1
 returns : tie.Need-returns
 returns c = slot-turned (c .before .before .before .before .before .before .before .before .before .before .before .before .args .k) (c .before .before .before .before .before .before .before .before .before .before .before .before .args .place) (c .before .before .before .before .before .before .before .before .before .before .before .before .args .slots .now) (c .before .before .before .before .before .before .before .before .before .before .before .before .args .lengths .now) (c .before .before .before .before .before .before .before .before .slot-of .result) (c .before .before .before .before .before .before .before .before .slot-of .ensures) (c .before .before .before .before .slot-turn .ensures)
 

@@ -9,10 +9,6 @@ use Rattle.client.specs.declared.Client.{Client}
 use Rattle.bench.proofs.Beside.{put-is, Filling, filling-start, filling-turn, filling-end}
 use Rattle.bench.proofs.bays.fill.Statement.{statement}
 use Rattle.bench.proofs.bays.fill.Tie as tie
-use Rattle.bench.proofs.bays.fill.Reads as reads
-use Rattle.bench.proofs.bays.fill.Lts as lts
-use Rattle.bench.proofs.bays.put_at.Reads as put-at-reads
-use Rattle.client.proofs.Client.counts.Reads as counts-reads
 
 abbrev noClient : Client
 noClient = record { n = 0; line = 0; made = 0; taken = 0; acked = 0; inserts = 0; len = 0; items = []; «pending_places» = []; «pending_items» = [] }
@@ -28,79 +24,60 @@ abbrev μ-loop : tie.MeasureT-loop
 eight : (c : tie.Start Inv-loop μ-loop) → length (c .args .t1) ≡ 8
 eight c = search needs
 
--- src/bays.rt:45:5
 loop-holds : tie.Need-loop-holds Inv-loop μ-loop
 loop-holds c = filling-start (c .before .before .before .args .t1) _ _ _ _ (record { counts-size = refl; items-size = c .before .before .before .pre .items-size; places-size = c .before .before .before .pre .places-size; pending-size = c .before .before .before .pre .pending-size })
 
--- src/bays.rt:46:17
 mul-c : tie.Need-mul-c Inv-loop μ-loop
 mul-c c = search needs
 
--- src/bays.rt:46:17
 array-copy-out-c : tie.Need-array-copy-out-c Inv-loop μ-loop
 array-copy-out-c c = search needs
 
--- src/bays.rt:47:21
 counts-requires : tie.Need-counts-requires Inv-loop μ-loop
 counts-requires c κs = search needs
 
--- src/bays.rt:47:9
 mul-counts : tie.Need-mul-counts Inv-loop μ-loop
 mul-counts c = search needs
 
--- src/bays.rt:47:9
 array-set-from-counts : tie.Need-array-set-from-counts Inv-loop μ-loop
 array-set-from-counts c = search needs
 
--- src/bays.rt:48:23
 mul-put-at : tie.Need-mul-put-at Inv-loop μ-loop
 mul-put-at c = search needs
 
--- src/bays.rt:48:9
 put-at-requires : tie.Need-put-at-requires Inv-loop μ-loop
 put-at-requires c κs = omega (arith, c .put-at-arg3 .given .0, c .before .before .before .before .before .before .before .loop .inv .laid .items-size)
 
--- src/bays.rt:49:24
 mul-put-at-2 : tie.Need-mul-put-at-2 Inv-loop μ-loop
 mul-put-at-2 c = search needs
 
--- src/bays.rt:49:9
 put-at-requires-2 : tie.Need-put-at-requires-2 Inv-loop μ-loop
 put-at-requires-2 c κs = omega (arith, c .put-at-arg6 .given .0, c .before .before .before .before .before .before .before .before .before .before .before .before .before .before .loop .inv .laid .places-size)
 
--- src/bays.rt:50:25
 mul-put-at-3 : tie.Need-mul-put-at-3 Inv-loop μ-loop
 mul-put-at-3 c = search needs
 
--- src/bays.rt:50:9
 put-at-requires-3 : tie.Need-put-at-requires-3 Inv-loop μ-loop
 put-at-requires-3 c κs = omega (arith, c .put-at-arg9 .given .0, c .before .before .before .before .before .before .before .before .before .before .before .before .before .before .before .before .before .before .before .before .before .loop .inv .laid .pending-size)
 
--- src/bays.rt:45:9
 add-j : tie.Need-add-j Inv-loop μ-loop
 add-j c = omega arith
 
--- src/bays.rt:45:5
 loop-less : tie.Need-loop-less Inv-loop μ-loop
 loop-less c = omega arith
 
--- src/bays.rt:45:5
 loop-again : tie.Need-loop-again Inv-loop μ-loop
 loop-again c = let l = c .before .before .before .before .before .before .before .before .before .before .before .before .before .before .before .before .before .before .before .before .before .before .before .before .loop in let k = c .before .before .before .before .before .before .before .before .before .before .before .before .before .before .before .before .before .before .before .before .before .counts in let v : Client = getD (c .before .before .before .before .before .before .before .before .before .before .before .before .before .before .before .before .before .before .before .before .before .before .before .before .before .before .before .before .args .t1) (l .j) noClient in filling-turn (c .before .before .before .before .before .before .before .before .before .before .before .before .before .before .before .before .before .before .before .before .before .before .before .before .before .before .before .before .args .t1) (eight (c .before .before .before .before .before .before .before .before .before .before .before .before .before .before .before .before .before .before .before .before .before .before .before .before .before .before .before .before)) (l .counts) (k .result) (l .items) _ (l .places) _ (l .pending) _ (l .j) v noClient (omega arith) refl (k .ensures) (l .inv) (put-is 512 (l .j) (l .items) _ (v .items) (c .before .before .before .before .before .before .before .before .before .before .before .before .before .before .before .before .before .put-at-arg3 .given .0) (omega (arith, l .inv .laid .items-size)) (c .before .before .before .before .before .before .before .before .before .before .before .before .before .before .before .before .put-at .ensures)) (put-is 64 (l .j) (l .places) _ (v .«pending_places») (c .before .before .before .before .before .before .before .before .before .before .put-at-arg6 .given .0) (omega (arith, l .inv .laid .places-size)) (c .before .before .before .before .before .before .before .before .before .put-at2 .ensures)) (put-is 64 (l .j) (l .pending) _ (v .«pending_items») (c .before .before .before .put-at-arg9 .given .0) (omega (arith, l .inv .laid .pending-size)) (c .before .before .put-at3 .ensures))
 
--- src/bays.rt:39:1
 same-length : tie.Need-same-length Inv-loop μ-loop
 same-length c = c .before .loop .inv .laid .items-size ∙ sym (c .before .before .before .before .before .pre .items-size)
 
--- src/bays.rt:39:1
 same-length-2 : tie.Need-same-length-2 Inv-loop μ-loop
 same-length-2 c = c .before .loop .inv .laid .places-size ∙ sym (c .before .before .before .before .before .pre .places-size)
 
--- src/bays.rt:39:1
 same-length-3 : tie.Need-same-length-3 Inv-loop μ-loop
 same-length-3 c = c .before .loop .inv .laid .pending-size ∙ sym (c .before .before .before .before .before .pre .pending-size)
 
--- src/bays.rt:39:1
 returns : tie.Need-returns Inv-loop μ-loop
 returns c = record { laid = c .before .loop .inv .laid; standing = filling-end (c .before .before .before .before .before .args .t1) (eight (c .before .before .before .before .before)) (c .before .loop .counts) (c .before .loop .items) (c .before .loop .places) (c .before .loop .pending) (c .before .loop .j) (omega arith) (c .before .loop .inv) }
 

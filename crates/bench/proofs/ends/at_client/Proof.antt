@@ -4,53 +4,37 @@ use Rattle.bench.proofs.Structs.{changed-edit, changed-take}
 use borrow.Author.Needs.{needs}
 use Rattle.bench.proofs.ends.at_client.Statement.{statement}
 use Rattle.bench.proofs.ends.at_client.Tie as tie
-use Rattle.bench.proofs.ends.at_client.Reads as reads
-use Rattle.bench.proofs.ends.at_client.Lts as lts
-use Rattle.bench.proofs.ends.change_of.Reads as change-of-reads
-use Rattle.client.proofs.editing.edit_lent.Reads as edit-lent-reads
-use Rattle.client.proofs.taking.take_lent.Reads as take-lent-reads
 
--- src/ends.rt:92:70
 change-of-requires : tie.Need-change-of-requires
 change-of-requires c κs = search needs
 
--- src/ends.rt:92:9
 edit-lent-requires : tie.Need-edit-lent-requires
 edit-lent-requires c κs = c .before .before .before .before .before .before .before .before .before .before .before .pre
 
--- src/ends.rt:92:9
 same-length : tie.Need-same-length
 same-length c = c .before .before .before .before .before .before .edit-lent .kept .1 .0
 
--- src/ends.rt:92:9
 same-length-2 : tie.Need-same-length-2
 same-length-2 c = c .before .before .before .before .before .before .edit-lent .kept .1 .1 .0
 
--- src/ends.rt:92:9
 same-length-3 : tie.Need-same-length-3
 same-length-3 c = c .before .before .before .before .before .before .edit-lent .kept .1 .1 .1 .0
 
--- src/ends.rt:92:9
 returns : tie.Need-returns
 returns c = let a = c .before .before .before .before .before .before .before .before .before .before .before .before .before .before .before .before .before .before .args in let t = c .before .before .before .before .before .before .edit-lent in changed-edit (clientOf (a .c) (now (a .items)) (now (a .places)) (now (a .pending))) (a .o) (now (a .bytes)) (t .result) (t .last .1 .0) (t .last .1 .1 .0) (t .last .1 .1 .1 .0) (c .before .before .before .before .before .before .before .change-of .result) (t .ensures) (c .before .before .before .before .before .before .before .change-of .ensures) (c .before .before .before .before .before .before .before .before .before .before .before .if1 .taken)
 
--- src/ends.rt:94:5
 take-lent-requires : tie.Need-take-lent-requires
 take-lent-requires c κs = c .before .before .before .before .before .before .before .before .before .before .pre
 
--- src/ends.rt:80:1
 same-length-4 : tie.Need-same-length-4
 same-length-4 c = c .before .before .before .before .before .before .take-lent .kept .1 .0
 
--- src/ends.rt:80:1
 same-length-5 : tie.Need-same-length-5
 same-length-5 c = c .before .before .before .before .before .before .take-lent .kept .1 .1 .0
 
--- src/ends.rt:80:1
 same-length-6 : tie.Need-same-length-6
 same-length-6 c = c .before .before .before .before .before .before .take-lent .kept .1 .1 .1 .0
 
--- src/ends.rt:80:1
 returns-2 : tie.Need-returns-2
 returns-2 c = let a = c .before .before .before .before .before .before .before .before .before .before .before .before .before .before .before .before .before .args in let t = c .before .before .before .before .before .before .take-lent in changed-take (clientOf (a .c) (now (a .items)) (now (a .places)) (now (a .pending))) (a .o) (now (a .bytes)) (t .result) (t .last .1 .0) (t .last .1 .1 .0) (t .last .1 .1 .1 .0) (t .ensures) (c .before .before .before .before .before .before .before .before .before .before .if1 .left)
 

@@ -3,15 +3,11 @@ use borrow.Author.Tests.{eq-eqb, ne-eqb}
 use Rattle.bench.specs.Ends.{changeOf}
 use Rattle.bench.proofs.ends.change_of.Statement.{statement}
 use Rattle.bench.proofs.ends.change_of.Tie as tie
-use Rattle.bench.proofs.ends.change_of.Reads as reads
-use Rattle.bench.proofs.ends.change_of.Lts as lts
 
--- src/ends.rt:74:9
 returns : tie.Need-returns
 unfolding changeOf
 returns c = rw (eq-eqb (c .before .before .args .o .verb) 1 (c .if1 .taken)) refl
 
--- src/ends.rt:70:1
 returns-2 : tie.Need-returns-2
 unfolding changeOf
 returns-2 c = rw (ne-eqb (c .before .before .args .o .verb) 1 (c .if1 .left)) refl

@@ -1,15 +1,10 @@
 use borrow.Author.Needs.{needs}
 use Rattle.calls.proofs.call.can_repeat.Statement.{statement}
 use Rattle.calls.proofs.call.can_repeat.Tie as tie
-use Rattle.calls.proofs.call.can_repeat.Reads as reads
-use Rattle.calls.proofs.call.can_repeat.Lts as lts
-use Rattle.calls.proofs.call.is_call.Reads as is-call-reads
 
--- src/call.rt:174:5
 is-call-requires : tie.Need-is-call-requires
 is-call-requires c κs = search needs
 
--- src/call.rt:171:1
 returns : tie.Need-returns
 returns c = simp (c .before .before .is-call .ensures)
 

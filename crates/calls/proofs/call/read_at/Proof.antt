@@ -4,27 +4,19 @@ use Rattle.calls.proofs.Bytes.{whole-drop}
 use borrow.Author.Needs.{needs}
 use Rattle.calls.proofs.call.read_at.Statement.{statement}
 use Rattle.calls.proofs.call.read_at.Tie as tie
-use Rattle.calls.proofs.call.read_at.Reads as reads
-use Rattle.calls.proofs.call.read_at.Lts as lts
-use Rattle.calls.proofs.call.read.Reads as read-reads
 
--- src/call.rt:67:10
 sub-read : tie.Need-sub-read
 sub-read c = search needs
 
--- src/call.rt:67:10
 part-read-start : tie.Need-part-read-start
 part-read-start c = search needs
 
--- src/call.rt:67:10
 part-read-end : tie.Need-part-read-end
 part-read-end c = search needs
 
--- src/call.rt:67:5
 read-requires : tie.Need-read-requires
 read-requires c κs = search needs
 
--- src/call.rt:63:1
 returns : tie.Need-returns
 returns c = c .read .ensures ∙ ap callOf (whole-drop (c .before .before .before .args .s .now) (c .before .before .before .args .at))
 

@@ -3,41 +3,28 @@ use Rattle.calls.proofs.Bytes.{put-more, put-size}
 use borrow.Author.Needs.{needs}
 use Rattle.calls.proofs.dump.put_client.Statement.{statement}
 use Rattle.calls.proofs.dump.put_client.Tie as tie
-use Rattle.calls.proofs.dump.put_client.Reads as reads
-use Rattle.calls.proofs.dump.put_client.Lts as lts
-use Rattle.calls.proofs.dump.put_answer.Reads as put-answer-reads
-use Rattle.calls.proofs.dump.put_arrays.Reads as put-arrays-reads
-use Rattle.calls.proofs.dump.put_twos.Reads as put-twos-reads
 
--- src/dump.rt:101:5
 put-answer-requires : tie.Need-put-answer-requires
 put-answer-requires c κs = search needs
 
--- src/dump.rt:103:19
 add-put-twos : tie.Need-add-put-twos
 add-put-twos c = search needs
 
--- src/dump.rt:103:27
 slice-aggregate-put-twos : tie.Need-slice-aggregate-put-twos
 slice-aggregate-put-twos c = search needs
 
--- src/dump.rt:103:5
 put-twos-requires : tie.Need-put-twos-requires
 put-twos-requires c κs = search needs
 
--- src/dump.rt:104:21
 add-put-arrays : tie.Need-add-put-arrays
 add-put-arrays c = search needs
 
--- src/dump.rt:104:5
 put-arrays-requires : tie.Need-put-arrays-requires
 put-arrays-requires c κs = search needs
 
--- src/dump.rt:97:1
 same-length : tie.Need-same-length
 same-length c = search needs
 
--- src/dump.rt:97:1
 returns : tie.Need-returns
 unfolding clientBytes each
 returns c = put-more (put-more (c .before .before .before .before .before .before .before .before .before .before .before .before .before .before .before .before .before .before .put-answer .ensures) (put-size 8 (search needs) (c .before .before .before .before .before .before .before .before .before .before .before .before .before .put-twos .ensures))) (put-size 2560 (search needs) (c .before .before .put-arrays .ensures))

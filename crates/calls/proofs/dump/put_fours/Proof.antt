@@ -9,9 +9,6 @@ use Rattle.calls.proofs.Bytes.{put-length, each-none, each-turn, each-e
 use Rattle.wire.specs.Bytes.{four}
 use Rattle.calls.proofs.dump.put_fours.Statement.{statement}
 use Rattle.calls.proofs.dump.put_fours.Tie as tie
-use Rattle.calls.proofs.dump.put_fours.Reads as reads
-use Rattle.calls.proofs.dump.put_fours.Lts as lts
-use Rattle.calls.proofs.dump.put_four.Reads as put-four-reads
 
 abbrev Inv-loop : tie.InvT-loop
 Inv-loop out₀ at words i₀ i-end out i = (i ≤ i-end) × (length out ≡ length out₀) × Put at (4 * i) (each four (take i words)) out₀ out
@@ -19,47 +16,36 @@ Inv-loop out₀ at words i₀ i-end out i = (i ≤ i-end) × (length out ≡ len
 abbrev μ-loop : tie.MeasureT-loop
 μ-loop out₀ at words i₀ i-end out i = i-end - i
 
--- src/dump.rt:53:5
 loop-holds : tie.Need-loop-holds Inv-loop μ-loop
 loop-holds c = (omega arith, refl, each-none four 4 [])
 
--- src/dump.rt:54:28
 mul-put-four : tie.Need-mul-put-four Inv-loop μ-loop
 mul-put-four c = omega arith
 
--- src/dump.rt:54:23
 add-put-four : tie.Need-add-put-four Inv-loop μ-loop
 add-put-four c = omega arith
 
--- src/dump.rt:54:35
 mul-put-four-2 : tie.Need-mul-put-four-2 Inv-loop μ-loop
 mul-put-four-2 c = omega arith
 
--- src/dump.rt:54:35
 shared-slice-read-put-four : tie.Need-shared-slice-read-put-four Inv-loop μ-loop
 shared-slice-read-put-four c = omega arith
 
--- src/dump.rt:54:9
 put-four-requires : tie.Need-put-four-requires Inv-loop μ-loop
 put-four-requires c κs = omega (arith, c .before .before .before .loop .inv .1)
 
--- src/dump.rt:53:9
 add-i : tie.Need-add-i Inv-loop μ-loop
 add-i c = omega arith
 
--- src/dump.rt:53:5
 loop-less : tie.Need-loop-less Inv-loop μ-loop
 loop-less c = omega arith
 
--- src/dump.rt:53:5
 loop-again : tie.Need-loop-again Inv-loop μ-loop
 loop-again c = (omega arith, put-length (c .before .before .put-four .ensures) ∙ c .before .before .before .before .before .before .loop .inv .1, each-turn four 4 _ 0 _ (search needs) refl (c .before .before .before .before .before .before .loop .inv .2) (c .before .before .put-four .ensures))
 
--- src/dump.rt:49:1
 same-length : tie.Need-same-length Inv-loop μ-loop
 same-length c = c .before .loop .inv .1
 
--- src/dump.rt:49:1
 returns : tie.Need-returns Inv-loop μ-loop
 returns c = each-end four 4 _ _ _ refl (omega arith) (c .before .loop .inv .2)
 

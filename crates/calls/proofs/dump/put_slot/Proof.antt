@@ -7,8 +7,6 @@ use Rattle.calls.specs.Dump.{Put}
 use Rattle.calls.proofs.Bytes.{put-more, put-byte, bytes-none, bytes-turn, bytes-end}
 use Rattle.calls.proofs.dump.put_slot.Statement.{statement}
 use Rattle.calls.proofs.dump.put_slot.Tie as tie
-use Rattle.calls.proofs.dump.put_slot.Reads as reads
-use Rattle.calls.proofs.dump.put_slot.Lts as lts
 
 abbrev Inv-loop : tie.InvT-loop
 Inv-loop out₀ at len slot from i₀ out i = (i ≤ 20) × (length out ≡ length out₀) × Put from i (take i slot) out₀ out
@@ -16,47 +14,36 @@ Inv-loop out₀ at len slot from i₀ out i = (i ≤ 20) × (length out ≡ leng
 abbrev μ-loop : tie.MeasureT-loop
 μ-loop out₀ at len slot from i₀ out i = 20 - i
 
--- src/dump.rt:152:5
 slice-write-out : tie.Need-slice-write-out Inv-loop μ-loop
 slice-write-out c = omega arith
 
--- src/dump.rt:153:16
 add-from : tie.Need-add-from Inv-loop μ-loop
 add-from c = omega arith
 
--- src/dump.rt:154:5
 loop-holds : tie.Need-loop-holds Inv-loop μ-loop
 loop-holds c = (omega arith, refl, bytes-none (c .args .slot .now))
 
--- src/dump.rt:155:25
 shared-slice-read-out : tie.Need-shared-slice-read-out Inv-loop μ-loop
 shared-slice-read-out c = omega arith
 
--- src/dump.rt:155:13
 add-out : tie.Need-add-out Inv-loop μ-loop
 add-out c = search needs
 
--- src/dump.rt:155:9
 slice-write-out-2 : tie.Need-slice-write-out-2 Inv-loop μ-loop
 slice-write-out-2 c = omega (arith, c .before .before .loop .inv .1, length-set (c .before .before .before .args .out .now) (c .before .before .before .args .at) (c .before .before .before .args .len))
 
--- src/dump.rt:154:9
 add-i : tie.Need-add-i Inv-loop μ-loop
 add-i c = omega arith
 
--- src/dump.rt:154:5
 loop-less : tie.Need-loop-less Inv-loop μ-loop
 loop-less c = omega arith
 
--- src/dump.rt:154:5
 loop-again : tie.Need-loop-again Inv-loop μ-loop
 loop-again c = (omega arith, (simp length-set) ∙ c .before .before .loop .inv .1, bytes-turn _ _ (omega arith) (c .before .before .loop .inv .2))
 
--- src/dump.rt:148:1
 same-length : tie.Need-same-length Inv-loop μ-loop
 same-length c = c .before .loop .inv .1 ∙ simp length-set
 
--- src/dump.rt:148:1
 returns : tie.Need-returns Inv-loop μ-loop
 returns c = put-more (put-byte (c .before .before .args .at) (c .before .before .args .len) (c .before .before .args .out .now)) (bytes-end _ _ 20 (c .before .before .pre .0) (omega arith) (c .before .loop .inv .2))
 

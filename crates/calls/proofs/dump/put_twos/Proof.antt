@@ -9,9 +9,6 @@ use Rattle.calls.proofs.Bytes.{put-length, each-none, each-turn, each-e
 use Rattle.wire.specs.Bytes.{two}
 use Rattle.calls.proofs.dump.put_twos.Statement.{statement}
 use Rattle.calls.proofs.dump.put_twos.Tie as tie
-use Rattle.calls.proofs.dump.put_twos.Reads as reads
-use Rattle.calls.proofs.dump.put_twos.Lts as lts
-use Rattle.calls.proofs.dump.put_two.Reads as put-two-reads
 
 abbrev Inv-loop : tie.InvT-loop
 Inv-loop out₀ at words i₀ i-end out i = (i ≤ i-end) × (length out ≡ length out₀) × Put at (2 * i) (each two (take i words)) out₀ out
@@ -19,47 +16,36 @@ Inv-loop out₀ at words i₀ i-end out i = (i ≤ i-end) × (length out ≡ len
 abbrev μ-loop : tie.MeasureT-loop
 μ-loop out₀ at words i₀ i-end out i = i-end - i
 
--- src/dump.rt:44:5
 loop-holds : tie.Need-loop-holds Inv-loop μ-loop
 loop-holds c = (omega arith, refl, each-none two 2 [])
 
--- src/dump.rt:45:27
 mul-put-two : tie.Need-mul-put-two Inv-loop μ-loop
 mul-put-two c = omega arith
 
--- src/dump.rt:45:22
 add-put-two : tie.Need-add-put-two Inv-loop μ-loop
 add-put-two c = omega arith
 
--- src/dump.rt:45:34
 mul-put-two-2 : tie.Need-mul-put-two-2 Inv-loop μ-loop
 mul-put-two-2 c = omega arith
 
--- src/dump.rt:45:34
 shared-slice-read-put-two : tie.Need-shared-slice-read-put-two Inv-loop μ-loop
 shared-slice-read-put-two c = omega arith
 
--- src/dump.rt:45:9
 put-two-requires : tie.Need-put-two-requires Inv-loop μ-loop
 put-two-requires c κs = omega (arith, c .before .before .before .loop .inv .1)
 
--- src/dump.rt:44:9
 add-i : tie.Need-add-i Inv-loop μ-loop
 add-i c = omega arith
 
--- src/dump.rt:44:5
 loop-less : tie.Need-loop-less Inv-loop μ-loop
 loop-less c = omega arith
 
--- src/dump.rt:44:5
 loop-again : tie.Need-loop-again Inv-loop μ-loop
 loop-again c = (omega arith, put-length (c .before .before .put-two .ensures) ∙ c .before .before .before .before .before .before .loop .inv .1, each-turn two 2 _ 0 _ (search needs) refl (c .before .before .before .before .before .before .loop .inv .2) (c .before .before .put-two .ensures))
 
--- src/dump.rt:40:1
 same-length : tie.Need-same-length Inv-loop μ-loop
 same-length c = c .before .loop .inv .1
 
--- src/dump.rt:40:1
 returns : tie.Need-returns Inv-loop μ-loop
 returns c = each-end two 2 _ _ _ refl (omega arith) (c .before .loop .inv .2)
 

@@ -8,9 +8,6 @@ use Rattle.calls.specs.Header.{itemsFrom}
 use Rattle.calls.proofs.Items.{items-none, items-turn}
 use Rattle.calls.proofs.header.items_in.Statement.{statement}
 use Rattle.calls.proofs.header.items_in.Tie as tie
-use Rattle.calls.proofs.header.items_in.Reads as reads
-use Rattle.calls.proofs.header.items_in.Lts as lts
-use Rattle.calls.proofs.call.four_at.Reads as four-at-reads
 
 abbrev Inv-loop : tie.InvT-loop
 Inv-loop s count items₀ i₀ items i = (i ≤ count) × (length items ≡ 160) × (take i items ≡ itemsFrom i 2 s)
@@ -18,43 +15,33 @@ Inv-loop s count items₀ i₀ items i = (i ≤ count) × (length items ≡ 160)
 abbrev μ-loop : tie.MeasureT-loop
 μ-loop s count items₀ i₀ items i = count - i
 
--- src/header.rt:22:5
 loop-holds : tie.Need-loop-holds Inv-loop μ-loop
 loop-holds c = (omega arith, refl, items-none (c .before .args .s .now) [])
 
--- src/header.rt:23:41
 mul-four-at : tie.Need-mul-four-at Inv-loop μ-loop
 mul-four-at c = omega arith
 
--- src/header.rt:23:37
 add-four-at : tie.Need-add-four-at Inv-loop μ-loop
 add-four-at c = omega arith
 
--- src/header.rt:23:20
 four-at-requires : tie.Need-four-at-requires Inv-loop μ-loop
 four-at-requires c κs = omega arith
 
--- src/header.rt:23:9
 mul-items : tie.Need-mul-items Inv-loop μ-loop
 mul-items c = search needs
 
--- src/header.rt:23:9
 array-write-items : tie.Need-array-write-items Inv-loop μ-loop
 array-write-items c = omega arith
 
--- src/header.rt:22:9
 add-i : tie.Need-add-i Inv-loop μ-loop
 add-i c = omega arith
 
--- src/header.rt:22:5
 loop-less : tie.Need-loop-less Inv-loop μ-loop
 loop-less c = omega arith
 
--- src/header.rt:22:5
 loop-again : tie.Need-loop-again Inv-loop μ-loop
 loop-again c = (omega arith, (simp length-set) ∙ c .before .before .loop .inv .1, items-turn (c .before .before .loop .i) (c .before .before .before .before .args .s .now) (c .before .before .loop .items) (omega (arith, c .before .before .loop .inv .1)) (c .four-at .ensures) (c .before .before .loop .inv .2))
 
--- src/header.rt:17:1
 returns : tie.Need-returns Inv-loop μ-loop
 returns c = let e : c .before .loop .i ≡ c .before .before .before .args .count = omega arith in ap (λ (n : ℕ). take n (c .before .loop .items)) (sym e) ∙ c .before .loop .inv .2 ∙ ap (λ (n : ℕ). itemsFrom n 2 (c .before .before .before .args .s .now)) e
 

@@ -2,18 +2,13 @@ use borrow.Author.Tests.{eq-eqb, ne-eqb}
 use borrow.Author.Needs.{needs}
 use Rattle.calls.proofs.set.set_byte.Statement.{statement}
 use Rattle.calls.proofs.set.set_byte.Tie as tie
-use Rattle.calls.proofs.set.set_byte.Reads as reads
-use Rattle.calls.proofs.set.set_byte.Lts as lts
 
--- src/set.rt:19:16
 cast-result : tie.Need-cast-result
 cast-result c = search needs
 
--- src/set.rt:19:9
 returns : tie.Need-returns
 returns c = simp (eq-eqb _ _ (c .before .if1 .taken))
 
--- src/set.rt:15:1
 returns-2 : tie.Need-returns-2
 returns-2 c = simp (ne-eqb _ _ (c .if1 .left))
 

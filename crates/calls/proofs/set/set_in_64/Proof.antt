@@ -3,26 +3,19 @@ use lib.Seq.{set-out}
 use borrow.Author.Needs.{needs}
 use Rattle.calls.proofs.set.set_in_64.Statement.{statement}
 use Rattle.calls.proofs.set.set_in_64.Tie as tie
-use Rattle.calls.proofs.set.set_in_64.Reads as reads
-use Rattle.calls.proofs.set.set_in_64.Lts as lts
 
--- src/set.rt:59:13
 mul-words : tie.Need-mul-words
 mul-words c = search needs
 
--- src/set.rt:59:13
 array-write-words : tie.Need-array-write-words
 array-write-words c = search needs
 
--- src/set.rt:54:1
 returns : tie.Need-returns
 returns c = simp (c .before .if1 .taken)
 
--- src/set.rt:54:1
 returns-2 : tie.Need-returns-2
 returns-2 c = rw (c .before .if1 .taken) (sym (set-out (c .before .before .args .t4) (c .before .before .args .i) (c .before .before .args .value) (search needs)))
 
--- src/set.rt:54:1
 returns-3 : tie.Need-returns-3
 returns-3 c = search needs
 

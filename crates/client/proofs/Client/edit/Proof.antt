@@ -6,37 +6,25 @@ use Rattle.client.specs.Answers.{changed}
 use borrow.Author.Needs.{needs}
 use Rattle.client.proofs.Client.edit.Statement.{statement}
 use Rattle.client.proofs.Client.edit.Tie as tie
-use Rattle.client.proofs.Client.edit.Reads as reads
-use Rattle.client.proofs.Client.edit.Lts as lts
-use Rattle.client.proofs.Client.counts.Reads as counts-reads
-use Rattle.client.proofs.editing.edit_lent.Reads as edit-lent-reads
-use Rattle.client.proofs.joined.Reads as joined-reads
 
--- src/editing.rt:116:27
 counts-requires : tie.Need-counts-requires
 counts-requires c κs = search needs
 
--- src/editing.rt:116:42
 slice-aggregate-edit-lent : tie.Need-slice-aggregate-edit-lent
 slice-aggregate-edit-lent c = search needs
 
--- src/editing.rt:116:54
 slice-aggregate-edit-lent-2 : tie.Need-slice-aggregate-edit-lent-2
 slice-aggregate-edit-lent-2 c = search needs
 
--- src/editing.rt:116:67
 slice-aggregate-edit-lent-3 : tie.Need-slice-aggregate-edit-lent-3
 slice-aggregate-edit-lent-3 c = search needs
 
--- src/editing.rt:116:13
 edit-lent-requires : tie.Need-edit-lent-requires
 edit-lent-requires c κs = search needs
 
--- src/editing.rt:117:9
 joined-requires : tie.Need-joined-requires
 joined-requires c κs = search needs
 
--- src/editing.rt:110:5
 returns : tie.Need-returns
 returns c = c .joined .ensures ∙ c .before .before .before .before .edit-lent .ensures ∙ ap (λ (k : Counts). changed (clientOf k (c .before .before .before .before .before .before .before .before .before .before .before .before .args .self .items) (c .before .before .before .before .before .before .before .before .before .before .before .before .args .self .«pending_places») (c .before .before .before .before .before .before .before .before .before .before .before .before .args .self .«pending_items»)) (c .before .before .before .before .before .before .before .before .before .before .before .before .args .change)) (c .before .before .before .before .before .before .before .before .counts .ensures)
 

@@ -6,24 +6,16 @@ use Rattle.client.specs.Answers.{sentAck}
 use borrow.Author.Needs.{needs}
 use Rattle.client.proofs.Client.tell.Statement.{statement}
 use Rattle.client.proofs.Client.tell.Tie as tie
-use Rattle.client.proofs.Client.tell.Reads as reads
-use Rattle.client.proofs.Client.tell.Lts as lts
-use Rattle.client.proofs.Client.counts.Reads as counts-reads
-use Rattle.client.proofs.sending.tell_lent.Reads as tell-lent-reads
 
--- src/sending.rt:146:13
 counts-requires : tie.Need-counts-requires
 counts-requires c κs = search needs
 
--- src/sending.rt:145:9
 tell-lent-requires : tie.Need-tell-lent-requires
 tell-lent-requires c κs = search needs
 
--- src/sending.rt:142:5
 same-length : tie.Need-same-length
 same-length c = search needs
 
--- src/sending.rt:142:5
 returns : tie.Need-returns
 returns c = c .before .before .tell-lent .ensures ∙ ap (λ (q : Counts). sentAck (clientOf q (c .before .before .before .before .before .before .before .before .before .before .before .before .before .args .t1 .items) (c .before .before .before .before .before .before .before .before .before .before .before .before .before .args .t1 .«pending_places») (c .before .before .before .before .before .before .before .before .before .before .before .before .before .args .t1 .«pending_items»)) (c .before .before .before .before .before .before .before .before .before .before .before .before .before .args .line) (now (c .before .before .before .before .before .before .before .before .before .before .before .before .before .args .out))) (c .before .before .before .before .before .before .before .before .before .before .before .counts .ensures)
 

@@ -3,22 +3,16 @@ use mathlib.Core.Path.{ap, sym}
 use borrow.Author.Needs.{needs}
 use Rattle.client.proofs.editing.made_as.Statement.{statement}
 use Rattle.client.proofs.editing.made_as.Tie as tie
-use Rattle.client.proofs.editing.made_as.Reads as reads
-use Rattle.client.proofs.editing.made_as.Lts as lts
 
--- src/editing.rt:69:24
 enum-known-change : tie.Need-enum-known-change
 enum-known-change c = search needs
 
--- src/editing.rt:70:24
 enum-known-change-2 : tie.Need-enum-known-change-2
 enum-known-change-2 c = search needs
 
--- src/editing.rt:65:1
 returns : tie.Need-returns
 returns c = sym (ap (madeAs (c .before .before .before .args .line)) (c .before .change .given .1))
 
--- src/editing.rt:65:1
 returns-2 : tie.Need-returns-2
 returns-2 c = sym (ap (madeAs (c .before .before .before .args .line)) (c .before .change2 .given .1))
 

@@ -88,7 +88,6 @@ kept-length c =
 
 -- ---- the needs
 
--- src/taking.rt:214:8
 slice-reshare-prefix-is-sound : tie.Need-slice-reshare-prefix-is-sound
 slice-reshare-prefix-is-sound c = omega (arith, c .before .before .before .before .pre .items-size)
 
@@ -110,101 +109,80 @@ slice-aggregate-is-sound-3 c = let s = c .before .before .before .before .before
 is-sound-requires : tie.Need-is-sound-requires
 is-sound-requires c κs = let s = c .before .before .before .before .before .before .before in lent-sizes (s .args .k) (s .pre)
 
--- src/taking.rt:215:32
 parse-requires : tie.Need-parse-requires
 parse-requires c κs = search needs
 
--- src/taking.rt:215:27
 enum-known-m : tie.Need-enum-known-m
 enum-known-m c = search needs
 
--- src/taking.rt:216:13
 enum-told : tie.Need-enum-told
 enum-told c = search needs
 
--- src/taking.rt:216:13
 refused-requires : tie.Need-refused-requires
 refused-requires c κs = search needs
 
--- src/taking.rt:216:13
 same-length : tie.Need-same-length
 same-length c = search needs
 
--- src/taking.rt:216:13
 same-length-2 : tie.Need-same-length-2
 same-length-2 c = search needs
 
--- src/taking.rt:216:13
 same-length-3 : tie.Need-same-length-3
 same-length-3 c = search needs
 
--- src/taking.rt:216:13
 returns : tie.Need-returns
 returns c =
     let t = c .before .before .before .before in
     ap (untouched (t .before)) (c .refused .ensures)
     ∙ read-refused (whole (t .before)) (sound t) (start (t .before) .args .bytes .now) (sym (c .before .before .before .parse .ensures) ∙ c .before .enum-told .given .1)
 
--- src/taking.rt:219:13
 decide-requires : tie.Need-decide-requires
 decide-requires c κs =
     let t = c .before .before .before .before in
     (codec .read-in-range (bytes t) (message t) (reads t), decidable (whole (well t .before)) (sound (well t)) _ refl)
 
--- src/taking.rt:221:13
 same-length-4 : tie.Need-same-length-4
 same-length-4 c = search needs
 
--- src/taking.rt:221:13
 same-length-5 : tie.Need-same-length-5
 same-length-5 c = search needs
 
--- src/taking.rt:221:13
 same-length-6 : tie.Need-same-length-6
 same-length-6 c = search needs
 
--- src/taking.rt:221:13
 returns-2 : tie.Need-returns-2
 returns-2 c =
     let a = c .before .before in
     let t = told a in
     take-refused (end a) (sound (well t)) (bytes t) (message t) (reads t) (decision a) (kept a) (a .decide .ensures) (c .if2 .taken)
 
--- src/taking.rt:228:21
 slice-aggregate-put : tie.Need-slice-aggregate-put
 slice-aggregate-put c = sym (kept-length (c .before .before))
 
--- src/taking.rt:228:9
 put-requires : tie.Need-put-requires
 put-requires c κs = (start (well (told (c .before .before .before .before)) .before) .pre .places-size, kept-length (c .before .before))
 
--- src/taking.rt:229:9
 drop-items-requires : tie.Need-drop-items-requires
 drop-items-requires c κs =
     let a = c .before .before .before .before .before .before .before .before in
     let t = told a in
     take-droppable (end a) (sound (well t)) (bytes t) (message t) (reads t) (decision a) (kept a) (a .decide .ensures) (c .before .before .before .before .before .before .if2 .left)
 
--- src/taking.rt:230:9
 apply-requires : tie.Need-apply-requires
 apply-requires c κs =
     let a = c .before .before .before .before .before .before .before .before .before .before .before .before in
     let t = told a in
     (start (well t .before) .pre .items-size, take-room (end a) (sound (well t)) (bytes t) (message t) (reads t) (decision a) (kept a) (a .decide .ensures) (c .before .before .before .before .before .before .before .before .before .before .if2 .left))
 
--- src/taking.rt:233:9
 same-length-7 : tie.Need-same-length-7
 same-length-7 c = search needs
 
--- src/taking.rt:233:9
 same-length-8 : tie.Need-same-length-8
 same-length-8 c = search needs
 
--- src/taking.rt:233:9
 same-length-9 : tie.Need-same-length-9
 same-length-9 c = search needs
 
--- src/taking.rt:233:9
 returns-3 : tie.Need-returns-3
 returns-3 c =
     let a = c .before .before .before .before .before .before .before .before .before .before .before .before .before .before .before in
@@ -217,23 +195,18 @@ returns-3 c =
     ∙ ap (λ (r : ℕ). record { refusal = r; passed = d .passed; client = moved (end a) (d .taken) (d .acked) len after (kept a) rest }) (sym (c .before .before .before .before .before .before .before .before .before .before .before .before .before .if2 .left))
     ∙ take-done (end a) (sound (well t)) (bytes t) (message t) (reads t) d (kept a) (a .decide .ensures) (c .before .before .before .before .before .before .before .before .before .before .before .before .before .if2 .left) len after rest (c .before .before .apply .ensures) (c .before .before .before .before .before .before .drop-items .ensures)
 
--- src/taking.rt:239:5
 refused-requires-2 : tie.Need-refused-requires-2
 refused-requires-2 c κs = search needs
 
--- src/taking.rt:204:1
 same-length-10 : tie.Need-same-length-10
 same-length-10 c = search needs
 
--- src/taking.rt:204:1
 same-length-11 : tie.Need-same-length-11
 same-length-11 c = search needs
 
--- src/taking.rt:204:1
 same-length-12 : tie.Need-same-length-12
 same-length-12 c = search needs
 
--- src/taking.rt:204:1
 returns-4 : tie.Need-returns-4
 returns-4 c =
     let a = c .before .before in

@@ -8,21 +8,6 @@ use Rattle.driver.proofs.Driving.{Going, going-begin, going-on, going-e
 use borrow.Author.Needs.{needs}
 use Rattle.driver.proofs.drive.drive.Statement.{statement}
 use Rattle.driver.proofs.drive.drive.Tie as tie
-use Rattle.driver.proofs.drive.drive.Reads as reads
-use Rattle.driver.proofs.drive.drive.Lts as lts
-use Rattle.calls.proofs.call.place_of.Reads as place-of-reads
-use Rattle.calls.proofs.call.read_at.Reads as read-at-reads
-use Rattle.calls.proofs.call.sends.Reads as sends-reads
-use Rattle.calls.proofs.call.size_of.Reads as size-of-reads
-use Rattle.driver.proofs.drive.further.Reads as further-reads
-use Rattle.driver.proofs.drive.leave.Reads as leave-reads
-use Rattle.driver.proofs.drive.no_clients.Reads as no-clients-reads
-use Rattle.driver.proofs.drive.no_server.Reads as no-server-reads
-use Rattle.turns.proofs.change_client.Reads as change-client-reads
-use Rattle.turns.proofs.change_server.Reads as change-server-reads
-use Rattle.turns.proofs.send_client.Reads as send-client-reads
-use Rattle.turns.proofs.send_server.Reads as send-server-reads
-use Rattle.turns.proofs.turn_slot.Reads as turn-slot-reads
 
 abbrev Inv-loop : tie.InvT-loop
 Inv-loop calls count initial quiet out₀ server₀ clients₀ slots₀ lengths₀ at₀ i₀ out server clients slots lengths at i =
@@ -32,187 +17,141 @@ abbrev μ-loop : tie.MeasureT-loop
 μ-loop calls count initial quiet out₀ server₀ clients₀ slots₀ lengths₀ at₀ i₀ out server clients slots lengths at i =
     count - i
 
--- src/drive.rt:79:9
 no-server-requires : tie.Need-no-server-requires Inv-loop μ-loop
 no-server-requires c κs = search needs
 
--- src/drive.rt:80:23
 no-clients-requires : tie.Need-no-clients-requires Inv-loop μ-loop
 no-clients-requires c κs = search needs
 
--- src/drive.rt:85:5
 loop-holds : tie.Need-loop-holds Inv-loop μ-loop
 loop-holds c = let a = c .before .before .before .before .before .args in going-begin (a .quiet) (a .initial .now) (a .calls .now) (a .count) (a .out .now) (c .before .no-server .ensures) (c .no-clients .ensures)
 
--- src/drive.rt:86:38
 mul-read-at : tie.Need-mul-read-at Inv-loop μ-loop
 mul-read-at c = omega arith
 
--- src/drive.rt:86:13
 read-at-requires : tie.Need-read-at-requires Inv-loop μ-loop
 read-at-requires c κs = omega arith
 
--- src/drive.rt:87:13
 place-of-requires : tie.Need-place-of-requires Inv-loop μ-loop
 place-of-requires c κs = search needs
 
--- src/drive.rt:88:13
 size-of-requires : tie.Need-size-of-requires Inv-loop μ-loop
 size-of-requires c κs = search needs
 
--- src/drive.rt:89:12
 sub-if1 : tie.Need-sub-if1 Inv-loop μ-loop
 sub-if1 c = omega arith
 
--- src/drive.rt:92:9
 add-i : tie.Need-add-i Inv-loop μ-loop
 add-i c = omega (arith, c .before .before .before .before .loop-test .taken, c .before .before .before .before .before .before .before .before .before .before .before .fits .count)
 
--- src/drive.rt:94:9
 further-requires : tie.Need-further-requires Inv-loop μ-loop
 further-requires c κs = let g = c .before .before .before .before .before .before .before .before .before .before .before .good in omega (arith, c .if1 .left, c .before .before .before .before .before .loop .inv .within, c .before .before .before .before .before .loop .inv .same)
 
--- src/drive.rt:96:16
 sends-requires : tie.Need-sends-requires Inv-loop μ-loop
 sends-requires c κs = search needs
 
--- src/drive.rt:97:47
 slice-aggregate-send-server : tie.Need-slice-aggregate-send-server Inv-loop μ-loop
 slice-aggregate-send-server c = sym (c .before .before .before .before .before .before .before .before .before .before .loop .inv .slots)
 
--- src/drive.rt:97:59
 slice-aggregate-send-server-2 : tie.Need-slice-aggregate-send-server-2 Inv-loop μ-loop
 slice-aggregate-send-server-2 c = sym (c .before .before .before .before .before .before .before .before .before .before .before .loop .inv .lengths)
 
--- src/drive.rt:97:17
 send-server-requires : tie.Need-send-server-requires Inv-loop μ-loop
 send-server-requires c κs = (c .before .before .before .before .before .before .before .before .before .before .before .before .loop .inv .slots, c .before .before .before .before .before .before .before .before .before .before .before .before .loop .inv .lengths, fits-sent (c .before .before .before .before .before .before .before .before .before .before .before .before .loop .inv) (c .before .before .before .before .before .before .before .before .before .before .read-at .result) (c .before .before .before .before .before .before .before .before .before .place-of .result) (c .before .before .before .before .before .before .before .before .size-of .ensures) (c .before .before .before .before .before .before .before .if1 .left))
 
--- src/drive.rt:85:5
 loop-less : tie.Need-loop-less Inv-loop μ-loop
 loop-less c = omega (arith, c .before .before .before .before .before .before .before .before .before .before .before .before .before .before .before .before .loop-test .taken)
 
--- src/drive.rt:85:5
 loop-again : tie.Need-loop-again Inv-loop μ-loop
 loop-again c = going-on (c .before .before .before .before .before .before .before .before .before .before .before .before .before .before .before .before .before .loop .inv) (c .before .before .before .before .before .before .before .before .before .before .before .before .before .before .before .read-at .result) (c .before .before .before .before .before .before .before .before .before .before .before .before .before .before .place-of .result) (c .before .before .before .before .before .before .before .before .before .before .before .before .before .size-of .ensures) (c .before .before .before .before .before .before .before .before .before .before .before .before .if1 .left) (c .before .before .before .before .before .before .before .before .before .before .before .before .before .before .before .before .loop-test .taken) (c .before .before .before .before .before .before .before .before .before .before .before .before .before .before .before .read-at .ensures) (c .before .before .before .before .before .before .before .before .before .before .before .before .before .before .place-of .ensures) (c .before .before .before .before .before .before .before .before .before .before .before .further .ensures) (step-sent-server (c .before .before .before .before .before .before .before .before .before .before .before .before .before .before .place-of .ensures) (c .before .before .before .before .before .before .before .before .before .before .if2 .taken) (sym (c .before .before .before .before .before .before .before .before .before .sends .ensures) ∙ c .before .before .before .before .before .before .before .before .if3 .taken) (c .before .before .before .before .send-server .ensures)) (c .before .before .before .slots2 .given) (c .before .before .lengths2 .given)
 
--- src/drive.rt:100:63
 slice-aggregate-change-server : tie.Need-slice-aggregate-change-server Inv-loop μ-loop
 slice-aggregate-change-server c = sym (c .before .before .before .before .before .before .before .before .before .before .loop .inv .slots)
 
--- src/drive.rt:100:71
 slice-aggregate-change-server-2 : tie.Need-slice-aggregate-change-server-2 Inv-loop μ-loop
 slice-aggregate-change-server-2 c = sym (c .before .before .before .before .before .before .before .before .before .before .before .loop .inv .lengths)
 
--- src/drive.rt:100:13
 change-server-requires : tie.Need-change-server-requires Inv-loop μ-loop
 change-server-requires c κs = (c .before .before .before .before .before .before .before .before .before .before .before .before .loop .inv .slots, c .before .before .before .before .before .before .before .before .before .before .before .before .loop .inv .lengths, fits-server (c .before .before .before .before .before .before .before .before .before .before .before .before .loop .inv) (c .before .before .before .before .before .before .before .before .before .before .read-at .result) (c .before .before .before .before .before .before .before .before .before .place-of .result) (c .before .before .before .before .before .before .before .before .size-of .ensures) (c .before .before .before .before .before .before .before .if1 .left) (c .before .before .before .before .before .if2 .taken))
 
--- src/drive.rt:85:5
 loop-less-2 : tie.Need-loop-less-2 Inv-loop μ-loop
 loop-less-2 c = omega (arith, c .before .before .before .before .before .before .before .before .before .before .before .before .before .before .loop-test .taken)
 
--- src/drive.rt:85:5
 loop-again-2 : tie.Need-loop-again-2 Inv-loop μ-loop
 loop-again-2 c = going-on (c .before .before .before .before .before .before .before .before .before .before .before .before .before .before .before .loop .inv) (c .before .before .before .before .before .before .before .before .before .before .before .before .before .read-at .result) (c .before .before .before .before .before .before .before .before .before .before .before .before .place-of .result) (c .before .before .before .before .before .before .before .before .before .before .before .size-of .ensures) (c .before .before .before .before .before .before .before .before .before .before .if1 .left) (c .before .before .before .before .before .before .before .before .before .before .before .before .before .before .loop-test .taken) (c .before .before .before .before .before .before .before .before .before .before .before .before .before .read-at .ensures) (c .before .before .before .before .before .before .before .before .before .before .before .before .place-of .ensures) (c .before .before .before .before .before .before .before .before .before .further .ensures) (step-server (c .before .before .before .before .before .before .before .before .before .before .before .before .place-of .ensures) (c .before .before .before .before .before .before .before .before .if2 .taken) (sym (c .before .before .before .before .before .before .before .sends .ensures) ∙ c .before .before .before .before .before .before .if3 .left) (c .before .before .change-server .ensures .0) (c .before .before .change-server .ensures .1)) (c .before .before .before .before .before .before .before .before .before .before .before .before .before .before .before .loop .inv .slots) (c .before .before .before .before .before .before .before .before .before .before .before .before .before .before .before .loop .inv .lengths)
 
--- src/drive.rt:104:29
 sub-c : tie.Need-sub-c Inv-loop μ-loop
 sub-c c = omega arith
 
--- src/drive.rt:104:21
 mul-c : tie.Need-mul-c Inv-loop μ-loop
 mul-c c = omega arith
 
--- src/drive.rt:104:21
 array-copy-out-c : tie.Need-array-copy-out-c Inv-loop μ-loop
 array-copy-out-c c = omega arith
 
--- src/drive.rt:105:16
 sends-requires-2 : tie.Need-sends-requires-2 Inv-loop μ-loop
 sends-requires-2 c κs = search needs
 
--- src/drive.rt:106:42
 slice-aggregate-send-client : tie.Need-slice-aggregate-send-client Inv-loop μ-loop
 slice-aggregate-send-client c = sym (c .before .before .before .before .before .before .before .before .before .before .before .before .loop .inv .slots)
 
--- src/drive.rt:106:54
 slice-aggregate-send-client-2 : tie.Need-slice-aggregate-send-client-2 Inv-loop μ-loop
 slice-aggregate-send-client-2 c = sym (c .before .before .before .before .before .before .before .before .before .before .before .before .before .loop .inv .lengths)
 
--- src/drive.rt:106:17
 send-client-requires : tie.Need-send-client-requires Inv-loop μ-loop
 send-client-requires c κs = (c .before .before .before .before .before .before .before .before .before .before .before .before .before .before .loop .inv .slots, c .before .before .before .before .before .before .before .before .before .before .before .before .before .before .loop .inv .lengths, fits-sent (c .before .before .before .before .before .before .before .before .before .before .before .before .before .before .loop .inv) (c .before .before .before .before .before .before .before .before .before .before .before .before .read-at .result) (c .before .before .before .before .before .before .before .before .before .before .before .place-of .result) (c .before .before .before .before .before .before .before .before .before .before .size-of .ensures) (c .before .before .before .before .before .before .before .before .before .if1 .left))
 
--- src/drive.rt:85:5
 loop-less-3 : tie.Need-loop-less-3 Inv-loop μ-loop
 loop-less-3 c = omega (arith, c .before .before .before .before .before .before .before .before .before .before .before .before .before .before .before .before .before .before .loop-test .taken)
 
--- src/drive.rt:85:5
 loop-again-3 : tie.Need-loop-again-3 Inv-loop μ-loop
 loop-again-3 c = going-on (c .before .before .before .before .before .before .before .before .before .before .before .before .before .before .before .before .before .before .before .loop .inv) (c .before .before .before .before .before .before .before .before .before .before .before .before .before .before .before .before .before .read-at .result) (c .before .before .before .before .before .before .before .before .before .before .before .before .before .before .before .before .place-of .result) (c .before .before .before .before .before .before .before .before .before .before .before .before .before .before .before .size-of .ensures) (c .before .before .before .before .before .before .before .before .before .before .before .before .before .before .if1 .left) (c .before .before .before .before .before .before .before .before .before .before .before .before .before .before .before .before .before .before .loop-test .taken) (c .before .before .before .before .before .before .before .before .before .before .before .before .before .before .before .before .before .read-at .ensures) (c .before .before .before .before .before .before .before .before .before .before .before .before .before .before .before .before .place-of .ensures) (c .before .before .before .before .before .before .before .before .before .before .before .before .before .further .ensures) (step-sent-client (c .before .before .before .before .before .before .before .before .before .before .before .before .before .before .before .before .place-of .ensures) (c .before .before .before .before .before .before .before .before .before .before .before .before .if2 .left) (c .before .before .before .before .before .before .before .before .before .before .before .if4 .taken) (sym (c .before .before .before .before .before .before .before .before .before .sends2 .ensures) ∙ c .before .before .before .before .before .before .before .before .if5 .taken) (c .before .before .before .before .send-client .ensures)) (c .before .before .before .slots5 .given) (c .before .before .lengths5 .given)
 
--- src/drive.rt:109:57
 slice-aggregate-change-client : tie.Need-slice-aggregate-change-client Inv-loop μ-loop
 slice-aggregate-change-client c = sym (c .before .before .before .before .before .before .before .before .before .before .before .before .loop .inv .slots)
 
--- src/drive.rt:109:65
 slice-aggregate-change-client-2 : tie.Need-slice-aggregate-change-client-2 Inv-loop μ-loop
 slice-aggregate-change-client-2 c = sym (c .before .before .before .before .before .before .before .before .before .before .before .before .before .loop .inv .lengths)
 
--- src/drive.rt:109:17
 change-client-requires : tie.Need-change-client-requires Inv-loop μ-loop
 change-client-requires c κs = (c .before .before .before .before .before .before .before .before .before .before .before .before .before .before .loop .inv .slots, c .before .before .before .before .before .before .before .before .before .before .before .before .before .before .loop .inv .lengths, fits-client (c .before .before .before .before .before .before .before .before .before .before .before .before .before .before .loop .inv) (c .before .before .before .before .before .before .before .before .before .before .before .before .read-at .result) (c .before .before .before .before .before .before .before .before .before .before .before .place-of .result) (c .before .before .before .before .before .before .before .before .before .before .size-of .ensures) (c .before .before .before .before .before .before .before .before .before .if1 .left) (c .before .before .before .before .before .before .before .if2 .left) (c .before .before .before .before .before .before .if4 .taken))
 
--- src/drive.rt:110:21
 sub-clients : tie.Need-sub-clients Inv-loop μ-loop
 sub-clients c = omega arith
 
--- src/drive.rt:110:13
 mul-clients : tie.Need-mul-clients Inv-loop μ-loop
 mul-clients c = omega arith
 
--- src/drive.rt:110:13
 array-set-from-clients : tie.Need-array-set-from-clients Inv-loop μ-loop
 array-set-from-clients c = omega arith
 
--- src/drive.rt:85:5
 loop-less-4 : tie.Need-loop-less-4 Inv-loop μ-loop
 loop-less-4 c = omega (arith, c .before .before .before .before .before .before .before .before .before .before .before .before .before .before .before .before .loop-test .taken)
 
--- src/drive.rt:85:5
 loop-again-4 : tie.Need-loop-again-4 Inv-loop μ-loop
 loop-again-4 c = going-on (c .before .before .before .before .before .before .before .before .before .before .before .before .before .before .before .before .before .loop .inv) (c .before .before .before .before .before .before .before .before .before .before .before .before .before .before .before .read-at .result) (c .before .before .before .before .before .before .before .before .before .before .before .before .before .before .place-of .result) (c .before .before .before .before .before .before .before .before .before .before .before .before .before .size-of .ensures) (c .before .before .before .before .before .before .before .before .before .before .before .before .if1 .left) (c .before .before .before .before .before .before .before .before .before .before .before .before .before .before .before .before .loop-test .taken) (c .before .before .before .before .before .before .before .before .before .before .before .before .before .before .before .read-at .ensures) (c .before .before .before .before .before .before .before .before .before .before .before .before .before .before .place-of .ensures) (c .before .before .before .before .before .before .before .before .before .before .before .further .ensures) (step-client (c .before .before .before .before .before .before .before .before .before .before .before .before .before .before .place-of .ensures) (c .before .before .before .before .before .before .before .before .before .before .if2 .left) (c .before .before .before .before .before .before .before .before .before .if4 .taken) (sym (c .before .before .before .before .before .before .before .sends2 .ensures) ∙ c .before .before .before .before .before .before .if5 .left) (c .before .before .change-client .ensures .0) (c .before .before .change-client .ensures .1)) (c .before .before .before .before .before .before .before .before .before .before .before .before .before .before .before .before .before .loop .inv .slots) (c .before .before .before .before .before .before .before .before .before .before .before .before .before .before .before .before .before .loop .inv .lengths)
 
--- src/drive.rt:113:36
 slice-aggregate-turn-slot : tie.Need-slice-aggregate-turn-slot Inv-loop μ-loop
 slice-aggregate-turn-slot c = sym (c .before .before .before .before .before .before .before .before .before .loop .inv .slots)
 
--- src/drive.rt:113:48
 slice-aggregate-turn-slot-2 : tie.Need-slice-aggregate-turn-slot-2 Inv-loop μ-loop
 slice-aggregate-turn-slot-2 c = sym (c .before .before .before .before .before .before .before .before .before .before .loop .inv .lengths)
 
--- src/drive.rt:113:9
 turn-slot-requires : tie.Need-turn-slot-requires Inv-loop μ-loop
 turn-slot-requires c κs = (c .before .before .before .before .before .before .before .before .before .before .before .loop .inv .slots, c .before .before .before .before .before .before .before .before .before .before .before .loop .inv .lengths, fits-slot (c .before .before .before .before .before .before .before .before .before .before .before .loop .inv) (c .before .before .before .before .before .before .before .before .before .read-at .result) (c .before .before .before .before .before .before .before .before .place-of .result) (c .before .before .before .before .before .before .before .size-of .ensures) (c .before .before .before .before .before .before .if1 .left) (c .before .before .before .before .if2 .left) (c .before .before .before .if4 .left))
 
--- src/drive.rt:85:5
 loop-less-5 : tie.Need-loop-less-5 Inv-loop μ-loop
 loop-less-5 c = omega (arith, c .before .before .before .before .before .before .before .before .before .before .before .before .before .before .before .loop-test .taken)
 
--- src/drive.rt:85:5
 loop-again-5 : tie.Need-loop-again-5 Inv-loop μ-loop
 loop-again-5 c = going-on (c .before .before .before .before .before .before .before .before .before .before .before .before .before .before .before .before .loop .inv) (c .before .before .before .before .before .before .before .before .before .before .before .before .before .before .read-at .result) (c .before .before .before .before .before .before .before .before .before .before .before .before .before .place-of .result) (c .before .before .before .before .before .before .before .before .before .before .before .before .size-of .ensures) (c .before .before .before .before .before .before .before .before .before .before .before .if1 .left) (c .before .before .before .before .before .before .before .before .before .before .before .before .before .before .before .loop-test .taken) (c .before .before .before .before .before .before .before .before .before .before .before .before .before .before .read-at .ensures) (c .before .before .before .before .before .before .before .before .before .before .before .before .before .place-of .ensures) (c .before .before .before .before .before .before .before .before .before .before .further .ensures) (step-slot (c .before .before .before .before .before .before .before .before .before .before .before .before .before .place-of .ensures) (c .before .before .before .before .before .before .before .before .before .if2 .left) (c .before .before .before .before .before .before .before .before .if4 .left) (c .before .before .before .before .turn-slot .ensures)) (c .before .before .before .slots8 .given) (c .before .before .lengths8 .given)
 
--- src/drive.rt:115:5
 leave-requires : tie.Need-leave-requires Inv-loop μ-loop
 leave-requires c κs = search needs
 
--- src/drive.rt:75:1
 same-length : tie.Need-same-length Inv-loop μ-loop
 same-length c = c .before .before .loop .inv .same
 
--- src/drive.rt:75:1
 returns : tie.Need-returns Inv-loop μ-loop
 returns c = let a = c .before .before .before .before .before .before .before .before .args in let l = c .before .before .loop in ⊎-elim (λ x. going-end (a .initial .now) start (a .calls .now) (a .count) (a .out .now) (l .i) (l .at) (record { server = l .server; clients = l .clients; slots = l .slots; lengths = l .lengths }) (l .out) (a .quiet) (l .inv) (x .left) (c .leave .result) (c .leave .ensures)) (λ x. going-stop (a .initial .now) start (a .calls .now) (a .count) (a .out .now) (l .i) (l .at) (record { server = l .server; clients = l .clients; slots = l .slots; lengths = l .lengths }) (l .out) (a .quiet) (x .1 .result) (x .3 .result) (l .inv) (x .0 .taken) (x .1 .ensures) (x .3 .ensures ∙ ap (sizeOf (x .1 .result)) (x .2 .ensures)) (x .4 .taken) (c .leave .result) (c .leave .ensures)) (c .before .loop-test .came)
 

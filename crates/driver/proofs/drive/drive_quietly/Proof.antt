@@ -3,19 +3,13 @@ use Rattle.driver.proofs.Answering.{quiet-world}
 use borrow.Author.Needs.{needs}
 use Rattle.driver.proofs.drive.drive_quietly.Statement.{statement}
 use Rattle.driver.proofs.drive.drive_quietly.Tie as tie
-use Rattle.driver.proofs.drive.drive_quietly.Reads as reads
-use Rattle.driver.proofs.drive.drive_quietly.Lts as lts
-use Rattle.driver.proofs.drive.drive.Reads as drive-reads
 
--- src/drive.rt:143:48
 slice-aggregate-drive : tie.Need-slice-aggregate-drive
 slice-aggregate-drive c = search needs
 
--- src/drive.rt:143:9
 drive-requires : tie.Need-drive-requires
 drive-requires c κs = search needs
 
--- src/drive.rt:138:1
 returns : tie.Need-returns
 returns c = let a = c .before .before .before .before .before .before .args in quiet-world (a .initial .now) (callsOf (a .count) (a .calls .now)) _ _ (c .before .before .drive .result) (search needs) (c .before .before .drive .ensures)
 

@@ -6,74 +6,52 @@ use Rattle.driver.proofs.Answering.{headed-items, headed-length, wrote-
 use borrow.Author.Needs.{needs}
 use Rattle.driver.proofs.drive.run.Statement.{statement}
 use Rattle.driver.proofs.drive.run.Tie as tie
-use Rattle.driver.proofs.drive.run.Reads as reads
-use Rattle.driver.proofs.drive.run.Lts as lts
-use Rattle.calls.proofs.call.two_at.Reads as two-at-reads
-use Rattle.calls.proofs.header.is_headed.Reads as is-headed-reads
-use Rattle.calls.proofs.header.items_in.Reads as items-in-reads
-use Rattle.driver.proofs.drive.drive.Reads as drive-reads
 
--- src/drive.rt:151:13
 two-at-requires : tie.Need-two-at-requires
 two-at-requires c κs = search needs
 
--- src/drive.rt:151:13
 cast-c : tie.Need-cast-c
 cast-c c = search needs
 
--- src/drive.rt:152:8
 is-headed-requires : tie.Need-is-headed-requires
 is-headed-requires c κs = search needs
 
--- src/drive.rt:153:24
 mul-from : tie.Need-mul-from
 mul-from c = search needs
 
--- src/drive.rt:153:20
 add-from : tie.Need-add-from
 add-from c = search needs
 
--- src/drive.rt:154:22
 sub-count : tie.Need-sub-count
 sub-count c = let h = sym (c .before .is-headed .ensures) ∙ c .if1 .taken in headed-length (c .before .before .two-at .result) (length (c .before .before .before .before .before .args .calls .now)) h
 
--- src/drive.rt:155:21
 items-in-requires : tie.Need-items-in-requires
 items-in-requires c κs = headed-items (c .before .before .two-at .result) (length (c .before .before .before .before .before .args .calls .now)) (sym (c .before .is-headed .ensures) ∙ c .if1 .taken)
 
--- src/drive.rt:156:23
 sub-drive : tie.Need-sub-drive
 sub-drive c = let h = sym (c .before .before .is-headed .ensures) ∙ c .before .if1 .taken in headed-length (c .before .before .before .two-at .result) (length (c .before .before .before .before .before .before .args .calls .now)) h
 
--- src/drive.rt:156:23
 part-drive-start : tie.Need-part-drive-start
 part-drive-start c = let h = sym (c .before .before .is-headed .ensures) ∙ c .before .if1 .taken in headed-length (c .before .before .before .two-at .result) (length (c .before .before .before .before .before .before .args .calls .now)) h
 
--- src/drive.rt:156:23
 part-drive-end : tie.Need-part-drive-end
 part-drive-end c = search needs
 
--- src/drive.rt:156:46
 array-share-prefix-items : tie.Need-array-share-prefix-items
 array-share-prefix-items c = omega (arith, headed-items (c .before .before .before .before .two-at .result) (length (c .before .before .before .before .before .before .before .args .calls .now)) (sym (c .before .before .before .is-headed .ensures) ∙ c .before .before .if1 .taken))
 
--- src/drive.rt:156:46
 slice-aggregate-drive : tie.Need-slice-aggregate-drive
 slice-aggregate-drive c = sym (length-take-le (c .before .before .before .before .before .two-at .result) (c .before .before .items-in .result) (omega (arith, headed-items (c .before .before .before .before .before .two-at .result) (length (c .before .before .before .before .before .before .before .before .args .calls .now)) (sym (c .before .before .before .before .is-headed .ensures) ∙ c .before .before .before .if1 .taken))))
 
--- src/drive.rt:156:13
 drive-requires : tie.Need-drive-requires
 drive-requires c κs = search needs
 
--- src/drive.rt:157:9
 same-length : tie.Need-same-length
 same-length c = search needs
 
--- src/drive.rt:157:9
 returns : tie.Need-returns
 returns c = wrote-answers (c .before .before .before .before .before .before .before .before .before .before .before .before .args .calls .now) (c .before .before .before .before .before .before .before .before .before .two-at .result) (c .before .before .before .before .before .before .items-in .result) (c .before .before .before .before .before .before .before .before .before .two-at .ensures) (c .before .before .before .before .before .before .items-in .ensures) (c .before .before .before .before .before .before .before .before .before .before .before .before .args .out .now) _ (c .before .before .drive .result) (sym (c .before .before .before .before .before .before .before .before .is-headed .ensures) ∙ c .before .before .before .before .before .before .before .if1 .taken) (c .before .before .drive .ensures)
 
--- src/drive.rt:148:1
 returns-2 : tie.Need-returns-2
 returns-2 c = no-answers (c .before .before .before .before .before .args .calls .now) (c .before .before .two-at .result) (c .before .before .before .before .before .args .out .now) (c .before .before .two-at .ensures) (sym (c .before .is-headed .ensures) ∙ c .if1 .left)
 

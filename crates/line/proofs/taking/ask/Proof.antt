@@ -5,51 +5,39 @@ use borrow.Author.Needs.{needs}
 use Rattle.line.proofs.taking.ask.Statement.{statement}
 use Rattle.line.proofs.taking.ask.Tie as tie
 
--- src/taking.rt:101:25
 enum-known-m : tie.Need-enum-known-m
 enum-known-m c = search needs
 
--- src/taking.rt:101:40
 asked-edit-requires : tie.Need-asked-edit-requires
 asked-edit-requires c κs = search needs
 
--- src/taking.rt:102:25
 enum-known-m-2 : tie.Need-enum-known-m-2
 enum-known-m-2 c = search needs
 
--- src/taking.rt:102:34
 asked-edit-requires-2 : tie.Need-asked-edit-requires-2
 asked-edit-requires-2 c κs = search needs
 
--- src/taking.rt:103:26
 enum-known-m-3 : tie.Need-enum-known-m-3
 enum-known-m-3 c = search needs
 
--- src/taking.rt:103:32
 asked-edit-requires-3 : tie.Need-asked-edit-requires-3
 asked-edit-requires-3 c κs = search needs
 
--- src/taking.rt:104:22
 enum-known-m-4 : tie.Need-enum-known-m-4
 enum-known-m-4 c = search needs
 
--- src/taking.rt:104:34
 asked-ack-requires : tie.Need-asked-ack-requires
 asked-ack-requires c κs = search needs
 
--- src/taking.rt:97:1
 returns : tie.Need-returns
 returns c = c .asked-edit .ensures ∙ ap (asked (c .before .before .before .before .args .k)) (sym (c .before .before .m .given .1))
 
--- src/taking.rt:97:1
 returns-2 : tie.Need-returns-2
 returns-2 c = c .asked-edit2 .ensures ∙ ap (asked (c .before .before .before .before .args .k)) (sym (c .before .before .m2 .given .1))
 
--- src/taking.rt:97:1
 returns-3 : tie.Need-returns-3
 returns-3 c = c .asked-edit3 .ensures ∙ ap (asked (c .before .before .before .before .args .k)) (sym (c .before .before .m3 .given .1))
 
--- src/taking.rt:97:1
 returns-4 : tie.Need-returns-4
 returns-4 c = c .asked-ack .ensures ∙ ap (asked (c .before .before .before .before .args .k)) (sym (c .before .before .m4 .given .1))
 

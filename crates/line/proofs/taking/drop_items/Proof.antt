@@ -5,48 +5,34 @@ use denote.Ref.{now}
 use borrow.Author.Needs.{needs}
 use Rattle.line.proofs.taking.drop_items.Statement.{statement}
 use Rattle.line.proofs.taking.drop_items.Tie as tie
-use Rattle.line.proofs.taking.drop_items.Reads as reads
-use Rattle.line.proofs.taking.drop_items.Lts as lts
-use Rattle.line.proofs.taking.put.Reads as put-reads
-use Rattle.pending.proofs.acked.Reads as acked-reads
 
--- src/taking.rt:198:43
 sub-acked : tie.Need-sub-acked
 sub-acked c = search needs
 
--- src/taking.rt:198:42
 cast-acked : tie.Need-cast-acked
 cast-acked c = search needs
 
--- src/taking.rt:198:68
 sub-acked-2 : tie.Need-sub-acked-2
 sub-acked-2 c = search needs
 
--- src/taking.rt:198:67
 cast-acked-2 : tie.Need-cast-acked-2
 cast-acked-2 c = search needs
 
--- src/taking.rt:198:20
 acked-requires : tie.Need-acked-requires
 acked-requires c κs = search needs
 
--- src/taking.rt:199:20
 slice-aggregate-put : tie.Need-slice-aggregate-put
 slice-aggregate-put c = search needs
 
--- src/taking.rt:199:9
 put-requires : tie.Need-put-requires
 put-requires c κs = search needs
 
--- src/taking.rt:193:1
 same-length : tie.Need-same-length
 same-length c = search needs
 
--- src/taking.rt:193:1
 returns : tie.Need-returns
 returns c = c .before .before .put .ensures ∙ c .before .before .before .before .before .acked .ensures
 
--- src/taking.rt:193:1
 returns-2 : tie.Need-returns-2
 returns-2 c = nothing-dropped (c .before .before .args .made) (c .before .before .args .acked) (c .before .before .args .seen) (now (c .before .before .args .items)) (c .before .before .pre) (c .if1 .left)
 

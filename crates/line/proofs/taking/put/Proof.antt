@@ -8,8 +8,6 @@ use Prim.Native.Nat.{_-_, _≤_}
 use borrow.Author.Needs.{needs}
 use Rattle.line.proofs.taking.put.Statement.{statement}
 use Rattle.line.proofs.taking.put.Tie as tie
-use Rattle.line.proofs.taking.put.Reads as reads
-use Rattle.line.proofs.taking.put.Lts as lts
 
 abbrev Inv-loop : tie.InvT-loop
 Inv-loop words₀ part i₀ words i = (i ≤ 64) × (length words ≡ 64) × (words ≡ swept part words₀ i)
@@ -17,43 +15,33 @@ Inv-loop words₀ part i₀ words i = (i ≤ 64) × (length words ≡ 64) × (wo
 abbrev μ-loop : tie.MeasureT-loop
 μ-loop words₀ part i₀ words i = 64 - i
 
--- src/taking.rt:187:5
 loop-holds : tie.Need-loop-holds Inv-loop μ-loop
 loop-holds c = (omega arith, c .pre .0, refl)
 
--- src/taking.rt:188:20
 mul-words : tie.Need-mul-words Inv-loop μ-loop
 mul-words c = search needs
 
--- src/taking.rt:188:20
 shared-slice-read-words : tie.Need-shared-slice-read-words Inv-loop μ-loop
 shared-slice-read-words c = omega arith
 
--- src/taking.rt:188:9
 mul-words-2 : tie.Need-mul-words-2 Inv-loop μ-loop
 mul-words-2 c = search needs
 
--- src/taking.rt:188:9
 slice-write-words : tie.Need-slice-write-words Inv-loop μ-loop
 slice-write-words c = omega arith
 
--- src/taking.rt:187:9
 add-i : tie.Need-add-i Inv-loop μ-loop
 add-i c = omega arith
 
--- src/taking.rt:187:5
 loop-less : tie.Need-loop-less Inv-loop μ-loop
 loop-less c = omega arith
 
--- src/taking.rt:187:5
 loop-again : tie.Need-loop-again Inv-loop μ-loop
 loop-again c = (omega arith, length-set (c .before .before .loop .words) (c .before .before .loop .i) (getD (now (c .before .before .before .args .part)) (c .before .before .loop .i) 0) ∙ c .before .before .loop .inv .1, put-turn (now (c .before .before .before .args .part)) (now (c .before .before .before .args .words)) (c .before .before .loop .words) (c .before .before .loop .i) (c .before .before .before .pre .1 ∙ sym (c .before .before .before .pre .0)) (omega (arith, c .before .before .before .pre .0)) (c .before .before .loop .inv .2))
 
--- src/taking.rt:183:1
 same-length : tie.Need-same-length Inv-loop μ-loop
 same-length c = omega arith
 
--- src/taking.rt:183:1
 returns : tie.Need-returns Inv-loop μ-loop
 returns c = put-end (now (c .before .before .args .part)) (now (c .before .before .args .words)) (c .before .loop .words) (c .before .loop .i) (c .before .before .pre .1 ∙ sym (c .before .before .pre .0)) (omega (arith, c .before .before .pre .0)) (c .before .loop .inv .2)
 

@@ -10,31 +10,24 @@ use borrow.Author.Needs.{needs}
 use Rattle.lines.proofs.taking.forget.Statement.{statement}
 use Rattle.lines.proofs.taking.forget.Tie as tie
 
--- src/taking.rt:274:9
 returns : tie.Need-returns
 returns c = none-forgotten (c .before .args .at) (c .before .args .gone) (c .before .args .count) (c .before .args .words .now) (c .if1 .taken) (c .before .pre .1 .1 .1)
 
--- src/taking.rt:276:38
 mul-acked : tie.Need-mul-acked
 mul-acked c = omega (arith, c .before .before .before .pre .0, c .before .before .before .pre .1 .1 .0)
 
--- src/taking.rt:276:38
 add-acked : tie.Need-add-acked
 add-acked c = omega (arith, c .before .before .before .pre .0, c .before .before .before .pre .1 .1 .0)
 
--- src/taking.rt:276:16
 acked-requires : tie.Need-acked-requires
 acked-requires c κs = (omega (arith, c .before .before .before .pre .1 .1 .0), omega (arith, c .before .before .before .pre .0, c .before .before .before .pre .1 .0, c .before .before .before .pre .1 .1 .0))
 
--- src/taking.rt:277:20
 slice-aggregate-put : tie.Need-slice-aggregate-put
 slice-aggregate-put c = search needs
 
--- src/taking.rt:277:5
 put-requires : tie.Need-put-requires
 put-requires c κs = (c .before .before .before .before .before .before .pre .0, (staying-length (c .before .before .before .before .before .before .args .at) (c .before .before .before .before .before .before .args .gone) (c .before .before .before .before .before .before .args .count) (c .before .before .before .before .before .before .args .words .now) (c .before .before .acked .result) (omega (arith, c .before .before .before .before .before .before .pre .1 .1 .0)) (c .before .before .acked .ensures), c .before .before .before .before .before .before .pre .1 .0))
 
--- src/taking.rt:269:1
 returns-2 : tie.Need-returns-2
 returns-2 c = subst (λ (l : List ℕ). Replaced (c .before .before .before .before .before .before .before .args .at) l (c .before .before .before .before .before .before .before .args .words .now) (c .put .last .0)) (c .before .before .before .acked .ensures) (c .put .ensures)
 

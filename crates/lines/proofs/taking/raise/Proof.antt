@@ -15,55 +15,42 @@ Inv-loop made₀ n at i₀ made i = (i ≤ n) × Raised i at made₀ made
 abbrev μ-loop : tie.MeasureT-loop
 μ-loop made₀ n at i₀ made i = n - i
 
--- src/taking.rt:249:5
 loop-holds : tie.Need-loop-holds Inv-loop μ-loop
 loop-holds c = (omega arith, raised-none (c .args .at) (c .args .made .now))
 
--- src/taking.rt:251:13
 add-i : tie.Need-add-i Inv-loop μ-loop
 add-i c = omega (arith, c .before .before .before .pre .0, c .before .before .before .pre .1 .0, c .before .loop-test)
 
--- src/taking.rt:249:5
 loop-less : tie.Need-loop-less Inv-loop μ-loop
 loop-less c = omega (arith, c .before .before .before .pre .0, c .before .before .before .pre .1 .0, c .before .loop-test)
 
--- src/taking.rt:249:5
 loop-again : tie.Need-loop-again Inv-loop μ-loop
 loop-again c = (omega (arith, c .before .loop-test), raised-skip (c .before .before .before .args .at) (c .before .before .before .args .made .now) (c .before .before .loop .i) (c .before .before .loop .made) (c .before .before .loop .inv .1) (sym (c .if1 .taken)))
 
--- src/taking.rt:253:19
 mul-made : tie.Need-mul-made Inv-loop μ-loop
 mul-made c = omega (arith, c .before .before .before .pre .0, c .before .before .before .pre .1 .0, c .before .loop-test)
 
--- src/taking.rt:253:19
 element-copy-out-made : tie.Need-element-copy-out-made Inv-loop μ-loop
 element-copy-out-made c = omega (arith, c .before .before .before .pre .0, c .before .before .before .pre .1 .0, c .before .loop-test)
 
--- src/taking.rt:253:19
 add-made : tie.Need-add-made Inv-loop μ-loop
 add-made c = let e = raised-here (c .before .before .before .before .args .at) (c .before .before .before .before .args .made .now) (c .before .before .before .loop .i) (c .before .before .before .loop .made) (c .before .before .before .loop .inv .1) (omega (arith, c .before .before .before .before .pre .0, c .before .before .loop-test)) in omega (arith, e, c .before .before .before .before .pre .1 .1 (c .before .before .before .loop .i) (omega (arith, c .before .before .loop-test)))
 
--- src/taking.rt:253:9
 mul-made-2 : tie.Need-mul-made-2 Inv-loop μ-loop
 mul-made-2 c = omega (arith, c .before .before .before .before .pre .0, c .before .before .loop-test)
 
--- src/taking.rt:253:9
 element-write-made : tie.Need-element-write-made Inv-loop μ-loop
 element-write-made c = omega (arith, c .before .before .before .before .pre .0, c .before .before .loop-test)
 
--- src/taking.rt:249:9
 add-i-2 : tie.Need-add-i-2 Inv-loop μ-loop
 add-i-2 c = omega (arith, c .before .before .before .before .pre .0, c .before .before .loop-test)
 
--- src/taking.rt:249:5
 loop-less-2 : tie.Need-loop-less-2 Inv-loop μ-loop
 loop-less-2 c = omega (arith, c .before .before .before .before .pre .0, c .before .before .loop-test)
 
--- src/taking.rt:249:5
 loop-again-2 : tie.Need-loop-again-2 Inv-loop μ-loop
 loop-again-2 c = (omega (arith, c .before .before .loop-test), subst (λ (x : ℕ). Raised (c .before .before .before .loop .i + 1) (c .before .before .before .before .args .at) (c .before .before .before .before .args .made .now) (set (c .before .before .before .loop .made) (c .before .before .before .loop .i) (x + 1))) (sym (raised-here (c .before .before .before .before .args .at) (c .before .before .before .before .args .made .now) (c .before .before .before .loop .i) (c .before .before .before .loop .made) (c .before .before .before .loop .inv .1) (omega (arith, c .before .before .before .before .pre .0, c .before .before .loop-test)))) (raised-turn (c .before .before .before .before .args .at) (c .before .before .before .before .args .made .now) (c .before .before .before .loop .i) (c .before .before .before .loop .made) (c .before .before .before .loop .inv .1) (λ e. c .before .if1 .left (sym e)) (omega (arith, c .before .before .before .before .pre .0, c .before .before .loop-test, c .before .before .before .loop .inv .1 .size))))
 
--- src/taking.rt:245:1
 returns : tie.Need-returns Inv-loop μ-loop
 returns c = let e : c .before .loop .i ≡ c .before .before .args .n = omega (arith, c .before .loop .inv .0, c .loop-test) in subst (λ (x : ℕ). Raised x (c .before .before .args .at) (c .before .before .args .made .now) (c .before .loop .made)) e (c .before .loop .inv .1)
 

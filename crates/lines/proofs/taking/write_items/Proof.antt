@@ -9,47 +9,36 @@ use borrow.Author.Needs.{needs}
 use Rattle.lines.proofs.taking.write_items.Statement.{statement}
 use Rattle.lines.proofs.taking.write_items.Tie as tie
 
--- src/taking.rt:287:31
 mul-forget : tie.Need-mul-forget
 mul-forget c = omega (arith, c .before .before .before .pre .0 .0)
 
--- src/taking.rt:287:31
 array-read-forget : tie.Need-array-read-forget
 array-read-forget c = let a : length (c .before .before .before .args .k .acked) ≡ 8 = search needs in let m : length (c .before .before .before .args .k .made) ≡ 8 = search needs in omega (arith, c .before .before .before .pre .0 .0, a, m)
 
--- src/taking.rt:287:24
 sub-forget : tie.Need-sub-forget
 sub-forget c = omega (arith, c .before .before .before .pre .0 .1 .1 .old, c .before .before .before .pre .0 .1 .1 .new, c .before .before .before .pre .0 .1 .1 .few)
 
--- src/taking.rt:287:23
 cast-forget : tie.Need-cast-forget
 cast-forget c = omega (arith, c .before .before .before .pre .0 .1 .1 .old, c .before .before .before .pre .0 .1 .1 .new, c .before .before .before .pre .0 .1 .1 .few)
 
--- src/taking.rt:287:53
 mul-forget-2 : tie.Need-mul-forget-2
 mul-forget-2 c = omega (arith, c .before .before .before .pre .0 .0)
 
--- src/taking.rt:287:53
 array-read-forget-2 : tie.Need-array-read-forget-2
 array-read-forget-2 c = let a : length (c .before .before .before .args .k .acked) ≡ 8 = search needs in let m : length (c .before .before .before .args .k .made) ≡ 8 = search needs in omega (arith, c .before .before .before .pre .0 .0, a, m)
 
--- src/taking.rt:287:53
 sub-forget-2 : tie.Need-sub-forget-2
 sub-forget-2 c = omega (arith, c .before .before .before .pre .0 .1 .1 .old, c .before .before .before .pre .0 .1 .1 .new, c .before .before .before .pre .0 .1 .1 .few)
 
--- src/taking.rt:287:52
 cast-forget-2 : tie.Need-cast-forget-2
 cast-forget-2 c = omega (arith, c .before .before .before .pre .0 .1 .1 .old, c .before .before .before .pre .0 .1 .1 .new, c .before .before .before .pre .0 .1 .1 .few)
 
--- src/taking.rt:287:5
 forget-requires : tie.Need-forget-requires
 forget-requires c κs = (c .before .before .before .pre .0 .0, (c .before .before .before .pre .0 .1 .0, seen-filled (c .before .before .before .args .k) (c .before .before .before .args .at) (c .before .before .before .args .seen) (c .before .before .before .args .words .now) (c .before .before .before .pre .0 .1 .1)))
 
--- src/taking.rt:288:5
 keep-requires : tie.Need-keep-requires
 keep-requires c κs = c .before .before .before .before .before .pre .1
 
--- src/taking.rt:281:1
 returns : tie.Need-returns
 returns c = both-written (c .before .before .before .before .before .before .args .n) (c .before .before .before .before .before .before .args .at) (c .before .before .before .before .before .before .args .k .made) (c .before .before .before .before .before .before .args .k .acked) (c .before .before .before .before .before .before .args .word) (stayingAt (c .before .before .before .before .before .before .args .k) (c .before .before .before .before .before .before .args .at) (c .before .before .before .before .before .before .args .seen) (c .before .before .before .before .before .before .args .words .now)) (c .before .before .before .before .before .before .args .words .now) (c .before .before .forget .last .0) (c .keep .last .0) (c .before .before .forget .ensures) (c .keep .ensures)
 

@@ -9,9 +9,6 @@ use Rattle.script.specs.Shown.{listsFrom}
 use Rattle.script.proofs.Showing.{lists-next, lists-none}
 use Rattle.script.proofs.program.client_lists.Statement.{statement}
 use Rattle.script.proofs.program.client_lists.Tie as tie
-use Rattle.script.proofs.program.client_lists.Reads as reads
-use Rattle.script.proofs.program.client_lists.Lts as lts
-use Rattle.text.proofs.client_list.Reads as client-list-reads
 
 abbrev Inv-loop : tie.InvT-loop
 Inv-loop out₀ at n items counts to₀ i₀ out to i =
@@ -20,75 +17,57 @@ Inv-loop out₀ at n items counts to₀ i₀ out to i =
 abbrev μ-loop : tie.MeasureT-loop
 μ-loop out₀ at n items counts to₀ i₀ out to i = n - i
 
--- src/program.rt:35:5
 loop-holds : tie.Need-loop-holds Inv-loop μ-loop
 loop-holds c = (omega arith, refl, ap (λ (k : ℕ). puts (listsFrom (c .before .before .args .t4) (now (c .before .before .args .items)) 0 k) (sink (c .before .before .args .out .now) (c .before .before .args .at))) (let e : c .before .before .args .n - 0 ≡ c .before .before .args .n = omega arith in e))
 
--- src/program.rt:36:24
 cast-c : tie.Need-cast-c Inv-loop μ-loop
 cast-c c = omega arith
 
--- src/program.rt:36:17
 mul-c : tie.Need-mul-c Inv-loop μ-loop
 mul-c c = omega (arith, c .before .before .before .before .pre .few)
 
--- src/program.rt:36:17
 array-copy-out-c : tie.Need-array-copy-out-c Inv-loop μ-loop
 array-copy-out-c c = omega (arith, c .before .before .before .before .pre .few)
 
--- src/program.rt:37:26
 cast-from : tie.Need-cast-from Inv-loop μ-loop
 cast-from c = omega arith
 
--- src/program.rt:37:20
 mul-from : tie.Need-mul-from Inv-loop μ-loop
 mul-from c = omega (arith, c .before .before .before .before .before .pre .few)
 
--- src/program.rt:38:26
 cast-end : tie.Need-cast-end Inv-loop μ-loop
 cast-end c = omega arith
 
--- src/program.rt:38:19
 add-end : tie.Need-add-end Inv-loop μ-loop
 add-end c = omega (arith, (c .before .before .before .before .before .before .pre .within (c .before .before .before .loop .i) (c .before .before .loop-test .taken)), c .before .before .before .before .before .before .pre .few)
 
--- src/program.rt:39:9
 add-i : tie.Need-add-i Inv-loop μ-loop
 add-i c = omega arith
 
--- src/program.rt:40:38
 mul-client-list : tie.Need-mul-client-list Inv-loop μ-loop
 mul-client-list c = omega (arith, c .before .before .before .before .before .before .before .pre .few)
 
--- src/program.rt:40:38
 sub-client-list : tie.Need-sub-client-list Inv-loop μ-loop
 sub-client-list c = omega arith
 
--- src/program.rt:40:38
 part-client-list-start : tie.Need-part-client-list-start Inv-loop μ-loop
 part-client-list-start c = omega arith
 
--- src/program.rt:40:38
 part-client-list-end : tie.Need-part-client-list-end Inv-loop μ-loop
 part-client-list-end c = omega (arith, (c .before .before .before .before .before .before .before .pre .within (c .before .before .before .before .loop .i) (c .before .before .before .loop-test .taken)), c .before .before .before .before .before .before .before .pre .few, c .before .before .before .before .before .before .before .pre .items-size)
 
--- src/program.rt:40:9
 client-list-requires : tie.Need-client-list-requires Inv-loop μ-loop
 client-list-requires c κs = search needs
 
--- src/program.rt:35:5
 loop-less : tie.Need-loop-less Inv-loop μ-loop
 loop-less c = omega arith
 
--- src/program.rt:35:5
 loop-again : tie.Need-loop-again Inv-loop μ-loop
 loop-again c = (omega arith, c .before .before .client-list .kept .0 ∙ c .before .before .before .before .before .before .before .before .loop .inv .1, lists-next (c .before .before .before .before .before .before .before .before .before .before .before .args .t4) (now (c .before .before .before .before .before .before .before .before .before .before .before .args .items)) (c .before .before .before .before .before .before .before .before .loop .i) (c .before .before .before .before .before .before .before .before .before .before .before .args .n) (c .before .before .before .before .before .before .before .loop-test .taken) (c .before .before .before .before .before .before .before .before .before .before .before .pre .within (c .before .before .before .before .before .before .before .before .loop .i) (c .before .before .before .before .before .before .before .loop-test .taken)) _ _ refl refl _ _ _ (c .before .before .client-list .ensures) (c .before .before .before .before .before .before .before .before .loop .inv .2))
 
--- src/program.rt:29:1
 same-length : tie.Need-same-length Inv-loop μ-loop
 same-length c = c .before .loop .inv .1
 
--- src/program.rt:29:1
 returns : tie.Need-returns Inv-loop μ-loop
 returns c = sym (lists-none (c .before .before .before .before .args .t4) (now (c .before .before .before .before .args .items)) (c .before .loop .i) (c .before .before .before .before .args .n - c .before .loop .i) (sink (c .before .loop .out) (c .before .loop .to)) (omega arith)) ∙ c .before .loop .inv .2
 

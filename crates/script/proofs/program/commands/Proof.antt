@@ -14,15 +14,6 @@ use Rattle.script.proofs.Turns.{Running, running-bad, server-fits}
 use Rattle.script.proofs.Lines.{endsOf, apart, place, server-sizes, turn-line, going-laid, going-turn, shown, going-end}
 use Rattle.script.proofs.program.commands.Statement.{statement}
 use Rattle.script.proofs.program.commands.Tie as tie
-use Rattle.script.proofs.program.commands.Reads as reads
-use Rattle.script.proofs.program.commands.Lts as lts
-use Rattle.bench.proofs.bays.side_by_side.Reads as side-by-side-reads
-use Rattle.script.proofs.program.at_place.Reads as at-place-reads
-use Rattle.script.proofs.program.lists.Reads as lists-reads
-use Rattle.server.proofs.Server.counts.Reads as counts-reads
-use Rattle.text.proofs.line_at.Reads as line-at-reads
-use Rattle.text.proofs.reply.Reads as reply-reads
-use Rattle.text.proofs.unknown.Reads as unknown-reads
 
 abbrev Inv-loop : tie.InvT-loop
 Inv-loop input i₀ out₀ at₀ s₀ items₀ places₀ pending₀ counts₀ own₀ own-places₀ own-pending₀ i out at s items places pending counts own own-places own-pending =
@@ -38,83 +29,63 @@ abbrev μ-loop : tie.MeasureT-loop
 line : (c : tie.After-struct-known2 Inv-loop μ-loop) → (1 ≤ c .before .before .before .before .line-at .result .order .line) × (c .before .before .before .before .line-at .result .order .line - 1 < 8)
 line c = turn-line _ _ (c .before .before .before .before .before .before .loop .i) _ (c .before .before .before .before .before .before .loop .s) (c .before .before .before .before .before .before .loop .items) (c .before .before .before .before .before .before .loop .places) (c .before .before .before .before .before .before .loop .pending) (c .before .before .before .before .before .before .loop .counts) (c .before .before .before .before .before .before .loop .own) (c .before .before .before .before .before .before .loop .own-places) (c .before .before .before .before .before .before .loop .own-pending) _ (c .before .before .before .before .before .before .loop .inv .1) (c .before .before .before .before .before .before .loop .inv .2) (c .before .before .before .before .line-at .result) (c .before .before .before .before .line-at .ensures) _ refl (c .before .if1 .left)
 
--- src/program.rt:89:9
 counts-requires : tie.Need-counts-requires Inv-loop μ-loop
 counts-requires c κs = search needs
 
--- src/program.rt:94:9
 side-by-side-requires : tie.Need-side-by-side-requires Inv-loop μ-loop
 side-by-side-requires c κs = search needs
 
--- src/program.rt:99:5
 loop-holds : tie.Need-loop-holds Inv-loop μ-loop
 loop-holds c = let b = c .before .before .before .before .side-by-side in let s = c .before .before .before .before .before .before .before .before .before .counts in (refl, b .ensures .laid, record { whole = subst Whole (sym (apart (c .before .before .before .before .before .before .before .before .before .before .before .before .before .args .ends) (s .result) (b .result) (s .ensures) (b .ensures))) (c .before .before .before .before .before .before .before .before .before .before .before .before .before .pre); rest = refl })
 
--- src/program.rt:100:13
 line-at-requires : tie.Need-line-at-requires Inv-loop μ-loop
 line-at-requires c κs = c .loop-test .taken
 
--- src/program.rt:104:13
 unknown-requires : tie.Need-unknown-requires Inv-loop μ-loop
 unknown-requires c κs = search needs
 
--- src/program.rt:99:5
 loop-less : tie.Need-loop-less Inv-loop μ-loop
 loop-less c = let h = c .before .before .before .before .before .before .before .line-at .ensures .later in let t = c .before .before .before .before .before .before .before .before .loop-test .taken in omega arith
 
--- src/program.rt:99:5
 loop-again : tie.Need-loop-again Inv-loop μ-loop
 loop-again c = let l = c .before .before .before .before .before .before .before .before .before .loop in let r = c .before .before .before .before .before .before .before .line-at in (c .before .before .unknown .kept .0 ∙ l .inv .0, l .inv .1, running-bad _ _ (l .i) _ _ _ (l .inv .2) (r .result) (r .ensures) (c .before .before .before .before .if1 .taken) _ _ (c .before .before .unknown .ensures))
 
--- src/program.rt:107:18
 sub-j : tie.Need-sub-j Inv-loop μ-loop
 sub-j c = let h = line (c) in omega (arith, h .0, h .1)
 
--- src/program.rt:107:17
 cast-j : tie.Need-cast-j Inv-loop μ-loop
 cast-j c = let h = line (c) in omega (arith, h .0, h .1)
 
--- src/program.rt:113:13
 mul-at-place : tie.Need-mul-at-place Inv-loop μ-loop
 mul-at-place c = let h = line (c .before .before .before) in omega (arith, h .0, h .1)
 
--- src/program.rt:113:13
 array-copy-out-at-place : tie.Need-array-copy-out-at-place Inv-loop μ-loop
 array-copy-out-at-place c = line (c .before .before .before) .1
 
--- src/program.rt:115:13
 slice-aggregate-at-place : tie.Need-slice-aggregate-at-place Inv-loop μ-loop
 slice-aggregate-at-place c = sym (c .before .before .before .before .before .before .before .before .before .before .before .loop .inv .1 .items-size)
 
--- src/program.rt:116:13
 slice-aggregate-at-place-2 : tie.Need-slice-aggregate-at-place-2 Inv-loop μ-loop
 slice-aggregate-at-place-2 c = sym (c .before .before .before .before .before .before .before .before .before .before .before .before .loop .inv .1 .places-size)
 
--- src/program.rt:117:13
 slice-aggregate-at-place-3 : tie.Need-slice-aggregate-at-place-3 Inv-loop μ-loop
 slice-aggregate-at-place-3 c = sym (c .before .before .before .before .before .before .before .before .before .before .before .before .before .loop .inv .1 .pending-size)
 
--- src/program.rt:108:13
 at-place-requires : tie.Need-at-place-requires Inv-loop μ-loop
 at-place-requires c κs = let l = c .before .before .before .before .before .before .before .before .before .before .before .before .before .loop in (server-sizes _ _ (l .i) _ (l .s) (l .items) (l .places) (l .pending) (l .counts) (l .own) (l .own-places) (l .own-pending) _ (l .inv .1) (l .inv .2), place (l .counts) (l .own) (l .own-places) (l .own-pending) (l .inv .1) _ (line (c .before .before .before .before .before .before .before) .1))
 
--- src/program.rt:123:9
 mul-counts : tie.Need-mul-counts Inv-loop μ-loop
 mul-counts c = let h = line (c .before .before .before .before .before .before .before .before .before .before .before .before .before) in omega (arith, h .1)
 
--- src/program.rt:123:9
 array-set-from-counts : tie.Need-array-set-from-counts Inv-loop μ-loop
 array-set-from-counts c = line (c .before .before .before .before .before .before .before .before .before .before .before .before .before) .1
 
--- src/program.rt:124:9
 reply-requires : tie.Need-reply-requires Inv-loop μ-loop
 reply-requires c κs = search needs
 
--- src/program.rt:99:5
 loop-less-2 : tie.Need-loop-less-2 Inv-loop μ-loop
 loop-less-2 c = let h = c .before .before .before .before .before .before .before .before .before .before .before .before .before .before .before .before .before .before .before .before .before .line-at .ensures .later in let t = c .before .before .before .before .before .before .before .before .before .before .before .before .before .before .before .before .before .before .before .before .before .before .loop-test .taken in omega arith
 
--- src/program.rt:99:5
 loop-again-2 : tie.Need-loop-again-2 Inv-loop μ-loop
 loop-again-2 c = let l = c .before .before .before .before .before .before .before .before .before .before .before .before .before .before .before .before .before .before .before .before .before .before .before .loop in let r = c .before .before .before .before .before .before .before .before .before .before .before .before .before .before .before .before .before .before .before .before .before .line-at in let t = c .before .before .before .before .before .before .before .before .before .at-place in let low = c .before .before .before .before .before .before .before .before .before .before .before .before .before .before .before .before .before .before .if1 .left in (c .before .before .reply .kept .0 ∙ l .inv .0, going-laid _ _ (l .i) _ (l .s) (l .items) (l .places) (l .pending) (l .counts) (l .own) (l .own-places) (l .own-pending) _ (l .inv .1) (l .inv .2) (r .result) (r .ensures) _ refl low (t .result) (t .last .1 .0) (t .last .1 .1 .0) (t .last .1 .1 .1 .0) (t .last .1 .1 .1 .1 .1 .1 .0) (t .last .1 .1 .1 .1 .1 .1 .1 .0) (t .last .1 .1 .1 .1 .1 .1 .1 .1 .0) (t .kept .1 .1 .1 .1 .1 .1 .0) (t .kept .1 .1 .1 .1 .1 .1 .1 .0) (t .kept .1 .1 .1 .1 .1 .1 .1 .1 .0) (t .ensures), going-turn _ _ (l .i) _ (l .s) (l .items) (l .places) (l .pending) (l .counts) (l .own) (l .own-places) (l .own-pending) _ (l .inv .1) (l .inv .2) (r .result) (r .ensures) _ refl low (t .result) (t .last .1 .0) (t .last .1 .1 .0) (t .last .1 .1 .1 .0) (t .last .1 .1 .1 .1 .1 .1 .0) (t .last .1 .1 .1 .1 .1 .1 .1 .0) (t .last .1 .1 .1 .1 .1 .1 .1 .1 .0) (t .kept .1 .1 .1 .1 .1 .1 .0) (t .kept .1 .1 .1 .1 .1 .1 .1 .0) (t .kept .1 .1 .1 .1 .1 .1 .1 .1 .0) (t .ensures) _ _ (c .before .before .reply .ensures))
 

@@ -9,10 +9,6 @@ use Rattle.script.specs.Shown.{listsFrom}
 use Rattle.script.proofs.Showing.{in-turn}
 use Rattle.script.proofs.program.lists.Statement.{statement}
 use Rattle.script.proofs.program.lists.Tie as tie
-use Rattle.script.proofs.program.lists.Reads as reads
-use Rattle.script.proofs.program.lists.Lts as lts
-use Rattle.script.proofs.program.client_lists.Reads as client-lists-reads
-use Rattle.text.proofs.server_list.Reads as server-list-reads
 
 slice-aggregate-server-list : tie.Need-slice-aggregate-server-list
 slice-aggregate-server-list c = sym (length-take-le (c .before .before .before .before .before .args .len) (now (c .before .before .before .before .before .args .items)) (c .before .before .before .before .before .pre .0))

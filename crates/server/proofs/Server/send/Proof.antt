@@ -6,19 +6,15 @@ use Rattle.server.specs.Calls.{sends}
 use Rattle.server.proofs.Server.send.Statement.{statement}
 use Rattle.server.proofs.Server.send.Tie as tie
 
--- src/sending.rt:100:13
 counts-requires : tie.Need-counts-requires
 counts-requires c κs = search needs
 
--- src/sending.rt:99:9
 send-lent-requires : tie.Need-send-lent-requires
 send-lent-requires c κs = search needs
 
--- src/sending.rt:96:5
 same-length : tie.Need-same-length
 same-length c = search needs
 
--- src/sending.rt:96:5
 returns : tie.Need-returns
 returns c = let s = c .before .before .before .before .before .before .before .before .before .before .before .before .before .args .t1 in
     c .before .before .send-lent .ensures

@@ -6,15 +6,12 @@ use Rattle.server.specs.Calls.{takes}
 use Rattle.server.proofs.Server.take.Statement.{statement}
 use Rattle.server.proofs.Server.take.Tie as tie
 
--- src/taking.rt:92:27
 counts-requires : tie.Need-counts-requires
 counts-requires c κs = search needs
 
--- src/taking.rt:92:13
 take-lent-requires : tie.Need-take-lent-requires
 take-lent-requires c κs = search needs
 
--- src/taking.rt:86:5
 returns : tie.Need-returns
 returns c = let s = c .before .before .before .before .before .before .before .before .before .before .before .before .before .before .args .self in
     c .before .before .before .before .before .take-lent .ensures

@@ -6,19 +6,15 @@ use Rattle.server.specs.Calls.{tells}
 use Rattle.server.proofs.Server.tell.Statement.{statement}
 use Rattle.server.proofs.Server.tell.Tie as tie
 
--- src/sending.rt:114:13
 counts-requires : tie.Need-counts-requires
 counts-requires c κs = search needs
 
--- src/sending.rt:113:9
 tell-lent-requires : tie.Need-tell-lent-requires
 tell-lent-requires c κs = search needs
 
--- src/sending.rt:110:5
 same-length : tie.Need-same-length
 same-length c = search needs
 
--- src/sending.rt:110:5
 returns : tie.Need-returns
 returns c = let s = c .before .before .before .before .before .before .before .before .before .before .before .before .before .args .t1 in
     c .before .before .tell-lent .ensures

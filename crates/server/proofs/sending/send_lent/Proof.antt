@@ -19,31 +19,25 @@ entry c = c .before .before .before .before .before .before .before .before .bef
 sound : (c : tie.Then1) → Sound (whole (entry c))
 sound c = c .before .is-sound .ensures .1 (c .if1 .taken)
 
--- src/sending.rt:27:8
 is-sound-requires : tie.Need-is-sound-requires
 is-sound-requires c κs = c .before .before .before .before .before .before .before .before .before .before .before .before .before .pre
 
--- src/sending.rt:39:13
 ask-send-requires : tie.Need-ask-send-requires
 ask-send-requires c κs =
     let t = c in
     lines-few (whole (entry t)) (sound t)
 
--- src/sending.rt:41:17
 message-requires : tie.Need-message-requires
 message-requires c κs =
     let t = c .before .before in
     (lines-few (whole (entry t)) (sound t), sym (c .before .ask-send .ensures) ∙ c .if2 .taken)
 
--- src/sending.rt:42:13
 finish-requires : tie.Need-finish-requires
 finish-requires c κs = search needs
 
--- src/sending.rt:42:13
 same-length : tie.Need-same-length
 same-length c = search needs
 
--- src/sending.rt:42:13
 returns : tie.Need-returns
 returns c =
     let t = c .before .before .before .before .before .before .before in
@@ -51,14 +45,12 @@ returns c =
     c .before .before .finish .ensures
     ∙ send-done (whole s) (s .args .line) (s .args .n) (s .args .out .now) (sound t) (c .before .before .before .before .message .result) (sym (c .before .before .before .before .before .before .ask-send .ensures) ∙ c .before .before .before .before .before .if2 .taken) (c .before .before .before .before .message .ensures)
 
--- src/sending.rt:44:9
 returns-2 : tie.Need-returns-2
 returns-2 c =
     let t = c .before .before in
     let s = entry t in
     send-refused (whole s) (s .args .line) (s .args .n) (s .args .out .now) (sound t) (c .before .ask-send .result) (c .before .ask-send .ensures) (c .if2 .left)
 
--- src/sending.rt:15:1
 returns-3 : tie.Need-returns-3
 returns-3 c =
     let s = c .before .before .before .before .before .before .before .before .before .before .before .before .before .before .before in

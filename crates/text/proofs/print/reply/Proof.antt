@@ -3,44 +3,31 @@ use Rattle.text.proofs.Sinks.{then-byte}
 use borrow.Author.Needs.{needs}
 use Rattle.text.proofs.print.reply.Statement.{statement}
 use Rattle.text.proofs.print.reply.Tie as tie
-use Rattle.text.proofs.print.reply.Reads as reads
-use Rattle.text.proofs.print.reply.Lts as lts
-use Rattle.text.proofs.print.decimal.Reads as decimal-reads
-use Rattle.text.proofs.print.put.Reads as put-reads
 
--- src/print.rt:129:31
 add-put : tie.Need-add-put
 add-put c = search needs
 
--- src/print.rt:129:13
 put-requires : tie.Need-put-requires
 put-requires c κs = search needs
 
--- src/print.rt:130:9
 put-requires-2 : tie.Need-put-requires-2
 put-requires-2 c κs = search needs
 
--- src/print.rt:130:9
 same-length : tie.Need-same-length
 same-length c = search needs
 
--- src/print.rt:130:9
 returns : tie.Need-returns
 returns c = then-byte _ _ _ (one-put (c .before .before .before .before .before .before .before .before .before .before .args .r) _ (c .before .before .before .before .before .before .before .before .if1 .taken) (c .before .before .before .before .before .before .put .ensures)) (c .before .before .put2 .ensures)
 
--- src/print.rt:132:9
 decimal-requires : tie.Need-decimal-requires
 decimal-requires c κs = search needs
 
--- src/print.rt:133:5
 put-requires-3 : tie.Need-put-requires-3
 put-requires-3 c κs = search needs
 
--- src/print.rt:125:1
 same-length-2 : tie.Need-same-length-2
 same-length-2 c = search needs
 
--- src/print.rt:125:1
 returns-2 : tie.Need-returns-2
 returns-2 c = then-byte _ _ _ (c .before .before .before .before .before .before .decimal .ensures) (c .before .before .put3 .ensures)
 
