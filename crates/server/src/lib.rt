@@ -34,7 +34,7 @@ pub struct Server {
 }
 
 // What opening and taking answer: the end, 0 or the number of the question that said no, and how many pending edits an edit was
-// transformed past. The order of the fields is one of four forms that were timed (docs/BENCHMARKS.md).
+// transformed past.
 pub struct Answer {
     pub server: Server,
     pub refusal: u8,
