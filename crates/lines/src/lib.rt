@@ -4,12 +4,11 @@ pub mod sending;
 pub mod taking;
 
 ghost use mathlib.Core.Path.{_≡_};
-ghost use mathlib.Core.Bool.{cond};
 ghost use mathlib.Core.List.{[]};
 ghost use Prim.Native.Nat.{_+_, _-_, _≤_};
 ghost use lib.ListN.{length};
 ghost use Rattle.slots.specs.Slots.{allFrom};
-ghost use Rattle.lines.specs.Lines.{counts, sumFrom, countsSound, countsZero, countsAt, slotsAt};
+ghost use Rattle.lines.specs.Lines.{counts, sumFrom, countsSound, countsZero, usedAt, unusedAt, countsAt, slotsAt, Eights};
 
 // The small part of an end. Functions that only ask get it and lent arrays, since an end by value is copied at each call.
 pub struct Counts {
@@ -85,25 +84,45 @@ fn counts_zero(made: u16, taken: u16, acked: u16, inserts: u16) -> bool
     (made == 0) & (taken == 0) & (acked == 0) & (inserts == 0)
 }
 
-// The one or the other, without a branch where it is called.
-fn pick(first: bool, a: bool, b: bool) -> bool
-    ensures { λ r. ⌜ r ≡ cond first a b ⌝ }
+// The counts of the lines in use, which are the first n.
+fn used_sound<'a>(
+    n: usize,
+    made: &'a [u16],
+    taken: &'a [u16],
+    acked: &'a [u16],
+    inserts: &'a [u16],
+    total: u32,
+) -> bool
+    requires { ⌜ (n ≤ 8) × Eights (now made) (now taken) (now acked) (now inserts) ⌝ }
+    ensures { λ r. ⌜ r ≡ allFrom (usedAt (counts n 0 0 (now (made .entry)) (now (taken .entry)) (now (acked .entry)) (now (inserts .entry))) total) 0 n ⌝ }
 {
-    if first { a } else { b }
+    let mut well = true;
+    for i in 0..n {
+        well = well & counts_sound(total, made[i], taken[i], acked[i], inserts[i]);
+    }
+    well
 }
 
-// The counts of a place, used or not.
-fn place_sound(used: bool, total: u32, made: u16, taken: u16, acked: u16, inserts: u16) -> bool
-    ensures { λ r. ⌜ r ≡ cond used (countsSound total made taken acked inserts) (countsZero made taken acked inserts) ⌝ }
+// The counts of the others.
+fn unused_zero<'a>(
+    n: usize,
+    made: &'a [u16],
+    taken: &'a [u16],
+    acked: &'a [u16],
+    inserts: &'a [u16],
+) -> bool
+    requires { ⌜ (n ≤ 8) × Eights (now made) (now taken) (now acked) (now inserts) ⌝ }
+    ensures { λ r. ⌜ r ≡ allFrom (unusedAt (counts n 0 0 (now (made .entry)) (now (taken .entry)) (now (acked .entry)) (now (inserts .entry)))) n (8 - n) ⌝ }
 {
-    pick(
-        used,
-        counts_sound(total, made, taken, acked, inserts),
-        counts_zero(made, taken, acked, inserts),
-    )
+    let mut well = true;
+    for i in n..8 {
+        well = well & counts_zero(made[i], taken[i], acked[i], inserts[i]);
+    }
+    well
 }
 
-// The counts of all places: one of the first n holds a line in use.
+// The counts of all places. Two loops, since a loop over all eight that also asks which lines are in use is laid out whole and then not
+// made wide.
 pub fn places_sound<'a>(
     n: u8,
     made: &'a [u16],
@@ -112,15 +131,11 @@ pub fn places_sound<'a>(
     inserts: &'a [u16],
     total: u32,
 ) -> bool
-    requires { ⌜ (length (now made) ≡ 8) × ((length (now taken) ≡ 8) × ((length (now acked) ≡ 8) × (length (now inserts) ≡ 8))) ⌝ }
+    requires { ⌜ (n ≤ 8) × Eights (now made) (now taken) (now acked) (now inserts) ⌝ }
     ensures { λ r. ⌜ r ≡ allFrom (countsAt (counts n 0 0 (now (made .entry)) (now (taken .entry)) (now (acked .entry)) (now (inserts .entry))) total) 0 8 ⌝ }
 {
-    let mut well = true;
-    for i in 0..8 {
-        let used = i < n as usize;
-        well = well & place_sound(used, total, made[i], taken[i], acked[i], inserts[i]);
-    }
-    well
+    let m = n as usize;
+    used_sound(m, made, taken, acked, inserts, total) & unused_zero(m, made, taken, acked, inserts)
 }
 
 // The slots of all places. Of a line that is not in use the counts are 0, so that its pending edits are tested as none.

@@ -25,7 +25,10 @@ sum-requires-2 : tie.Need-sum-requires-2
 sum-requires-2 c κs = (limits-few (c .before .before .before .before .before .before .before .before .before .before .args .n) (c .before .before .before .before .before .before .before .before .before .before .args .initial) (c .before .before .before .before .before .before .before .before .before .before .args .len) (c .before .before .if1 .taken), c .before .before .before .before .before .before .before .before .before .before .pre .sized .taken)
 
 places-sound-requires : tie.Need-places-sound-requires
-places-sound-requires c κs = (c .before .before .before .before .before .before .before .before .before .before .before .pre .sized .made, (c .before .before .before .before .before .before .before .before .before .before .before .pre .sized .taken, (c .before .before .before .before .before .before .before .before .before .before .before .pre .sized .acked, c .before .before .before .before .before .before .before .before .before .before .before .pre .sized .inserts)))
+places-sound-requires c κs =
+    let s = c .before .before .before .before .before .before .before .before .before .before .before in
+    let l = s .pre .sized in
+    (limits-few (s .args .n) (s .args .initial) (s .args .len) (c .before .before .before .if1 .taken), (l .made, (l .taken, (l .acked, l .inserts))))
 
 slots-sound-requires : tie.Need-slots-sound-requires
 slots-sound-requires c κs = ((c .before .before .before .before .before .before .before .before .before .before .before .before .pre .sized .made, c .before .before .before .before .before .before .before .before .before .before .before .before .pre .sized .acked), (omega (arith, c .before .before .before .before .before .before .before .before .before .before .before .before .pre .sized .places), omega (arith, c .before .before .before .before .before .before .before .before .before .before .before .before .pre .sized .items)))
