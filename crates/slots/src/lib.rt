@@ -83,7 +83,8 @@ fn is_kept(used: bool, place: u32, item: u32, n: u8, line: u8, own: bool) -> boo
     is_right(place, item, n, line, own) & (used | ((place | item) == 0))
 }
 
-// The first slots of a line, of which count are in use: no early return and no branch, so that the compiler makes the loop wide.
+// The first slots of a line, of which count are in use: no early return and no branch, so that the compiler makes the loop wide. The slot is
+// counted beside its index, since a number that an index is made of is compared in 64 bits, two at a time.
 fn slots_kept(
     places: &[u32],
     items: &[u32],
@@ -98,9 +99,10 @@ fn slots_kept(
     ensures { λ r. ⌜ r ≡ allFrom (keptAt (rightPriority n line own) from count (now (places .entry)) (now (items .entry))) 0 slots ⌝ }
 {
     let mut kept = true;
+    let mut i = from;
     for j in 0..slots {
-        let i = from + j as usize;
         kept = kept & is_kept(j < count, places[i], items[i], n, line, own);
+        i += 1;
     }
     kept
 }
