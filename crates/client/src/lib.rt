@@ -63,18 +63,7 @@ fn joined(a: Changed, items: [u32; 512], places: [u32; 64], pending: [u32; 64]) 
     ensures { λ r. ⌜ r ≡ answerOf a items places pending ⌝ }
 {
     let k = a.counts;
-    let client = Client {
-        n: k.n,
-        line: k.line,
-        made: k.made,
-        taken: k.taken,
-        acked: k.acked,
-        inserts: k.inserts,
-        len: k.len,
-        items,
-        pending_places: places,
-        pending_items: pending,
-    };
+    let client = Client::of(k, items, places, pending);
     Answer {
         refusal: a.refusal,
         passed: a.passed,
@@ -133,6 +122,24 @@ impl Client {
             acked: self.acked,
             inserts: self.inserts,
             len: self.len,
+        }
+    }
+
+    // The client of its numbers and arrays.
+    pub fn of(k: Counts, items: [u32; 512], places: [u32; 64], pending: [u32; 64]) -> Client
+        ensures { λ r. ⌜ r ≡ clientOf k items places pending ⌝ }
+    {
+        Client {
+            n: k.n,
+            line: k.line,
+            made: k.made,
+            taken: k.taken,
+            acked: k.acked,
+            inserts: k.inserts,
+            len: k.len,
+            items,
+            pending_places: places,
+            pending_items: pending,
         }
     }
 

@@ -145,4 +145,26 @@ impl Server {
             inserts,
         }
     }
+
+    // The server of its small part and its arrays.
+    pub fn of(k: Counts, items: [u32; 512], places: [u32; 512], pending: [u32; 512]) -> Server
+        ensures { λ r. ⌜ r ≡ serverOf k items places pending ⌝ }
+    {
+        let made = k.made;
+        let taken = k.taken;
+        let acked = k.acked;
+        let inserts = k.inserts;
+        Server {
+            n: k.n,
+            initial: k.initial,
+            len: k.len,
+            items,
+            made,
+            taken,
+            acked,
+            inserts,
+            pending_places: places,
+            pending_items: pending,
+        }
+    }
 }

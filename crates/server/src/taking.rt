@@ -88,22 +88,7 @@ impl Server {
         let mut pending = self.pending_items;
         let a = take_lent(self.counts(), &mut items, &mut places, &mut pending, bytes);
         let k = a.counts;
-        let made = k.made;
-        let taken = k.taken;
-        let acked = k.acked;
-        let inserts = k.inserts;
-        let server = Server {
-            n: k.n,
-            initial: k.initial,
-            len: k.len,
-            items,
-            made,
-            taken,
-            acked,
-            inserts,
-            pending_places: places,
-            pending_items: pending,
-        };
+        let server = Server::of(k, items, places, pending);
         Answer {
             server,
             refusal: a.refusal,
