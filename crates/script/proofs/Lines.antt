@@ -1,9 +1,9 @@
 -- A line of the run program, on ends that are taken apart: the server's numbers and arrays, and the clients side by side.
-use Prim.Native.Nat.{ℕ, suc, _+_, _-_, _*_, _<_, _≤_}
+use Prim.Native.Nat.{ℕ, _-_, _*_, _<_, _≤_}
 use mathlib.Core.Path.{_≡_, refl, sym, ap, ap₂, _∙_, subst}
-use mathlib.Core.List.{List, _++_, map}
+use mathlib.Core.List.{List, map}
 use native.Mathlib.Omega.{arith}
-use lib.ListN.{length, getD, take, drop, set, length-set, length-take}
+use lib.ListN.{length, getD, take, drop, set, length-take}
 use Rattle.model.specs.Limits.{maxLines, maxItems, maxPending}
 use Rattle.lines.specs.declared.Counts as lines
 use Rattle.client.specs.declared.Client.{Client}
@@ -22,13 +22,15 @@ use Rattle.text.proofs.Sinks.{then}
 use Rattle.bench.specs.declared.bays.Bays.{Bays}
 use Rattle.bench.specs.declared.ends.Ends.{Ends}
 use Rattle.bench.specs.declared.ends.Turned.{Turned}
-use Rattle.bench.specs.Flat.{part, endsFrom}
+use Rattle.bench.specs.Flat.{part}
 use Rattle.bench.specs.Bays.{noCounts, clientsIn, Laid, Standing}
+use Rattle.bench.specs.Place.{Place, Only, clientAt}
 use Rattle.script.specs.Shown.{Shown, listsFrom}
-use Rattle.script.specs.Place.{Place, Only, clientAt, steppedAt}
-use Rattle.script.specs.Output.{clientLists, lists}
-use Rattle.bench.specs.Ends.{Whole, viewEnds, steppedOf, ordered}
-use Rattle.bench.proofs.Flat.{Put, lent-is, part-length, put-lent, ends-of, ends-take, ends-put}
+use Rattle.script.specs.Place.{steppedAt}
+use Rattle.script.specs.Output.{clientLists}
+use Rattle.bench.specs.Ends.{viewEnds, steppedOf, ordered}
+use Rattle.bench.proofs.Flat.{ends-of, ends-take}
+use Rattle.bench.proofs.Places.{lentBack, lentPart, client-lent, client-there, client-in, laid-back, clients-back}
 use Rattle.script.proofs.Showing.{lists-are}
 use Rattle.bench.proofs.Structs.{lines-few, server-is}
 use Rattle.script.proofs.Turns.{Running, order-line, running-turn, running-end, client-fits}
@@ -44,81 +46,18 @@ apart e s b ps pb =
     (λ (k : lines.Counts) (cs : List Client). record { server = server.serverOf k (e .server .items) (e .server .«pending_places») (e .server .«pending_items»); clients = cs }) ps
     (pb .standing)
 
--- part j of an array is lent, and x stands there afterwards
-abbrev pub lentBack : ℕ → ℕ → List ℕ → List ℕ → List ℕ
-lentBack w j a x = take (w * j) a ++ (x ++ drop (w * j + w - w * j) (drop (w * j) a))
-
-abbrev pub lentPart : ℕ → ℕ → List ℕ → List ℕ
-lentPart w j a = take (w * j + w - w * j) (drop (w * j) a)
-
--- a part that comes back as long as it was leaves the array as long as it was
-pub lent-size : (w j : ℕ) (a x : List ℕ) → w * j + w ≤ length a → length x ≡ length (lentPart w j a) → length (lentBack w j a x) ≡ length a
-lent-size w j a x fits e =
-    put-lent w j a _ _ refl refl fits x (e ∙ ap length (lent-is w j a _ _ refl refl) ∙ part-length w j a _ _ refl refl fits) .size
-
 -- ---- one place
 
-module _ (j : ℕ) (own ps xs : List ℕ) (r : Place j own ps xs) where
-  pub own-fits : maxItems * j + maxItems ≤ length own
-  own-fits = omega (arith, r .small, r .items-size)
-
-  pub places-fit : maxPending * j + maxPending ≤ length ps
-  places-fit = omega (arith, r .small, r .places-size)
-
-  pub pending-fit : maxPending * j + maxPending ≤ length xs
-  pending-fit = omega (arith, r .small, r .pending-size)
-
-  pub lent-sizes : client.Sizes (lentPart maxItems j own) (lentPart maxPending j ps) (lentPart maxPending j xs)
-  lent-sizes =
-      record {
-        items-size = ap length (lent-is maxItems j own _ _ refl refl) ∙ part-length maxItems j own _ _ refl refl own-fits;
-        places-size = ap length (lent-is maxPending j ps _ _ refl refl) ∙ part-length maxPending j ps _ _ refl refl places-fit;
-        pending-size = ap length (lent-is maxPending j xs _ _ refl refl) ∙ part-length maxPending j xs _ _ refl refl pending-fit;
-      }
-
-  module _ (x y z : List ℕ) (sx : length x ≡ maxItems) (sy : length y ≡ maxPending) (sz : length z ≡ maxPending) where
-    put-own : Put maxItems j own (lentBack maxItems j own x) x
-    put-own = put-lent maxItems j own _ _ refl refl own-fits x sx
-
-    put-places : Put maxPending j ps (lentBack maxPending j ps y) y
-    put-places = put-lent maxPending j ps _ _ refl refl places-fit y sy
-
-    put-pending : Put maxPending j xs (lentBack maxPending j xs z) z
-    put-pending = put-lent maxPending j xs _ _ refl refl pending-fit z sz
-
-    pub only-there : Only j own (lentBack maxItems j own x) ps (lentBack maxPending j ps y) xs (lentBack maxPending j xs z)
-    only-there = record { items = put-own .others; places = put-places .others; pending = put-pending .others }
-
-    -- what the parts that were lent became is the client there
-    pub stepped-there : (t : Turned) (items places pending : List ℕ) (s : Server) (k : Counts) (o : Order)
-        → steppedOf t items places pending x y z ≡ ordered s (client.clientOf k (lentPart maxItems j own) (lentPart maxPending j ps) (lentPart maxPending j xs)) o
-        → steppedAt t items places pending j (lentBack maxItems j own x) (lentBack maxPending j ps y) (lentBack maxPending j xs z) ≡ ordered s (clientAt k j own ps xs) o
-    unfolding steppedAt clientAt
-    stepped-there t items places pending s k o p =
-        (λ u. steppedOf t items places pending (put-own .here u) (put-places .here u) (put-pending .here u))
-        ∙ p
-        ∙ (λ u. ordered s (client.clientOf k (lent-is maxItems j own _ _ refl refl u) (lent-is maxPending j ps _ _ refl refl u) (lent-is maxPending j xs _ _ refl refl u)) o)
-
-module _ (ks : List Counts) (own ps xs : List ℕ) (l : Laid ks own ps xs) (j : ℕ) (small : j < 8) where
-  pub place : Place j own ps xs
-  place = record { small = small; items-size = l .items-size; places-size = l .places-size; pending-size = l .pending-size }
-
-  module _ (k : Counts) (own′ ps′ xs′ : List ℕ) (so : length own′ ≡ length own) (sp : length ps′ ≡ length ps) (sx : length xs′ ≡ length xs) (only : Only j own own′ ps ps′ xs xs′) where
-    pub laid-back : Laid (set ks j k) own′ ps′ xs′
-    laid-back =
-        record {
-          counts-size = length-set ks j k ∙ l .counts-size;
-          items-size = so ∙ l .items-size;
-          places-size = sp ∙ l .places-size;
-          pending-size = sx ∙ l .pending-size;
-        }
-
-    pub clients-back : set (clientsIn ks own ps xs) j (clientAt k j own′ ps′ xs′) ≡ clientsIn (set ks j k) own′ ps′ xs′
-    unfolding clientAt
-    clients-back =
-        ends-put client.clientOf noCounts maxItems maxPending j maxLines ks k own own′ ps ps′ xs xs′ (part maxItems j own′) (part maxPending j ps′) (part maxPending j xs′)
-        (omega (arith, l .counts-size)) small (record { here = refl; others = only .items; size = so }) (record { here = refl; others = only .places; size = sp })
-        (record { here = refl; others = only .pending; size = sx })
+-- what the parts that were lent became is the client there
+pub stepped-there : (j : ℕ) (own ps xs : List ℕ) → Place j own ps xs → (x y z : List ℕ) → length x ≡ maxItems → length y ≡ maxPending → length z ≡ maxPending
+    → (t : Turned) (items places pending : List ℕ) (s : Server) (k : Counts) (o : Order)
+    → steppedOf t items places pending x y z ≡ ordered s (client.clientOf k (lentPart maxItems j own) (lentPart maxPending j ps) (lentPart maxPending j xs)) o
+    → steppedAt t items places pending j (lentBack maxItems j own x) (lentBack maxPending j ps y) (lentBack maxPending j xs z) ≡ ordered s (clientAt k j own ps xs) o
+unfolding steppedAt clientAt
+stepped-there j own ps xs r x y z sx sy sz t items places pending s k o p =
+    ap (λ (c : Client). record { refusal = t .refusal; server = server.serverOf (t .server) items places pending; client = c }) (sym (client-there j own ps xs r x y z sx sy sz (t .client)))
+    ∙ p
+    ∙ ap (λ (c : Client). ordered s c o) (client-lent j own ps xs k)
 
 -- ---- one line
 
@@ -150,7 +89,7 @@ module _ (input out : List ℕ) (i to : ℕ) (s : lines.Counts) (items places pe
           let c : Client = clientAt (getD ks (o .line - 1) noCounts) (o .line - 1) own ps xs in
           subst (λ (cs : List Client). Running input out′ (r .after) to′ (record { server = server.serverOf (t .server) items′ places′ pending′; clients = cs }) z)
           (clients-back ks own ps xs l (o .line - 1) small (t .client) own′ ps′ xs′ so sp sx (done .1))
-          (running-turn input out i to e z g r p o po low c c (sym (ends-of client.clientOf noCounts maxItems maxPending ks own ps xs maxLines (o .line - 1) c small))
+          (running-turn input out i to e z g r p o po low c c (sym (client-in ks own ps xs (o .line - 1) small c))
           (steppedAt t items′ places′ pending′ (o .line - 1) own′ ps′ xs′) (done .0) out′ to′ q)
 
   -- ---- the lists

@@ -28,7 +28,8 @@ ghost use Rattle.script.specs.Output.{ran, started as Output·started, o
 ghost use Rattle.bench.specs.Ends.{Whole, viewEnds, opening, ordered};
 ghost use Rattle.server.specs.Sound.{Sizes};
 ghost use Rattle.server.specs.View.{serverOf};
-ghost use Rattle.script.specs.Place.{Place, Only, clientAt, steppedAt};
+ghost use Rattle.bench.specs.Place.{Place, Only, clientAt};
+ghost use Rattle.script.specs.Place.{steppedAt};
 ghost use Rattle.script.specs.Shown.{Shown, listsFrom};
 
 // The lists of the clients, in line order.
