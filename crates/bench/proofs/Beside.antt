@@ -1,17 +1,20 @@
--- The clients side by side: filling their arrays.
+-- The clients side by side: filling their arrays, and taking the clients out again.
 use Prim.Native.Nat.{ℕ, _+_, _-_, _*_, _≤_, _<_}
 use mathlib.Core.Path.{_≡_, refl, sym, ap, ap₂, _∙_, subst}
-use mathlib.Core.List.{List, _++_}
+use mathlib.Core.List.{List, [], _∷_, _++_}
 use native.Mathlib.Omega.{arith}
 use native.Mathlib.Numerals.{add-one}
 use lib.ListN.{length, getD, take, drop, set, length-set, drop-of-length-le}
-use Rattle.ot.proofs.Sweep.{swept, swept-store, swept-to}
+use Rattle.ot.proofs.Sweep.{swept, swept-from, swept-store, swept-to}
 use Rattle.model.specs.Limits.{maxItems, maxPending, maxLines}
 use Rattle.client.specs.declared.Client.{Client}
 use Rattle.line.specs.declared.Counts.{Counts}
 use Rattle.client.specs.Store as client
+use Rattle.bench.specs.Flat.{endsFrom}
 use Rattle.bench.specs.Bays.{noCounts, clientsIn, Laid}
+use Rattle.bench.specs.Place.{clientAt}
 use Rattle.bench.proofs.Flat.{Put, put-written, ends-length, ends-put}
+use Rattle.bench.proofs.Places.{client-in}
 
 -- ---- filling the arrays: those of the first j clients stand there
 
@@ -76,3 +79,44 @@ module _ (clients : List Client) (eight : length clients ≡ 8) where
   filling-end ks items places pending j h f =
       f .ends
       ∙ swept-to clients (f .start) j (drop-of-length-le clients {i = j} (omega arith) ∙ sym (drop-of-length-le (f .start) {i = j} (omega (arith, f .begun))))
+
+-- ---- taking the clients out: the first j stand in the array of clients
+
+module _ (ks : List Counts) (items places pending : List ℕ) where
+  pub record Parting (clients : List Client) (j : ℕ) : Type 0 where
+    -- what stood there before
+    pub start : List Client
+    pub begun : length start ≡ 8
+    pub parted : clients ≡ swept (clientsIn ks items places pending) start j
+
+  -- the array begins as copies of the first client
+  pub parting-start : (clients : List Client) (c : Client) → length clients ≡ 8 → take 1 clients ≡ c ∷ [] → c ≡ clientAt (getD ks 0 noCounts) 0 items places pending
+      → Parting clients 1
+  unfolding clientAt endsFrom
+  parting-start clients c eight first e =
+      record {
+        start = clients;
+        begun = eight;
+        parted = swept-from (clientsIn ks items places pending) clients 1 (sym (first ∙ ap (λ (d : Client). d ∷ []) e));
+      }
+
+  count : length (clientsIn ks items places pending) ≡ 8
+  count = ends-length client.clientOf noCounts maxItems maxPending ks items places pending 0 8
+
+  pub parting-turn : (clients : List Client) (j : ℕ) (c : Client) → j < 8 → c ≡ clientAt (getD ks j noCounts) j items places pending
+      → Parting clients j → Parting (set clients j c) (j + 1)
+  parting-turn clients j c small e p =
+      let target = clientsIn ks items places pending in
+      record {
+        start = p .start;
+        begun = p .begun;
+        parted =
+            ap₂ (λ (l : List Client) (d : Client). set l j d) (p .parted) (e ∙ sym (client-in ks items places pending j small c))
+            ∙ rw add-one (swept-store target (p .start) j c (count ∙ sym (p .begun)) (omega (arith, p .begun)));
+      }
+
+  pub parting-end : (clients : List Client) (j : ℕ) → 8 ≤ j → Parting clients j → clients ≡ clientsIn ks items places pending
+  parting-end clients j h p =
+      let target = clientsIn ks items places pending in
+      p .parted
+      ∙ swept-to target (p .start) j (drop-of-length-le target {i = j} (omega (arith, count)) ∙ sym (drop-of-length-le (p .start) {i = j} (omega (arith, p .begun))))

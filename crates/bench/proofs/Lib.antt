@@ -1,6 +1,6 @@
 pub mod Lists
 pub mod Flat
-pub mod Beside
 pub mod Places
+pub mod Beside
 pub mod Benches
 pub mod Structs

@@ -34,6 +34,11 @@ unfolding clientAt
 client-lent j own ps xs k =
     λ u. client.clientOf k (lent-is maxItems j own _ _ refl refl u) (lent-is maxPending j ps _ _ refl refl u) (lent-is maxPending j xs _ _ refl refl u)
 
+-- and copies of them make that client
+pub client-copied : (j : ℕ) (own ps xs : List ℕ) (k : Counts) (x y z : List ℕ) (c : Client)
+    → x ≡ lentPart maxItems j own → y ≡ lentPart maxPending j ps → z ≡ lentPart maxPending j xs → c ≡ client.clientOf k x y z → c ≡ clientAt k j own ps xs
+client-copied j own ps xs k x y z c p q r e = e ∙ (λ u. client.clientOf k (p u) (q u) (r u)) ∙ client-lent j own ps xs k
+
 module _ (j : ℕ) (own ps xs : List ℕ) (r : Place j own ps xs) where
   pub own-fits : maxItems * j + maxItems ≤ length own
   own-fits = omega (arith, r .small, r .items-size)

@@ -5,7 +5,8 @@ ghost use mathlib.Core.Path.{_≡_};
 ghost use mathlib.Core.List.{_++_};
 ghost use Prim.Native.Nat.{_+_, _≤_};
 ghost use lib.ListN.{length, take, drop};
-ghost use Rattle.bench.specs.Bays.{Room, baysOf, Standing};
+ghost use Rattle.bench.specs.Bays.{Room, baysOf, Standing, Laid, clientsIn};
+ghost use Rattle.bench.specs.Place.{Place, clientAt};
 
 pub struct Bays {
     pub counts: [Counts; 8],
@@ -78,4 +79,47 @@ pub fn side_by_side(clients: [Client; 8]) -> Bays
         places,
         pending,
     }
+}
+
+// The client in place j of the arrays. It gets copies of its parts, since a client holds its arrays itself.
+fn client_at<'a>(
+    k: Counts,
+    j: usize,
+    items: &'a [u32],
+    places: &'a [u32],
+    pending: &'a [u32],
+) -> Client
+    requires { ⌜ Place j (now items) (now places) (now pending) ⌝ }
+    ensures { λ r. ⌜ r ≡ clientAt k j (now (items .entry)) (now (places .entry)) (now (pending .entry)) ⌝ }
+{
+    let from = 512 * j;
+    let end = from + 512;
+    let first = 64 * j;
+    let last = first + 64;
+    let mut own = [0u32; 512];
+    put(&mut own, &items[from..end]);
+    let mut own_places = [0u32; 64];
+    put(&mut own_places, &places[first..last]);
+    let mut own_pending = [0u32; 64];
+    put(&mut own_pending, &pending[first..last]);
+    Client::of(k, own, own_places, own_pending)
+}
+
+// The clients one by one again. The array begins as eight times the first client, so that no client of zeros has to be made up for it.
+pub fn apart<'a>(
+    counts: [Counts; 8],
+    items: &'a [u32],
+    places: &'a [u32],
+    pending: &'a [u32],
+) -> [Client; 8]
+    requires { ⌜ Laid counts (now items) (now places) (now pending) ⌝ }
+    ensures { λ r. ⌜ r ≡ clientsIn counts (now (items .entry)) (now (places .entry)) (now (pending .entry)) ⌝ }
+{
+    let first = client_at(counts[0], 0, items, places, pending);
+    let mut clients = [first; 8];
+    for i in 1..8 {
+        let c = client_at(counts[i], i, items, places, pending);
+        clients[i] = c;
+    }
+    clients
 }
