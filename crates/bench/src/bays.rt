@@ -18,7 +18,7 @@ pub struct Bays {
 }
 
 // Puts one number after the other.
-fn put(words: &mut [u32], part: &[u32])
+pub fn put(words: &mut [u32], part: &[u32])
     requires { ⌜ length (now words) ≡ length (now part) ⌝ }
     ensures { λ _. ⌜ now (words .exit) ≡ now (part .entry) ⌝ }
 {

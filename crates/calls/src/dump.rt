@@ -3,9 +3,10 @@ ghost use mathlib.Core.Path.{_≡_};
 ghost use Prim.Native.Nat.{_+_, _*_, _≤_};
 ghost use lib.ListN.{length};
 ghost use Rattle.wire.specs.Bytes.{two, four};
+ghost use Rattle.client.specs.Store.{clientOf, Sizes as ClientSizes};
+ghost use Rattle.server.specs.View.{serverOf};
+ghost use Rattle.server.specs.Sound.{Sizes as ServerSizes};
 ghost use Rattle.calls.specs.Dump.{Put, each, twosBytes, foursBytes, clientBytes, serverBytes, answerBytes, slotBytes};
-use client::Client;
-use server::Server;
 
 fn put_two(out: &mut [u8], at: usize, x: u16)
     requires { ⌜ at + 2 ≤ length (now out) ⌝ }
@@ -92,24 +93,39 @@ fn put_arrays<'a>(
 
 // ---- ends
 
-pub fn put_client(out: &mut [u8], at: usize, c: Client)
-    requires { ⌜ at + 2572 ≤ length (now out) ⌝ }
-    ensures { λ _. ⌜ Put at 2572 (clientBytes c) (now (out .entry)) (now (out .exit)) ⌝ }
+// Of the numbers of an end and its arrays, which are lent.
+pub fn put_client<'a>(
+    out: &mut [u8],
+    at: usize,
+    c: client::Counts,
+    items: &'a [u32],
+    places: &'a [u32],
+    pending: &'a [u32],
+)
+    requires { ⌜ (at + 2572 ≤ length (now out)) × ClientSizes (now items) (now places) (now pending) ⌝ }
+    ensures { λ _. ⌜ Put at 2572 (clientBytes (clientOf c (now (items .entry)) (now (places .entry)) (now (pending .entry)))) (now (out .entry)) (now (out .exit)) ⌝ }
 {
     put_answer(out, at, c.n, c.line, c.len);
     let counts = [c.made, c.taken, c.acked, c.inserts];
     put_twos(out, at + 4, &counts);
-    put_arrays(out, at + 12, &c.pending_places, &c.pending_items, &c.items);
+    put_arrays(out, at + 12, places, pending, items);
 }
 
-pub fn put_server(out: &mut [u8], at: usize, s: Server)
-    requires { ⌜ at + 6214 ≤ length (now out) ⌝ }
-    ensures { λ _. ⌜ Put at 6214 (serverBytes s) (now (out .entry)) (now (out .exit)) ⌝ }
+pub fn put_server<'a>(
+    out: &mut [u8],
+    at: usize,
+    s: lines::Counts,
+    items: &'a [u32],
+    places: &'a [u32],
+    pending: &'a [u32],
+)
+    requires { ⌜ (at + 6214 ≤ length (now out)) × ServerSizes s (now items) (now places) (now pending) ⌝ }
+    ensures { λ _. ⌜ Put at 6214 (serverBytes (serverOf s (now (items .entry)) (now (places .entry)) (now (pending .entry)))) (now (out .entry)) (now (out .exit)) ⌝ }
 {
     put_answer(out, at, s.n, 0, s.len);
     put_two(out, at + 4, s.initial);
     put_lines(out, at + 6, &s.made, &s.taken, &s.acked, &s.inserts);
-    put_arrays(out, at + 70, &s.pending_places, &s.pending_items, &s.items);
+    put_arrays(out, at + 70, places, pending, items);
 }
 
 // ---- a slot

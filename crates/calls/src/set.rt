@@ -3,10 +3,10 @@ ghost use mathlib.Core.Path.{_≡_};
 ghost use mathlib.Core.Bool.{cond};
 ghost use Prim.Native.Nat.{_-_, _%_};
 ghost use lib.Dec.{eqb};
+ghost use Rattle.client.specs.Store.{clientOf};
+ghost use Rattle.server.specs.View.{serverOf};
 ghost use Rattle.calls.specs.Set.{slotPlace, setAt, clientSet, serverSet};
 use crate::call::Call;
-use client::Client;
-use server::Server;
 
 // The low byte of the value where the field is the one that is set, else what was there.
 fn set_byte(k: Call, field: u8, old: u8) -> u8
@@ -51,36 +51,30 @@ fn set_in_8(on: bool, i: usize, value: u16, mut words: [u16; 8]) -> [u16; 8]
     words
 }
 
-fn set_in_64(on: bool, i: usize, value: u32, mut words: [u32; 64]) -> [u32; 64]
-    ensures { λ r. ⌜ r ≡ setAt on i value words ⌝ }
+fn set_in(on: bool, i: usize, value: u32, words: &mut [u32])
+    ensures { λ _. ⌜ now (words .exit) ≡ setAt on i value (now (words .entry)) ⌝ }
 {
     if on {
-        if i < 64 {
+        if i < words.len() {
             words[i] = value;
         }
     }
-    words
 }
 
-fn set_in_512(on: bool, i: usize, value: u32, mut words: [u32; 512]) -> [u32; 512]
-    ensures { λ r. ⌜ r ≡ setAt on i value words ⌝ }
-{
-    if on {
-        if i < 512 {
-            words[i] = value;
-        }
-    }
-    words
-}
-
-pub fn set_client(k: Call, c: Client) -> Client
-    ensures { λ r. ⌜ r ≡ clientSet k c ⌝ }
+pub fn set_client(
+    k: Call,
+    c: client::Counts,
+    items: &mut [u32],
+    places: &mut [u32],
+    pending: &mut [u32],
+) -> client::Counts
+    ensures { λ r. ⌜ clientOf r (now (items .exit)) (now (places .exit)) (now (pending .exit)) ≡ clientSet k (clientOf c (now (items .entry)) (now (places .entry)) (now (pending .entry))) ⌝ }
 {
     let i = k.number as usize;
-    let items = c.items;
-    let places = c.pending_places;
-    let pending = c.pending_items;
-    Client {
+    set_in(k.field == 8, i, k.value, items);
+    set_in(k.field == 9, i, slot_place(k), places);
+    set_in(k.field == 9, i, k.value, pending);
+    client::Counts {
         n: set_byte(k, 0, c.n),
         line: set_byte(k, 1, c.line),
         made: set_count(k, 4, c.made),
@@ -88,36 +82,36 @@ pub fn set_client(k: Call, c: Client) -> Client
         acked: set_count(k, 6, c.acked),
         inserts: set_count(k, 7, c.inserts),
         len: set_count(k, 2, c.len),
-        items: set_in_512(k.field == 8, i, k.value, items),
-        pending_places: set_in_64(k.field == 9, i, slot_place(k), places),
-        pending_items: set_in_64(k.field == 9, i, k.value, pending),
     }
 }
 
-pub fn set_server(k: Call, s: Server) -> Server
-    ensures { λ r. ⌜ r ≡ serverSet k s ⌝ }
+pub fn set_server(
+    k: Call,
+    s: lines::Counts,
+    items: &mut [u32],
+    places: &mut [u32],
+    pending: &mut [u32],
+) -> lines::Counts
+    ensures { λ r. ⌜ serverOf r (now (items .exit)) (now (places .exit)) (now (pending .exit)) ≡ serverSet k (serverOf s (now (items .entry)) (now (places .entry)) (now (pending .entry))) ⌝ }
 {
     let l = line_index(k.line);
     let i = k.number as usize;
     let j = 64 * l + i;
     let count = (k.value % 65536) as u16;
-    let items = s.items;
+    set_in(k.field == 8, i, k.value, items);
+    set_in(k.field == 9, j, slot_place(k), places);
+    set_in(k.field == 9, j, k.value, pending);
     let made = s.made;
     let taken = s.taken;
     let acked = s.acked;
     let inserts = s.inserts;
-    let places = s.pending_places;
-    let pending = s.pending_items;
-    Server {
+    lines::Counts {
         n: set_byte(k, 0, s.n),
         initial: set_count(k, 3, s.initial),
         len: set_count(k, 2, s.len),
-        items: set_in_512(k.field == 8, i, k.value, items),
         made: set_in_8(k.field == 4, l, count, made),
         taken: set_in_8(k.field == 5, l, count, taken),
         acked: set_in_8(k.field == 6, l, count, acked),
         inserts: set_in_8(k.field == 7, l, count, inserts),
-        pending_places: set_in_512(k.field == 9, j, slot_place(k), places),
-        pending_items: set_in_512(k.field == 9, j, k.value, pending),
     }
 }

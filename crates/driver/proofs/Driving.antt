@@ -1,41 +1,37 @@
 -- The driver's loop: what one call leaves, what holds before each call, and that a call keeps it.
-use Prim.Native.Nat.{ℕ, zero, suc, _+_, _-_, _*_, _%_, _≤_, _<_}
+use Prim.Native.Nat.{ℕ, suc, _+_, _-_, _*_, _≤_, _<_}
 use native.Mathlib.Omega.{arith}
 use native.Mathlib.Nat.{zero-add, sub-zero}
 use mathlib.Core.Path.{_≡_, refl, ap, _∙_, sym, subst}
-use mathlib.Core.Bool.{Bool, true, false, _||_, cond}
+use mathlib.Core.Bool.{Bool, true, false, cond}
 use mathlib.Core.List.{List, [], _∷_, _++_, append-assoc, append-nil}
-use lib.Dec.{leb, eqb}
 use lib.ListN.{length, getD, drop, set, replicate, length-append}
-use lib.Seq.{sets, drop-drop, set-getD}
-use borrow.Author.Tests.{eqb-true, eq-eqb, ne-eqb, le-leb, lt-leb}
+use lib.Seq.{sets, drop-drop}
+use borrow.Author.Tests.{eq-eqb, ne-eqb, le-leb, lt-leb}
 use Rattle.client.specs.declared.Client.{Client}
 use Rattle.client.specs.declared.Answer as fromClient
 use Rattle.client.specs.Answers as client
+use Rattle.line.specs.declared.Counts.{Counts}
 use Rattle.server.specs.declared.Server.{Server}
 use Rattle.server.specs.declared.Answer as fromServer
+use Rattle.lines.specs.declared.Counts as lines
+use Rattle.server.specs.View.{countsOf, serverOf}
+use Rattle.server.specs.Sound.{Sizes}
 use Rattle.server.specs.Calls as server
 use Rattle.calls.specs.declared.call.Call.{Call}
-use Rattle.calls.specs.Calls.{callOf, placeOf, sizeOf, sends}
+use Rattle.calls.specs.Calls.{callOf, placeOf, sizeOf}
 use Rattle.calls.specs.Dump.{Put}
 use Rattle.calls.proofs.Bytes.{put-length, sets-append}
 use Rattle.driver.specs.declared.drive.World.{World}
 use Rattle.driver.specs.declared.drive.Driven.{Driven}
-use Rattle.turns.specs.Turn.{Turn, Turned, front, slotOf, slotPut, slotIn, lengthIn, clientSize, clientChanged, clientAnswer, clientSends, clientTurn, serverSize, serverChanged, serverAnswer, serverSends, serverTurn, slotSize, slotTurn}
-use Rattle.driver.specs.Drive.{start, noClient, turnAt, stepAt, turnOf, after, Run, kept, left, more, run, callsOf, Drove}
-use Rattle.turns.proofs.Slots.{slot-same}
+use Rattle.turns.specs.Turn.{Turned, front, slotIn, lengthIn, clientSize, clientAfter, clientTurn, serverSize, serverAfter, serverTurn, slotSize, slotTurn}
+use Rattle.driver.specs.Drive.{start, noClient, turnAt, stepAt, turnOf, after, Run, kept, left, more, run, callsOf, Drove, worldOf, Held}
 use Rattle.turns.proofs.Turns.{never}
-
--- ---- how many bytes a call writes, by its place
-
--- a sending is no dump
-sends-no-dump : (op : ℕ) → (eqb op 3 || eqb op 4) ≡ true → eqb op 8 ≡ false
-sends-no-dump op = go (eqb op 3) (eqb op 4) refl refl
-  where
-    go : (a b : Bool) → eqb op 3 ≡ a → eqb op 4 ≡ b → (a || b) ≡ true → eqb op 8 ≡ false
-    go true b p q h = rw (eqb-true op 3 p)
-    go false true p q h = rw (eqb-true op 4 q)
-    go false false p q h = never h
+use Rattle.turns.proofs.Sizes.{SizesOf, opened-sizes}
+use Rattle.bench.specs.declared.bays.Bays.{Bays}
+use Rattle.bench.specs.Bays.{noCounts, clientsIn, Laid, Standing}
+use Rattle.bench.specs.Place.{Only, clientAt}
+use Rattle.bench.proofs.Places.{client-in, clients-back}
 
 -- ---- one call
 
@@ -58,43 +54,21 @@ module _ {initial : List ℕ} {k : Call} {w : World} {at : ℕ} {out out₁ : Li
         next = q ∙ ap (λ (n : ℕ). stepAt n (front (k .number) initial) k (lengthIn k (w .lengths)) (slotIn k (w .slots)) w) e;
       }
 
-  module _ (z : place ≡ 0) where
-    pub step-sent-server : {slots lengths : List ℕ} → sends k ≡ true
-        → Turned k (serverSends k (lengthIn k (w .lengths)) (slotIn k (w .slots)) (w .server)) at 4 (w .slots) slots (w .lengths) lengths out out₁
-        → Stepped initial k w at out out₁ (record { server = w .server; clients = w .clients; slots = slots; lengths = lengths })
-    unfolding serverTurn
-    step-sent-server on t =
-        stepped (simp (eq-eqb place 0 z, on, sends-no-dump (k .op) on) (t .answer))
-        (simp (eq-eqb place 0 z, on) (world-is refl refl (t .slot-bytes) (t .slot-length)))
+  pub step-server : {v : Server} {slots lengths : List ℕ} → place ≡ 0
+      → v ≡ serverAfter k (front (k .number) initial) (lengthIn k (w .lengths)) (slotIn k (w .slots)) (w .server)
+      → Turned k (serverTurn k (front (k .number) initial) (lengthIn k (w .lengths)) (slotIn k (w .slots)) (w .server)) at (serverSize k) (w .slots) slots (w .lengths) lengths out out₁
+      → Stepped initial k w at out out₁ (record { server = v; clients = w .clients; slots = slots; lengths = lengths })
+  step-server z q t =
+      stepped (simp (eq-eqb place 0 z) (t .answer))
+      (simp (eq-eqb place 0 z) (world-is q refl (t .slot-bytes) (t .slot-length)))
 
-    pub step-server : {v : Server} → sends k ≡ false
-        → v ≡ serverChanged k (front (k .number) initial) (front (lengthIn k (w .lengths)) (slotIn k (w .slots))) (w .server) .server
-        → Put at (serverSize k) (serverAnswer k (serverChanged k (front (k .number) initial) (front (lengthIn k (w .lengths)) (slotIn k (w .slots))) (w .server))) out out₁
-        → Stepped initial k w at out out₁ (record { server = v; clients = w .clients; slots = w .slots; lengths = w .lengths })
-    unfolding serverTurn
-    step-server off q p =
-        stepped (simp (eq-eqb place 0 z, off) p)
-        (simp (eq-eqb place 0 z, off) (world-is q refl (sym (slot-same (slotOf k) (w .slots))) (sym (set-getD (w .lengths) (slotOf k) 0))))
-
-  module _ (z : place ≡ 0 → ⊥) (y : place ≤ 8) where
-    pub step-sent-client : {slots lengths : List ℕ} → sends k ≡ true
-        → Turned k (clientSends k (lengthIn k (w .lengths)) (slotIn k (w .slots)) (getD (w .clients) (place - 1) noClient)) at 4 (w .slots) slots (w .lengths) lengths out out₁
-        → Stepped initial k w at out out₁ (record { server = w .server; clients = w .clients; slots = slots; lengths = lengths })
-    unfolding clientTurn
-    step-sent-client on t =
-        stepped (simp (ne-eqb place 0 z, le-leb place 8 y, on, sends-no-dump (k .op) on) (t .answer))
-        (simp (ne-eqb place 0 z, le-leb place 8 y, on)
-        (world-is refl (sym (set-getD (w .clients) (place - 1) noClient)) (t .slot-bytes) (t .slot-length)))
-
-    pub step-client : {v : Client} → sends k ≡ false
-        → v ≡ clientChanged k (front (k .number) initial) (front (lengthIn k (w .lengths)) (slotIn k (w .slots))) (getD (w .clients) (place - 1) noClient) .client
-        → Put at (clientSize k) (clientAnswer k (clientChanged k (front (k .number) initial) (front (lengthIn k (w .lengths)) (slotIn k (w .slots))) (getD (w .clients) (place - 1) noClient))) out out₁
-        → Stepped initial k w at out out₁ (record { server = w .server; clients = set (w .clients) (place - 1) v; slots = w .slots; lengths = w .lengths })
-    unfolding clientTurn
-    step-client off q p =
-        stepped (simp (ne-eqb place 0 z, le-leb place 8 y, off) p)
-        (simp (ne-eqb place 0 z, le-leb place 8 y, off)
-        (world-is refl (ap (set (w .clients) (place - 1)) q) (sym (slot-same (slotOf k) (w .slots))) (sym (set-getD (w .lengths) (slotOf k) 0))))
+  step-client : {v : Client} {slots lengths : List ℕ} → (place ≡ 0 → ⊥) → place ≤ 8
+      → v ≡ clientAfter k (front (k .number) initial) (lengthIn k (w .lengths)) (slotIn k (w .slots)) (getD (w .clients) (place - 1) noClient)
+      → Turned k (clientTurn k (front (k .number) initial) (lengthIn k (w .lengths)) (slotIn k (w .slots)) (getD (w .clients) (place - 1) noClient)) at (clientSize k) (w .slots) slots (w .lengths) lengths out out₁
+      → Stepped initial k w at out out₁ (record { server = w .server; clients = set (w .clients) (place - 1) v; slots = slots; lengths = lengths })
+  step-client z y q t =
+      stepped (simp (ne-eqb place 0 z, le-leb place 8 y) (t .answer))
+      (simp (ne-eqb place 0 z, le-leb place 8 y) (world-is refl (ap (set (w .clients) (place - 1)) q) (t .slot-bytes) (t .slot-length)))
 
   -- at the slots alone, or nowhere
   pub step-slot : {slots lengths : List ℕ} → (place ≡ 0 → ⊥) → 8 < place
@@ -104,6 +78,39 @@ module _ {initial : List ℕ} {k : Call} {w : World} {at : ℕ} {out out₁ : Li
       stepped (simp (ne-eqb place 0 z, lt-leb place 8 y) (t .answer))
       (simp (ne-eqb place 0 z, lt-leb place 8 y) (world-is refl refl (t .slot-bytes) (t .slot-length)))
 
+-- what is known of a call at a client is known of it whatever the client is called
+pub turned-of : (k : Call) (initial : List ℕ) (len : ℕ) (slot : List ℕ) {c c₁ : Client} {at : ℕ} {slots slots₁ lengths lengths₁ out out₁ : List ℕ} → c ≡ c₁
+    → Turned k (clientTurn k initial len slot c) at (clientSize k) slots slots₁ lengths lengths₁ out out₁
+    → Turned k (clientTurn k initial len slot c₁) at (clientSize k) slots slots₁ lengths lengths₁ out out₁
+turned-of k initial len slot {at = at} {slots} {slots₁} {lengths} {lengths₁} {out} {out₁} e t =
+    subst (λ (x : Client). Turned k (clientTurn k initial len slot x) at (clientSize k) slots slots₁ lengths lengths₁ out out₁) e t
+
+-- the same of a client that stands among others
+module _ {place : ℕ} (z : place ≡ 0 → ⊥) (y : place ≤ 8) (ks : List Counts) (own ps xs : List ℕ) where
+  abbrev was : Client
+  was = clientAt (getD ks (place - 1) noCounts) (place - 1) own ps xs
+
+  pub in-place : place - 1 < 8
+  in-place = omega arith
+
+  was-there : was ≡ getD (clientsIn ks own ps xs) (place - 1) noClient
+  was-there = sym (client-in ks own ps xs (place - 1) in-place noClient)
+
+  pub step-bay : {initial : List ℕ} {k : Call} {at : ℕ} {out out₁ : List ℕ} → place ≡ placeOf k → (s : Server) (slots lengths : List ℕ) → Laid ks own ps xs
+      → (c : Counts) (own′ ps′ xs′ slots′ lengths′ : List ℕ) → length own′ ≡ length own → length ps′ ≡ length ps → length xs′ ≡ length xs
+      → clientAt c (place - 1) own′ ps′ xs′ ≡ clientAfter k (front (k .number) initial) (lengthIn k lengths) (slotIn k slots) was
+      → Turned k (clientTurn k (front (k .number) initial) (lengthIn k lengths) (slotIn k slots) was) at (clientSize k) slots slots′ lengths lengths′ out out₁
+      → Only (place - 1) own own′ ps ps′ xs xs′
+      → Stepped initial k (record { server = s; clients = clientsIn ks own ps xs; slots = slots; lengths = lengths }) at out out₁
+      (record { server = s; clients = clientsIn (set ks (place - 1) c) own′ ps′ xs′; slots = slots′; lengths = lengths′ })
+  step-bay {initial} {k} {at} {out} {out₁} e s slots lengths l c own′ ps′ xs′ slots′ lengths′ so sp sx q t only =
+      subst
+      (λ (cs : List Client). Stepped initial k (record { server = s; clients = clientsIn ks own ps xs; slots = slots; lengths = lengths }) at out out₁ (record { server = s; clients = cs; slots = slots′; lengths = lengths′ }))
+      (clients-back ks own ps xs l (place - 1) in-place c own′ ps′ xs′ so sp sx only)
+      (step-client e z y
+      (q ∙ ap (clientAfter k (front (k .number) initial) (lengthIn k lengths) (slotIn k slots)) was-there)
+      (turned-of k (front (k .number) initial) (lengthIn k lengths) (slotIn k slots) was-there t))
+
 -- ---- the loop
 
 -- After i calls: the bytes that were kept, and that the rest of the run is what is left of it.
@@ -111,8 +118,6 @@ pub record Going (quiet : Bool) (initial : List ℕ) (w₀ : World) (calls : Lis
   pub here : i ≤ count
   pub within : at ≤ length before
   pub same : length out ≡ length before
-  pub slots : length (w .slots) ≡ 1280
-  pub lengths : length (w .lengths) ≡ 64
   pub done : List ℕ
   pub length-done : at ≡ length done
   pub wrote : quiet ≡ false → out ≡ sets before 0 done
@@ -139,15 +144,13 @@ run-stop : (quiet : Bool) (initial : List ℕ) (room : ℕ) (w : World) (k : Cal
 unfolding run
 run-stop quiet initial room w k ks h = rw (lt-leb (sizeOf k (placeOf k)) room h)
 
-pub going-start : (quiet : Bool) (initial : List ℕ) (w : World) (calls : List ℕ) (count : ℕ) (before : List ℕ) → length (w .slots) ≡ 1280 → length (w .lengths) ≡ 64
+pub going-start : (quiet : Bool) (initial : List ℕ) (w : World) (calls : List ℕ) (count : ℕ) (before : List ℕ)
     → Going quiet initial w calls count before 0 0 w before
-going-start quiet initial w calls count before h t =
+going-start quiet initial w calls count before =
     record {
       here = omega arith;
       within = omega arith;
       same = refl;
-      slots = h;
-      lengths = t;
       done = [];
       length-done = refl;
       wrote = λ _. refl;
@@ -167,15 +170,13 @@ module _ (initial : List ℕ) (w₀ : World) (calls : List ℕ) (count : ℕ) (b
 
   module _ (k : Call) (size : ℕ) {at₁ : ℕ} {w₁ : World} {out₁ : List ℕ} where
     going-turn : (quiet : Bool) → Going quiet initial w₀ calls count before i at w out → i < count → k ≡ callOf (drop (16 * i) calls)
-        → size ≡ sizeOf k (placeOf k) → size ≤ length out - at → Stepped initial k w at out out₁ w₁ → length (w₁ .slots) ≡ 1280 → length (w₁ .lengths) ≡ 64
+        → size ≡ sizeOf k (placeOf k) → size ≤ length out - at → Stepped initial k w at out out₁ w₁
         → at₁ ≡ cond quiet at (at + size) → Going quiet initial w₀ calls count before (i + 1) at₁ w₁ out₁
-    going-turn true g h e z r s l t f =
+    going-turn true g h e z r s f =
         record {
           here = omega arith;
           within = omega (arith, g .within);
           same = put-length (s .put) ∙ g .same;
-          slots = l;
-          lengths = t;
           done = g .done;
           length-done = f ∙ g .length-done;
           wrote = λ q. never (sym q);
@@ -184,15 +185,13 @@ module _ (initial : List ℕ) (w₀ : World) (calls : List ℕ) (count : ℕ) (b
               ∙ ap (λ (u : World). more (g .done) (run true initial (length before - at) u (callsOf (count - (i + 1)) (drop (16 * (i + 1)) calls)))) (sym (s .next))
               ∙ ap (λ (n : ℕ). more (g .done) (run true initial (length before - n) w₁ (callsOf (count - (i + 1)) (drop (16 * (i + 1)) calls)))) (sym f);
         }
-    going-turn false g h e z r s l t f =
+    going-turn false g h e z r s f =
         let b = turnOf initial k w .bytes in
         let p : sizeOf k (placeOf k) ≡ length b = sym (s .put .size) in
         record {
           here = omega arith;
           within = omega (arith, g .within, g .same);
           same = put-length (s .put) ∙ g .same;
-          slots = l;
-          lengths = t;
           done = g .done ++ b;
           length-done = f ∙ ap (λ (n : ℕ). n + size) (g .length-done) ∙ ap (λ (n : ℕ). length (g .done) + n) (z ∙ p) ∙ sym (length-append (g .done) b);
           wrote = λ q. s .put .wrote ∙ ap (λ (l : List ℕ). sets l at b) (g .wrote q)
@@ -245,33 +244,26 @@ module _ {quiet : Bool} {initial : List ℕ} {w₀ : World} {calls : List ℕ} {
   room-is : sizeOf k place ≤ length out - at
   room-is = subst (λ (n : ℕ). n ≤ length out - at) z r
 
-  -- no call writes fewer than 4 bytes
-  pub fits-sent : at + 4 ≤ length out
-  fits-sent = go (eqb place 0) (leb place 8) (eqb place 9) (eqb (k .op) 8) (eqb (k .op) 9) room-is
-    where
-      go : (a b n d e : Bool) → cond a (cond d 6218 4) (cond b (cond d 2576 4) (cond n (cond e 25 4) 4)) ≤ length out - at → at + 4 ≤ length out
-      go true b n true e q = omega (arith, inside)
-      go true b n false e q = omega (arith, inside)
-      go false true n true e q = omega (arith, inside)
-      go false true n false e q = omega (arith, inside)
-      go false false true d true q = omega (arith, inside)
-      go false false true d false q = omega (arith, inside)
-      go false false false d e q = omega (arith, inside)
-
-  pub fits-server : place ≡ 0 → at + serverSize k ≤ length out
-  fits-server y = let q : serverSize k ≤ length out - at = simp (eq-eqb place 0 y) at room-is in omega (arith, inside)
-
-  pub fits-client : (place ≡ 0 → ⊥) → place ≤ 8 → at + clientSize k ≤ length out
-  fits-client x y = let q : clientSize k ≤ length out - at = simp (ne-eqb place 0 x, le-leb place 8 y) at room-is in omega (arith, inside)
-
-  pub fits-slot : (place ≡ 0 → ⊥) → 8 < place → at + slotSize k place ≤ length out
-  fits-slot x y = let q : slotSize k place ≤ length out - at = simp (ne-eqb place 0 x, lt-leb place 8 y) at room-is in omega (arith, inside)
+  pub fits : at + sizeOf k place ≤ length out
+  fits = omega (arith, inside, room-is)
 
   pub going-on : {at₁ : ℕ} {w₁ : World} {out₁ : List ℕ} → i < count → k ≡ callOf (drop (16 * i) calls) → place ≡ placeOf k
-      → at₁ ≡ cond quiet at (at + size) → Stepped initial k w at out out₁ w₁ → length (w₁ .slots) ≡ 1280 → length (w₁ .lengths) ≡ 64
+      → at₁ ≡ cond quiet at (at + size) → Stepped initial k w at out out₁ w₁
       → Going quiet initial w₀ calls count before (i + 1) at₁ w₁ out₁
-  going-on h e p f s l t =
-      going-turn initial w₀ calls count before i at w out k size quiet g h e (z ∙ ap (sizeOf k) p) r s l t f
+  going-on h e p f s =
+      going-turn initial w₀ calls count before i at w out k size quiet g h e (z ∙ ap (sizeOf k) p) r s f
+
+-- ---- room for the answer, by the place of the call
+
+module _ (k : Call) (place at : ℕ) (out : List ℕ) (room : at + sizeOf k place ≤ length out) where
+  pub fits-server : place ≡ 0 → at + serverSize k ≤ length out
+  fits-server y = simp (eq-eqb place 0 y) at room
+
+  pub fits-client : (place ≡ 0 → ⊥) → place ≤ 8 → at + clientSize k ≤ length out
+  fits-client x y = simp (ne-eqb place 0 x, le-leb place 8 y) at room
+
+  pub fits-slot : (place ≡ 0 → ⊥) → 8 < place → at + slotSize k place ≤ length out
+  fits-slot x y = simp (ne-eqb place 0 x, lt-leb place 8 y) at room
 
 -- ---- the state before all calls
 
@@ -283,13 +275,31 @@ pub clients-are : (a : fromClient.Answer) → a ≡ client.opened 0 0 [] → rep
 unfolding start
 clients-are a e = ap (λ (x : fromClient.Answer). replicate 8 (x .client)) e
 
-pub start-is : {s : Server} {cs : List Client} → s ≡ start .server → cs ≡ start .clients
-    → _≡_ {A = World} (record { server = s; clients = cs; slots = replicate 1280 170; lengths = replicate 64 0 }) start
-unfolding start
-start-is p q = world-is p q refl refl
+-- the ends of the start, taken apart
+module _ (v : Server) (k : lines.Counts) (b : Bays) (cs : List Client) (pv : v ≡ start .server) (pk : k ≡ countsOf v) (pb : Standing cs b) where
+  pub start-held : Held k (b .counts) (v .items) (v .«pending_places») (v .«pending_items») (b .items) (b .places) (b .pending) (replicate 1280 170) (replicate 64 0)
+  unfolding start
+  start-held =
+      record {
+        server = subst (λ (x : lines.Counts). Sizes x (v .items) (v .«pending_places») (v .«pending_items»)) (sym pk) (subst SizesOf (sym pv) (opened-sizes 0 []));
+        clients = pb .laid;
+        slots-size = refl;
+        lengths-size = refl;
+      }
 
-pub going-begin : (quiet : Bool) (initial : List ℕ) {s : Server} {cs : List Client} (calls : List ℕ) (count : ℕ) (before : List ℕ) → s ≡ start .server → cs ≡ start .clients
-    → Going quiet initial start calls count before 0 0 (record { server = s; clients = cs; slots = replicate 1280 170; lengths = replicate 64 0 }) before
-going-begin quiet initial {s} {cs} calls count before p q =
-    let w : World = record { server = s; clients = cs; slots = replicate 1280 170; lengths = replicate 64 0 } in
-    subst (λ (u : World). Going quiet initial u calls count before 0 0 w before) (start-is p q) (going-start quiet initial w calls count before refl refl)
+  pub start-is : cs ≡ start .clients
+      → worldOf k (b .counts) (v .items) (v .«pending_places») (v .«pending_items») (b .items) (b .places) (b .pending) (replicate 1280 170) (replicate 64 0) ≡ start
+  unfolding start
+  start-is pc = world-is (ap (λ (x : lines.Counts). serverOf x (v .items) (v .«pending_places») (v .«pending_items»)) pk ∙ pv) (pb .standing ∙ pc) refl refl
+
+pub drove-from : (quiet : Bool) (initial : List ℕ) (room : ℕ) (ks : List Call) {w w₁ : World} {before after : List ℕ} {d d₁ : Driven} → w ≡ w₁ → d₁ ≡ d
+    → Drove quiet (run quiet initial room w ks) before after d → Drove quiet (run quiet initial room w₁ ks) before after d₁
+drove-from quiet initial room ks {w} {before = before} {after} {d₁ = d₁} p q h =
+    subst (λ (x : World). Drove quiet (run quiet initial room x ks) before after d₁) p
+    (subst (λ (d : Driven). Drove quiet (run quiet initial room w ks) before after d) (sym q) h)
+
+-- the ends put together
+pub left-is : (written : ℕ) {s s₁ : Server} {cs cs₁ : List Client} (slots lengths : List ℕ) → s₁ ≡ s → cs₁ ≡ cs
+    → _≡_ {A = Driven} (record { written = written; world = record { server = s₁; clients = cs₁; slots = slots; lengths = lengths } })
+    (record { written = written; world = record { server = s; clients = cs; slots = slots; lengths = lengths } })
+left-is written slots lengths p q = ap {B = Driven} (λ (w : World). record { written = written; world = w }) (world-is p q refl refl)

@@ -4,19 +4,22 @@ use mathlib.Core.Path.{_≡_}
 use mathlib.Core.Bool.{Bool, false, cond}
 use mathlib.Core.List.{List, [], _∷_, _++_}
 use lib.Dec.{leb, eqb}
-use lib.ListN.{length, getD, take, drop, set, replicate}
+use lib.ListN.{length, getD, drop, set, replicate}
 use lib.Seq.{sets}
+use Rattle.line.specs.declared.Counts.{Counts}
+use Rattle.lines.specs.declared.Counts as lines
 use Rattle.client.specs.declared.Client.{Client}
-use Rattle.client.specs.declared.editing.Change.{Change}
-use Rattle.client.specs.declared.editing.Change.the-variants.{Delete, Insert}
 use Rattle.client.specs.Answers as client
 use Rattle.server.specs.declared.Server.{Server}
+use Rattle.server.specs.View.{serverOf}
+use Rattle.server.specs.Sound.{Sizes}
 use Rattle.server.specs.Calls as server
+use Rattle.bench.specs.Bays.{Laid, clientsIn}
 use Rattle.calls.specs.declared.call.Call.{Call}
 use Rattle.driver.specs.declared.drive.World.{World}
 use Rattle.driver.specs.declared.drive.Driven.{Driven}
 use Rattle.calls.specs.Calls.{callOf, placeOf, sizeOf}
-use Rattle.turns.specs.Turn.{Turn, slotOf, slotPut, slotAt, front, changedBytes, clientAfter, clientTurn, serverAfter, serverTurn, slotTurn}
+use Rattle.turns.specs.Turn.{Turn, slotOf, slotPut, slotAt, front, clientAfter, clientTurn, serverAfter, serverTurn, slotTurn}
 
 -- all zeros, as refused openings return them
 unfoldable pub start : World
@@ -43,6 +46,23 @@ noClient =
       «pending_places» = [];
       «pending_items» = [];
     }
+
+-- The state of ends that are taken apart: the numbers, the server's arrays, and those of the clients end to end.
+abbrev pub worldOf : lines.Counts → List Counts → List ℕ → List ℕ → List ℕ → List ℕ → List ℕ → List ℕ → List ℕ → List ℕ → World
+worldOf s ks items places pending own ps xs slots lengths =
+    record {
+      server = serverOf s items places pending;
+      clients = clientsIn ks own ps xs;
+      slots = slots;
+      lengths = lengths;
+    }
+
+-- the arrays have their lengths
+pub record Held (s : lines.Counts) (ks : List Counts) (items places pending own ps xs slots lengths : List ℕ) : Type 0 where
+  pub server : Sizes s items places pending
+  pub clients : Laid ks own ps xs
+  pub slots-size : length slots ≡ 1280
+  pub lengths-size : length lengths ≡ 64
 
 -- ---- one call
 

@@ -4,11 +4,19 @@ ghost use mathlib.Core.Bool.{cond};
 ghost use Prim.Native.Nat.{_+_, _*_, _≤_};
 ghost use lib.ListN.{length};
 ghost use Rattle.driver.specs.Answers.{answers, Wrote};
-ghost use Rattle.driver.specs.Drive.{start, run, afterAll, callsOf, Drove};
+ghost use Rattle.bench.specs.Bays.{Laid};
+ghost use Rattle.bench.specs.Place.{Place, Only, clientAt};
+ghost use Rattle.turns.specs.Turn.{front, slotIn, lengthIn, clientSize, clientAfter, clientTurn, Turned};
+ghost use Rattle.driver.specs.Drive.{start, run, afterAll, callsOf, Drove, worldOf, Held};
+use bench::bays::apart;
+use bench::bays::side_by_side;
 use calls::call;
+use calls::call::Call;
 use calls::header;
 use client::Client;
+use client::Counts;
 use server::Server;
+use turns::turn_server;
 
 // Every end, the bytes of all slots, and the slots' lengths.
 pub struct World {
@@ -16,6 +24,14 @@ pub struct World {
     pub clients: [Client; 8],
     pub slots: [u8; 1280],
     pub lengths: [u8; 64],
+}
+
+// What calls leave of the numbers of every end, and how many bytes they wrote. The arrays of the ends stand beside: the server's three, and
+// those of the clients end to end.
+struct Reached {
+    written: usize,
+    server: lines::Counts,
+    clients: [Counts; 8],
 }
 
 // What a list of calls leaves, and how many bytes it wrote.
@@ -50,17 +66,27 @@ fn no_clients() -> [Client; 8]
     [client; 8]
 }
 
+// The state with its ends put together again.
 fn leave(
-    written: usize,
-    server: Server,
-    clients: [Client; 8],
+    r: Reached,
+    items: [u32; 512],
+    places: [u32; 512],
+    pending: [u32; 512],
+    own: [u32; 4096],
+    own_places: [u32; 512],
+    own_pending: [u32; 512],
     slots: [u8; 1280],
     lengths: [u8; 64],
 ) -> Driven
-    ensures { λ r. ⌜ r ≡ record { written = written; world = record { server = server; clients = clients; slots = slots; lengths = lengths } } ⌝ }
+    requires { ⌜ Laid (r .clients) own «own_places» «own_pending» ⌝ }
+    ensures { λ d. ⌜ d ≡ record { written = r .written; world = worldOf (r .server) (r .clients) items places pending own «own_places» «own_pending» slots lengths } ⌝ }
 {
+    let s = r.server;
+    let server = Server::of(s, items, places, pending);
+    let counts = r.clients;
+    let clients = apart(counts, &own, &own_places, &own_pending);
     Driven {
-        written,
+        written: r.written,
         world: World {
             server,
             clients,
@@ -70,49 +96,154 @@ fn leave(
     }
 }
 
-// From the start, one call after another, `count` of them. What a call changes comes back from its turn; the rest stays. A call at an end is no
-// function of its own, since that would hand the end back after a sending too.
-fn drive(calls: &[u8], count: usize, initial: &[u32], quiet: bool, out: &mut [u8]) -> Driven
-    requires { ⌜ 16 * count ≤ length (now calls) ⌝ }
-    ensures { λ r. ⌜ Drove quiet (run quiet (now (initial .entry)) (length (now (out .entry))) start (callsOf count (now (calls .entry)))) (now (out .entry)) (now (out .exit)) r ⌝ }
+// A call at the client in place j, whose own parts of the clients' arrays are lent.
+fn at_client(
+    c: Counts,
+    j: usize,
+    own: &mut [u32],
+    own_places: &mut [u32],
+    own_pending: &mut [u32],
+    k: Call,
+    initial: &[u32],
+    slots: &mut [u8],
+    lengths: &mut [u8],
+    out: &mut [u8],
+    at: usize,
+) -> Counts
+    requires { ⌜ Place j (now own) (now «own_places») (now «own_pending») × (length (now slots) ≡ 1280) × (length (now lengths) ≡ 64) × (at + clientSize k ≤ length (now out)) ⌝ }
+    ensures end { λ r. ⌜ clientAt r j (now (own .exit)) (now («own_places» .exit)) (now («own_pending» .exit)) ≡ clientAfter k (front (k .number) (now (initial .entry))) (lengthIn k (now (lengths .entry))) (slotIn k (now (slots .entry))) (clientAt c j (now (own .entry)) (now («own_places» .entry)) (now («own_pending» .entry))) ⌝ }
+    ensures turned { λ _. ⌜ Turned k (clientTurn k (front (k .number) (now (initial .entry))) (lengthIn k (now (lengths .entry))) (slotIn k (now (slots .entry))) (clientAt c j (now (own .entry)) (now («own_places» .entry)) (now («own_pending» .entry)))) at (clientSize k) (now (slots .entry)) (now (slots .exit)) (now (lengths .entry)) (now (lengths .exit)) (now (out .entry)) (now (out .exit)) ⌝ }
+    ensures only { λ _. ⌜ Only j (now (own .entry)) (now (own .exit)) (now («own_places» .entry)) (now («own_places» .exit)) (now («own_pending» .entry)) (now («own_pending» .exit)) ⌝ }
 {
-    let mut server = no_server();
-    let mut clients = no_clients();
-    let mut slots = [170u8; 1280];
-    let mut lengths = [0u8; 64];
-    let mut at = 0;
+    let from = 512 * j;
+    let end = from + 512;
+    let first = 64 * j;
+    let last = first + 64;
+    turns::turn_client(
+        c,
+        &mut own[from..end],
+        &mut own_places[first..last],
+        &mut own_pending[first..last],
+        k,
+        initial,
+        slots,
+        lengths,
+        out,
+        at,
+    )
+}
+
+// One call after another, `count` of them, as long as there is room for the next one's answer. The numbers that a call changes come back from it,
+// and the arrays are changed in place. A call is no function of its own, since that would hand all numbers back. Opening gets the first
+// items.
+fn steps(
+    calls: &[u8],
+    count: usize,
+    first: &[u32],
+    quiet: bool,
+    out: &mut [u8],
+    mut s: lines::Counts,
+    mut counts: [Counts; 8],
+    items: &mut [u32; 512],
+    places: &mut [u32; 512],
+    pending: &mut [u32; 512],
+    own: &mut [u32],
+    own_places: &mut [u32],
+    own_pending: &mut [u32],
+    slots: &mut [u8],
+    lengths: &mut [u8],
+) -> Reached
+    requires { ⌜ (16 * count ≤ length (now calls)) × Held s counts (now items) (now places) (now pending) (now own) (now «own_places») (now «own_pending») (now slots) (now lengths) ⌝ }
+    ensures ran { λ r. ⌜ Drove quiet (run quiet (now (first .entry)) (length (now (out .entry))) (worldOf s counts (now (items .entry)) (now (places .entry)) (now (pending .entry)) (now (own .entry)) (now («own_places» .entry)) (now («own_pending» .entry)) (now (slots .entry)) (now (lengths .entry))) (callsOf count (now (calls .entry)))) (now (out .entry)) (now (out .exit)) (record { written = r .written; world = worldOf (r .server) (r .clients) (now (items .exit)) (now (places .exit)) (now (pending .exit)) (now (own .exit)) (now («own_places» .exit)) (now («own_pending» .exit)) (now (slots .exit)) (now (lengths .exit)) }) ⌝ }
+    ensures held { λ r. ⌜ Held (r .server) (r .clients) (now (items .exit)) (now (places .exit)) (now (pending .exit)) (now (own .exit)) (now («own_places» .exit)) (now («own_pending» .exit)) (now (slots .exit)) (now (lengths .exit)) ⌝ }
+{
+    let mut end = 0;
     let mut i = 0;
     while i < count {
         let k = call::read_at(calls, 16 * i);
         let place = call::place_of(k);
         let size = call::size_of(k, place);
-        if out.len() - at < size {
+        if out.len() - end < size {
             break;
         }
         i += 1;
-        let here = at;
-        at = further(quiet, at, size);
+        let at = end;
+        end = further(quiet, end, size);
         if place == 0 {
-            if call::sends(k) {
-                turns::send_server(server, k, &mut slots, &mut lengths, out, here);
-                continue;
-            }
-            server = turns::change_server(server, k, initial, &slots, &lengths, out, here);
+            s = turn_server(s, items, places, pending, k, first, slots, lengths, out, at);
             continue;
         }
         if place <= 8 {
-            let c = clients[place - 1];
-            if call::sends(k) {
-                turns::send_client(c, k, &mut slots, &mut lengths, out, here);
-                continue;
-            }
-            let c = turns::change_client(c, k, initial, &slots, &lengths, out, here);
-            clients[place - 1] = c;
+            let j = place - 1;
+            let c = at_client(
+                counts[j],
+                j,
+                own,
+                own_places,
+                own_pending,
+                k,
+                first,
+                slots,
+                lengths,
+                out,
+                at,
+            );
+            counts[j] = c;
             continue;
         }
-        turns::turn_slot(k, place, &mut slots, &mut lengths, out, here);
+        turns::turn_slot(k, place, slots, lengths, out, at);
     }
-    leave(at, server, clients, slots, lengths)
+    Reached {
+        written: end,
+        server: s,
+        clients: counts,
+    }
+}
+
+// From the start. The ends are taken apart, so that a call changes them in place, and put together again at the end.
+fn drive(calls: &[u8], count: usize, initial: &[u32], quiet: bool, out: &mut [u8]) -> Driven
+    requires { ⌜ 16 * count ≤ length (now calls) ⌝ }
+    ensures { λ r. ⌜ Drove quiet (run quiet (now (initial .entry)) (length (now (out .entry))) start (callsOf count (now (calls .entry)))) (now (out .entry)) (now (out .exit)) r ⌝ }
+{
+    let zero = no_server();
+    let mut items = zero.items;
+    let mut places = zero.pending_places;
+    let mut pending = zero.pending_items;
+    let b = side_by_side(no_clients());
+    let counts = b.counts;
+    let mut own = b.items;
+    let mut own_places = b.places;
+    let mut own_pending = b.pending;
+    let mut slots = [170u8; 1280];
+    let mut lengths = [0u8; 64];
+    let r = steps(
+        calls,
+        count,
+        initial,
+        quiet,
+        out,
+        zero.counts(),
+        counts,
+        &mut items,
+        &mut places,
+        &mut pending,
+        &mut own,
+        &mut own_places,
+        &mut own_pending,
+        &mut slots,
+        &mut lengths,
+    );
+    leave(
+        r,
+        items,
+        places,
+        pending,
+        own,
+        own_places,
+        own_pending,
+        slots,
+        lengths,
+    )
 }
 
 // The state after all calls. No answer is longer than 6,218 bytes.

@@ -3,9 +3,9 @@ use Prim.Native.Nat.{ℕ, _+_, _-_, _*_, _≤_, _<_, _%_, min}
 use native.Mathlib.Omega.{arith}
 use mathlib.Core.Path.{_≡_, refl, ap, _∙_, sym, subst}
 use mathlib.Core.Bool.{Bool, true, false, _||_, cond}
-use mathlib.Core.List.{List, [], _∷_, _++_}
+use mathlib.Core.List.{List, _++_}
 use lib.Dec.{eqb}
-use lib.Seq.{length-take-le}
+use lib.Seq.{length-take-le, set-getD}
 use lib.ListN.{length, getD, take, drop, set}
 use borrow.Author.Tests.{eqb-true, eq-eqb, ne-eqb}
 use Rattle.model.specs.Questions as model
@@ -13,15 +13,20 @@ use Rattle.endpoint.specs.declared.Sent.{Sent}
 use Rattle.endpoint.specs.Sending.{answered}
 use Rattle.client.specs.declared.Client.{Client}
 use Rattle.client.specs.declared.Answer as fromClient
+use Rattle.line.specs.declared.Counts.{Counts}
+use Rattle.client.specs.Store.{counts, clientOf}
 use Rattle.client.specs.Answers as client
 use Rattle.server.specs.declared.Server.{Server}
 use Rattle.server.specs.declared.Answer as fromServer
+use Rattle.lines.specs.declared.Counts as lines
+use Rattle.server.specs.View.{countsOf, serverOf}
 use Rattle.server.specs.Calls as server
 use Rattle.calls.specs.declared.call.Call.{Call}
+use Rattle.calls.specs.Calls.{sends}
 use Rattle.calls.specs.Dump.{Put, answerBytes, clientBytes, serverBytes, slotBytes}
 use Rattle.calls.proofs.Bytes.{put-more}
-use Rattle.turns.specs.Turn.{Turn, SlotTurned, Turned, slotOf, slotAt, slotIn, lengthIn, front, behind, sentTurn, lengthAfter, changedBytes, clientSent, clientChanged, clientSize, clientAnswer, serverSent, serverChanged, serverSize, serverAnswer, slotTurn, slotSize}
-use Rattle.turns.proofs.Slots.{front-is, front-put}
+use Rattle.turns.specs.Turn.{SlotTurned, Turned, slotOf, slotAt, slotIn, lengthIn, front, behind, sentTurn, lengthAfter, clientSent, clientSends, clientChanged, clientSize, clientAnswer, clientAfter, clientTurn, serverSent, serverSends, serverChanged, serverSize, serverAnswer, serverAfter, serverTurn, slotTurn, slotSize}
+use Rattle.turns.proofs.Slots.{front-is, front-put, slot-same}
 
 -- ---- room for the answer, and for what a dump adds
 
@@ -38,6 +43,15 @@ full false n at m e h = never e
 
 pub front-length : (s : List ℕ) (a : ℕ) {n : ℕ} → n ≡ min a (length s) → n ≡ length (take n s)
 front-length s a {n} h = sym (length-take-le n s (omega arith))
+
+-- a sending is no dump
+pub sends-no-dump : (op : ℕ) → (eqb op 3 || eqb op 4) ≡ true → eqb op 8 ≡ false
+sends-no-dump op = go (eqb op 3) (eqb op 4) refl refl
+  where
+    go : (a b : Bool) → eqb op 3 ≡ a → eqb op 4 ≡ b → (a || b) ≡ true → eqb op 8 ≡ false
+    go true b p q h = rw (eqb-true op 3 p)
+    go false true p q h = rw (eqb-true op 4 q)
+    go false false p q h = never h
 
 -- ---- the slot as the code has it: j is its number, and a part of n bytes from its first on has the width n
 
@@ -88,6 +102,12 @@ module _ (k : Call) (c : Client) (lent : List ℕ) where
   unfolding clientSent
   client-ack e = simp (ne-eqb (k .op) 3 e)
 
+-- an answer by value, with its client taken apart
+pub client-apart : (a : fromClient.Answer) {k : Counts} {x y z : List ℕ} → k ≡ counts (a .client) → x ≡ a .client .items
+    → y ≡ a .client .«pending_places» → z ≡ a .client .«pending_items»
+    → _≡_ {A = fromClient.Answer} (record { refusal = a .refusal; passed = a .passed; client = clientOf k x y z }) a
+client-apart a p q r t = λ i. record { refusal = a .refusal; passed = a .passed; client = clientOf (p i) (q i) (r i) (t i) }
+
 abbrev ClientDone : Call → ℕ → List ℕ → List ℕ → fromClient.Answer → Client → Type 0
 ClientDone k at out out₁ m c = (c ≡ m .client) × Put at (clientSize k) (clientAnswer k m) out out₁
 
@@ -98,6 +118,31 @@ module _ (k : Call) (a m : fromClient.Answer) {at : ℕ} {out out₁ : List ℕ}
   pub client-dumped : {out₂ : List ℕ} → eqb (k .op) 8 ≡ true → Put (at + 4) 2572 (clientBytes (a .client)) out₁ out₂
       → ClientDone k at out out₂ m (a .client)
   client-dumped {out₂} h q = subst (λ (x : fromClient.Answer). ClientDone k at out out₂ x (a .client)) e (refl, simp h (put-more p q))
+
+-- either, by whether the call is a sending
+module _ (k : Call) (initial : List ℕ) (c : Client) (slots lengths : List ℕ) where
+  abbrev clientEither : Client → ℕ → List ℕ → List ℕ → List ℕ → List ℕ → Type 0
+  clientEither c₁ at slots₁ lengths₁ out out₁ =
+      (c₁ ≡ clientAfter k initial (lengthIn k lengths) (slotIn k slots) c)
+      × Turned k (clientTurn k initial (lengthIn k lengths) (slotIn k slots) c) at (clientSize k) slots slots₁ lengths lengths₁ out out₁
+
+  pub client-sent : {at : ℕ} {slots₁ lengths₁ out out₁ : List ℕ} → sends k ≡ true
+      → Turned k (clientSends k (lengthIn k lengths) (slotIn k slots) c) at 4 slots slots₁ lengths lengths₁ out out₁ → clientEither c at slots₁ lengths₁ out out₁
+  unfolding clientTurn
+  client-sent on t = (simp on, simp (on, sends-no-dump (k .op) on) t)
+
+  pub client-kept : {c₁ : Client} {at : ℕ} {out out₁ : List ℕ} → sends k ≡ false → c₁ ≡ clientChanged k initial (front (lengthIn k lengths) (slotIn k slots)) c .client
+      → Put at (clientSize k) (clientAnswer k (clientChanged k initial (front (lengthIn k lengths) (slotIn k slots)) c)) out out₁ → clientEither c₁ at slots lengths out out₁
+  unfolding clientTurn
+  client-kept off q p = (
+    simp off q,
+    simp off
+        (record {
+          slot-bytes = sym (slot-same (slotOf k) slots);
+          slot-length = sym (set-getD lengths (slotOf k) 0);
+          answer = p;
+        }),
+  )
 
 -- ---- the server
 
@@ -110,6 +155,11 @@ module _ (k : Call) (v : Server) (lent : List ℕ) where
   unfolding serverSent
   server-ack e = simp (ne-eqb (k .op) 3 e)
 
+pub server-apart : (a : fromServer.Answer) {k : lines.Counts} {x y z : List ℕ} → k ≡ countsOf (a .server) → x ≡ a .server .items
+    → y ≡ a .server .«pending_places» → z ≡ a .server .«pending_items»
+    → _≡_ {A = fromServer.Answer} (record { refusal = a .refusal; passed = a .passed; server = serverOf k x y z }) a
+server-apart a p q r t = λ i. record { refusal = a .refusal; passed = a .passed; server = serverOf (p i) (q i) (r i) (t i) }
+
 abbrev ServerDone : Call → ℕ → List ℕ → List ℕ → fromServer.Answer → Server → Type 0
 ServerDone k at out out₁ m v = (v ≡ m .server) × Put at (serverSize k) (serverAnswer k m) out out₁
 
@@ -120,6 +170,31 @@ module _ (k : Call) (a m : fromServer.Answer) {at : ℕ} {out out₁ : List ℕ}
   pub server-dumped : {out₂ : List ℕ} → eqb (k .op) 8 ≡ true → Put (at + 4) 6214 (serverBytes (a .server)) out₁ out₂
       → ServerDone k at out out₂ m (a .server)
   server-dumped {out₂} h q = subst (λ (x : fromServer.Answer). ServerDone k at out out₂ x (a .server)) e (refl, simp h (put-more p q))
+
+-- either, by whether the call is a sending
+module _ (k : Call) (initial : List ℕ) (c : Server) (slots lengths : List ℕ) where
+  abbrev serverEither : Server → ℕ → List ℕ → List ℕ → List ℕ → List ℕ → Type 0
+  serverEither c₁ at slots₁ lengths₁ out out₁ =
+      (c₁ ≡ serverAfter k initial (lengthIn k lengths) (slotIn k slots) c)
+      × Turned k (serverTurn k initial (lengthIn k lengths) (slotIn k slots) c) at (serverSize k) slots slots₁ lengths lengths₁ out out₁
+
+  pub server-sent : {at : ℕ} {slots₁ lengths₁ out out₁ : List ℕ} → sends k ≡ true
+      → Turned k (serverSends k (lengthIn k lengths) (slotIn k slots) c) at 4 slots slots₁ lengths lengths₁ out out₁ → serverEither c at slots₁ lengths₁ out out₁
+  unfolding serverTurn
+  server-sent on t = (simp on, simp (on, sends-no-dump (k .op) on) t)
+
+  pub server-kept : {c₁ : Server} {at : ℕ} {out out₁ : List ℕ} → sends k ≡ false → c₁ ≡ serverChanged k initial (front (lengthIn k lengths) (slotIn k slots)) c .server
+      → Put at (serverSize k) (serverAnswer k (serverChanged k initial (front (lengthIn k lengths) (slotIn k slots)) c)) out out₁ → serverEither c₁ at slots lengths out out₁
+  unfolding serverTurn
+  server-kept off q p = (
+    simp off q,
+    simp off
+        (record {
+          slot-bytes = sym (slot-same (slotOf k) slots);
+          slot-length = sym (set-getD lengths (slotOf k) 0);
+          answer = p;
+        }),
+  )
 
 -- ---- the slots alone
 

@@ -1,17 +1,29 @@
-// One call: what it changes, and the bytes that it writes. A sending changes no end, so it hands none back.
+// One call: what it changes, and the bytes that it writes. An end is its numbers, by value, and its arrays, which are lent and changed in
+// place; a sending changes no end, so it hands no numbers back.
 ghost use mathlib.Core.Path.{_≡_};
 ghost use Prim.Native.Nat.{_+_, _*_, _≤_, _%_, min};
 ghost use lib.ListN.{length, set};
+ghost use Rattle.endpoint.specs.Sending.{answered};
+ghost use Rattle.client.specs.Store.{clientOf, Sizes as ClientSizes};
 ghost use Rattle.client.specs.Answers as client;
+ghost use Rattle.server.specs.View.{serverOf};
+ghost use Rattle.server.specs.Sound.{Sizes as ServerSizes};
 ghost use Rattle.server.specs.Calls as server;
 ghost use Rattle.calls.specs.Dump.{Put, answerBytes};
-ghost use Rattle.turns.specs.Turn.{front, slotOf, slotIn, lengthIn, lengthAfter, clientSends, clientKept, clientChanged, clientSize, clientAnswer, serverSends, serverKept, serverChanged, serverSize, serverAnswer, slotTurn, slotSize, SlotTurned, Turned};
+ghost use Rattle.turns.specs.Turn.{front, slotOf, slotIn, lengthIn, lengthAfter, clientSent, clientSends, clientChanged, clientSize, clientAnswer, clientAfter, clientTurn, serverSent, serverSends, serverChanged, serverSize, serverAnswer, serverAfter, serverTurn, slotTurn, slotSize, SlotTurned, Turned};
+use bench::bays::put;
 use calls::call::Call;
+use calls::call::sends;
 use calls::dump;
 use calls::set;
 use client::Client;
+use client::Counts;
+use client::editing::Change;
+use client::editing::edit_lent;
 use endpoint::Sent;
 use server::Server;
+use server::taking::Changed;
+use server::taking::take_lent;
 
 fn least(a: usize, b: usize) -> usize
     ensures { λ r. ⌜ r ≡ min a b ⌝ }
@@ -64,162 +76,328 @@ fn put_sent(s: Sent, k: Call, lengths: &mut [u8], out: &mut [u8], at: usize)
     dump::put_answer(out, at, s.refusal, (s.written % 256) as u8, 0);
 }
 
-pub fn send_client(
-    c: Client,
+// What a sending of a client writes into the front of its slot.
+pub fn sent_client<'a>(
+    c: Counts,
+    items: &'a [u32],
+    places: &'a [u32],
+    pending: &'a [u32],
+    k: Call,
+    lent: &mut [u8],
+) -> Sent
+    requires { ⌜ ClientSizes (now items) (now places) (now pending) ⌝ }
+    ensures { λ r. ⌜ answered r (now (lent .exit)) ≡ clientSent k (clientOf c (now (items .entry)) (now (places .entry)) (now (pending .entry))) (now (lent .entry)) ⌝ }
+{
+    if k.op == 3 {
+        return client::sending::send_lent(c, items, places, pending, k.line, k.number, lent);
+    }
+    client::sending::tell_lent(c, items, places, pending, k.line, lent)
+}
+
+fn send_client<'a>(
+    c: Counts,
+    items: &'a [u32],
+    places: &'a [u32],
+    pending: &'a [u32],
     k: Call,
     slots: &mut [u8],
     lengths: &mut [u8],
     out: &mut [u8],
     at: usize,
 )
-    requires { ⌜ (length (now slots) ≡ 1280) × (length (now lengths) ≡ 64) × (at + 4 ≤ length (now out)) ⌝ }
-    ensures { λ _. ⌜ Turned k (clientSends k (lengthIn k (now (lengths .entry))) (slotIn k (now (slots .entry))) c) at 4 (now (slots .entry)) (now (slots .exit)) (now (lengths .entry)) (now (lengths .exit)) (now (out .entry)) (now (out .exit)) ⌝ }
+    requires { ⌜ ClientSizes (now items) (now places) (now pending) × (length (now slots) ≡ 1280) × (length (now lengths) ≡ 64) × (at + 4 ≤ length (now out)) ⌝ }
+    ensures { λ _. ⌜ Turned k (clientSends k (lengthIn k (now (lengths .entry))) (slotIn k (now (slots .entry))) (clientOf c (now (items .entry)) (now (places .entry)) (now (pending .entry)))) at 4 (now (slots .entry)) (now (slots .exit)) (now (lengths .entry)) (now (lengths .exit)) (now (out .entry)) (now (out .exit)) ⌝ }
 {
     let lo = 20 * slot_of(k);
     let hi = lo + within(k.size);
-    if k.op == 3 {
-        let s = c.send(k.line, k.number, &mut slots[lo..hi]);
-        put_sent(s, k, lengths, out, at);
-        return;
-    }
-    let s = c.tell(k.line, &mut slots[lo..hi]);
+    let s = sent_client(c, items, places, pending, k, &mut slots[lo..hi]);
     put_sent(s, k, lengths, out, at);
 }
 
-pub fn send_server(
-    v: Server,
+// What a sending of the server writes into the front of its slot.
+pub fn sent_server<'a>(
+    v: lines::Counts,
+    items: &'a [u32],
+    places: &'a [u32],
+    pending: &'a [u32],
+    k: Call,
+    lent: &mut [u8],
+) -> Sent
+    requires { ⌜ ServerSizes v (now items) (now places) (now pending) ⌝ }
+    ensures { λ r. ⌜ answered r (now (lent .exit)) ≡ serverSent k (serverOf v (now (items .entry)) (now (places .entry)) (now (pending .entry))) (now (lent .entry)) ⌝ }
+{
+    if k.op == 3 {
+        return server::sending::send_lent(v, items, places, pending, k.line, k.number, lent);
+    }
+    server::sending::tell_lent(v, items, places, pending, k.line, lent)
+}
+
+fn send_server<'a>(
+    v: lines::Counts,
+    items: &'a [u32],
+    places: &'a [u32],
+    pending: &'a [u32],
     k: Call,
     slots: &mut [u8],
     lengths: &mut [u8],
     out: &mut [u8],
     at: usize,
 )
-    requires { ⌜ (length (now slots) ≡ 1280) × (length (now lengths) ≡ 64) × (at + 4 ≤ length (now out)) ⌝ }
-    ensures { λ _. ⌜ Turned k (serverSends k (lengthIn k (now (lengths .entry))) (slotIn k (now (slots .entry))) v) at 4 (now (slots .entry)) (now (slots .exit)) (now (lengths .entry)) (now (lengths .exit)) (now (out .entry)) (now (out .exit)) ⌝ }
+    requires { ⌜ ServerSizes v (now items) (now places) (now pending) × (length (now slots) ≡ 1280) × (length (now lengths) ≡ 64) × (at + 4 ≤ length (now out)) ⌝ }
+    ensures { λ _. ⌜ Turned k (serverSends k (lengthIn k (now (lengths .entry))) (slotIn k (now (slots .entry))) (serverOf v (now (items .entry)) (now (places .entry)) (now (pending .entry)))) at 4 (now (slots .entry)) (now (slots .exit)) (now (lengths .entry)) (now (lengths .exit)) (now (out .entry)) (now (out .exit)) ⌝ }
 {
     let lo = 20 * slot_of(k);
     let hi = lo + within(k.size);
-    if k.op == 3 {
-        let s = v.send(k.line, k.number, &mut slots[lo..hi]);
-        put_sent(s, k, lengths, out, at);
-        return;
-    }
-    let s = v.tell(k.line, &mut slots[lo..hi]);
+    let s = sent_server(v, items, places, pending, k, &mut slots[lo..hi]);
     put_sent(s, k, lengths, out, at);
 }
 
 // ---- a client
 
-fn kept_client(c: Client) -> client::Answer
-    ensures { λ r. ⌜ r ≡ clientKept c ⌝ }
+fn kept_client(c: Counts) -> client::Changed
+    ensures { λ r. ⌜ r ≡ record { refusal = 0; passed = 0; counts = c } ⌝ }
 {
-    client::Answer {
+    client::Changed {
         refusal: 0,
         passed: 0,
-        client: c,
+        counts: c,
     }
 }
 
 // The header's items are cut to the number that the call names.
-fn open_client(k: Call, initial: &[u32]) -> client::Answer
-    ensures { λ r. ⌜ r ≡ client.opened (k .size) (k .line) (front (k .number) (now (initial .entry))) ⌝ }
+fn open_client(
+    k: Call,
+    initial: &[u32],
+    items: &mut [u32],
+    places: &mut [u32],
+    pending: &mut [u32],
+) -> client::Changed
+    requires { ⌜ ClientSizes (now items) (now places) (now pending) ⌝ }
+    ensures { λ r. ⌜ client.answerOf r (now (items .exit)) (now (places .exit)) (now (pending .exit)) ≡ client.opened (k .size) (k .line) (front (k .number) (now (initial .entry))) ⌝ }
 {
     let n = least(k.number as usize, initial.len());
-    Client::open(k.size, k.line, &initial[..n])
+    let a = Client::open(k.size, k.line, &initial[..n]);
+    let c = a.client;
+    put(items, &c.items);
+    put(places, &c.pending_places);
+    put(pending, &c.pending_items);
+    client::Changed {
+        refusal: a.refusal,
+        passed: a.passed,
+        counts: c.counts(),
+    }
 }
 
 // Every call but a sending. A dump changes nothing.
-fn changed_client(c: Client, k: Call, initial: &[u32], bytes: &[u8]) -> client::Answer
-    ensures { λ r. ⌜ r ≡ clientChanged k (front (k .number) (now (initial .entry))) (now (bytes .entry)) c ⌝ }
+fn changed_client(
+    c: Counts,
+    items: &mut [u32],
+    places: &mut [u32],
+    pending: &mut [u32],
+    k: Call,
+    initial: &[u32],
+    bytes: &[u8],
+) -> client::Changed
+    requires { ⌜ ClientSizes (now items) (now places) (now pending) ⌝ }
+    ensures { λ r. ⌜ client.answerOf r (now (items .exit)) (now (places .exit)) (now (pending .exit)) ≡ clientChanged k (front (k .number) (now (initial .entry))) (now (bytes .entry)) (clientOf c (now (items .entry)) (now (places .entry)) (now (pending .entry))) ⌝ }
 {
     let op = k.op;
     match op {
-        0 => open_client(k, initial),
-        1 => c.insert(k.position, k.value),
-        2 => c.delete(k.position),
-        5 => c.take(bytes),
-        7 => kept_client(set::set_client(k, c)),
+        0 => open_client(k, initial, items, places, pending),
+        1 => edit_lent(
+            c,
+            items,
+            places,
+            pending,
+            Change::Insert(k.position, k.value),
+        ),
+        2 => edit_lent(c, items, places, pending, Change::Delete(k.position)),
+        5 => client::taking::take_lent(c, items, places, pending, bytes),
+        7 => kept_client(set::set_client(k, c, items, places, pending)),
         _ => kept_client(c),
     }
 }
 
-pub fn change_client(
-    c: Client,
+fn change_client(
+    c: Counts,
+    items: &mut [u32],
+    places: &mut [u32],
+    pending: &mut [u32],
     k: Call,
     initial: &[u32],
     slots: &[u8],
     lengths: &[u8],
     out: &mut [u8],
     at: usize,
-) -> Client
-    requires { ⌜ (length (now slots) ≡ 1280) × (length (now lengths) ≡ 64) × (at + clientSize k ≤ length (now out)) ⌝ }
-    ensures end { λ r. ⌜ r ≡ clientChanged k (front (k .number) (now (initial .entry))) (front (lengthIn k (now (lengths .entry))) (slotIn k (now (slots .entry)))) c .client ⌝ }
-    ensures answer { λ _. ⌜ Put at (clientSize k) (clientAnswer k (clientChanged k (front (k .number) (now (initial .entry))) (front (lengthIn k (now (lengths .entry))) (slotIn k (now (slots .entry)))) c)) (now (out .entry)) (now (out .exit)) ⌝ }
+) -> Counts
+    requires { ⌜ ClientSizes (now items) (now places) (now pending) × (length (now slots) ≡ 1280) × (length (now lengths) ≡ 64) × (at + clientSize k ≤ length (now out)) ⌝ }
+    ensures end { λ r. ⌜ clientOf r (now (items .exit)) (now (places .exit)) (now (pending .exit)) ≡ clientChanged k (front (k .number) (now (initial .entry))) (front (lengthIn k (now (lengths .entry))) (slotIn k (now (slots .entry)))) (clientOf c (now (items .entry)) (now (places .entry)) (now (pending .entry))) .client ⌝ }
+    ensures answer { λ _. ⌜ Put at (clientSize k) (clientAnswer k (clientChanged k (front (k .number) (now (initial .entry))) (front (lengthIn k (now (lengths .entry))) (slotIn k (now (slots .entry)))) (clientOf c (now (items .entry)) (now (places .entry)) (now (pending .entry))))) (now (out .entry)) (now (out .exit)) ⌝ }
 {
     let lo = 20 * slot_of(k);
-    let a = changed_client(c, k, initial, &slots[lo..lo + held(k, lengths)]);
+    let hi = lo + held(k, lengths);
+    let a = changed_client(c, items, places, pending, k, initial, &slots[lo..hi]);
     dump::put_answer(out, at, a.refusal, 0, a.passed);
-    let client = a.client;
+    let counts = a.counts;
     if k.op == 8 {
-        dump::put_client(out, at + 4, client);
-        return client;
+        dump::put_client(out, at + 4, counts, items, places, pending);
+        return counts;
     }
-    client
+    counts
+}
+
+// Any call at a client.
+pub fn turn_client(
+    c: Counts,
+    items: &mut [u32],
+    places: &mut [u32],
+    pending: &mut [u32],
+    k: Call,
+    initial: &[u32],
+    slots: &mut [u8],
+    lengths: &mut [u8],
+    out: &mut [u8],
+    at: usize,
+) -> Counts
+    requires { ⌜ ClientSizes (now items) (now places) (now pending) × (length (now slots) ≡ 1280) × (length (now lengths) ≡ 64) × (at + clientSize k ≤ length (now out)) ⌝ }
+    ensures end { λ r. ⌜ clientOf r (now (items .exit)) (now (places .exit)) (now (pending .exit)) ≡ clientAfter k (front (k .number) (now (initial .entry))) (lengthIn k (now (lengths .entry))) (slotIn k (now (slots .entry))) (clientOf c (now (items .entry)) (now (places .entry)) (now (pending .entry))) ⌝ }
+    ensures turned { λ _. ⌜ Turned k (clientTurn k (front (k .number) (now (initial .entry))) (lengthIn k (now (lengths .entry))) (slotIn k (now (slots .entry))) (clientOf c (now (items .entry)) (now (places .entry)) (now (pending .entry)))) at (clientSize k) (now (slots .entry)) (now (slots .exit)) (now (lengths .entry)) (now (lengths .exit)) (now (out .entry)) (now (out .exit)) ⌝ }
+{
+    if sends(k) {
+        send_client(c, items, places, pending, k, slots, lengths, out, at);
+        return c;
+    }
+    change_client(
+        c,
+        items,
+        places,
+        pending,
+        k,
+        initial,
+        slots,
+        lengths,
+        out,
+        at,
+    )
 }
 
 // ---- the server
 
-fn kept_server(s: Server) -> server::Answer
-    ensures { λ r. ⌜ r ≡ serverKept s ⌝ }
+fn kept_server(v: lines::Counts) -> Changed
+    ensures { λ r. ⌜ r ≡ record { refusal = 0; passed = 0; counts = v } ⌝ }
 {
-    server::Answer {
+    Changed {
         refusal: 0,
         passed: 0,
-        server: s,
+        counts: v,
     }
 }
 
-fn open_server(k: Call, initial: &[u32]) -> server::Answer
-    ensures { λ r. ⌜ r ≡ server.opened (k .size) (front (k .number) (now (initial .entry))) ⌝ }
+fn open_server(
+    k: Call,
+    initial: &[u32],
+    items: &mut [u32],
+    places: &mut [u32],
+    pending: &mut [u32],
+) -> Changed
+    requires { ⌜ (length (now items) ≡ 512) × (length (now places) ≡ 512) × (length (now pending) ≡ 512) ⌝ }
+    ensures { λ r. ⌜ server.answerOf r (now (items .exit)) (now (places .exit)) (now (pending .exit)) ≡ server.opened (k .size) (front (k .number) (now (initial .entry))) ⌝ }
 {
     let n = least(k.number as usize, initial.len());
-    Server::open(k.size, &initial[..n])
+    let a = Server::open(k.size, &initial[..n]);
+    let v = a.server;
+    put(items, &v.items);
+    put(places, &v.pending_places);
+    put(pending, &v.pending_items);
+    Changed {
+        refusal: a.refusal,
+        passed: a.passed,
+        counts: v.counts(),
+    }
 }
 
-fn changed_server(s: Server, k: Call, initial: &[u32], bytes: &[u8]) -> server::Answer
-    ensures { λ r. ⌜ r ≡ serverChanged k (front (k .number) (now (initial .entry))) (now (bytes .entry)) s ⌝ }
+fn changed_server(
+    v: lines::Counts,
+    items: &mut [u32; 512],
+    places: &mut [u32; 512],
+    pending: &mut [u32; 512],
+    k: Call,
+    initial: &[u32],
+    bytes: &[u8],
+) -> Changed
+    requires { ⌜ ServerSizes v (now items) (now places) (now pending) ⌝ }
+    ensures { λ r. ⌜ server.answerOf r (now (items .exit)) (now (places .exit)) (now (pending .exit)) ≡ serverChanged k (front (k .number) (now (initial .entry))) (now (bytes .entry)) (serverOf v (now (items .entry)) (now (places .entry)) (now (pending .entry))) ⌝ }
 {
     let op = k.op;
     match op {
-        0 => open_server(k, initial),
-        5 => s.take(bytes),
-        7 => kept_server(set::set_server(k, s)),
-        _ => kept_server(s),
+        0 => open_server(k, initial, items, places, pending),
+        5 => take_lent(v, items, places, pending, bytes),
+        7 => kept_server(set::set_server(k, v, items, places, pending)),
+        _ => kept_server(v),
     }
 }
 
-pub fn change_server(
-    s: Server,
+fn change_server(
+    v: lines::Counts,
+    items: &mut [u32; 512],
+    places: &mut [u32; 512],
+    pending: &mut [u32; 512],
     k: Call,
     initial: &[u32],
     slots: &[u8],
     lengths: &[u8],
     out: &mut [u8],
     at: usize,
-) -> Server
-    requires { ⌜ (length (now slots) ≡ 1280) × (length (now lengths) ≡ 64) × (at + serverSize k ≤ length (now out)) ⌝ }
-    ensures end { λ r. ⌜ r ≡ serverChanged k (front (k .number) (now (initial .entry))) (front (lengthIn k (now (lengths .entry))) (slotIn k (now (slots .entry)))) s .server ⌝ }
-    ensures answer { λ _. ⌜ Put at (serverSize k) (serverAnswer k (serverChanged k (front (k .number) (now (initial .entry))) (front (lengthIn k (now (lengths .entry))) (slotIn k (now (slots .entry)))) s)) (now (out .entry)) (now (out .exit)) ⌝ }
+) -> lines::Counts
+    requires { ⌜ ServerSizes v (now items) (now places) (now pending) × (length (now slots) ≡ 1280) × (length (now lengths) ≡ 64) × (at + serverSize k ≤ length (now out)) ⌝ }
+    ensures end { λ r. ⌜ serverOf r (now (items .exit)) (now (places .exit)) (now (pending .exit)) ≡ serverChanged k (front (k .number) (now (initial .entry))) (front (lengthIn k (now (lengths .entry))) (slotIn k (now (slots .entry)))) (serverOf v (now (items .entry)) (now (places .entry)) (now (pending .entry))) .server ⌝ }
+    ensures answer { λ _. ⌜ Put at (serverSize k) (serverAnswer k (serverChanged k (front (k .number) (now (initial .entry))) (front (lengthIn k (now (lengths .entry))) (slotIn k (now (slots .entry)))) (serverOf v (now (items .entry)) (now (places .entry)) (now (pending .entry))))) (now (out .entry)) (now (out .exit)) ⌝ }
 {
     let lo = 20 * slot_of(k);
-    let a = changed_server(s, k, initial, &slots[lo..lo + held(k, lengths)]);
+    let hi = lo + held(k, lengths);
+    let a = changed_server(v, items, places, pending, k, initial, &slots[lo..hi]);
     dump::put_answer(out, at, a.refusal, 0, a.passed);
-    let server = a.server;
+    let counts = a.counts;
     if k.op == 8 {
-        dump::put_server(out, at + 4, server);
-        return server;
+        dump::put_server(out, at + 4, counts, items, places, pending);
+        return counts;
     }
-    server
+    counts
+}
+
+// Any call at the server.
+pub fn turn_server(
+    v: lines::Counts,
+    items: &mut [u32; 512],
+    places: &mut [u32; 512],
+    pending: &mut [u32; 512],
+    k: Call,
+    initial: &[u32],
+    slots: &mut [u8],
+    lengths: &mut [u8],
+    out: &mut [u8],
+    at: usize,
+) -> lines::Counts
+    requires { ⌜ ServerSizes v (now items) (now places) (now pending) × (length (now slots) ≡ 1280) × (length (now lengths) ≡ 64) × (at + serverSize k ≤ length (now out)) ⌝ }
+    ensures end { λ r. ⌜ serverOf r (now (items .exit)) (now (places .exit)) (now (pending .exit)) ≡ serverAfter k (front (k .number) (now (initial .entry))) (lengthIn k (now (lengths .entry))) (slotIn k (now (slots .entry))) (serverOf v (now (items .entry)) (now (places .entry)) (now (pending .entry))) ⌝ }
+    ensures turned { λ _. ⌜ Turned k (serverTurn k (front (k .number) (now (initial .entry))) (lengthIn k (now (lengths .entry))) (slotIn k (now (slots .entry))) (serverOf v (now (items .entry)) (now (places .entry)) (now (pending .entry)))) at (serverSize k) (now (slots .entry)) (now (slots .exit)) (now (lengths .entry)) (now (lengths .exit)) (now (out .entry)) (now (out .exit)) ⌝ }
+{
+    if sends(k) {
+        send_server(v, items, places, pending, k, slots, lengths, out, at);
+        return v;
+    }
+    change_server(
+        v,
+        items,
+        places,
+        pending,
+        k,
+        initial,
+        slots,
+        lengths,
+        out,
+        at,
+    )
 }
 
 // ---- the slots alone

@@ -1,5 +1,6 @@
+use mathlib.Core.Path.{ap}
 use borrow.Author.Tests.{ne-eqb}
-use Rattle.turns.specs.Turn.{serverChanged}
+use Rattle.turns.specs.Turn.{serverKept, serverChanged}
 use borrow.Author.Needs.{needs}
 use Rattle.turns.proofs.changed_server.Statement.{statement}
 use Rattle.turns.proofs.changed_server.Tie as tie
@@ -7,8 +8,8 @@ use Rattle.turns.proofs.changed_server.Tie as tie
 open-server-requires : tie.Need-open-server-requires
 open-server-requires c κs = search needs
 
-take-requires : tie.Need-take-requires
-take-requires c κs = search needs
+take-lent-requires : tie.Need-take-lent-requires
+take-lent-requires c κs = search needs
 
 set-server-requires : tie.Need-set-server-requires
 set-server-requires c κs = search needs
@@ -21,15 +22,15 @@ kept-server-requires-2 c κs = search needs
 
 returns : tie.Need-returns
 unfolding serverChanged
-returns c = simp (c .before .match .keys1, c .open-server .ensures)
+returns c = simp (c .before .before .before .before .match .keys1, c .open-server .ensures)
 
 returns-2 : tie.Need-returns-2
 unfolding serverChanged
-returns-2 c = simp (c .before .match .keys2, c .take .ensures)
+returns-2 c = simp (c .before .before .before .before .match .keys2, c .take-lent .ensures)
 
 returns-3 : tie.Need-returns-3
 unfolding serverChanged
-returns-3 c = simp (c .before .before .match .keys3, c .kept-server .ensures, c .before .set-server .ensures)
+returns-3 c = simp (c .before .before .before .before .before .match .keys3, c .kept-server .ensures) (ap serverKept (c .before .set-server .ensures))
 
 returns-4 : tie.Need-returns-4
 unfolding serverChanged
@@ -40,7 +41,7 @@ changed-server-spec =
     tie.close
     (tie.spec
     open-server-requires
-    take-requires
+    take-lent-requires
     set-server-requires
     kept-server-requires
     kept-server-requires-2

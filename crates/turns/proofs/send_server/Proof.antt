@@ -1,6 +1,7 @@
-use mathlib.Core.Path.{_∙_}
+use denote.Ref.{now}
+use Rattle.server.specs.View.{serverOf}
 use Rattle.turns.specs.Turn.{serverSent}
-use Rattle.turns.proofs.Turns.{sent-turned, server-edit, server-ack}
+use Rattle.turns.proofs.Turns.{sent-turned}
 use borrow.Author.Needs.{needs}
 use Rattle.turns.proofs.send_server.Statement.{statement}
 use Rattle.turns.proofs.send_server.Tie as tie
@@ -17,17 +18,17 @@ within-requires c κs = search needs
 add-hi : tie.Need-add-hi
 add-hi c = search needs
 
-sub-send : tie.Need-sub-send
-sub-send c = search needs
+sub-sent-server : tie.Need-sub-sent-server
+sub-sent-server c = search needs
 
-part-send-start : tie.Need-part-send-start
-part-send-start c = search needs
+part-sent-server-start : tie.Need-part-sent-server-start
+part-sent-server-start c = search needs
 
-part-send-end : tie.Need-part-send-end
-part-send-end c = search needs
+part-sent-server-end : tie.Need-part-sent-server-end
+part-sent-server-end c = search needs
 
-send-requires : tie.Need-send-requires
-send-requires c κs = search needs
+sent-server-requires : tie.Need-sent-server-requires
+sent-server-requires c κs = search needs
 
 put-sent-requires : tie.Need-put-sent-requires
 put-sent-requires c κs = search needs
@@ -42,34 +43,7 @@ same-length-3 : tie.Need-same-length-3
 same-length-3 c = search needs
 
 returns : tie.Need-returns
-returns c = sent-turned (c .before .before .before .before .before .before .before .before .before .before .before .before .before .before .before .before .before .before .args .k) (c .before .before .before .before .before .before .before .before .before .before .before .before .before .before .before .before .before .before .args .slots .now) (c .before .before .before .before .before .before .before .before .before .before .before .before .before .before .before .before .before .before .args .lengths .now) (c .before .before .before .before .before .before .before .before .before .before .before .before .before .before .slot-of .result) (c .before .before .before .before .before .before .before .before .before .before .before .before .before .before .before .before .before .before .pre .0) (c .before .before .before .before .before .before .before .before .before .before .before .before .before .before .slot-of .ensures) (serverSent (c .before .before .before .before .before .before .before .before .before .before .before .before .before .before .before .before .before .before .args .k) (c .before .before .before .before .before .before .before .before .before .before .before .before .before .before .before .before .before .before .args .v)) (c .before .before .before .before .before .before .before .before .before .send .result) _ (c .before .before .before .before .before .before .before .before .before .before .before .before .before .within .result) (c .before .before .before .before .before .before .before .before .before .before .before .before .before .within .ensures) (c .before .before .before .before .before .before .before .before .before .send .ensures ∙ server-edit (c .before .before .before .before .before .before .before .before .before .before .before .before .before .before .before .before .before .before .args .k) (c .before .before .before .before .before .before .before .before .before .before .before .before .before .before .before .before .before .before .args .v) _ (c .before .before .before .before .before .before .before .before .before .before .before .if1 .taken)) (c .before .before .before .before .put-sent .ensures .0) (c .before .before .before .before .put-sent .ensures .1)
-
-sub-tell : tie.Need-sub-tell
-sub-tell c = search needs
-
-part-tell-start : tie.Need-part-tell-start
-part-tell-start c = search needs
-
-part-tell-end : tie.Need-part-tell-end
-part-tell-end c = search needs
-
-tell-requires : tie.Need-tell-requires
-tell-requires c κs = search needs
-
-put-sent-requires-2 : tie.Need-put-sent-requires-2
-put-sent-requires-2 c κs = search needs
-
-same-length-4 : tie.Need-same-length-4
-same-length-4 c = search needs
-
-same-length-5 : tie.Need-same-length-5
-same-length-5 c = search needs
-
-same-length-6 : tie.Need-same-length-6
-same-length-6 c = search needs
-
-returns-2 : tie.Need-returns-2
-returns-2 c = sent-turned (c .before .before .before .before .before .before .before .before .before .before .before .before .before .before .before .before .before .before .args .k) (c .before .before .before .before .before .before .before .before .before .before .before .before .before .before .before .before .before .before .args .slots .now) (c .before .before .before .before .before .before .before .before .before .before .before .before .before .before .before .before .before .before .args .lengths .now) (c .before .before .before .before .before .before .before .before .before .before .before .before .before .before .slot-of .result) (c .before .before .before .before .before .before .before .before .before .before .before .before .before .before .before .before .before .before .pre .0) (c .before .before .before .before .before .before .before .before .before .before .before .before .before .before .slot-of .ensures) (serverSent (c .before .before .before .before .before .before .before .before .before .before .before .before .before .before .before .before .before .before .args .k) (c .before .before .before .before .before .before .before .before .before .before .before .before .before .before .before .before .before .before .args .v)) (c .before .before .before .before .before .before .before .before .before .tell .result) _ (c .before .before .before .before .before .before .before .before .before .before .before .before .before .within .result) (c .before .before .before .before .before .before .before .before .before .before .before .before .before .within .ensures) (c .before .before .before .before .before .before .before .before .before .tell .ensures ∙ server-ack (c .before .before .before .before .before .before .before .before .before .before .before .before .before .before .before .before .before .before .args .k) (c .before .before .before .before .before .before .before .before .before .before .before .before .before .before .before .before .before .before .args .v) _ (c .before .before .before .before .before .before .before .before .before .before .before .if1 .left)) (c .before .before .before .before .put-sent2 .ensures .0) (c .before .before .before .before .put-sent2 .ensures .1)
+returns c = sent-turned (c .before .before .before .before .before .before .before .before .before .before .before .before .before .before .before .before .before .before .before .args .k) (c .before .before .before .before .before .before .before .before .before .before .before .before .before .before .before .before .before .before .before .args .slots .now) (c .before .before .before .before .before .before .before .before .before .before .before .before .before .before .before .before .before .before .before .args .lengths .now) (c .before .before .before .before .before .before .before .before .before .before .before .before .slot-of .result) (c .before .before .before .before .before .before .before .before .before .before .before .before .before .before .before .before .before .before .before .pre .1) (c .before .before .before .before .before .before .before .before .before .before .before .before .slot-of .ensures) (serverSent (c .before .before .before .before .before .before .before .before .before .before .before .before .before .before .before .before .before .before .before .args .k) (serverOf (c .before .before .before .before .before .before .before .before .before .before .before .before .before .before .before .before .before .before .before .args .v) (now (c .before .before .before .before .before .before .before .before .before .before .before .before .before .before .before .before .before .before .before .args .items)) (now (c .before .before .before .before .before .before .before .before .before .before .before .before .before .before .before .before .before .before .before .args .places)) (now (c .before .before .before .before .before .before .before .before .before .before .before .before .before .before .before .before .before .before .before .args .pending)))) (c .before .before .before .before .before .before .before .before .before .sent-server .result) _ (c .before .before .before .before .before .before .before .before .before .before .before .within .result) (c .before .before .before .before .before .before .before .before .before .before .before .within .ensures) (c .before .before .before .before .before .before .before .before .before .sent-server .ensures) (c .before .before .before .before .put-sent .ensures .0) (c .before .before .before .before .put-sent .ensures .1)
 
 pub send-server-spec : {M : Type 1} → statement M
 send-server-spec =
@@ -79,21 +53,12 @@ send-server-spec =
     mul-lo
     within-requires
     add-hi
-    sub-send
-    part-send-start
-    part-send-end
-    send-requires
+    sub-sent-server
+    part-sent-server-start
+    part-sent-server-end
+    sent-server-requires
     put-sent-requires
     same-length
     same-length-2
     same-length-3
-    returns
-    sub-tell
-    part-tell-start
-    part-tell-end
-    tell-requires
-    put-sent-requires-2
-    same-length-4
-    same-length-5
-    same-length-6
-    returns-2)
+    returns)

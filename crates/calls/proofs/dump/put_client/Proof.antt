@@ -1,3 +1,4 @@
+use native.Mathlib.Omega.{arith}
 use Rattle.calls.specs.Dump.{each, clientBytes}
 use Rattle.calls.proofs.Bytes.{put-more, put-size}
 use borrow.Author.Needs.{needs}
@@ -27,7 +28,7 @@ same-length c = search needs
 
 returns : tie.Need-returns
 unfolding clientBytes each
-returns c = put-more (put-more (c .before .before .before .before .before .before .before .before .before .before .before .before .before .before .before .before .before .before .put-answer .ensures) (put-size 8 (search needs) (c .before .before .before .before .before .before .before .before .before .before .before .before .before .put-twos .ensures))) (put-size 2560 (search needs) (c .before .before .put-arrays .ensures))
+returns c = put-more (put-more (c .before .before .before .before .before .before .before .before .before .before .before .put-answer .ensures) (put-size 8 (search needs) (c .before .before .before .before .before .before .put-twos .ensures))) (put-size 2560 (omega (arith, c .before .before .before .before .before .before .before .before .before .before .before .before .before .before .before .before .before .pre .1 .items-size, c .before .before .before .before .before .before .before .before .before .before .before .before .before .before .before .before .before .pre .1 .places-size, c .before .before .before .before .before .before .before .before .before .before .before .before .before .before .before .before .before .pre .1 .pending-size)) (c .before .before .put-arrays .ensures))
 
 pub put-client-spec : {M : Type 1} → statement M
 put-client-spec =

@@ -1,3 +1,4 @@
+use native.Mathlib.Omega.{arith}
 use Rattle.calls.specs.Dump.{serverBytes}
 use Rattle.calls.proofs.Bytes.{put-more, put-size}
 use borrow.Author.Needs.{needs}
@@ -30,7 +31,7 @@ same-length c = search needs
 
 returns : tie.Need-returns
 unfolding serverBytes
-returns c = put-more (put-more (put-more (c .before .before .before .before .before .before .before .before .before .before .before .before .before .before .before .before .before .before .before .before .before .before .before .before .before .before .before .before .before .before .put-answer .ensures) (c .before .before .before .before .before .before .before .before .before .before .before .before .before .before .before .before .before .before .before .before .before .before .before .before .before .before .put-two .ensures)) (put-size 64 (search needs) (c .before .before .before .before .before .before .before .before .before .before .before .before .before .put-lines .ensures))) (put-size 6144 (search needs) (c .before .before .put-arrays .ensures))
+returns c = put-more (put-more (put-more (c .before .before .before .before .before .before .before .before .before .before .before .before .before .before .before .before .before .before .before .before .before .before .before .put-answer .ensures) (c .before .before .before .before .before .before .before .before .before .before .before .before .before .before .before .before .before .before .before .put-two .ensures)) (put-size 64 (search needs) (c .before .before .before .before .before .before .put-lines .ensures))) (put-size 6144 (omega (arith, c .before .before .before .before .before .before .before .before .before .before .before .before .before .before .before .before .before .before .before .before .before .before .before .before .before .before .before .before .before .pre .1 .list, c .before .before .before .before .before .before .before .before .before .before .before .before .before .before .before .before .before .before .before .before .before .before .before .before .before .before .before .before .before .pre .1 .sized .places, c .before .before .before .before .before .before .before .before .before .before .before .before .before .before .before .before .before .before .before .before .before .before .before .before .before .before .before .before .before .pre .1 .sized .items)) (c .before .before .put-arrays .ensures))
 
 pub put-server-spec : {M : Type 1} → statement M
 put-server-spec =

@@ -1,3 +1,5 @@
+use denote.Ref.{now}
+use Rattle.client.specs.Store.{clientOf}
 use Rattle.calls.proofs.Sets.{client-set}
 use borrow.Author.Needs.{needs}
 use Rattle.calls.proofs.set.set_client.Statement.{statement}
@@ -5,6 +7,18 @@ use Rattle.calls.proofs.set.set_client.Tie as tie
 
 cast-i : tie.Need-cast-i
 cast-i c = search needs
+
+set-in-requires : tie.Need-set-in-requires
+set-in-requires c κs = search needs
+
+slot-place-requires : tie.Need-slot-place-requires
+slot-place-requires c κs = search needs
+
+set-in-requires-2 : tie.Need-set-in-requires-2
+set-in-requires-2 c κs = search needs
+
+set-in-requires-3 : tie.Need-set-in-requires-3
+set-in-requires-3 c κs = search needs
 
 set-byte-requires : tie.Need-set-byte-requires
 set-byte-requires c κs = search needs
@@ -27,26 +41,27 @@ set-count-requires-4 c κs = search needs
 set-count-requires-5 : tie.Need-set-count-requires-5
 set-count-requires-5 c κs = search needs
 
-set-in-512-requires : tie.Need-set-in-512-requires
-set-in-512-requires c κs = search needs
+same-length : tie.Need-same-length
+same-length c = search needs
 
-slot-place-requires : tie.Need-slot-place-requires
-slot-place-requires c κs = search needs
+same-length-2 : tie.Need-same-length-2
+same-length-2 c = search needs
 
-set-in-64-requires : tie.Need-set-in-64-requires
-set-in-64-requires c κs = search needs
-
-set-in-64-requires-2 : tie.Need-set-in-64-requires-2
-set-in-64-requires-2 c κs = search needs
+same-length-3 : tie.Need-same-length-3
+same-length-3 c = search needs
 
 returns : tie.Need-returns
-returns c = client-set (c .before .before .before .before .before .before .before .before .before .before .before .before .before .before .before .before .before .before .args .k) (c .before .before .before .before .before .before .before .before .before .before .before .before .before .before .before .before .before .before .args .c) (c .before .before .before .slot-place .ensures) (c .before .before .before .before .before .before .before .before .before .before .before .before .before .set-byte .ensures) (c .before .before .before .before .before .before .before .before .before .before .before .before .set-byte2 .ensures) (c .before .before .before .before .before .before .before .before .before .before .before .set-count .ensures) (c .before .before .before .before .before .before .before .before .before .before .set-count2 .ensures) (c .before .before .before .before .before .before .before .before .before .set-count3 .ensures) (c .before .before .before .before .before .before .before .before .set-count4 .ensures) (c .before .before .before .before .before .before .before .set-count5 .ensures) (c .before .before .before .before .before .set-in-512 .ensures) (c .before .before .set-in-64 .ensures) (c .set-in-642 .ensures)
+returns c = client-set (c .before .before .before .before .before .before .before .before .before .before .before .before .before .before .before .before .before .before .before .before .before .before .before .before .before .before .before .args .k) (clientOf (c .before .before .before .before .before .before .before .before .before .before .before .before .before .before .before .before .before .before .before .before .before .before .before .before .before .before .before .args .c) (now (c .before .before .before .before .before .before .before .before .before .before .before .before .before .before .before .before .before .before .before .before .before .before .before .before .before .before .before .args .items)) (now (c .before .before .before .before .before .before .before .before .before .before .before .before .before .before .before .before .before .before .before .before .before .before .before .before .before .before .before .args .places)) (now (c .before .before .before .before .before .before .before .before .before .before .before .before .before .before .before .before .before .before .before .before .before .before .before .before .before .before .before .args .pending))) (c .before .before .before .before .before .before .before .before .before .before .before .before .before .before .before .before .slot-place .ensures) (c .before .before .before .before .before .before .set-byte .ensures) (c .before .before .before .before .before .set-byte2 .ensures) (c .before .before .before .before .set-count .ensures) (c .before .before .before .set-count2 .ensures) (c .before .before .set-count3 .ensures) (c .before .set-count4 .ensures) (c .set-count5 .ensures) (c .before .before .before .before .before .before .before .before .before .before .before .before .before .before .before .before .before .before .before .before .set-in .ensures) (c .before .before .before .before .before .before .before .before .before .before .before .before .before .before .set-in2 .ensures) (c .before .before .before .before .before .before .before .before .before .set-in3 .ensures)
 
 pub set-client-spec : {M : Type 1} → statement M
 set-client-spec =
     tie.close
     (tie.spec
     cast-i
+    set-in-requires
+    slot-place-requires
+    set-in-requires-2
+    set-in-requires-3
     set-byte-requires
     set-byte-requires-2
     set-count-requires
@@ -54,8 +69,7 @@ set-client-spec =
     set-count-requires-3
     set-count-requires-4
     set-count-requires-5
-    set-in-512-requires
-    slot-place-requires
-    set-in-64-requires
-    set-in-64-requires-2
+    same-length
+    same-length-2
+    same-length-3
     returns)

@@ -1,3 +1,5 @@
+use denote.Ref.{now}
+use Rattle.server.specs.View.{serverOf}
 use Rattle.calls.proofs.Sets.{server-set}
 use borrow.Author.Needs.{needs}
 use Rattle.calls.proofs.set.set_server.Statement.{statement}
@@ -18,6 +20,18 @@ add-j c = search needs
 cast-count : tie.Need-cast-count
 cast-count c = search needs
 
+set-in-requires : tie.Need-set-in-requires
+set-in-requires c κs = search needs
+
+slot-place-requires : tie.Need-slot-place-requires
+slot-place-requires c κs = search needs
+
+set-in-requires-2 : tie.Need-set-in-requires-2
+set-in-requires-2 c κs = search needs
+
+set-in-requires-3 : tie.Need-set-in-requires-3
+set-in-requires-3 c κs = search needs
+
 set-byte-requires : tie.Need-set-byte-requires
 set-byte-requires c κs = search needs
 
@@ -26,9 +40,6 @@ set-count-requires c κs = search needs
 
 set-count-requires-2 : tie.Need-set-count-requires-2
 set-count-requires-2 c κs = search needs
-
-set-in-512-requires : tie.Need-set-in-512-requires
-set-in-512-requires c κs = search needs
 
 set-in-8-requires : tie.Need-set-in-8-requires
 set-in-8-requires c κs = search needs
@@ -42,17 +53,17 @@ set-in-8-requires-3 c κs = search needs
 set-in-8-requires-4 : tie.Need-set-in-8-requires-4
 set-in-8-requires-4 c κs = search needs
 
-slot-place-requires : tie.Need-slot-place-requires
-slot-place-requires c κs = search needs
+same-length : tie.Need-same-length
+same-length c = c .before .before .before .before .before .before .before .before .before .before .before .before .before .before .before .before .before .before .before .before .before .before .before .before .before .before .before .before .set-in .kept .1 .1 .1 .0
 
-set-in-512-requires-2 : tie.Need-set-in-512-requires-2
-set-in-512-requires-2 c κs = search needs
+same-length-2 : tie.Need-same-length-2
+same-length-2 c = c .before .before .before .before .before .before .before .before .before .before .before .before .before .before .before .before .before .before .before .before .before .before .set-in2 .kept .1 .1 .1 .0
 
-set-in-512-requires-3 : tie.Need-set-in-512-requires-3
-set-in-512-requires-3 c κs = search needs
+same-length-3 : tie.Need-same-length-3
+same-length-3 c = c .before .before .before .before .before .before .before .before .before .before .before .before .before .before .before .before .before .set-in3 .kept .1 .1 .1 .0
 
 returns : tie.Need-returns
-returns c = server-set (c .before .before .before .before .before .before .before .before .before .before .before .before .before .before .before .before .before .before .before .before .before .before .before .before .before .before .before .before .args .k) (c .before .before .before .before .before .before .before .before .before .before .before .before .before .before .before .before .before .before .before .before .before .before .before .before .before .before .before .before .args .s) (c .before .before .before .before .before .before .before .before .before .before .before .before .before .before .before .before .before .before .before .before .before .before .before .before .before .before .before .line-index .ensures) (c .before .before .before .slot-place .ensures) (c .before .before .before .before .before .before .before .before .before .before .before .before .before .before .before .before .before .set-byte .ensures) (c .before .before .before .before .before .before .before .before .before .before .before .before .before .before .before .before .set-count .ensures) (c .before .before .before .before .before .before .before .before .before .before .before .before .before .before .before .set-count2 .ensures) (c .before .before .before .before .before .before .before .before .before .before .before .before .before .set-in-512 .ensures) (c .before .before .before .before .before .before .before .before .before .before .before .set-in-8 .ensures) (c .before .before .before .before .before .before .before .before .before .set-in-82 .ensures) (c .before .before .before .before .before .before .before .set-in-83 .ensures) (c .before .before .before .before .before .set-in-84 .ensures) (c .before .before .set-in-5122 .ensures) (c .set-in-5123 .ensures)
+returns c = server-set (c .before .before .before .before .before .before .before .before .before .before .before .before .before .before .before .before .before .before .before .before .before .before .before .before .before .before .before .before .before .before .before .before .before .before .before .before .before .args .k) (serverOf (c .before .before .before .before .before .before .before .before .before .before .before .before .before .before .before .before .before .before .before .before .before .before .before .before .before .before .before .before .before .before .before .before .before .before .before .before .before .args .s) (now (c .before .before .before .before .before .before .before .before .before .before .before .before .before .before .before .before .before .before .before .before .before .before .before .before .before .before .before .before .before .before .before .before .before .before .before .before .before .args .items)) (now (c .before .before .before .before .before .before .before .before .before .before .before .before .before .before .before .before .before .before .before .before .before .before .before .before .before .before .before .before .before .before .before .before .before .before .before .before .before .args .places)) (now (c .before .before .before .before .before .before .before .before .before .before .before .before .before .before .before .before .before .before .before .before .before .before .before .before .before .before .before .before .before .before .before .before .before .before .before .before .before .args .pending))) (c .before .before .before .before .before .before .before .before .before .before .before .before .before .before .before .before .before .before .before .before .before .before .before .before .before .before .before .before .before .before .before .before .before .line-index .ensures) (c .before .before .before .before .before .before .before .before .before .before .before .before .before .before .before .before .before .before .before .before .before .before .before .before .slot-place .ensures) (c .before .before .before .before .before .before .before .before .before .before .set-byte .ensures) (c .before .before .before .before .before .before .before .before .before .set-count .ensures) (c .before .before .before .before .before .before .before .before .set-count2 .ensures) (c .before .before .before .before .before .before .before .before .before .before .before .before .before .before .before .before .before .before .before .before .before .before .before .before .before .before .before .before .set-in .ensures) (c .before .before .before .before .before .before .set-in-8 .ensures) (c .before .before .before .before .set-in-82 .ensures) (c .before .before .set-in-83 .ensures) (c .set-in-84 .ensures) (c .before .before .before .before .before .before .before .before .before .before .before .before .before .before .before .before .before .before .before .before .before .before .set-in2 .ensures) (c .before .before .before .before .before .before .before .before .before .before .before .before .before .before .before .before .before .set-in3 .ensures)
 
 pub set-server-spec : {M : Type 1} → statement M
 set-server-spec =
@@ -63,15 +74,18 @@ set-server-spec =
     mul-j
     add-j
     cast-count
+    set-in-requires
+    slot-place-requires
+    set-in-requires-2
+    set-in-requires-3
     set-byte-requires
     set-count-requires
     set-count-requires-2
-    set-in-512-requires
     set-in-8-requires
     set-in-8-requires-2
     set-in-8-requires-3
     set-in-8-requires-4
-    slot-place-requires
-    set-in-512-requires-2
-    set-in-512-requires-3
+    same-length
+    same-length-2
+    same-length-3
     returns)
