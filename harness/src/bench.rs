@@ -136,6 +136,11 @@ fn middle(values: &mut [f64]) -> (f64, f64, f64) {
     (values[values.len() / 2], values[0], values[values.len() - 1])
 }
 
+/// The ratio of one subject's times to plain's, each within its turn.
+fn ratio(times: &[f64], plain: &[f64]) -> (f64, f64, f64) {
+    middle(&mut times.iter().zip(plain).map(|(one, plain)| one / plain).collect::<Vec<f64>>())
+}
+
 fn unit(nanoseconds: f64) -> String {
     match nanoseconds {
         n if n < 10_000.0 => format!("{n:.0} ns"),
@@ -169,8 +174,7 @@ fn calls_table(subjects: &[&dyn Subject]) -> String {
             write!(table, " {} ({} to {}) |", unit(half), unit(low), unit(high)).unwrap();
         }
         for times in &turns[1..] {
-            let mut ratios: Vec<f64> = times.iter().zip(&turns[0]).map(|(one, plain)| one / plain).collect();
-            let (half, low, high) = middle(&mut ratios);
+            let (half, low, high) = ratio(times, &turns[0]);
             assert!(half > 0.1, "{}: the compiler has taken the call out of the loop", task.name);
             write!(table, " {half:.2} ({low:.2} to {high:.2}) |").unwrap();
         }
@@ -225,10 +229,12 @@ fn graph_run(list: &List, out: &[u8]) -> CJupiter {
     graph
 }
 
-/// A row of the growth table: edits, time per edit of each subject and of the graph (ns), bytes kept by the server and by its graph, edges.
+/// A row of the growth table: edits, time per edit of each subject and of the graph (ns), its ratio to plain's for each other subject, bytes
+/// kept by the server and by its graph, edges.
 pub struct Growth {
     pub edits: usize,
     pub times: Vec<f64>,
+    ratios: Vec<(f64, f64, f64)>,
     pub server_bytes: usize,
     pub graph_bytes: usize,
     pub edges: usize,
@@ -242,7 +248,7 @@ fn growth(subjects: &[&dyn Subject]) -> Vec<Growth> {
         let real = list.calls.iter().filter(|call| matches!(call.op, INSERT | DELETE)).count();
         let mut turns = vec![Vec::new(); subjects.len() + 1];
         let mut graph = None;
-        for _ in 0..5 {
+        for _ in 0..TURNS {
             for (subject, times) in subjects.iter().zip(&mut turns) {
                 let start = clock();
                 assert_eq!(subject.run(&bytes, &mut out), out.len());
@@ -253,11 +259,13 @@ fn growth(subjects: &[&dyn Subject]) -> Vec<Growth> {
             turns.last_mut().unwrap().push((clock() - start) / real as f64);
         }
         let graph = graph.unwrap();
+        let ratios = turns[1..subjects.len()].iter().map(|times| ratio(times, &turns[0])).collect();
         let times = turns.iter_mut().map(|times| middle(times).0).collect();
         let server = &graph.replicas[0];
         rows.push(Growth {
             edits: real,
             times,
+            ratios,
             server_bytes: std::mem::size_of::<Server>(),
             graph_bytes: server.bytes(),
             edges: server.edges(),
@@ -273,14 +281,21 @@ fn growth_table(rows: &[Growth], subjects: &[&dyn Subject]) -> String {
     for subject in subjects {
         write!(table, " {}, time per edit |", subject.name()).unwrap();
     }
+    for subject in &subjects[1..] {
+        write!(table, " {} / {} (lowest to highest) |", subject.name(), subjects[0].name()).unwrap();
+    }
     table += " graph, time per edit | server keeps | server's graph keeps | its edges |\n|--:|";
-    table += &"--:|".repeat(subjects.len() + 4);
+    table += &"--:|".repeat(2 * subjects.len() + 3);
     table.push('\n');
     for row in rows {
         write!(table, "| {} |", row.edits).unwrap();
-        for &each in &row.times {
+        for &each in &row.times[..subjects.len()] {
             write!(table, " {} |", unit(each)).unwrap();
         }
+        for (half, low, high) in &row.ratios {
+            write!(table, " {half:.2} ({low:.2} to {high:.2}) |").unwrap();
+        }
+        write!(table, " {} |", unit(row.times[subjects.len()])).unwrap();
         writeln!(table, " {} B | {} B | {} |", row.server_bytes, row.graph_bytes, row.edges).unwrap();
     }
     table
@@ -296,7 +311,7 @@ pub fn run(folder: &Path, subjects: &[&dyn Subject]) -> bool {
         "## Single calls\n\nEdits are made {BURST} in a row on a fresh copy of the end, and a taking includes a fresh copy. Processor time of one call,\n\
          middle of {TURNS} turns, lowest to highest in brackets.\n\n{calls}\n\
          ## As edits grow\n\nA whole sheet of eight, all editing at once: every edit is made, sent, taken by the server, sent on and taken by\n\
-         seven clients, with acknowledgements both ways. Middle of 5 turns.\n\n{growth}\n![Bytes kept and time per edit](growth.svg)\n"
+         seven clients, with acknowledgements both ways. Middle of {TURNS} turns.\n\n{growth}\n![Bytes kept and time per edit](growth.svg)\n"
     );
     println!("{text}");
     let written = std::fs::create_dir_all(folder)
