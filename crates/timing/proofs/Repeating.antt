@@ -1,5 +1,5 @@
 -- A call that is done again: its answer.
-use Prim.Native.Nat.{ℕ, _+_, _-_, _*_, _≤_, _<_, min}
+use Prim.Native.Nat.{ℕ, _+_, _-_, _*_, _≤_, _<_, _%_, min}
 use native.Mathlib.Omega.{arith}
 use native.Mathlib.Numerals.{add-one}
 use mathlib.Core.Path.{_≡_, refl, ap, _∙_, sym, subst}
@@ -8,10 +8,11 @@ use mathlib.Core.List.{List, [], _∷_, _++_}
 use lib.Dec.{eqb, leb}
 use lib.ListN.{length, getD, take, drop, set, length-drop}
 use lib.Seq.{length-take-le, take-suc, take-suc-set, getD-drop}
-use borrow.Author.Tests.{eqb-true, eqb-false, ne-eqb, le-leb, leb-true}
+use borrow.Author.Tests.{eqb-true, eqb-false, eq-eqb, ne-eqb, le-leb, leb-true}
 use Rattle.model.specs.Questions as model
 use Rattle.model.proofs.Tests.{and-left, and-right}
 use Rattle.endpoint.specs.declared.Sent.{Sent}
+use Rattle.endpoint.specs.Sending.{answered}
 use Rattle.client.specs.declared.Client.{Client}
 use Rattle.client.specs.declared.Answer as fromClient
 use Rattle.client.specs.Answers as client
@@ -19,7 +20,8 @@ use Rattle.server.specs.declared.Server.{Server}
 use Rattle.server.specs.declared.Answer as fromServer
 use Rattle.server.specs.Calls as server
 use Rattle.calls.specs.declared.call.Call.{Call}
-use Rattle.calls.specs.Calls.{atEnd, isCall, placeOf, sends}
+use Rattle.calls.specs.Calls.{atEnd, canSet, isCall, placeOf, sends}
+use Rattle.calls.specs.Dump.{answerBytes}
 use Rattle.driver.specs.declared.drive.World.{World}
 use Rattle.turns.specs.Turn.{Turn, front, slotOf, slotIn, lengthIn, sentBytes, changedBytes, changedTurn, clientAnswer, clientSends, serverAnswer, serverSends, clientSent, clientChanged, clientReply, clientTurn, serverSent, serverChanged, serverReply, serverTurn}
 use Rattle.driver.specs.Drive.{noClient, turnAt, turnOf}
@@ -38,6 +40,14 @@ copy-turn i s first l h j e =
     ∙ sym (take-suc (drop first s) i 0 j) ∙ ap (λ (n : ℕ). take n (drop first s)) (sym (add-one i))
 
 -- ---- one call
+
+-- What a sending answers, without the buffer: op 3 sends an edit, any other an acknowledgement.
+module _ (op : ℕ) (s : Sent) (lent : List ℕ) (edit ack : model.Sent) where
+  pub sent-edit : op ≡ 3 → answered s lent ≡ edit → answerBytes (s .refusal) (s .written % 256) 0 ≡ sentBytes (cond (eqb op 3) edit ack)
+  sent-edit o e = ap sentBytes e ∙ ap (λ (t : Bool). sentBytes (cond t edit ack)) (sym (eq-eqb op 3 o))
+
+  pub sent-ack : (op ≡ 3 → ⊥) → answered s lent ≡ ack → answerBytes (s .refusal) (s .written % 256) 0 ≡ sentBytes (cond (eqb op 3) edit ack)
+  sent-ack o e = ap sentBytes e ∙ ap (λ (t : Bool). sentBytes (cond t edit ack)) (sym (ne-eqb op 3 o))
 
 -- the same sending from equal counts, into as many bytes
 pub sent-same : {A : Type 0} (sending : A → List ℕ → model.Sent) {a b : A} (slot : List ℕ) {m n : ℕ} → a ≡ b → m ≡ n

@@ -8,6 +8,8 @@ ghost use mathlib.Core.List.{[]};
 ghost use lib.ListN.{length, take, drop};
 ghost use Rattle.client.specs.Store.{clientOf, Sizes as ClientSizes};
 ghost use Rattle.client.specs.Answers.{taken};
+ghost use Rattle.server.specs.View.{serverOf};
+ghost use Rattle.server.specs.Sound.{Sizes as ServerSizes};
 ghost use Rattle.server.specs.Calls.{takes};
 ghost use Rattle.calls.specs.Calls.{isCall, sends};
 ghost use Rattle.calls.specs.Dump.{answerBytes};
@@ -144,6 +146,25 @@ fn repeat_client(c: Client, k: Call, slot: [u8; 20], n: usize, times: u32) -> Re
     repeat_taking(c, slot, n, times)
 }
 
+// A sending, from the numbers of a client and its arrays. It is called only here, as the driver's is only there: called from both, it would not be
+// inlined in either, and the arrays that are handed on cost a quarter of the call.
+fn once_client_sent<'a>(
+    q: client::Counts,
+    items: &'a [u32],
+    places: &'a [u32],
+    pending: &'a [u32],
+    k: Call,
+    lent: &mut [u8],
+) -> Reply
+    requires { ⌜ ClientSizes (now items) (now places) (now pending) ⌝ }
+    ensures { λ r. ⌜ answerBytes (r .refusal) (r .written) (r .passed) ≡ sentBytes (clientSent k (clientOf q (now (items .entry)) (now (places .entry)) (now (pending .entry))) (now (lent .entry))) ⌝ }
+{
+    if k.op == 3 {
+        return sent(client::sending::send_lent(q, items, places, pending, k.line, k.number, lent));
+    }
+    sent(client::sending::tell_lent(q, items, places, pending, k.line, lent))
+}
+
 // Each turn finds the slot as it was.
 fn repeat_client_sent(c: Client, k: Call, slot: [u8; 20], times: u32) -> Reply
     ensures { λ r. ⌜ answerBytes (r .refusal) (r .written) (r .passed) ≡ sentBytes (clientSent k c (take (min (k .size) 20) slot)) ⌝ }
@@ -153,7 +174,7 @@ fn repeat_client_sent(c: Client, k: Call, slot: [u8; 20], times: u32) -> Reply
     let mut i = 1;
     loop {
         let mut lent = slot;
-        let done = turns::sent_client(
+        let r = once_client_sent(
             q,
             &c.items,
             &c.pending_places,
@@ -162,7 +183,7 @@ fn repeat_client_sent(c: Client, k: Call, slot: [u8; 20], times: u32) -> Reply
             &mut lent[..size],
         );
         if times <= i {
-            return sent(done);
+            return r;
         }
         i += 1;
     }
@@ -185,6 +206,23 @@ fn repeat_server(s: Server, slot: [u8; 20], n: usize, times: u32) -> Reply
     }
 }
 
+fn once_server_sent<'a>(
+    q: lines::Counts,
+    items: &'a [u32],
+    places: &'a [u32],
+    pending: &'a [u32],
+    k: Call,
+    lent: &mut [u8],
+) -> Reply
+    requires { ⌜ ServerSizes q (now items) (now places) (now pending) ⌝ }
+    ensures { λ r. ⌜ answerBytes (r .refusal) (r .written) (r .passed) ≡ sentBytes (serverSent k (serverOf q (now (items .entry)) (now (places .entry)) (now (pending .entry))) (now (lent .entry))) ⌝ }
+{
+    if k.op == 3 {
+        return sent(server::sending::send_lent(q, items, places, pending, k.line, k.number, lent));
+    }
+    sent(server::sending::tell_lent(q, items, places, pending, k.line, lent))
+}
+
 fn repeat_server_sent(s: Server, k: Call, slot: [u8; 20], times: u32) -> Reply
     ensures { λ r. ⌜ answerBytes (r .refusal) (r .written) (r .passed) ≡ sentBytes (serverSent k s (take (min (k .size) 20) slot)) ⌝ }
 {
@@ -193,7 +231,7 @@ fn repeat_server_sent(s: Server, k: Call, slot: [u8; 20], times: u32) -> Reply
     let mut i = 1;
     loop {
         let mut lent = slot;
-        let done = turns::sent_server(
+        let r = once_server_sent(
             q,
             &s.items,
             &s.pending_places,
@@ -202,7 +240,7 @@ fn repeat_server_sent(s: Server, k: Call, slot: [u8; 20], times: u32) -> Reply
             &mut lent[..size],
         );
         if times <= i {
-            return sent(done);
+            return r;
         }
         i += 1;
     }

@@ -77,7 +77,7 @@ fn put_sent(s: Sent, k: Call, lengths: &mut [u8], out: &mut [u8], at: usize)
 }
 
 // What a sending of a client writes into the front of its slot.
-pub fn sent_client<'a>(
+fn sent_client<'a>(
     c: Counts,
     items: &'a [u32],
     places: &'a [u32],
@@ -115,7 +115,7 @@ fn send_client<'a>(
 }
 
 // What a sending of the server writes into the front of its slot.
-pub fn sent_server<'a>(
+fn sent_server<'a>(
     v: lines::Counts,
     items: &'a [u32],
     places: &'a [u32],

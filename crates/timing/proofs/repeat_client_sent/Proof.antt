@@ -1,11 +1,11 @@
-use Prim.Native.Nat.{_-_, _≤_}
+use Prim.Native.Nat.{ℕ, _-_, _≤_}
 use native.Mathlib.Omega.{arith}
-use mathlib.Core.Path.{sym, ap, _∙_}
+use mathlib.Core.Path.{sym, _∙_}
 use lib.Seq.{length-take-le}
 use borrow.Author.Needs.{needs}
 use Rattle.line.specs.declared.Counts.{Counts}
 use Rattle.client.specs.Store.{clientOf}
-use Rattle.turns.specs.Turn.{clientSent, sentBytes}
+use Rattle.turns.specs.Turn.{clientSent}
 use Rattle.timing.proofs.Repeating.{sent-same}
 use Rattle.timing.proofs.repeat_client_sent.Statement.{statement}
 use Rattle.timing.proofs.repeat_client_sent.Tie as tie
@@ -28,17 +28,15 @@ loop-holds c = omega arith
 array-borrow-prefix-lent : tie.Need-array-borrow-prefix-lent Inv-loop μ-loop
 array-borrow-prefix-lent c = search needs
 
-slice-aggregate-sent-client : tie.Need-slice-aggregate-sent-client Inv-loop μ-loop
-slice-aggregate-sent-client c = sym (length-take-le (c .before .before .before .before .before .before .before .before .before .within .result) _ (search needs))
+slice-aggregate-once-client-sent : tie.Need-slice-aggregate-once-client-sent Inv-loop μ-loop
+slice-aggregate-once-client-sent c = sym (length-take-le (c .before .before .before .before .before .before .before .before .before .within .result) _ (search needs))
 
-sent-client-requires : tie.Need-sent-client-requires Inv-loop μ-loop
-sent-client-requires c κs = search needs
-
-sent-requires : tie.Need-sent-requires Inv-loop μ-loop
-sent-requires c κs = search needs
+once-client-sent-requires : tie.Need-once-client-sent-requires Inv-loop μ-loop
+once-client-sent-requires c κs = search needs
 
 returns : tie.Need-returns Inv-loop μ-loop
-returns c = let a = c .before .before .before .before .before .before .before .before .before .before .before .before .before .before .before .args in c .sent .ensures ∙ ap sentBytes (c .before .before .before .sent-client .ensures) ∙ sent-same (λ (q : Counts). clientSent (a .k) (clientOf q (a .t1 .items) (a .t1 .«pending_places») (a .t1 .«pending_items»))) (a .slot) (c .before .before .before .before .before .before .before .before .before .before .before .before .before .before .counts .ensures) (c .before .before .before .before .before .before .before .before .before .before .before .before .before .within .ensures)
+returns c = let a = c .before .before .before .before .before .before .before .before .before .before .before .before .before .before .args in
+    c .before .before .once-client-sent .ensures ∙ sent-same (λ (q : Counts). clientSent (a .k) (clientOf q (a .t1 .items) (a .t1 .«pending_places») (a .t1 .«pending_items»))) (a .slot) (c .before .before .before .before .before .before .before .before .before .before .before .before .before .counts .ensures) (c .before .before .before .before .before .before .before .before .before .before .before .before .within .ensures)
 
 add-i : tie.Need-add-i Inv-loop μ-loop
 add-i c = omega arith
@@ -59,9 +57,8 @@ repeat-client-sent-spec =
     within-requires
     loop-holds
     array-borrow-prefix-lent
-    slice-aggregate-sent-client
-    sent-client-requires
-    sent-requires
+    slice-aggregate-once-client-sent
+    once-client-sent-requires
     returns
     add-i
     loop-less

@@ -1,12 +1,12 @@
-use Prim.Native.Nat.{_-_, _≤_}
+use Prim.Native.Nat.{ℕ, _-_, _≤_}
 use native.Mathlib.Omega.{arith}
-use mathlib.Core.Path.{sym, ap, subst, _∙_}
+use mathlib.Core.Path.{sym, subst, _∙_}
 use lib.Seq.{length-take-le}
 use borrow.Author.Needs.{needs}
 use Rattle.lines.specs.declared.Counts.{Counts}
 use Rattle.server.specs.View.{countsOf, serverOf}
 use Rattle.server.specs.Sound.{Sizes}
-use Rattle.turns.specs.Turn.{serverSent, sentBytes}
+use Rattle.turns.specs.Turn.{serverSent}
 use Rattle.timing.proofs.Repeating.{sent-same}
 use Rattle.timing.proofs.repeat_server_sent.Statement.{statement}
 use Rattle.timing.proofs.repeat_server_sent.Tie as tie
@@ -33,17 +33,15 @@ loop-holds c = omega arith
 array-borrow-prefix-lent : tie.Need-array-borrow-prefix-lent Inv-loop μ-loop
 array-borrow-prefix-lent c = search needs
 
-slice-aggregate-sent-server : tie.Need-slice-aggregate-sent-server Inv-loop μ-loop
-slice-aggregate-sent-server c = sym (length-take-le (c .before .before .before .before .before .before .before .before .before .within .result) _ (search needs))
+slice-aggregate-once-server-sent : tie.Need-slice-aggregate-once-server-sent Inv-loop μ-loop
+slice-aggregate-once-server-sent c = sym (length-take-le (c .before .before .before .before .before .before .before .before .before .within .result) _ (search needs))
 
-sent-server-requires : tie.Need-sent-server-requires Inv-loop μ-loop
-sent-server-requires c κs = let s = c .before .before .before .before .before .before .before .before .before .before .before .args .t1 in subst (λ (q : Counts). Sizes q (s .items) (s .«pending_places») (s .«pending_items»)) (sym (c .before .before .before .before .before .before .before .before .before .before .counts .ensures)) (sizes (c .before .before .before .before .before .before .before .before .before .before .before))
-
-sent-requires : tie.Need-sent-requires Inv-loop μ-loop
-sent-requires c κs = search needs
+once-server-sent-requires : tie.Need-once-server-sent-requires Inv-loop μ-loop
+once-server-sent-requires c κs = let s = c .before .before .before .before .before .before .before .before .before .before .before .args .t1 in subst (λ (q : Counts). Sizes q (s .items) (s .«pending_places») (s .«pending_items»)) (sym (c .before .before .before .before .before .before .before .before .before .before .counts .ensures)) (sizes (c .before .before .before .before .before .before .before .before .before .before .before))
 
 returns : tie.Need-returns Inv-loop μ-loop
-returns c = let a = c .before .before .before .before .before .before .before .before .before .before .before .before .before .before .before .args in c .sent .ensures ∙ ap sentBytes (c .before .before .before .sent-server .ensures) ∙ sent-same (λ (q : Counts). serverSent (a .k) (serverOf q (a .t1 .items) (a .t1 .«pending_places») (a .t1 .«pending_items»))) (a .slot) (c .before .before .before .before .before .before .before .before .before .before .before .before .before .before .counts .ensures) (c .before .before .before .before .before .before .before .before .before .before .before .before .before .within .ensures)
+returns c = let a = c .before .before .before .before .before .before .before .before .before .before .before .before .before .before .args in
+    c .before .before .once-server-sent .ensures ∙ sent-same (λ (q : Counts). serverSent (a .k) (serverOf q (a .t1 .items) (a .t1 .«pending_places») (a .t1 .«pending_items»))) (a .slot) (c .before .before .before .before .before .before .before .before .before .before .before .before .before .counts .ensures) (c .before .before .before .before .before .before .before .before .before .before .before .before .within .ensures)
 
 add-i : tie.Need-add-i Inv-loop μ-loop
 add-i c = omega arith
@@ -64,9 +62,8 @@ repeat-server-sent-spec =
     within-requires
     loop-holds
     array-borrow-prefix-lent
-    slice-aggregate-sent-server
-    sent-server-requires
-    sent-requires
+    slice-aggregate-once-server-sent
+    once-server-sent-requires
     returns
     add-i
     loop-less
