@@ -1,6 +1,2 @@
-pub mod Lists
-pub mod Flat
-pub mod Places
-pub mod Beside
 pub mod Benches
 pub mod Structs

@@ -32,10 +32,10 @@ use Rattle.server.specs.declared.Answer as serverAnswer
 use Rattle.server.specs.View as server
 use Rattle.server.specs.Calls.{answered, refused, sends, tells, takes}
 use Rattle.server.specs.Sound.{soundStruct}
-use Rattle.bench.proofs.Lists.{getD-default, pad-set, set-map}
+use Rattle.bays.proofs.Lists.{getD-default, pad-set, set-map}
 use Rattle.server.proofs.Stored.{view-store, store-sound}
 use Rattle.client.proofs.Stored.{client-view, client-stored}
-use Rattle.bench.specs.declared.ends.Ends.{Ends}
+use Rattle.bench.specs.declared.Ends.{Ends}
 use Rattle.text.specs.declared.parse.Order.{Order}
 use Rattle.text.specs.Order.{coded}
 use Rattle.text.specs.Command.{Command, Bad, Insert, Delete, Up, Down, Ack, Told}

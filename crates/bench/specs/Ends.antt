@@ -19,8 +19,8 @@ use Rattle.server.specs.declared.Server.{Server}
 use Rattle.server.specs.View as server
 use Rattle.server.specs.declared.Answer as serverAnswer
 use Rattle.server.specs.Calls.{sends, tells, takes}
-use Rattle.bench.specs.declared.ends.Ends.{Ends}
-use Rattle.bench.specs.declared.ends.Turned.{Turned}
+use Rattle.bench.specs.declared.Ends.{Ends}
+use Rattle.bench.specs.declared.Turned.{Turned}
 use Rattle.text.specs.declared.parse.Order.{Order}
 use Rattle.bench.specs.Bench.{Bench, SoundBench, room}
 

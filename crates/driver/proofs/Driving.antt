@@ -28,10 +28,10 @@ use Rattle.turns.specs.Turn.{Turned, front, slotIn, lengthIn, clientSize, clien
 use Rattle.driver.specs.Drive.{start, noClient, turnAt, stepAt, turnOf, after, Run, kept, left, more, run, callsOf, Drove, worldOf, Held}
 use Rattle.turns.proofs.Turns.{never}
 use Rattle.turns.proofs.Sizes.{SizesOf, opened-sizes}
-use Rattle.bench.specs.declared.bays.Bays.{Bays}
-use Rattle.bench.specs.Bays.{noCounts, clientsIn, Laid, Standing}
-use Rattle.bench.specs.Place.{Only, clientAt}
-use Rattle.bench.proofs.Places.{client-in, clients-back}
+use Rattle.bays.specs.declared.Bays.{Bays}
+use Rattle.bays.specs.Bays.{noCounts, clientsIn, Laid, Standing}
+use Rattle.bays.specs.Place.{Only, clientAt}
+use Rattle.bays.proofs.Places.{client-in, clients-back}
 
 -- ---- one call
 

@@ -14,7 +14,7 @@ use Rattle.server.specs.declared.Server.{Server}
 use Rattle.server.specs.View.{serverOf}
 use Rattle.server.specs.Sound.{Sizes}
 use Rattle.server.specs.Calls as server
-use Rattle.bench.specs.Bays.{Laid, clientsIn}
+use Rattle.bays.specs.Bays.{Laid, clientsIn}
 use Rattle.calls.specs.declared.call.Call.{Call}
 use Rattle.driver.specs.declared.drive.World.{World}
 use Rattle.driver.specs.declared.drive.Driven.{Driven}

@@ -19,18 +19,18 @@ use Rattle.text.specs.Order.{Next}
 use Rattle.text.specs.Sink.{Sink, sink, puts}
 use Rattle.text.specs.Lines.{replied, serverList}
 use Rattle.text.proofs.Sinks.{then}
-use Rattle.bench.specs.declared.bays.Bays.{Bays}
-use Rattle.bench.specs.declared.ends.Ends.{Ends}
-use Rattle.bench.specs.declared.ends.Turned.{Turned}
-use Rattle.bench.specs.Flat.{part}
-use Rattle.bench.specs.Bays.{noCounts, clientsIn, Laid, Standing}
-use Rattle.bench.specs.Place.{Place, Only, clientAt}
+use Rattle.bays.specs.declared.Bays.{Bays}
+use Rattle.bench.specs.declared.Ends.{Ends}
+use Rattle.bench.specs.declared.Turned.{Turned}
+use Rattle.bays.specs.Flat.{part}
+use Rattle.bays.specs.Bays.{noCounts, clientsIn, Laid, Standing}
+use Rattle.bays.specs.Place.{Place, Only, clientAt}
 use Rattle.script.specs.Shown.{Shown, listsFrom}
 use Rattle.script.specs.Place.{steppedAt}
 use Rattle.script.specs.Output.{clientLists}
 use Rattle.bench.specs.Ends.{viewEnds, steppedOf, ordered}
-use Rattle.bench.proofs.Flat.{ends-of, ends-take}
-use Rattle.bench.proofs.Places.{lentBack, lentPart, client-lent, client-there, client-in, laid-back, clients-back}
+use Rattle.bays.proofs.Flat.{ends-of, ends-take}
+use Rattle.bays.proofs.Places.{lentBack, lentPart, client-lent, client-there, client-in, laid-back, clients-back}
 use Rattle.script.proofs.Showing.{lists-are}
 use Rattle.bench.proofs.Structs.{lines-few, server-is}
 use Rattle.script.proofs.Turns.{Running, order-line, running-turn, running-end, client-fits}

@@ -23,7 +23,7 @@ use Rattle.client.specs.Answers.{opened}
 use Rattle.server.specs.declared.Answer as serverAnswer
 use Rattle.server.specs.View as server
 use Rattle.server.specs.Calls as calls
-use Rattle.bench.specs.declared.ends.Ends.{Ends}
+use Rattle.bench.specs.declared.Ends.{Ends}
 use Rattle.script.specs.declared.opening.First.{First}
 use Rattle.text.specs.Sink.{Sink, puts}
 use Rattle.text.specs.Text.{before, linesOf, parts, same}

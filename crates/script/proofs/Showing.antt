@@ -10,9 +10,9 @@ use Rattle.client.specs.Store as client
 use Rattle.text.specs.Sink.{Sink, puts}
 use Rattle.text.specs.Lines.{clientList}
 use Rattle.text.proofs.Sinks.{puts-append}
-use Rattle.bench.specs.Flat.{part, endsFrom}
-use Rattle.bench.specs.Bays.{noCounts}
-use Rattle.bench.proofs.Flat.{front-is}
+use Rattle.bays.specs.Flat.{part, endsFrom}
+use Rattle.bays.specs.Bays.{noCounts}
+use Rattle.bays.proofs.Flat.{front-is}
 use Rattle.script.specs.Shown.{listsFrom}
 use Rattle.script.specs.Output.{clientLists}
 

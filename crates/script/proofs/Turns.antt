@@ -19,7 +19,7 @@ use Rattle.server.specs.declared.Server.{Server}
 use Rattle.server.specs.View as server
 use Rattle.server.proofs.Stored.{view-store}
 use Rattle.client.proofs.Stored.{client-view}
-use Rattle.bench.specs.declared.ends.Ends.{Ends}
+use Rattle.bench.specs.declared.Ends.{Ends}
 use Rattle.text.specs.declared.parse.Order.{Order}
 use Rattle.text.specs.declared.parse.Line.{Line}
 use Rattle.text.specs.Order.{coded, Next}

@@ -2,8 +2,8 @@
 use Prim.Native.Nat.{ℕ}
 use mathlib.Core.List.{List}
 use Rattle.model.specs.Limits.{maxItems, maxPending}
-use Rattle.bench.specs.declared.ends.Turned.{Turned}
-use Rattle.bench.specs.Flat.{part}
+use Rattle.bench.specs.declared.Turned.{Turned}
+use Rattle.bays.specs.Flat.{part}
 use Rattle.bench.specs.Ends.{Stepped, steppedOf}
 
 -- what an order leaves of the server and of the client in place j

@@ -6,8 +6,8 @@ use lib.ListN.{length, getD, take}
 use Rattle.model.specs.Limits.{maxItems}
 use Rattle.line.specs.declared.Counts.{Counts}
 use Rattle.text.specs.Lines.{clientList}
-use Rattle.bench.specs.Flat.{part}
-use Rattle.bench.specs.Bays.{noCounts}
+use Rattle.bays.specs.Flat.{part}
+use Rattle.bays.specs.Bays.{noCounts}
 
 -- the lists of so many clients, the first of them at place i, counted from 0
 unfoldable pub listsFrom : List Counts → List ℕ → ℕ → ℕ → List ℕ

@@ -1,10 +1,10 @@
 // The run program over a text: reads lines, makes the calls they name, and prints.
 use crate::opening::First;
 use crate::opening::read_first;
-use bench::bays::side_by_side;
-use bench::ends::Ends;
-use bench::ends::Turned;
-use bench::ends::turn;
+use bays::side_by_side;
+use bench::Ends;
+use bench::Turned;
+use bench::turn;
 use client::Client;
 use client::Counts;
 use server::Server;
@@ -28,7 +28,7 @@ ghost use Rattle.script.specs.Output.{ran, started as Output·started, o
 ghost use Rattle.bench.specs.Ends.{Whole, viewEnds, opening, ordered};
 ghost use Rattle.server.specs.Sound.{Sizes};
 ghost use Rattle.server.specs.View.{serverOf};
-ghost use Rattle.bench.specs.Place.{Place, Only, clientAt};
+ghost use Rattle.bays.specs.Place.{Place, Only, clientAt};
 ghost use Rattle.script.specs.Place.{steppedAt};
 ghost use Rattle.script.specs.Shown.{Shown, listsFrom};
 

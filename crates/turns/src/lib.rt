@@ -11,7 +11,7 @@ ghost use Rattle.server.specs.Sound.{Sizes as ServerSizes};
 ghost use Rattle.server.specs.Calls as server;
 ghost use Rattle.calls.specs.Dump.{Put, answerBytes};
 ghost use Rattle.turns.specs.Turn.{front, slotOf, slotIn, lengthIn, lengthAfter, clientSent, clientSends, clientChanged, clientSize, clientAnswer, clientAfter, clientTurn, serverSent, serverSends, serverChanged, serverSize, serverAnswer, serverAfter, serverTurn, slotTurn, slotSize, SlotTurned, Turned};
-use bench::bays::put;
+use bays::put;
 use calls::call::Call;
 use calls::call::sends;
 use calls::dump;

@@ -1,7 +1,7 @@
 use mathlib.Core.Path.{_∙_}
 use denote.Ref.{now}
 use Rattle.server.specs.View.{serverOf}
-use Rattle.bench.proofs.Places.{lent-size, own-fits, places-fit, pending-fit, lent-sizes, only-there}
+use Rattle.bays.proofs.Places.{lent-size, own-fits, places-fit, pending-fit, lent-sizes, only-there}
 use Rattle.script.proofs.Lines.{stepped-there}
 use native.Mathlib.Omega.{arith}
 use Rattle.script.proofs.program.at_place.Statement.{statement}

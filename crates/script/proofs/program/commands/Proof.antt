@@ -6,11 +6,11 @@ use denote.Ref.{now}
 use lib.ListN.{length, drop}
 use Rattle.text.specs.Sink.{sink, puts}
 use Rattle.text.specs.Text.{linesOf}
-use Rattle.bench.specs.declared.ends.Ends.{Ends}
-use Rattle.bench.specs.Bays.{Laid}
+use Rattle.bench.specs.declared.Ends.{Ends}
+use Rattle.bays.specs.Bays.{Laid}
 use Rattle.script.specs.Output.{ran}
 use Rattle.bench.specs.Ends.{Whole, viewEnds}
-use Rattle.bench.proofs.Places.{place}
+use Rattle.bays.proofs.Places.{place}
 use Rattle.script.proofs.Turns.{Running, running-bad, server-fits}
 use Rattle.script.proofs.Lines.{endsOf, apart, server-sizes, turn-line, going-laid, going-turn, shown, going-end}
 use Rattle.script.proofs.program.commands.Statement.{statement}

@@ -1,0 +1,4 @@
+pub mod Lists
+pub mod Flat
+pub mod Places
+pub mod Beside
