@@ -1,7 +1,7 @@
 -- The decision that the code makes is the one of its definition.
-use mathlib.Core.Path.{_≡_, refl, ap, sym, _∙_, subst}
+use mathlib.Core.Path.{_≡_, refl, ap, sym, _∙_}
 use mathlib.Core.Bool.{Bool, cond}
-use mathlib.Core.List.{List, []}
+use mathlib.Core.List.{List}
 use Prim.Native.Nat.{ℕ, _+_, _-_, _≤_}
 use lib.Dec.{eqb}
 use lib.ListN.{getD}
@@ -9,7 +9,6 @@ use borrow.Author.Tests.{ne-eqb, eq-eqb, eqb-false, leb-true}
 use Rattle.ot.specs.declared.Edit.{Edit}
 use Rattle.ot.specs.declared.Edit.the-variants.{Nothing}
 use Rattle.wire.specs.declared.Header.{Header}
-use Rattle.wire.specs.declared.Message.{Message}
 use Rattle.model.specs.Limits.{maxInserts}
 use Rattle.model.specs.Questions.{asks}
 use Rattle.model.specs.Cross.{insertsOf}
@@ -18,7 +17,7 @@ use Rattle.pending.specs.declared.Crossed.{Crossed}
 use Rattle.pending.specs.Crossing.{crossed}
 use Rattle.lines.specs.declared.Counts.{Counts}
 use Rattle.arrivals.specs.declared.Decision.{Decision}
-use Rattle.arrivals.specs.Deciding.{editAsked, ackAsked, lastAsked, leftAsked, leftAt, refusing, ackAccepted, ackDecided, editAccepted, editDecided, decided, stays, Decided}
+use Rattle.arrivals.specs.Deciding.{editAsked, ackAsked, lastAsked, leftAsked, leftAt, refusing, ackAccepted, ackDecided, editAccepted, editDecided, Decided}
 
 pub last-few : (k : Counts) (at : ℕ) (e form : Edit) (placed : Bool) → asks (lastAsked k at e form placed) ≡ 0 → getD (k .inserts) at 0 + insertsOf e ≤ maxInserts
 last-few k at e form placed z =

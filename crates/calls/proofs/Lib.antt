@@ -1,3 +1,1 @@
-pub mod Bytes
-pub mod Items
-pub mod Sets
+pub mod Reading

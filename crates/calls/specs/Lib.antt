@@ -1,4 +1,2 @@
 pub mod Calls
-pub mod Dump
 pub mod Header
-pub mod Set

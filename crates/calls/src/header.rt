@@ -1,8 +1,7 @@
 // The front of the driver's input: how many items there are, and the items.
 ghost use mathlib.Core.Path.{_≡_};
 ghost use Prim.Native.Nat.{_≤_};
-ghost use lib.ListN.{length, take};
-ghost use Rattle.wire.specs.Bytes.{twoAt};
+ghost use lib.ListN.{take};
 ghost use Rattle.calls.specs.Header.{headed, itemsFrom};
 use crate::call;
 

@@ -1,5 +1,3 @@
-// The bytes of the boundary (harness/PROTOCOL.md): a call, its answer, the whole of an end; and the call that overwrites a field.
+// The calls of the boundary as bytes (harness/PROTOCOL.md), and the header that stands before them.
 pub mod call;
-pub mod dump;
 pub mod header;
-pub mod set;

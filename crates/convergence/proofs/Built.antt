@@ -1,12 +1,11 @@
 -- The structs follow the model call by call, so that the claim holds of them.
-use mathlib.Core.Path.{_≡_, refl, ap, ap₂, sym, _∙_, subst}
+use mathlib.Core.Path.{_≡_, refl, ap, sym, _∙_, subst}
 use mathlib.Core.Bool.{Bool, true, false, cond}
-use mathlib.Core.List.{List, [], _∷_}
+use mathlib.Core.List.{List, []}
 use Prim.Native.Nat.{ℕ}
 use lib.Dec.{eqb}
-use lib.ListN.{length, take}
-use borrow.Author.Tests.{eqb-true, eqb-false, ne-eqb, eq-eqb}
-use Rattle.ot.specs.declared.Edit.{Edit}
+use lib.ListN.{take}
+use borrow.Author.Tests.{eqb-false, eq-eqb}
 use Rattle.wire.specs.declared.Message.{Message}
 use Rattle.wire.specs.declared.Message.the-variants as message
 use Rattle.wire.specs.declared.Read.{Read}
@@ -28,7 +27,6 @@ use Rattle.client.specs.Answers as client
 use Rattle.server.specs.declared.Server.{Server}
 use Rattle.server.specs.declared.Answer as servers
 use Rattle.server.specs.View as view
-use Rattle.server.specs.Sound.{soundStruct}
 use Rattle.server.specs.Calls as server
 use Rattle.convergence.specs.Built.{End, ofClient, ofServer, clientAnswer, serverAnswer, built, Claimed}
 use Rattle.convergence.proofs.Carry.{Alike, Follows, carries}

@@ -6,17 +6,17 @@ use mathlib.Core.List.{List, [], _∷_, _++_}
 use Prim.Native.Nat.{ℕ, zero, suc, _≤_}
 use native.Mathlib.Omega.{arith}
 use lib.Dec.{eqb, leb, ltb}
-use lib.ListN.{length, take, getElem?}
-use borrow.Author.Tests.{eqb-true, leb-true}
+use lib.ListN.{take, getElem?}
+use borrow.Author.Tests.{leb-true}
 use Rattle.wire.specs.Bytes.{parsed}
 use Rattle.jupiter.specs.Form.{replay}
-use Rattle.jupiter.specs.History.{History, at, order, missing}
+use Rattle.jupiter.specs.History.{History, order, missing}
 use Rattle.model.specs.Questions.{Answer, Sent, between}
 use Rattle.model.specs.Sheet.{Sheet, Call, insert, delete, send, tell, receive, junk}
-use Rattle.model.specs.Log.{Log, noLog, log}
-use Rattle.model.specs.Run.{State, areBytes, areItems, unreadable, callable, answered, written, handed, call, run, opened, start}
-use Rattle.model.specs.Claim.{Delivered, Full, OnLine, Holds, Converges}
-use Rattle.model.proofs.Tests.{and-left, and-right, between-true}
+use Rattle.model.specs.Log.{Log, log}
+use Rattle.model.specs.Run.{State, areBytes, unreadable, callable, answered, written, handed, call, run, opened, start}
+use Rattle.model.specs.Claim.{Delivered, OnLine, Holds, Converges}
+use Rattle.model.proofs.Tests.{and-left, between-true}
 use Rattle.model.proofs.Sound.{three}
 
 module _ (S T : Sheet) (R : S .End → T .End → Type 0) where

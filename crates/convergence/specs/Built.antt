@@ -1,14 +1,13 @@
 -- The sheet of the structs that run: each call is what the contract of its method says that it answers.
 use Prim.Native.Nat.{ℕ}
 use mathlib.Core.List.{List}
-use lib.ListN.{length, take}
+use lib.ListN.{take}
 use Rattle.model.specs.Questions.{Answer, Sent}
 use Rattle.model.specs.Sheet.{Sheet}
 use Rattle.model.specs.Claim.{Converges}
 use Rattle.model.specs.Server as model
 use Rattle.client.specs.declared.Client.{Client}
 use Rattle.client.specs.declared.Answer as clients
-use Rattle.client.specs.Store as store
 use Rattle.client.specs.Answers as client
 use Rattle.server.specs.declared.Server.{Server}
 use Rattle.server.specs.declared.Answer as servers

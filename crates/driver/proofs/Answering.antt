@@ -1,24 +1,23 @@
 -- From the driver's loop to what the exported functions answer.
-use Prim.Native.Nat.{ℕ, _+_, _-_, _*_, _/_, _≤_, _<_}
+use Prim.Native.Nat.{ℕ, _+_, _-_, _*_, _/_, _≤_}
 use native.Mathlib.Omega.{arith}
-use mathlib.Core.Path.{_≡_, refl, ap, _∙_, sym, subst}
-use mathlib.Core.Bool.{Bool, true, false, _&&_, cond}
+use mathlib.Core.Path.{_≡_, refl, ap, _∙_, sym}
+use mathlib.Core.Bool.{Bool, true, false, cond}
 use mathlib.Core.List.{List, [], _∷_}
 use lib.Dec.{leb, eqb}
 use lib.ListN.{length, take, drop}
 use lib.Seq.{sets}
-use borrow.Author.Tests.{leb-true, le-leb, lt-leb}
-use Rattle.model.proofs.Tests.{both, and-left, and-right}
+use borrow.Author.Tests.{leb-true, le-leb}
+use Rattle.model.proofs.Tests.{and-left, and-right}
 use Rattle.wire.specs.Bytes.{twoAt}
 use Rattle.driver.specs.declared.drive.World.{World}
 use Rattle.driver.specs.declared.drive.Driven.{Driven}
 use Rattle.calls.specs.declared.call.Call.{Call}
-use Rattle.calls.specs.Calls.{callOf, isCall, placeOf, sizeOf, canRepeat}
-use Rattle.calls.specs.Dump.{Put}
-use Rattle.driver.specs.Drive.{start, turnOf, after, Run, run, afterAll, callsOf, Drove}
+use Rattle.calls.specs.Calls.{placeOf, sizeOf}
+use Rattle.driver.specs.Drive.{start, after, Run, run, afterAll, callsOf, Drove}
 use Rattle.calls.specs.Header.{headed, itemsFrom, itemsIn, bodyAt, countIn}
 use Rattle.driver.specs.Answers.{answers, Wrote}
-use Rattle.calls.proofs.Bytes.{whole-drop}
+use Rattle.calls.proofs.Reading.{whole-drop}
 
 pub headed-items : (c n : ℕ) → headed c n ≡ true → c ≤ 160
 headed-items c n h = leb-true c 160 (and-left (leb c 160) (leb (2 + 4 * c) n) h)

@@ -20,14 +20,16 @@ use Rattle.server.specs.Sound.{Sizes}
 use Rattle.server.specs.Calls as server
 use Rattle.calls.specs.declared.call.Call.{Call}
 use Rattle.calls.specs.Calls.{callOf, placeOf, sizeOf}
-use Rattle.calls.specs.Dump.{Put}
-use Rattle.calls.proofs.Bytes.{put-length, sets-append}
+use Rattle.dump.specs.Dump.{Put}
+use Rattle.dump.proofs.Bytes.{put-length, sets-append}
 use Rattle.driver.specs.declared.drive.World.{World}
 use Rattle.driver.specs.declared.drive.Driven.{Driven}
-use Rattle.turns.specs.Turn.{Turned, front, slotIn, lengthIn, clientSize, clientAfter, clientTurn, serverSize, serverAfter, serverTurn, slotSize, slotTurn}
+use Rattle.messages.specs.Slot.{Turned, front, slotIn, lengthIn, slotSize, slotTurn}
+use Rattle.client_calls.specs.Turn.{clientSize, clientAfter, clientTurn}
+use Rattle.server_calls.specs.Turn.{serverSize, serverAfter, serverTurn}
 use Rattle.driver.specs.Drive.{start, noClient, turnAt, stepAt, turnOf, after, Run, kept, left, more, run, callsOf, Drove, worldOf, Held}
-use Rattle.turns.proofs.Turns.{never}
-use Rattle.turns.proofs.Sizes.{SizesOf, opened-sizes}
+use Rattle.messages.proofs.Turned.{never}
+use Rattle.server_calls.proofs.Sizes.{SizesOf, opened-sizes}
 use Rattle.bays.specs.declared.Bays.{Bays}
 use Rattle.bays.specs.Bays.{noCounts, clientsIn, Laid, Standing}
 use Rattle.bays.specs.Place.{Only, clientAt}

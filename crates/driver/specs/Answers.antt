@@ -1,17 +1,13 @@
 -- What the driver answers to its input (harness/PROTOCOL.md).
-use Prim.Native.Nat.{ℕ, _+_, _-_, _*_}
+use Prim.Native.Nat.{ℕ}
 use mathlib.Core.Path.{_≡_}
-use mathlib.Core.Bool.{false, _&&_, cond}
+use mathlib.Core.Bool.{false, cond}
 use mathlib.Core.List.{List, []}
-use lib.Dec.{leb}
-use lib.ListN.{length, take, drop}
+use lib.ListN.{length, drop}
 use lib.Seq.{sets}
 use Rattle.wire.specs.Bytes.{twoAt}
-use Rattle.calls.specs.declared.call.Call.{Call}
-use Rattle.calls.specs.Calls.{callOf, canRepeat}
 use Rattle.calls.specs.Header.{headed, itemsIn, bodyAt, countIn}
-use Rattle.driver.specs.declared.drive.World.{World}
-use Rattle.driver.specs.Drive.{start, turnOf, run, afterAll, callsOf}
+use Rattle.driver.specs.Drive.{start, run, callsOf}
 
 unfoldable pub answers : List ℕ → ℕ → List ℕ
 answers s room =

@@ -19,7 +19,9 @@ use Rattle.calls.specs.declared.call.Call.{Call}
 use Rattle.driver.specs.declared.drive.World.{World}
 use Rattle.driver.specs.declared.drive.Driven.{Driven}
 use Rattle.calls.specs.Calls.{callOf, placeOf, sizeOf}
-use Rattle.turns.specs.Turn.{Turn, slotOf, slotPut, slotAt, front, clientAfter, clientTurn, serverAfter, serverTurn, slotTurn}
+use Rattle.messages.specs.Slot.{Turn, slotOf, slotPut, slotAt, front, slotTurn}
+use Rattle.client_calls.specs.Turn.{clientAfter, clientTurn}
+use Rattle.server_calls.specs.Turn.{serverAfter, serverTurn}
 
 -- all zeros, as refused openings return them
 unfoldable pub start : World

@@ -6,7 +6,8 @@ ghost use lib.ListN.{length};
 ghost use Rattle.driver.specs.Answers.{answers, Wrote};
 ghost use Rattle.bays.specs.Bays.{Laid};
 ghost use Rattle.bays.specs.Place.{Place, Only, clientAt};
-ghost use Rattle.turns.specs.Turn.{front, slotIn, lengthIn, clientSize, clientAfter, clientTurn, Turned};
+ghost use Rattle.messages.specs.Slot.{front, slotIn, lengthIn, Turned};
+ghost use Rattle.client_calls.specs.Turn.{clientSize, clientAfter, clientTurn};
 ghost use Rattle.driver.specs.Drive.{start, run, afterAll, callsOf, Drove, worldOf, Held};
 use bays::apart;
 use bays::side_by_side;
@@ -16,7 +17,7 @@ use calls::header;
 use client::Client;
 use client::Counts;
 use server::Server;
-use turns::turn_server;
+use server_calls::turn_server;
 
 // Every end, the bytes of all slots, and the slots' lengths.
 pub struct World {
@@ -119,7 +120,7 @@ fn at_client(
     let end = from + 512;
     let first = 64 * j;
     let last = first + 64;
-    turns::turn_client(
+    client_calls::turn_client(
         c,
         &mut own[from..end],
         &mut own_places[first..last],
@@ -191,7 +192,7 @@ fn steps(
             counts[j] = c;
             continue;
         }
-        turns::turn_slot(k, place, slots, lengths, out, at);
+        messages::turn_slot(k, place, slots, lengths, out, at);
     }
     Reached {
         written: end,

@@ -1,26 +1,25 @@
 -- Strong consistency: what an end shows is settled by the set of edits that it has applied.
-use Prim.Native.Nat.{ℕ, zero, suc, _+_, _-_, _≤_, _<_, suc-le-suc, zero-le}
-use native.Mathlib.Nat.{le-of-suc-le-suc, not-suc-le-zero, le-refl, le-trans}
+use Prim.Native.Nat.{ℕ, suc, _+_, _-_, _≤_, _<_}
+use native.Mathlib.Nat.{le-trans}
 use native.Mathlib.Omega.{arith}
 use mathlib.Core.Path.{_≡_, refl, sym, ap, _∙_, subst}
-use mathlib.Core.Logic.{_≢_}
 use mathlib.Core.Bool.{Bool, true, false, cond, true≢false}
 use mathlib.Core.List.{List, [], _∷_, _++_, append-nil}
 use lib.Dec.{eqb}
-use lib.ListN.{length, getD, drop, length-drop}
+use lib.ListN.{length, getD, length-drop}
 use lib.Seq.{getD-drop}
 use Rattle.jupiter.specs.Algebra.{Algebra, Laws}
-use Rattle.jupiter.specs.Made.{Name, Made, holds, select, names, isBy, mine, others}
+use Rattle.jupiter.specs.Made.{Made, holds, select, names, mine}
 use Rattle.jupiter.specs.Form.{listAt, inOrder}
-use Rattle.jupiter.specs.Point.{point, blank, own, oth}
+use Rattle.jupiter.specs.Point.{blank, own}
 use Rattle.jupiter.specs.History.{History, order}
 use Rattle.jupiter.specs.Ends.{Ends}
-use Rattle.jupiter.specs.Run.{Call, State, initial, run}
+use Rattle.jupiter.specs.Run.{State, initial, run}
 use Rattle.jupiter.specs.Claims.{Who, server, client, setOf, docOf, SameSet, StrongConsistency}
 use Rattle.jupiter.proofs.Lists as L
 use Rattle.jupiter.proofs.Lists.{All, all-from}
 use Rattle.jupiter.proofs.Grid.{eqb-eq, eqb-same, own-name}
-use Rattle.jupiter.proofs.Line.{LineAt, set-is}
+use Rattle.jupiter.proofs.Line.{set-is}
 use Rattle.jupiter.proofs.World.{named, Inv, taken}
 use Rattle.jupiter.proofs.Step.{Later}
 use Rattle.jupiter.proofs.Meeting.{untaken-is}

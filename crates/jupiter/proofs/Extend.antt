@@ -1,22 +1,22 @@
 -- How a line's grid grows: by a row when its client makes an edit, by a column when the server takes another line's edit.
-use Prim.Native.Nat.{ℕ, zero, suc, _+_, _-_, _≤_, _<_, suc-le-suc, zero-le}
-use native.Mathlib.Nat.{le-of-suc-le-suc, not-suc-le-zero, le-refl, le-trans, add-zero, add-suc}
+use Prim.Native.Nat.{ℕ, zero, suc, _+_, _-_, _≤_, _<_, suc-le-suc}
+use native.Mathlib.Nat.{le-of-suc-le-suc, le-refl, le-trans}
 use native.Mathlib.Omega.{arith}
 use mathlib.Core.Path.{_≡_, refl, sym, ap, _∙_, subst}
-use mathlib.Core.Logic.{_≢_, _⊎_, inl, inr}
-use mathlib.Core.Bool.{Bool, true, false, not, cond, true≢false, _&&_}
+use mathlib.Core.Logic.{_⊎_, inl, inr}
+use mathlib.Core.Bool.{true, false, true≢false}
 use mathlib.Core.List.{List, [], _∷_, _++_, append-assoc, append-nil}
-use lib.Dec.{T, ltb, leb, eqb}
-use lib.ListN.{length, getD, length-append, List·getD-append}
+use lib.Dec.{T, ltb, eqb}
+use lib.ListN.{length, getD, length-append}
 use lib.Seq.{getD-append-seam}
 use Rattle.jupiter.specs.Algebra.{Algebra, Laws}
-use Rattle.jupiter.specs.Made.{Name, Made, same, holds, select, reject, isBy, mine, others}
+use Rattle.jupiter.specs.Made.{Made, same, holds, reject, isBy, mine, others}
 use Rattle.jupiter.specs.Form.{form, listAt}
-use Rattle.jupiter.specs.Point.{firsts, point, blank, own, oth, ownForm, othForm}
+use Rattle.jupiter.specs.Point.{point, blank, own, oth, ownForm, othForm}
 use Rattle.jupiter.proofs.Lists as L
 use Rattle.jupiter.proofs.Lists.{All}
-use Rattle.jupiter.proofs.Forms.{Inside, form-made, form-last, form-by, listAt-snoc}
-use Rattle.jupiter.proofs.Grid.{eqb-same, eqb-eq, eqb-differ, ltb-true, ltb-false, ltb-lt, below-suc, Edge, far-sides, seenOf, lagOf, Grows, mine-own, others-own, grows-own, mine-oth, others-oth, others-before, grows-oth, own-cell, oth-cell, Contexts, own-line, oth-line, own-name, oth-out, Good, good-back, docAt, OwnEdge, OthEdge, Grid}
+use Rattle.jupiter.proofs.Forms.{Inside, form-made, form-by, listAt-snoc}
+use Rattle.jupiter.proofs.Grid.{eqb-same, ltb-true, ltb-false, below-suc, Edge, far-sides, seenOf, lagOf, Grows, mine-own, others-own, grows-own, mine-oth, others-oth, others-before, grows-oth, own-cell, oth-cell, Contexts, oth-line, oth-out, Good, good-back, docAt, OwnEdge, OthEdge, Grid}
 
 -- a property of the numbers from s on that each hands to the next
 pub climb : (P : ℕ → Type 0) (s e : ℕ) → P s → ((j : ℕ) → s ≤ j → j < e → P j → P (suc j)) → (j : ℕ) → s ≤ j → j ≤ e → P j

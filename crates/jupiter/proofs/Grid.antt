@@ -1,21 +1,20 @@
 -- One line's grid: the sets (i, j) of its first i edits and the first j of all other lines, and the forms and lists there.
-use Prim.Native.Nat.{ℕ, zero, suc, _+_, _-_, _≤_, _<_, suc-le-suc, zero-le}
-use native.Mathlib.Nat.{le-of-suc-le-suc, not-suc-le-zero, le-refl, le-trans}
+use Prim.Native.Nat.{ℕ, suc, _+_, _-_, _≤_, _<_}
+use native.Mathlib.Nat.{le-refl, le-trans}
 use native.Mathlib.Omega.{arith}
 use mathlib.Core.Path.{_≡_, refl, sym, ap, _∙_, subst}
 use mathlib.Core.Logic.{_≢_, _⊎_, inl, inr}
-use mathlib.Core.Bool.{Bool, true, false, not, cond, true≢false}
-use mathlib.Core.List.{List, [], _∷_, _++_, append-assoc, append-nil}
-use lib.Dec.{T, ltb, leb, eqb, eqb→eq, eqb-refl, lt→ltb, ltb→lt}
+use mathlib.Core.Bool.{Bool, true, false, true≢false}
+use mathlib.Core.List.{List, [], _∷_, _++_, append-nil}
+use lib.Dec.{T, ltb, eqb, eqb→eq, eqb-refl, lt→ltb, ltb→lt}
 use lib.ListN.{length, getD, length-append, List·getD-append}
-use lib.Seq.{getD-append-seam}
 use Rattle.jupiter.specs.Algebra.{Algebra, Laws}
-use Rattle.jupiter.specs.Made.{Name, Made, same, holds, select, reject, isBy, mine, others}
+use Rattle.jupiter.specs.Made.{Made, same, holds, select, isBy, mine, others}
 use Rattle.jupiter.specs.Form.{form, listAt}
-use Rattle.jupiter.specs.Point.{firsts, point, blank, own, oth, ownForm, othForm}
+use Rattle.jupiter.specs.Point.{point, blank, own, oth, ownForm, othForm}
 use Rattle.jupiter.proofs.Lists as L
 use Rattle.jupiter.proofs.Lists.{All}
-use Rattle.jupiter.proofs.Forms.{Inside, form-made, form-last, form-by, listAt-snoc}
+use Rattle.jupiter.proofs.Forms.{Inside, form-last}
 
 pub is-true : (b : Bool) → T b → b ≡ true
 is-true true h = refl

@@ -1,24 +1,23 @@
 -- The two ends of a line and the line's grid: what holds between any two calls, and how each call keeps it.
-use Prim.Native.Nat.{ℕ, zero, suc, _+_, _-_, _≤_, _<_, suc-le-suc, zero-le}
-use native.Mathlib.Nat.{le-of-suc-le-suc, not-suc-le-zero, le-refl, le-trans, add-zero, add-suc}
+use Prim.Native.Nat.{ℕ, zero, suc, _+_, _-_, _≤_, _<_}
+use native.Mathlib.Nat.{le-of-suc-le-suc, not-suc-le-zero, le-refl, le-trans}
 use native.Mathlib.Omega.{arith}
 use mathlib.Core.Path.{_≡_, refl, sym, ap, _∙_, subst}
-use mathlib.Core.Logic.{_≢_, _⊎_, inl, inr}
-use mathlib.Core.Bool.{Bool, true, false, not, cond, true≢false, _&&_, _||_}
-use mathlib.Core.List.{List, [], _∷_, _++_, append-assoc, append-nil, map}
-use lib.Dec.{T, ltb, leb, eqb}
+use mathlib.Core.Logic.{_⊎_, inl, inr}
+use mathlib.Core.Bool.{true, false, _||_}
+use mathlib.Core.List.{List, [], _∷_, _++_, append-nil}
+use lib.Dec.{T, ltb}
 use lib.ListN.{length, getD, drop, length-append, length-map}
 use Rattle.jupiter.specs.Algebra.{Algebra, Laws}
-use Rattle.jupiter.specs.Made.{Name, Made, same, holds, select, reject, names, isBy, mine, others}
+use Rattle.jupiter.specs.Made.{Name, Made, same, holds, names, isBy, mine, others}
 use Rattle.jupiter.specs.Form.{form, listAt, inOrder, replay}
-use Rattle.jupiter.specs.Point.{firsts, point, blank, own, oth, ownForm, othForm}
+use Rattle.jupiter.specs.Point.{point, blank, own, oth, ownForm, othForm}
 use Rattle.jupiter.specs.Ends.{past, over, End, Message, keeps, unacked, acks, takes, arrived}
 use Rattle.jupiter.proofs.Lists as L
-use Rattle.jupiter.proofs.Lists.{All}
-use Rattle.jupiter.proofs.Segment.{segment, segment-cong, segment-snoc, segment-length, segment-get, segment-drop, past-segment, over-segment}
-use Rattle.jupiter.proofs.Grid.{ltb-true, ltb-false, ltb-lt, below-suc, Edge, seenOf, lagOf, Grows, own-form-same, oth-form-same, own-cell, oth-cell, Contexts, own-line, oth-line, own-name, oth-out, Good, docAt, OwnEdge, OthEdge, Grid}
-use Rattle.jupiter.proofs.Extend.{NewOwn, row-made, row-others, row-grows, row-new, new-form, row-form, row-own-cases, row-oth-cases, row-grid, NewOth, col-grows, col-made, col-others, col-new, col-own-cases, col-oth-cases, col-form, col-grid, col-lags, col-next}
-use Rattle.jupiter.proofs.Replay.{or-false, or-true, same-refl, same-eq, same-differ, is-false, holds-snoc, holds-more, holds-last, holds-split, held-next, inOrder-insert, replay-insert, replay-snoc}
+use Rattle.jupiter.proofs.Segment.{segment, segment-cong, segment-snoc, segment-get, segment-drop, past-segment, over-segment}
+use Rattle.jupiter.proofs.Grid.{ltb-true, ltb-false, below-suc, seenOf, lagOf, Grows, own-form-same, oth-form-same, own-cell, oth-cell, oth-line, oth-out, Good, docAt, OwnEdge, OthEdge, Grid}
+use Rattle.jupiter.proofs.Extend.{NewOwn, row-made, row-others, row-grows, row-new, new-form, row-form, row-own-cases, row-oth-cases, row-grid, NewOth, col-grows, col-made, col-others, col-own-cases, col-oth-cases, col-form, col-grid, col-lags, col-next}
+use Rattle.jupiter.proofs.Replay.{or-false, same-differ, is-false, holds-snoc, holds-more, holds-last, holds-split, held-next, inOrder-insert, replay-insert, replay-snoc}
 
 module _ {𝓐 : Algebra} where
   -- An up message holds the form that the definition gives at the edits that its seen tells, and so does a down message: (k - 1, seen) and

@@ -1,13 +1,13 @@
 -- Laws of the lists that the definitions use: the elements that pass a test and those that do not, and the first so many of each.
-use Prim.Native.Nat.{ℕ, zero, suc, _+_, _-_, _≤_, _<_, suc-le-suc, zero-le}
-use native.Mathlib.Nat.{le-of-suc-le-suc, not-suc-le-zero, suc-add, zero-add, le-refl, le-trans}
+use Prim.Native.Nat.{ℕ, zero, suc, _+_, _≤_, _<_, suc-le-suc, zero-le}
+use native.Mathlib.Nat.{le-of-suc-le-suc, not-suc-le-zero}
 use native.Mathlib.Omega.{arith}
-use mathlib.Core.Path.{_≡_, refl, sym, ap, _∙_, subst}
+use mathlib.Core.Path.{_≡_, refl, sym, ap, _∙_}
 use mathlib.Core.Logic.{_⊎_, inl, inr}
-use mathlib.Core.Bool.{Bool, true, false, not, _&&_, _||_, cond, true≢false, false≢true}
-use mathlib.Core.List.{List, [], _∷_, _++_, append-assoc, append-nil}
-use lib.Dec.{T, ltb, leb, eqb, leb·zero, leb·suc-suc, leb·suc-zero}
-use lib.ListN.{length, getD, drop, take, length-append, List·getD-append}
+use mathlib.Core.Bool.{Bool, true, false, not, _&&_, cond}
+use mathlib.Core.List.{List, [], _∷_, _++_}
+use lib.Dec.{ltb, leb·zero, leb·suc-suc, leb·suc-zero}
+use lib.ListN.{length, getD, drop}
 use Rattle.jupiter.specs.Made.{select, reject}
 use Rattle.jupiter.specs.Point.{enter, firsts}
 

@@ -1,26 +1,24 @@
 -- The two ways of a line to the point where its lists meet.
 use Prim.Native.Nat.{ℕ, zero, suc, _+_, _-_, _≤_, _<_, suc-le-suc, zero-le}
-use native.Mathlib.Nat.{le-of-suc-le-suc, not-suc-le-zero, le-refl, le-trans}
+use native.Mathlib.Nat.{le-refl}
 use native.Mathlib.Omega.{arith}
 use mathlib.Core.Path.{_≡_, refl, sym, ap, _∙_, subst}
-use mathlib.Core.Logic.{_≢_, _⊎_, inl, inr}
 use mathlib.Core.Bool.{Bool, true, false, not, cond, true≢false, _&&_, _||_}
-use mathlib.Core.List.{List, [], _∷_, _++_, append-assoc, append-nil}
-use lib.Dec.{T, ltb, leb, eqb}
-use lib.ListN.{length, getD, drop, length-append, drop-of-length-le, length-drop, List·getD-append}
+use mathlib.Core.List.{List, [], _∷_, _++_}
+use lib.Dec.{ltb}
+use lib.ListN.{length, getD, drop, drop-of-length-le, length-drop, List·getD-append}
 use lib.Seq.{drop-cons, drop-append-seam, getD-drop}
-use Rattle.jupiter.specs.Algebra.{Algebra, Laws}
+use Rattle.jupiter.specs.Algebra.{Algebra}
 use Rattle.jupiter.specs.Made.{Name, Made, same, holds, select, reject, names, isBy, mine, others}
 use Rattle.jupiter.specs.Form.{form, listAt, inOrder, without, replay}
-use Rattle.jupiter.specs.Point.{point, blank, own, oth, ownForm, othForm}
+use Rattle.jupiter.specs.Point.{point, blank, own, oth}
 use Rattle.jupiter.specs.History.{History, order, missing}
 use Rattle.jupiter.specs.Ends.{End, Ends}
 use Rattle.jupiter.proofs.Lists as L
-use Rattle.jupiter.proofs.Lists.{All}
-use Rattle.jupiter.proofs.Grid.{ltb-true, ltb-false, ltb-lt, Contexts, own-line, own-name, oth-line, Good, docAt, Grid}
+use Rattle.jupiter.proofs.Grid.{ltb-true, ltb-lt, own-line, own-name, oth-line, docAt}
 use Rattle.jupiter.proofs.Line.{LineAt, between-good}
-use Rattle.jupiter.proofs.World.{named, mine-served, others-served, LineInv, Inv, taken, missing-is}
-use Rattle.jupiter.proofs.Replay.{or-true, or-false, same-refl, same-eq, same-differ, is-false, holds-more, held-next, holds-in}
+use Rattle.jupiter.proofs.World.{mine-served, others-served, Inv, taken, missing-is}
+use Rattle.jupiter.proofs.Replay.{or-true, same-refl, same-eq, is-false, holds-more, held-next, holds-in}
 
 and-false : (b : Bool) → b && false ≡ false
 and-false true = refl

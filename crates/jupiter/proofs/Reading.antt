@@ -1,22 +1,20 @@
 -- For the reader of the definitions: what they say, in other words.
-use Prim.Native.Nat.{ℕ, zero, suc, _+_, _-_, _≤_, _<_, suc-le-suc, zero-le}
-use native.Mathlib.Nat.{le-refl, le-trans, not-suc-le-zero}
-use native.Mathlib.Omega.{arith}
+use Prim.Native.Nat.{ℕ, _+_, _≤_, _<_}
 use mathlib.Core.Path.{_≡_, refl, sym, ap, _∙_, subst}
-use mathlib.Core.Bool.{Bool, true, false, not, cond, _&&_}
+use mathlib.Core.Bool.{Bool, true, false, cond}
 use mathlib.Core.List.{List, [], _∷_, _++_}
-use lib.Dec.{T, ltb}
-use lib.ListN.{length, getD, drop}
+use lib.Dec.{T}
+use lib.ListN.{length}
 use Rattle.jupiter.specs.Algebra.{Algebra, Laws}
 use Rattle.jupiter.specs.Made.{Name, Made, holds, mine, others}
-use Rattle.jupiter.specs.Form.{Last, allInside, outside, further, lastOutside, form, listAt}
+use Rattle.jupiter.specs.Form.{Last, allInside, outside, further, lastOutside}
 use Rattle.jupiter.specs.Point.{point, own, oth, ownForm, othForm}
-use Rattle.jupiter.specs.History.{History, order}
+use Rattle.jupiter.specs.History.{order}
 use Rattle.jupiter.specs.Ends.{Message}
-use Rattle.jupiter.specs.Run.{Call, State, initial, run}
+use Rattle.jupiter.specs.Run.{Call, State, run}
 use Rattle.jupiter.proofs.Lists.{All}
 use Rattle.jupiter.proofs.Forms.{Inside, form-by}
-use Rattle.jupiter.proofs.Grid.{own-form-same, oth-form-same, Contexts, oth-line}
+use Rattle.jupiter.proofs.Grid.{own-form-same, oth-form-same, Contexts}
 use Rattle.jupiter.proofs.Line.{UpOk, DownOk}
 use Rattle.jupiter.proofs.Size.{form-grows}
 use Rattle.jupiter.proofs.Runs.{Reached, run-ok}

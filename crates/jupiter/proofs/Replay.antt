@@ -1,17 +1,17 @@
 -- Names, and what an end shows that applies edits in its own order.
-use Prim.Native.Nat.{ℕ, zero, suc, _+_, _-_, _≤_, _<_, suc-le-suc, zero-le}
+use Prim.Native.Nat.{ℕ, zero, suc, _+_, _<_}
 use native.Mathlib.Omega.{arith}
 use mathlib.Core.Path.{_≡_, refl, sym, ap, _∙_, subst}
-use mathlib.Core.Logic.{_≢_, _⊎_, inl, inr}
-use mathlib.Core.Bool.{Bool, true, false, not, cond, true≢false, _&&_, _||_}
+use mathlib.Core.Logic.{_⊎_, inl, inr}
+use mathlib.Core.Bool.{Bool, true, false, true≢false, _&&_, _||_}
 use mathlib.Core.List.{List, [], _∷_, _++_, append-assoc, append-nil}
-use lib.Dec.{T, eqb, ltb}
+use lib.Dec.{eqb, ltb}
 use lib.ListN.{length, getD}
 use native.Mathlib.Nat.{le-of-suc-le-suc, not-suc-le-zero}
 use Rattle.jupiter.specs.Point.{blank}
 use Rattle.jupiter.proofs.Lists as L
 use Rattle.jupiter.specs.Algebra.{Algebra}
-use Rattle.jupiter.specs.Made.{Name, Made, same, holds, select, names}
+use Rattle.jupiter.specs.Made.{Name, Made, same, holds, names}
 use Rattle.jupiter.specs.Form.{form, inOrder, replay}
 use Rattle.jupiter.proofs.Grid.{eqb-eq, eqb-same, ltb-true, ltb-false, ltb-lt, below-suc}
 

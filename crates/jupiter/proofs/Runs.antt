@@ -8,7 +8,7 @@ use mathlib.Core.List.{List, [], _∷_}
 use lib.Dec.{ltb, leb, eqb, leb→le, le→leb}
 use lib.ListN.{length, getElem?}
 use Rattle.jupiter.specs.Algebra.{Algebra, Laws}
-use Rattle.jupiter.specs.History.{at, History, order, madeBy, afterEdit, afterUp, afterDown, afterJoin}
+use Rattle.jupiter.specs.History.{History, order, madeBy, afterEdit, afterUp, afterDown, afterJoin}
 use Rattle.jupiter.specs.Ends.{Ends, canSend, message, current, canTake, editing, takingUp, takingDown, ackingUp, ackingDown}
 use Rattle.jupiter.specs.Run.{Letter, up, down, upAck, downAck, Call, edit, sendUp, sendDown, tellUp, tellDown, deliver, join, State, initial, writes, goes, lineOf, silent, unused, joins, receive, step, run}
 use Rattle.jupiter.proofs.Lists.{All, all-append, all-map}

@@ -1,27 +1,25 @@
 -- The step that each accepted call is, for whoever goes through the protocol call by call: the invariant holds behind it, and everything
 -- that was known stays as it was (`Later`). Messages are carried by `UpMessage` and `DownMessage`, which sending gives and `Later` keeps.
-use Prim.Native.Nat.{ℕ, zero, suc, _+_, _-_, _≤_, _<_, suc-le-suc, zero-le}
-use native.Mathlib.Nat.{le-of-suc-le-suc, not-suc-le-zero, le-refl, le-trans}
+use Prim.Native.Nat.{ℕ, suc, _+_, _≤_, _<_, zero-le}
+use native.Mathlib.Nat.{not-suc-le-zero, le-refl, le-trans}
 use native.Mathlib.Omega.{arith}
 use mathlib.Core.Path.{_≡_, refl, sym, ap, _∙_, subst}
-use mathlib.Core.Logic.{_≢_, _⊎_, inl, inr}
-use mathlib.Core.Bool.{Bool, true, false, not, cond, true≢false, _&&_, _||_}
+use mathlib.Core.Bool.{Bool, true, false, cond, true≢false}
 use mathlib.Core.List.{List, [], _∷_, _++_, append-assoc, append-nil}
-use lib.Dec.{T, ltb, leb, eqb, leb→le, le→leb}
-use lib.ListN.{length, getD, drop, length-append}
+use lib.Dec.{T, eqb}
+use lib.ListN.{length}
 use Rattle.jupiter.specs.Algebra.{Algebra, Laws}
-use Rattle.jupiter.specs.Made.{Name, Made, same, holds, select, reject, names, isBy, mine, others}
-use Rattle.jupiter.specs.Form.{form, grown, listAt, inOrder, replay}
-use Rattle.jupiter.specs.Point.{point, blank, own, oth, ownForm, othForm}
-use Rattle.jupiter.specs.History.{at, History, noHistory, order, madeBy, missing, newEdit, afterEdit, serves, afterUp, applies, afterDown}
-use Rattle.jupiter.specs.Ends.{End, Message, Ends, opened, keeps, unacked, acks, takes, arrived, canSend, message, current, canTake, editing, takingUp, takingDown, ackingUp, ackingDown}
+use Rattle.jupiter.specs.Made.{Name, Made, holds, select, reject, names, isBy, mine, others}
+use Rattle.jupiter.specs.Form.{grown, listAt, inOrder, replay}
+use Rattle.jupiter.specs.Point.{blank, oth, ownForm, othForm}
+use Rattle.jupiter.specs.History.{History, noHistory, order, newEdit, afterEdit, serves, afterUp, applies, afterDown}
+use Rattle.jupiter.specs.Ends.{Message, Ends, opened, keeps, acks, takes, arrived, message, editing, takingUp, takingDown, ackingUp, ackingDown}
 use Rattle.jupiter.proofs.Lists as L
-use Rattle.jupiter.proofs.Lists.{All}
-use Rattle.jupiter.proofs.Segment.{segment, segment-none}
-use Rattle.jupiter.proofs.Grid.{is-true, to-T, eqb-eq, eqb-same, ltb-true, ltb-lt, Edge, seenOf, lagOf, Grows, grows-refl, grows-trans, Contexts, Good, docAt, OwnEdge, OthEdge, Grid}
-use Rattle.jupiter.proofs.Line.{UpOk, DownOk, up-on, down-on, LineAt, set-is, client-good, server-good, send-up, send-down, up-made, up-arrives, up-edge, down-made, down-arrives, down-edge}
-use Rattle.jupiter.proofs.World.{named, edit-new, first-untaken, up-inv, up-grows, up-bound, o-new, o-new-to, Bounded, mine-served, others-served, LineInv, taken, Inv, inv-edit, grows-edit, inv-ack-up, inv-ack-down, inv-down, grows-down, first-missing, inv-up}
-use Rattle.jupiter.proofs.Replay.{and-left, and-right, is-false, holds-more, inOrder-insert}
+use Rattle.jupiter.proofs.Segment.{segment-none}
+use Rattle.jupiter.proofs.Grid.{eqb-eq, eqb-same, Grows, grows-refl, grows-trans}
+use Rattle.jupiter.proofs.Line.{UpOk, DownOk, up-on, down-on, send-up, send-down, up-arrives, up-edge, down-arrives, down-edge}
+use Rattle.jupiter.proofs.World.{named, edit-new, first-untaken, up-inv, up-grows, up-bound, o-new, o-new-to, taken, Inv, inv-edit, grows-edit, inv-ack-up, inv-ack-down, inv-down, first-missing}
+use Rattle.jupiter.proofs.Replay.{holds-more, inOrder-insert}
 
 -- ---- what stays
 module _ {𝓐 : Algebra} where

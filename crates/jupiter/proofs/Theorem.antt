@@ -14,9 +14,8 @@ use Rattle.jupiter.specs.Form.{form, inOrder}
 use Rattle.jupiter.specs.Point.{point, blank, own, oth, ownForm, othForm}
 use Rattle.jupiter.specs.History.{History, order, missing}
 use Rattle.jupiter.specs.Ends.{End, Message, Ends, arrived, message}
-use Rattle.jupiter.specs.Run.{Letter, up, down, upAck, downAck, edit, State, initial, writes, run}
+use Rattle.jupiter.specs.Run.{Letter, up, down, upAck, downAck, edit, State, initial, run}
 use Rattle.jupiter.specs.Claims.{ClosedSet, Written, Delivers, LineClaim, Claim, Who, server, client, setOf, Converges, QuiescentConsistency}
-use Rattle.jupiter.proofs.Lists as L
 use Rattle.jupiter.proofs.Lists.{All}
 use Rattle.jupiter.proofs.Segment.{segment-length, segment-get}
 use Rattle.jupiter.proofs.Grid.{eqb-same, ltb-true, docAt}

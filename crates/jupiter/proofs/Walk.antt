@@ -1,16 +1,16 @@
 -- From a good point to any later good point there is a way over good points, one edit at a time.
-use Prim.Native.Nat.{ℕ, zero, suc, _+_, _-_, _≤_, _<_, suc-le-suc, zero-le}
-use native.Mathlib.Nat.{le-refl, le-trans, not-suc-le-zero}
+use Prim.Native.Nat.{ℕ, zero, suc, _+_, _-_, _≤_, _<_}
+use native.Mathlib.Nat.{le-trans}
 use native.Mathlib.Omega.{arith}
-use mathlib.Core.Path.{_≡_, refl, sym, ap, _∙_, subst}
+use mathlib.Core.Path.{_≡_, refl, sym, _∙_, subst}
 use mathlib.Core.Logic.{_⊎_, inl, inr}
 use mathlib.Core.Bool.{Bool, true, false, true≢false}
 use mathlib.Core.List.{List}
-use lib.Dec.{ltb, leb}
+use lib.Dec.{ltb}
 use lib.ListN.{length}
 use Rattle.jupiter.specs.Algebra.{Algebra}
 use Rattle.jupiter.specs.Made.{Made, mine, others}
-use Rattle.jupiter.specs.Point.{own, oth}
+use Rattle.jupiter.specs.Point.{own}
 use Rattle.jupiter.proofs.Grid.{ltb-true, ltb-lt, below-suc, seenOf, lagOf, Contexts, Good}
 
 order-of : (a b : ℕ) → (a < b) ⊎ (b ≤ a)

@@ -1,28 +1,28 @@
 -- All ends together: what holds between any two calls, and the step that each accepted call is. A refused call is no step.
-use Prim.Native.Nat.{ℕ, zero, suc, _+_, _-_, _≤_, _<_, suc-le-suc, zero-le}
-use native.Mathlib.Nat.{le-of-suc-le-suc, not-suc-le-zero, le-refl, le-trans, add-zero, add-suc}
+use Prim.Native.Nat.{ℕ, suc, _+_, _≤_, _<_}
+use native.Mathlib.Nat.{le-refl, le-trans}
 use native.Mathlib.Omega.{arith}
 use mathlib.Core.Path.{_≡_, refl, sym, ap, _∙_, subst}
 use mathlib.Core.Logic.{_≢_, _⊎_, inl, inr}
-use mathlib.Core.Bool.{Bool, true, false, not, cond, true≢false, _&&_, _||_}
-use mathlib.Core.List.{List, [], _∷_, _++_, append-assoc, append-nil, map}
-use lib.Dec.{T, ltb, leb, eqb}
-use lib.ListN.{length, getD, drop, length-append, length-map}
+use mathlib.Core.Bool.{Bool, true, false, cond, true≢false}
+use mathlib.Core.List.{List, [], _∷_, _++_, append-assoc, append-nil}
+use lib.Dec.{T, ltb, eqb}
+use lib.ListN.{length, getD, drop, length-append}
 use lib.Seq.{getD-append-seam, drop-cons}
 use Rattle.jupiter.specs.Algebra.{Algebra, Laws}
-use Rattle.jupiter.specs.Made.{Name, Made, same, holds, select, reject, names, isBy, mine, others}
+use Rattle.jupiter.specs.Made.{Name, Made, holds, names, isBy, mine, others}
 use Rattle.jupiter.specs.Form.{form, listAt, inOrder, replay}
-use Rattle.jupiter.specs.Point.{firsts, point, blank, own, oth, ownForm, othForm}
+use Rattle.jupiter.specs.Point.{blank, own, oth}
 use Rattle.jupiter.specs.History.{at, History, order, madeBy, missing, newEdit, makes, afterEdit, serves, afterUp, applies, afterDown}
-use Rattle.jupiter.specs.Ends.{past, over, End, Message, Ends, keeps, unacked, acks, takes, arrived, editing, takingUp, takingDown, ackingUp, ackingDown}
+use Rattle.jupiter.specs.Ends.{End, Message, Ends, keeps, acks, takes, arrived, editing, takingUp, takingDown, ackingUp, ackingDown}
 use Rattle.jupiter.proofs.Lists as L
 use Rattle.jupiter.proofs.Lists.{All, all-append}
 use Rattle.jupiter.proofs.Forms.{listAt-snoc}
-use Rattle.jupiter.proofs.Grid.{eqb-eq, eqb-same, eqb-differ, ltb-true, ltb-false, ltb-lt, Edge, seenOf, lagOf, Grows, grows-refl, grows-trans, Contexts, own-line, oth-line, own-name, docAt, Grid}
+use Rattle.jupiter.proofs.Grid.{eqb-eq, eqb-same, eqb-differ, ltb-true, Grows, grows-refl, own-name}
 use Rattle.jupiter.proofs.Extend.{NewOwn, row-own-cases, row-oth-cases, NewOth, col-grows, col-own-cases, col-oth-cases}
 use Rattle.jupiter.proofs.Closure.{Within, ClosedFrom, ClosedSet, Closed, closed-edit, within-snoc, closed-other, within-insert, context-of, closed-set-snoc, all-within, within-append}
 use Rattle.jupiter.proofs.Line.{UpOk, DownOk, LineAt, made-new, made-grows, made-fresh, line-edit, line-ack-up, line-ack-down, up-made, up-form, up-edge, line-up, down-made, line-down, line-other}
-use Rattle.jupiter.proofs.Replay.{is-false, holds-split, holds-more, holds-last, same-differ, in-itself, inOrder-insert, replay-insert, replay-snoc}
+use Rattle.jupiter.proofs.Replay.{is-false, holds-split, holds-last, same-differ, in-itself, inOrder-insert, replay-insert, replay-snoc}
 
 -- Names of another line k in a list have numbers up to `bound k`: what an end has applied of line k, the server has taken.
 abbrev pub Bounded : ℕ → (ℕ → ℕ) → List Name → Type 0

@@ -1,9 +1,9 @@
 -- What is claimed of every list of calls on the server and its clients.
-use Prim.Native.Nat.{ℕ, zero, suc, _+_, _-_, _≤_, _<_}
+use Prim.Native.Nat.{ℕ, suc, _+_, _-_, _≤_, _<_}
 use mathlib.Core.Path.{_≡_}
-use mathlib.Core.Bool.{Bool, true, false}
-use mathlib.Core.Option.{Option, none, some}
-use mathlib.Core.List.{List, [], _∷_, _++_}
+use mathlib.Core.Bool.{true}
+use mathlib.Core.Option.{some}
+use mathlib.Core.List.{List, [], _∷_}
 use lib.Dec.{T}
 use lib.ListN.{length, getD, take, drop, getElem?}
 use Rattle.jupiter.specs.Algebra.{Algebra}
@@ -11,7 +11,7 @@ use Rattle.jupiter.specs.Made.{Name, Made, holds, names, mine, others}
 use Rattle.jupiter.specs.Form.{form, listAt, inOrder, without, replay}
 use Rattle.jupiter.specs.Point.{point, blank, own, oth, ownForm, othForm}
 use Rattle.jupiter.specs.History.{History, order, missing}
-use Rattle.jupiter.specs.Ends.{End, Message, Ends, unacked, canSend, message, canTake, arrived}
+use Rattle.jupiter.specs.Ends.{End, Message, unacked, canSend, message, canTake, arrived}
 use Rattle.jupiter.specs.Run.{Letter, up, down, upAck, downAck, Call, State, initial, run}
 
 -- an end of the sheet

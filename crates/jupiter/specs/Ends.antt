@@ -1,9 +1,9 @@
 -- The ends of the protocol, with no limit on any count (01: "Lines, numbers, buffers").
-use Prim.Native.Nat.{ℕ, zero, suc, _+_, _-_}
-use mathlib.Core.Bool.{Bool, true, false, not, _&&_, cond}
+use Prim.Native.Nat.{ℕ, suc, _+_, _-_}
+use mathlib.Core.Bool.{Bool, _&&_}
 use mathlib.Core.List.{List, [], _∷_, _++_}
 use lib.Dec.{eqb, leb, ltb}
-use lib.ListN.{length, drop, getD}
+use lib.ListN.{drop, getD}
 use Rattle.jupiter.specs.Algebra.{Algebra}
 use Rattle.jupiter.specs.History.{at}
 

@@ -1,7 +1,7 @@
 -- The form of an edit at a set of applied edits (01: "What an edit becomes"). No buffer is mentioned.
 -- A set is the list of its edits in one order: the server's, and behind it the edits that the server has not taken, in order of making.
 use Prim.Native.Nat.{ℕ, zero, suc}
-use mathlib.Core.Bool.{Bool, true, false, not, cond}
+use mathlib.Core.Bool.{not, cond}
 use mathlib.Core.List.{List, [], _∷_, _++_}
 use lib.ListN.{length}
 use Rattle.jupiter.specs.Algebra.{Algebra}

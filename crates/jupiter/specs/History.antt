@@ -1,12 +1,12 @@
 -- What the accepted calls leave behind: which edits were made, which the server took and in what order, which each client applied and in
 -- what order. No buffer, no message, no form.
-use Prim.Native.Nat.{ℕ, zero, suc, _+_}
-use mathlib.Core.Bool.{Bool, true, false, not, _&&_, cond}
+use Prim.Native.Nat.{ℕ, suc, _+_}
+use mathlib.Core.Bool.{not, _&&_, cond}
 use mathlib.Core.List.{List, [], _∷_, _++_}
 use lib.Dec.{eqb}
 use lib.ListN.{length}
 use Rattle.jupiter.specs.Algebra.{Algebra}
-use Rattle.jupiter.specs.Made.{Name, Made, holds, select, names, isBy, mine, others}
+use Rattle.jupiter.specs.Made.{Made, holds, select, names, isBy, mine}
 
 -- a family of values, one for each line, with the value of line l replaced
 abbrev pub at : {A : Type 0} → ℕ → A → (ℕ → A) → ℕ → A

@@ -1,10 +1,10 @@
 -- The sets that one line knows: a grid (the picture is in docs/THEORY.md).
 use Prim.Native.Nat.{ℕ, zero, suc}
-use mathlib.Core.Bool.{Bool, true, false, not}
+use mathlib.Core.Bool.{Bool, true, false}
 use mathlib.Core.List.{List, [], _∷_}
 use lib.ListN.{getD}
 use Rattle.jupiter.specs.Algebra.{Algebra}
-use Rattle.jupiter.specs.Made.{Name, Made, isBy, mine, others}
+use Rattle.jupiter.specs.Made.{Made, isBy, mine, others}
 use Rattle.jupiter.specs.Form.{form}
 
 module _ {A : Type 0} where

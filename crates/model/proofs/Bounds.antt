@@ -1,8 +1,8 @@
 -- No list of a sheet is longer than 512 items, and no pending edit stands past it: 128 at opening and 48 inserts of each of 8 clients.
-use mathlib.Core.Path.{_≡_, refl, ap, ap₂, sym, _∙_, subst}
-use mathlib.Core.Bool.{Bool, true, false, _&&_, cond}
+use mathlib.Core.Path.{_≡_, refl, ap, sym, _∙_, subst}
+use mathlib.Core.Bool.{Bool, true, false}
 use mathlib.Core.List.{List, [], _∷_, _++_, append-nil}
-use Prim.Native.Nat.{ℕ, zero, suc, _+_, _-_, _*_, _≤_, _<_}
+use Prim.Native.Nat.{ℕ, suc, _+_, _-_, _≤_, _<_}
 use native.Mathlib.Omega.{arith}
 use lib.Dec.{eqb}
 use lib.ListN.{length, getD}
@@ -20,13 +20,12 @@ use Rattle.jupiter.proofs.Lists.{All, all-append, all-map}
 use Rattle.jupiter.proofs.Segment.{segment-length, segment-get}
 use Rattle.jupiter.proofs.Grid.{Edge, docAt}
 use Rattle.jupiter.proofs.Line.{LineAt, pending-good-c, pending-good-v}
-use Rattle.jupiter.proofs.World.{Inv, mine-served}
+use Rattle.jupiter.proofs.World.{mine-served}
 use Rattle.jupiter.proofs.Size.{size-bound, inserts-append, inserts-point, inserts-total, sumTo-bound}
-use Rattle.model.specs.Limits.{maxItems, maxInserts, maxLines}
-use Rattle.model.specs.Cross.{placed, allPlaced, insertsOf}
+use Rattle.model.specs.Limits.{maxInserts, maxLines}
+use Rattle.model.specs.Cross.{placed, allPlaced}
 use Rattle.model.specs.Edits.{edits}
 use Rattle.model.specs.Run.{State}
-use Rattle.model.specs.Server.{lineOf}
 use Rattle.model.specs.Ours.{ours}
 use Rattle.model.proofs.Tests.{both}
 use Rattle.model.proofs.Cross.{fits-placed}

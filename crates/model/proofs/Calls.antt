@@ -1,5 +1,5 @@
 -- Every call of a list of calls keeps the sheet with the theory.
-use mathlib.Core.Path.{_≡_, refl, ap, ap₂, sym, _∙_, subst}
+use mathlib.Core.Path.{_≡_, refl, ap, sym, _∙_, subst}
 use mathlib.Core.Bool.{Bool, true, false, not, _&&_, cond}
 use mathlib.Core.Option.{Option, none, some}
 use mathlib.Core.List.{List, [], _∷_, _++_, map}
@@ -7,7 +7,7 @@ use Prim.Native.Nat.{ℕ, zero, suc, _+_, _-_, _≤_, _<_}
 use native.Mathlib.Numerals.{add-one}
 use native.Mathlib.Omega.{arith}
 use native.Mathlib.Nat.{le-refl}
-use lib.Dec.{T, eqb, leb, ltb}
+use lib.Dec.{eqb, leb, ltb}
 use lib.ListN.{length, getD, take, drop, getElem?}
 use lib.Seq.{take-append-seam}
 use borrow.Author.Tests.{eqb-true, ne-eqb, eq-eqb, leb-true, ltb-true, le-leb}
@@ -23,31 +23,29 @@ use Rattle.wire.specs.Message.{messageOf, headerInRange, inRange, between}
 use Rattle.wire.specs.Bytes.{bytesOf, parsed}
 use Rattle.wire.proofs.Codec.{codec}
 use Rattle.wire.proofs.Ranges.{insert-bounds, delete-bounds}
-use Rattle.jupiter.specs.Made.{Made, mine, others}
+use Rattle.jupiter.specs.Made.{mine, others}
 use Rattle.jupiter.specs.Point.{ownForm, othForm}
 use Rattle.jupiter.specs.History.{History, at, order}
 use Rattle.jupiter.specs.Ends as ends
 use Rattle.jupiter.specs.Ends.{Ends}
 use Rattle.jupiter.specs.Run.{Letter, up, down, upAck, downAck}
 use Rattle.jupiter.proofs.Lists.{All}
-use Rattle.jupiter.proofs.World.{Inv, mine-served, others-served}
 use Rattle.jupiter.proofs.Step.{UpMessage, DownMessage, up-message, down-message}
-use Rattle.jupiter.proofs.Runs.{Fine}
-use Rattle.model.specs.Limits.{maxLines, maxInserts, maxEdits, maxOthers, maxPending, maxItems}
-use Rattle.model.specs.Questions.{Question, ask, asks, Answer, answer, Sent, sent}
-use Rattle.model.specs.Cross.{past, over, allPlaced, priority, insertsOf}
-use Rattle.model.specs.Client.{Client, soundClient, edited, editQuestions, editClient, pendingAt, clientMessage, sendClientQuestions, sendClient, tellClientQuestions, tellClient, other, unacked, clientTaken, clientAcked, clientEditQuestions, clientTakesEdit, clientAckQuestions, clientTakesAck, clientTakes, clientReads, takeClient}
-use Rattle.model.specs.Server.{Line, Server, noLine, lineOf, soundServer, serverMessage, sendServerQuestions, sendServer, tellServerQuestions, tellServer, unackedOf, carried, serverTaken, serverAcked, serverEditQuestions, serverTakesEdit, serverAckQuestions, serverTakesAck, serverTakes, serverReads, takeServer}
+use Rattle.model.specs.Limits.{maxItems}
+use Rattle.model.specs.Questions.{ask, asks, Answer, answer, Sent}
+use Rattle.model.specs.Cross.{priority}
+use Rattle.model.specs.Client.{Client, soundClient, edited, editQuestions, editClient, pendingAt, clientMessage, sendClientQuestions, sendClient, tellClientQuestions, tellClient, other, clientTaken, clientAcked, clientEditQuestions, clientTakesEdit, clientAckQuestions, clientTakesAck, clientTakes, clientReads, takeClient}
+use Rattle.model.specs.Server.{Line, Server, lineOf, soundServer, serverMessage, sendServerQuestions, sendServer, tellServerQuestions, tellServer, serverTaken, serverAcked, serverEditQuestions, serverTakesEdit, serverAckQuestions, serverTakesAck, serverTakes, serverReads, takeServer}
 use Rattle.model.specs.Edits.{edits}
 use Rattle.model.specs.Sheet.{Call, insert, delete, send, tell, receive, junk}
 use Rattle.model.specs.Log as logs
 use Rattle.model.specs.Log.{Log, letterMessage, letterBytes, takenAt, editLetter, ackLetter, hears, writes, took, tookUp, tookDown, logged, refusedLog, log}
 use Rattle.model.specs.Run.{State, answered, written, handed, call, callable, unreadable, areBytes}
 use Rattle.model.specs.Ours.{End, client, server, answerAs, insertAt, deleteAt, sendAt, tellAt, takeAt, ours}
-use Rattle.model.proofs.Tests.{both, and-left, and-right, Yes, yes-all, between-true, true-between}
+use Rattle.model.proofs.Tests.{and-left, and-right, yes-all, between-true}
 use Rattle.model.proofs.SoundClient.{ClientFacts, client-facts}
 use Rattle.model.proofs.SoundServer.{ServerFacts, server-facts, LineFacts, line-fact, made-most, takenSum}
-use Rattle.model.proofs.Sound.{three, new-end, edits-sound, client-takes-edit, client-takes-ack, server-takes-edit, server-takes-ack}
+use Rattle.model.proofs.Sound.{three, edits-sound, client-takes-edit, client-takes-ack, server-takes-edit, server-takes-ack}
 use Rattle.model.proofs.Small.{Small, all-get}
 use Rattle.model.proofs.Outcome as outcomes
 use Rattle.model.proofs.Outcome.{Outcome, outcome, Posted, posted}

@@ -1,14 +1,14 @@
 -- The claim of demands 2 and 3 holds of our sheet, for every list of calls.
-use mathlib.Core.Path.{_≡_, refl, ap, ap₂, sym, _∙_, subst}
+use mathlib.Core.Path.{_≡_, refl, ap, sym, _∙_, subst}
 use mathlib.Core.Bool.{Bool, true, false, cond}
 use mathlib.Core.List.{List, [], _∷_}
 use Prim.Native.Nat.{ℕ, zero, suc, _+_, _-_, _≤_, _<_}
 use native.Mathlib.Nat.{zero-add}
 use native.Mathlib.Omega.{arith}
-use lib.Dec.{eqb, leb}
-use lib.ListN.{length, replicate}
+use lib.Dec.{leb}
+use lib.ListN.{length}
 use borrow.Author.Tests.{leb-true}
-use Rattle.jupiter.specs.Made.{Made, select, reject, mine, others}
+use Rattle.jupiter.specs.Made.{select, reject, mine, others}
 use Rattle.jupiter.specs.Form.{replay}
 use Rattle.jupiter.specs.History.{History, order, madeBy, missing}
 use Rattle.jupiter.specs.Ends as ends
@@ -19,21 +19,21 @@ use Rattle.jupiter.proofs.World.{mine-served}
 use Rattle.jupiter.proofs.Start.{from-opening}
 use Rattle.jupiter.proofs.Theorem.{line-claim}
 use Rattle.model.specs.Limits.{maxLines, maxPending, maxInitial}
-use Rattle.model.specs.Questions.{asks, every, between, Answer, answer}
-use Rattle.model.specs.Client.{Client, noClient, openClientQuestions, openClient}
-use Rattle.model.specs.Server.{Line, Server, noLine, noServer, lineOf, soundServer, openServerQuestions, openServer}
+use Rattle.model.specs.Questions.{asks, between, Answer}
+use Rattle.model.specs.Client.{Client, openClient}
+use Rattle.model.specs.Server.{Line, Server, noLine, noServer, soundServer, openServerQuestions, openServer}
 use Rattle.model.specs.Edits.{edits}
 use Rattle.model.specs.Sheet.{Call}
-use Rattle.model.specs.Log.{Log, madeAt, takenAt}
-use Rattle.model.specs.Run.{State, areItems, areBytes, callable, call, run, start}
+use Rattle.model.specs.Log.{madeAt, takenAt}
+use Rattle.model.specs.Run.{State, callable, call, run, start}
 use Rattle.model.specs.Claim.{Delivered, Full, OnLine, Holds, Converges}
 use Rattle.model.specs.Ours.{End, client, server, ours}
 use Rattle.model.proofs.Tests.{hold, yes-all, between-true}
 use Rattle.model.proofs.SoundServer.{server-facts, LineFacts, line-fact, takenSum}
 use Rattle.model.proofs.Sound.{accepted, opens-client, opens-server}
-use Rattle.model.proofs.Opens.{freshClient, freshServer, client-opens, server-opens}
-use Rattle.model.proofs.Table.{table, table-replicate}
-use Rattle.model.proofs.Sim.{clientFrom, serverFrom, lineFrom, line-from, Sim}
+use Rattle.model.proofs.Opens.{freshServer, client-opens, server-opens}
+use Rattle.model.proofs.Table.{table-replicate}
+use Rattle.model.proofs.Sim.{clientFrom, serverFrom, line-from, Sim}
 use Rattle.model.proofs.Calls.{called}
 use Rattle.model.proofs.Next.{delivers-down, delivers-up}
 

@@ -1,48 +1,42 @@
 -- Each call of the sheet is a step of the theory, or was refused and is none.
 use mathlib.Core.Path.{_≡_, refl, ap, ap₂, sym, _∙_, subst}
-use mathlib.Core.Bool.{Bool, true, false, _&&_, cond}
-use mathlib.Core.List.{List, [], _∷_, _++_, map, append-nil, append-assoc, map-append}
-use Prim.Native.Nat.{ℕ, zero, suc, _+_, _-_, _≤_, _<_}
-use native.Mathlib.Numerals.{add-one}
+use mathlib.Core.Bool.{Bool, true, false, cond}
+use mathlib.Core.List.{List, [], _∷_, _++_, append-nil, append-assoc, map-append}
+use Prim.Native.Nat.{ℕ, zero, suc, _+_, _-_, _≤_}
 use native.Mathlib.Omega.{arith}
-use lib.Dec.{T, eqb, leb, ltb}
+use lib.Dec.{eqb}
 use lib.ListN.{length, getD, drop, length-append}
 use lib.Seq.{getD-append-seam}
-use borrow.Author.Tests.{eqb-true, ne-eqb, eq-eqb, leb-true, ltb-true}
+use borrow.Author.Tests.{eqb-true, ne-eqb, eq-eqb}
 use Rattle.ot.specs.declared.Edit.{Edit}
 use Rattle.ot.specs.Edit.{applied, fits}
-use Rattle.wire.specs.declared.Header.{Header}
-use Rattle.wire.specs.Message.{inRange}
 use Rattle.jupiter.specs.Made.{Made, holds, select, reject, isBy, mine, others}
 use Rattle.jupiter.specs.Form.{form, inOrder}
-use Rattle.jupiter.specs.Point.{blank, own, oth, ownForm, othForm, point}
-use Rattle.jupiter.specs.History.{History, at, order, madeBy, missing, newEdit, makes, afterEdit, serves, afterUp, applies, afterDown}
+use Rattle.jupiter.specs.Point.{blank, own, oth, point}
+use Rattle.jupiter.specs.History.{History, at, order, madeBy, missing, newEdit, afterEdit, serves, applies, afterDown}
 use Rattle.jupiter.specs.Ends as ends
-use Rattle.jupiter.specs.Ends.{Ends, Message, keeps, acks, takes, arrived, message, editing, takingUp, takingDown, ackingUp, ackingDown}
-use Rattle.jupiter.specs.Run.{Letter, up, down, upAck, downAck}
+use Rattle.jupiter.specs.Ends.{Ends, Message, keeps, acks, takes, arrived, editing, takingUp, takingDown, ackingUp, ackingDown}
+use Rattle.jupiter.specs.Run.{Letter}
 use Rattle.jupiter.specs.Claims.{inserts}
 use Rattle.jupiter.proofs.Lists as L
 use Rattle.jupiter.proofs.Lists.{All, all-append, all-map}
-use Rattle.jupiter.proofs.Forms.{Inside, form-made}
+use Rattle.jupiter.proofs.Forms.{form-made}
 use Rattle.jupiter.proofs.Line.{LineAt, set-is, down-made, down-arrives}
-use Rattle.jupiter.proofs.Extend.{new-form}
 use Rattle.jupiter.proofs.World.{Inv, arrives, first-missing, first-untaken, mine-served, others-served}
 use Rattle.jupiter.proofs.Step.{Later, Step, step-edit, step-up, step-down, step-ack-up, step-ack-down, UpMessage, DownMessage}
 use Rattle.jupiter.proofs.Size.{inserts-append, form-grows}
-use Rattle.jupiter.proofs.Runs.{Fine, fine-later}
-use Rattle.model.specs.Questions.{Answer, answer}
-use Rattle.model.specs.Cross.{past, over, priority, insertsOf}
-use Rattle.model.specs.Client.{Client, soundClient, edited, unacked, clientTaken, clientAcked}
-use Rattle.model.specs.Server.{Line, Server, lineOf, soundServer, unackedOf, serverTaken, serverAcked}
+use Rattle.jupiter.proofs.Runs.{fine-later}
+use Rattle.model.specs.Cross.{priority, insertsOf}
+use Rattle.model.specs.Client.{Client, soundClient, edited, clientTaken, clientAcked}
+use Rattle.model.specs.Server.{Server, soundServer, serverTaken, serverAcked}
 use Rattle.model.specs.Edits.{edits}
-use Rattle.model.specs.Sheet.{Call}
 use Rattle.model.specs.Log as logs
-use Rattle.model.specs.Log.{Log, letterMessage, letterBytes, setOf, madeAt, takenAt, editLetter, ackLetter, hears, tookUp, tookDown, writes, refusedLog, log}
-use Rattle.model.specs.Run.{State, answered}
+use Rattle.model.specs.Log.{Log, letterBytes, setOf, madeAt, hears, tookUp, tookDown, writes}
+use Rattle.model.specs.Run.{State}
 use Rattle.model.specs.Ours.{End, client, server, ours}
-use Rattle.model.proofs.Instance.{to-T, from-T, edit-laws, past-same, over-same}
+use Rattle.model.proofs.Instance.{to-T, edit-laws, past-same, over-same}
 use Rattle.model.proofs.Small.{Small, small-past, small-over, all-drop}
-use Rattle.model.proofs.Sim.{clientFrom, serverFrom, lineFrom, LetterOk, OfLines, Sim, at-line, at-other, edited-from, taken-from, server-taken-from, server-acked-from}
+use Rattle.model.proofs.Sim.{clientFrom, serverFrom, LetterOk, OfLines, Sim, at-line, at-other, edited-from, taken-from, server-taken-from, server-acked-from}
 
 -- what passes a test, passes it
 selected : (p : Made edits → Bool) (xs : List (Made edits)) → All (λ x. p x ≡ true) (select p xs)

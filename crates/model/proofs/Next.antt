@@ -1,52 +1,48 @@
 -- The next message is taken: no question says no.
 use mathlib.Core.Path.{_≡_, refl, ap, ap₂, sym, _∙_, subst}
-use mathlib.Core.Bool.{Bool, true, false, not, _&&_, cond}
-use mathlib.Core.List.{List, [], _∷_, _++_, append-assoc}
-use Prim.Native.Nat.{ℕ, zero, suc, _+_, _-_, _≤_, _<_}
+use mathlib.Core.Bool.{Bool, true, _&&_, cond}
+use mathlib.Core.List.{List, [], _∷_, _++_}
+use Prim.Native.Nat.{ℕ, suc, _+_, _-_, _≤_, _<_}
 use native.Mathlib.Numerals.{add-one}
-use native.Mathlib.Nat.{le-refl, le-trans}
+use native.Mathlib.Nat.{le-refl}
 use native.Mathlib.Omega.{arith}
-use lib.Dec.{T, eqb, leb, ltb}
-use lib.ListN.{length, getD, take, drop}
+use lib.Dec.{eqb, leb, ltb}
+use lib.ListN.{length, take, drop}
 use lib.Seq.{take-append-seam}
-use borrow.Author.Tests.{eqb-true, ne-eqb, eq-eqb, leb-true, le-leb, lt-ltb, ltb-true}
+use borrow.Author.Tests.{eq-eqb, le-leb, lt-ltb}
 use Rattle.ot.specs.declared.Edit.{Edit}
-use Rattle.ot.specs.declared.Edit.the-variants.{Nothing}
 use Rattle.ot.specs.Edit.{applied, fits}
 use Rattle.wire.specs.declared.Header.{Header}
-use Rattle.wire.specs.declared.Read.{Read}
-use Rattle.wire.specs.declared.Read.the-variants as read
-use Rattle.wire.specs.Message.{messageOf, inRange, between}
+use Rattle.wire.specs.Message.{between}
 use Rattle.wire.specs.Bytes.{bytesOf, parsed}
 use Rattle.wire.proofs.Codec.{codec}
-use Rattle.jupiter.specs.Made.{Made, isBy, mine, others}
+use Rattle.jupiter.specs.Made.{mine, others}
 use Rattle.jupiter.specs.Point.{own, oth}
 use Rattle.jupiter.specs.History.{History, at, order}
 use Rattle.jupiter.specs.Ends as ends
-use Rattle.jupiter.specs.Ends.{Ends, takes, arrived, takingUp, takingDown}
-use Rattle.jupiter.specs.Run.{Letter, up, down}
+use Rattle.jupiter.specs.Ends.{Ends, takes, arrived}
+use Rattle.jupiter.specs.Run.{up, down}
 use Rattle.jupiter.specs.Claims.{inserts}
-use Rattle.jupiter.proofs.Lists.{All}
 use Rattle.jupiter.proofs.Line.{LineAt, line-down, line-up, up-edge, up-arrives}
 use Rattle.jupiter.proofs.Meeting.{server-doc}
-use Rattle.jupiter.proofs.World.{Inv, first-untaken}
+use Rattle.jupiter.proofs.World.{first-untaken}
 use Rattle.jupiter.proofs.Step.{UpMessage, DownMessage, up-message, down-message, up-fits, down-fits}
-use Rattle.model.specs.Limits.{maxLines, maxInserts, maxEdits, maxPending, maxItems}
-use Rattle.model.specs.Questions.{Question, ask, asks, Answer, answer, Sent, sent}
+use Rattle.model.specs.Limits.{maxInserts, maxPending, maxItems}
+use Rattle.model.specs.Questions.{asks, Answer, Sent, sent}
 use Rattle.model.specs.Cross.{past, over, allPlaced, priority, insertsOf}
-use Rattle.model.specs.Client.{Client, soundClient, clientMessage, sendClientQuestions, sendClient, other, unacked, clientTaken, clientEditQuestions, clientTakesEdit, clientReads, takeClient}
-use Rattle.model.specs.Server.{Line, Server, lineOf, soundServer, serverMessage, sendServerQuestions, sendServer, unackedOf, carried, serverTaken, roomy, othersRoomy, serverEditQuestions, serverTakesEdit, serverReads, takeServer}
+use Rattle.model.specs.Client.{Client, clientMessage, sendClientQuestions, sendClient, other, unacked, clientTaken, clientEditQuestions, clientTakesEdit, clientReads, takeClient}
+use Rattle.model.specs.Server.{Line, Server, lineOf, serverMessage, sendServerQuestions, sendServer, unackedOf, carried, serverTaken, othersRoomy, serverEditQuestions, serverTakesEdit, serverReads, takeServer}
 use Rattle.model.specs.Edits.{edits}
-use Rattle.model.specs.Log.{Log, letterMessage, letterBytes}
+use Rattle.model.specs.Log.{letterMessage}
 use Rattle.model.specs.Run.{State}
-use Rattle.model.specs.Ours.{End, client, server, answerAs, ours}
+use Rattle.model.specs.Ours.{End, client, server, ours}
 use Rattle.model.specs.Claim.{Delivered}
-use Rattle.model.proofs.Tests.{both, all-yes, between-true, true-between, and-left, and-right}
+use Rattle.model.proofs.Tests.{both, all-yes, true-between}
 use Rattle.model.proofs.SoundClient.{ClientFacts, client-facts}
-use Rattle.model.proofs.SoundServer.{ServerFacts, server-facts, LineFacts, line-fact, takenSum}
+use Rattle.model.proofs.SoundServer.{server-facts, LineFacts, line-fact, takenSum}
 use Rattle.model.proofs.Sound.{new-end}
 use Rattle.model.proofs.Table.{table-roomy}
-use Rattle.model.proofs.Instance.{edit-laws, to-T, from-T, past-same, over-same}
+use Rattle.model.proofs.Instance.{edit-laws, from-T, past-same, over-same}
 use Rattle.model.proofs.Ranges.{priority-get, short}
 use Rattle.model.proofs.Sim.{clientFrom, serverFrom, lineFrom, line-from, carried-from, server-taken-from, Sim}
 use Rattle.model.proofs.Follow.{first-inserts, inserts-cons}

@@ -1,13 +1,12 @@
 -- Openings that question 1 lets through.
-use mathlib.Core.Path.{_≡_, refl, ap, sym, subst}
-use mathlib.Core.Bool.{true}
+use mathlib.Core.Path.{_≡_}
 use mathlib.Core.List.{List, [], _∷_}
 use Prim.Native.Nat.{ℕ, _≤_}
 use lib.Dec.{leb}
 use lib.ListN.{length, replicate}
 use borrow.Author.Tests.{le-leb}
 use Rattle.model.specs.Limits.{maxLines, maxInitial}
-use Rattle.model.specs.Questions.{asks, between, Answer, answer}
+use Rattle.model.specs.Questions.{asks, between}
 use Rattle.model.specs.Client.{Client, noClient, openClientQuestions, openClient}
 use Rattle.model.specs.Server.{Server, noLine, noServer, openServerQuestions, openServer}
 use Rattle.model.proofs.Tests.{held, all-yes, true-between}

@@ -1,12 +1,12 @@
 -- What a sound end writes is in range.
-use mathlib.Core.Path.{_≡_, refl, ap, sym, _∙_, subst}
-use mathlib.Core.Bool.{Bool, true, false, not, _&&_, _||_}
+use mathlib.Core.Path.{_≡_, refl}
+use mathlib.Core.Bool.{Bool, true, false, _&&_, _||_}
 use mathlib.Core.List.{List, [], _∷_}
-use Prim.Native.Nat.{ℕ, zero, suc, _+_, _-_, _≤_, _<_}
+use Prim.Native.Nat.{ℕ, zero, suc, _≤_, _<_}
 use native.Mathlib.Omega.{arith}
-use lib.Dec.{leb, eqb}
+use lib.Dec.{leb}
 use lib.ListN.{length, getD}
-use borrow.Author.Tests.{le-leb, leb-true, eqb-true}
+use borrow.Author.Tests.{le-leb}
 use Rattle.ot.specs.declared.Edit.{Edit}
 use Rattle.ot.specs.declared.Edit.the-variants.{Nothing, Delete, Insert}
 use Rattle.ot.specs.Laws.{within}
@@ -15,10 +15,8 @@ use Rattle.wire.specs.declared.Message.{Message}
 use Rattle.wire.specs.declared.Message.the-variants as message
 use Rattle.wire.specs.Message.{messageOf, headerInRange, inRange, maxUp, maxDown, between}
 use Rattle.wire.specs.Bytes.{bytesOf}
-use Rattle.jupiter.proofs.Lists.{All}
-use Rattle.model.specs.Limits.{maxItems}
 use Rattle.model.specs.Cross.{placed, allPlaced, priority, priorities}
-use Rattle.model.proofs.Tests.{both, and-left, and-right, between-true, true-between}
+use Rattle.model.proofs.Tests.{both, and-left, and-right, true-between}
 use Rattle.model.proofs.Small.{Small}
 
 -- an edit that an end keeps: its position, its priority and its item

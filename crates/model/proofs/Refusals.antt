@@ -1,12 +1,12 @@
 -- Which refusals a taking can meet in a list of calls.
 use mathlib.Core.Path.{_≡_, refl, ap, sym, _∙_, subst}
-use mathlib.Core.Bool.{Bool, true, false, _&&_, cond}
+use mathlib.Core.Bool.{Bool, true, false, cond}
 use mathlib.Core.Option.{some}
 use mathlib.Core.List.{List, [], _∷_}
-use Prim.Native.Nat.{ℕ, zero, suc, _+_, _-_, _≤_, _<_}
+use Prim.Native.Nat.{ℕ, zero, suc, _+_, _-_, _≤_}
 use native.Mathlib.Numerals.{add-one}
 use native.Mathlib.Omega.{arith}
-use lib.Dec.{eqb, leb, ltb}
+use lib.Dec.{eqb, leb}
 use lib.ListN.{length, getElem?}
 use borrow.Author.Tests.{eqb-true, leb-true, le-leb}
 use Rattle.wire.specs.declared.Header.{Header}
@@ -20,15 +20,14 @@ use Rattle.jupiter.specs.Ends as ends
 use Rattle.jupiter.specs.Ends.{Ends}
 use Rattle.jupiter.specs.Run.{Letter, up, down, upAck, downAck}
 use Rattle.jupiter.proofs.Step.{UpMessage, DownMessage}
-use Rattle.model.specs.Limits.{maxInitial}
 use Rattle.model.specs.Questions.{Question, ask, asks, Answer, answer}
 use Rattle.model.specs.Cross.{priority}
 use Rattle.model.specs.Client.{Client, soundClient, other, clientTaken, clientAcked, clientEditQuestions, clientTakesEdit, clientAckQuestions, clientTakesAck, clientTakes, clientReads, takeClient}
-use Rattle.model.specs.Server.{Line, Server, lineOf, soundServer, serverTaken, serverAcked, othersRoomy, serverEditQuestions, serverTakesEdit, serverAckQuestions, serverTakesAck, serverTakes, serverReads, takeServer}
+use Rattle.model.specs.Server.{Line, Server, lineOf, soundServer, serverTaken, serverAcked, serverEditQuestions, serverTakesEdit, serverAckQuestions, serverTakesAck, serverTakes, serverReads, takeServer}
 use Rattle.model.specs.Edits.{edits}
 use Rattle.model.specs.Log.{letterMessage, letterBytes}
 use Rattle.model.specs.Run.{State, run, start}
-use Rattle.model.specs.Ours.{End, client, server, ours}
+use Rattle.model.specs.Ours.{End, ours}
 use Rattle.model.specs.Refusals.{among, TakingRefusals}
 use Rattle.model.proofs.Tests.{and-left, and-right, between-true}
 use Rattle.model.proofs.Sound.{three}

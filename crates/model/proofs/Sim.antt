@@ -1,36 +1,33 @@
 -- The sheet follows the theory: its ends are the theory's ends with 01's limits, and its log is the theory's history.
-use mathlib.Core.Path.{_≡_, refl, ap, ap₂, sym, _∙_, subst}
+use mathlib.Core.Path.{_≡_, refl, ap, _∙_, subst}
 use mathlib.Core.Bool.{Bool, true, false, cond}
-use mathlib.Core.List.{List, [], _∷_, _++_, map, append-nil, append-assoc}
-use Prim.Native.Nat.{ℕ, zero, suc, _+_, _-_, _≤_, _<_}
+use mathlib.Core.List.{List, map}
+use Prim.Native.Nat.{ℕ, _+_, _-_, _≤_}
 use native.Mathlib.Numerals.{add-one}
 use native.Mathlib.Omega.{arith}
-use lib.Dec.{T, eqb}
-use lib.ListN.{length, getD, drop}
-use borrow.Author.Tests.{eqb-true, ne-eqb, eq-eqb}
+use lib.Dec.{eqb}
+use lib.ListN.{length, drop}
+use borrow.Author.Tests.{eqb-true}
 use Rattle.ot.specs.declared.Edit.{Edit}
 use Rattle.ot.specs.Edit.{applied}
 use Rattle.wire.specs.Message.{inRange}
-use Rattle.jupiter.specs.Made.{Made, select, reject, isBy, mine, others}
-use Rattle.jupiter.specs.History.{History, at, order, newEdit, afterEdit, afterUp, afterDown}
+use Rattle.jupiter.specs.Made.{Made, mine, others}
+use Rattle.jupiter.specs.History.{History, at, order}
 use Rattle.jupiter.specs.Ends as ends
-use Rattle.jupiter.specs.Ends.{Ends, Message, keeps, acks, takes, arrived, editing, takingUp, takingDown, ackingUp, ackingDown}
+use Rattle.jupiter.specs.Ends.{Ends, Message, keeps, acks, takes, arrived}
 use Rattle.jupiter.specs.Run.{Letter}
 use Rattle.jupiter.specs.Claims.{inserts}
-use Rattle.jupiter.proofs.Lists.{All, all-append, all-map}
+use Rattle.jupiter.proofs.Lists.{All}
 use Rattle.jupiter.proofs.World.{Inv}
-use Rattle.jupiter.proofs.Step.{Later, Step}
-use Rattle.jupiter.proofs.Runs.{Fine, fine-later}
-use Rattle.model.specs.Questions.{Answer, answer}
-use Rattle.model.specs.Cross.{past, over, insertsOf}
-use Rattle.model.specs.Client.{Client, soundClient, edited, unacked, clientTaken, clientAcked}
+use Rattle.jupiter.proofs.Runs.{Fine}
+use Rattle.model.specs.Cross.{past, insertsOf}
+use Rattle.model.specs.Client.{Client, soundClient, edited, clientTaken, clientAcked}
 use Rattle.model.specs.Server.{Line, Server, noLine, lineOf, soundServer, unackedOf, carried, lineTaken, lineKeeps, lineAcked, atPlace, serverTaken, serverAcked}
 use Rattle.model.specs.Edits.{edits}
-use Rattle.model.specs.Sheet.{Call}
-use Rattle.model.specs.Log.{Log, letterMessage, letterBytes, hears, refusedLog, log, logged}
-use Rattle.model.specs.Run.{State, answered}
+use Rattle.model.specs.Log.{letterMessage, letterBytes}
+use Rattle.model.specs.Run.{State}
 use Rattle.model.specs.Ours.{End, client, server, ours}
-use Rattle.model.proofs.Table.{table, table-cong, table-get, table-at, cond-eq, cond-ne}
+use Rattle.model.proofs.Table.{table, table-cong, table-get, table-at, cond-ne}
 use Rattle.model.proofs.Instance.{past-same, over-same}
 use Rattle.model.proofs.Small.{Small}
 

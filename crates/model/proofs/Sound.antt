@@ -1,12 +1,12 @@
 -- Question 2 is kept by every call.
-use mathlib.Core.Path.{_≡_, refl, ap, sym, _∙_, subst}
-use mathlib.Core.Bool.{Bool, true, false, not, _&&_, _||_}
-use mathlib.Core.List.{List, [], _∷_, _++_}
-use Prim.Native.Nat.{ℕ, zero, suc, _+_, _-_, _≤_, _<_}
+use mathlib.Core.Path.{_≡_, refl, sym, subst}
+use mathlib.Core.Bool.{Bool, true, false, _&&_, _||_}
+use mathlib.Core.List.{List, [], _∷_}
+use Prim.Native.Nat.{ℕ, zero, suc, _+_, _-_, _≤_}
 use native.Mathlib.Omega.{arith}
-use lib.Dec.{leb, ltb, eqb}
+use lib.Dec.{leb, eqb}
 use lib.ListN.{length, replicate, length-replicate}
-use borrow.Author.Tests.{leb-true, le-leb, ltb-true, eq-eqb, eqb-true}
+use borrow.Author.Tests.{leb-true, ltb-true, eq-eqb, eqb-true}
 use Rattle.ot.specs.declared.Edit.{Edit}
 use Rattle.ot.specs.declared.Edit.the-variants.{Nothing, Delete, Insert}
 use Rattle.ot.specs.Edit.{applied, fits}
@@ -19,15 +19,15 @@ use Rattle.wire.specs.Message.{inRange, headerInRange, maxUp, maxDown}
 use Rattle.wire.specs.Bytes.{parsed}
 use Rattle.wire.proofs.Ranges.{header-bounds, insert-bounds, delete-bounds}
 use Rattle.wire.proofs.Codec.{codec}
-use Rattle.model.specs.Limits.{maxLines, maxInserts, maxEdits, maxOthers, maxPending, maxItems, maxInitial}
-use Rattle.model.specs.Questions.{ask, asks, every, between, Answer, answer}
+use Rattle.model.specs.Limits.{maxLines, maxInserts, maxEdits, maxPending, maxItems, maxInitial}
+use Rattle.model.specs.Questions.{ask, asks, between, Answer, answer}
 use Rattle.model.specs.Cross.{past, over, allPlaced, priority, priorities, insertsOf}
-use Rattle.model.specs.Client.{Client, noClient, soundClient, openClientQuestions, openClient, edited, editQuestions, editClient, other, unacked, clientTaken, clientAcked, clientEditQuestions, clientTakesEdit, clientAckQuestions, clientTakesAck, clientReads, clientTakes, takeClient}
-use Rattle.model.specs.Server.{Line, Server, noLine, noServer, lineOf, total, soundServer, soundLine, soundLines, openServerQuestions, openServer, unackedOf, carried, serverTaken, serverAcked, othersRoomy, serverEditQuestions, serverTakesEdit, serverAckQuestions, serverTakesAck, serverReads, serverTakes, takeServer}
+use Rattle.model.specs.Client.{Client, noClient, soundClient, openClientQuestions, openClient, edited, editQuestions, editClient, unacked, clientTaken, clientAcked, clientEditQuestions, clientTakesEdit, clientAckQuestions, clientTakesAck, clientReads, takeClient}
+use Rattle.model.specs.Server.{Line, Server, noLine, noServer, lineOf, total, soundServer, openServerQuestions, openServer, unackedOf, carried, serverTaken, serverAcked, serverEditQuestions, serverTakesEdit, serverAckQuestions, serverTakesAck, serverReads, takeServer}
 use Rattle.model.specs.Sound.{KeepsSound}
-use Rattle.model.proofs.Tests.{both, and-left, and-right, hold, Yes, Numbered, yes-all, answer-keeps, between-true, true-between}
-use Rattle.model.proofs.SoundClient.{ClientFacts, client-facts, facts-client, edited-sound, taken-sound, acked-sound}
-use Rattle.model.proofs.SoundServer.{LineFacts, LinesFacts, ServerFacts, server-facts, facts-server, takenSum, insertSum, Asked, inserts-one, server-taken-sound, server-acked-sound}
+use Rattle.model.proofs.Tests.{and-left, and-right, hold, yes-all, answer-keeps, between-true}
+use Rattle.model.proofs.SoundClient.{client-facts, facts-client, edited-sound, taken-sound, acked-sound}
+use Rattle.model.proofs.SoundServer.{LinesFacts, server-facts, facts-server, inserts-one, server-taken-sound, server-acked-sound}
 
 -- An answer with refusal 0 hands out the new end.
 pub accepted : {E : Type 0} (r : ℕ) (old new : E) (k : ℕ) → (answer r old new k) .refusal ≡ 0 → r ≡ 0

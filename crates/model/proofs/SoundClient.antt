@@ -1,20 +1,18 @@
 -- Every call keeps a sound client sound.
-use mathlib.Core.Path.{_≡_, refl, ap, sym, _∙_, subst}
-use mathlib.Core.Bool.{Bool, true, false, not, _&&_}
-use mathlib.Core.List.{List, [], _∷_, _++_}
-use Prim.Native.Nat.{ℕ, zero, suc, _+_, _-_, _≤_, _<_}
+use mathlib.Core.Path.{_≡_, _∙_}
+use mathlib.Core.Bool.{true}
+use mathlib.Core.List.{[], _∷_}
+use Prim.Native.Nat.{ℕ, _+_, _-_, _≤_, _<_}
 use native.Mathlib.Omega.{arith}
-use lib.Dec.{leb, ltb, eqb}
-use lib.ListN.{length, drop, length-append, length-drop}
-use borrow.Author.Tests.{leb-true, le-leb, ltb-true, eq-eqb, eqb-true}
+use lib.Dec.{eqb}
+use lib.ListN.{length, length-append, length-drop}
+use borrow.Author.Tests.{leb-true, le-leb, eq-eqb, eqb-true}
 use Rattle.ot.specs.declared.Edit.{Edit}
-use Rattle.ot.specs.declared.Edit.the-variants.{Nothing, Delete, Insert}
 use Rattle.ot.specs.Edit.{applied, fits}
-use Rattle.model.specs.Limits.{maxLines, maxInserts, maxEdits, maxOthers, maxPending, maxItems, maxInitial}
-use Rattle.model.specs.Questions.{Question, ask, asks, every, between, Answer, answer}
+use Rattle.model.specs.Limits.{maxLines, maxInserts, maxEdits, maxOthers, maxPending, maxItems}
 use Rattle.model.specs.Cross.{past, over, allPlaced, priority, priorities, insertsOf}
-use Rattle.model.specs.Client.{Client, clientTests, soundClient, edited, editClient, unacked, clientTaken, clientAcked}
-use Rattle.model.proofs.Tests.{both, and-left, and-right, Hold, hold, held, Yes, yes-all, answer-keeps, between-true, true-between}
+use Rattle.model.specs.Client.{Client, clientTests, soundClient, edited, unacked, clientTaken, clientAcked}
+use Rattle.model.proofs.Tests.{hold, held, between-true, true-between}
 use Rattle.model.proofs.Cross.{fits-placed, placed-append, placed-drop, priorities-append, priorities-drop, priorities-over, length-over}
 
 -- question 2 as facts

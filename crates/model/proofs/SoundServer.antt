@@ -1,11 +1,11 @@
 -- Every call keeps a sound server sound.
-use mathlib.Core.Path.{_≡_, refl, ap, sym, _∙_, subst}
-use mathlib.Core.Bool.{Bool, true, false, not, _&&_}
-use mathlib.Core.List.{List, [], _∷_, _++_, map}
+use mathlib.Core.Path.{_≡_, refl, ap, _∙_, subst}
+use mathlib.Core.Bool.{true, not}
+use mathlib.Core.List.{List, [], _∷_, map}
 use Prim.Native.Nat.{ℕ, zero, suc, _+_, _-_, _*_, _≤_, _<_}
 use native.Mathlib.Omega.{arith}
-use lib.Dec.{leb, ltb, eqb}
-use lib.ListN.{length, getD, drop, replicate, length-append, length-drop, length-map, length-replicate}
+use lib.Dec.{eqb}
+use lib.ListN.{length, getD, length-append, length-drop, length-map}
 use borrow.Author.Tests.{leb-true, le-leb, ltb-true, eq-eqb, eqb-true, ne-eqb}
 use Rattle.ot.specs.declared.Edit.{Edit}
 use Rattle.ot.specs.declared.Edit.the-variants.{Nothing, Delete, Insert}
@@ -14,10 +14,10 @@ use Rattle.ot.specs.Items.{sizeAfter}
 use Rattle.ot.proofs.Laws.{laws}
 use Rattle.model.specs.Limits.{maxLines, maxInserts, maxEdits, maxPending, maxItems, maxInitial}
 use Rattle.model.specs.Questions.{every, between}
-use Rattle.model.specs.Cross.{past, over, allPlaced, placed, priority, priorities, insertsOf}
+use Rattle.model.specs.Cross.{over, allPlaced, placed, priority, priorities, insertsOf}
 use Rattle.model.specs.Client.{other}
 use Rattle.model.specs.Server.{Line, Server, noLine, lineOf, total, lineTests, soundLine, soundLines, serverTests, soundServer, unackedOf, lineAcked, lineTaken, lineKeeps, atPlace, serverAcked, carried, serverTaken, roomy, othersRoomy}
-use Rattle.model.proofs.Tests.{both, and-left, and-right, Hold, hold, held, between-true, true-between}
+use Rattle.model.proofs.Tests.{both, and-left, and-right, hold, held, between-true, true-between}
 use Rattle.model.proofs.Cross.{fits-placed, placed-append, placed-drop, priorities-append, priorities-drop, priorities-over, priority-past, inserts-past, length-over}
 
 -- question 2 of a line as facts

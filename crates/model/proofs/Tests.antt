@@ -1,13 +1,12 @@
 -- Lists of tests and questions as facts, and back.
-use mathlib.Core.Path.{_≡_, refl, ap, sym, _∙_, subst}
-use mathlib.Core.Bool.{Bool, true, false, not, _&&_, cond}
+use mathlib.Core.Path.{_≡_, refl}
+use mathlib.Core.Bool.{Bool, true, false, _&&_, cond}
 use mathlib.Core.List.{List, [], _∷_}
 use Prim.Native.Nat.{ℕ, _≤_}
-use native.Mathlib.Omega.{arith}
 use lib.Dec.{leb, eqb}
-use borrow.Author.Tests.{leb-true, le-leb, eq-eqb, eqb-true}
+use borrow.Author.Tests.{leb-true, le-leb, eqb-true}
 pub use Rattle.ot.proofs.Fits.{and-left, and-right}
-use Rattle.model.specs.Questions.{Question, ask, asks, every, between, Answer, answer, Sent, sent}
+use Rattle.model.specs.Questions.{Question, asks, every, between, Answer, answer}
 
 pub both : (s t : Bool) → s ≡ true → t ≡ true → (s && t) ≡ true
 both true t e f = f

@@ -4,9 +4,9 @@ use mathlib.Core.List.{List, [], _∷_}
 use Prim.Native.Nat.{ℕ, _≤_}
 use native.Mathlib.Omega.{arith}
 use Rattle.model.specs.Questions.{Answer}
-use Rattle.model.specs.Sheet.{Sheet, Call, insert, send, receive}
-use Rattle.model.specs.Run.{areItems, State, run, start}
-use Rattle.model.specs.Claim.{Holds, Converges, Full}
+use Rattle.model.specs.Sheet.{Call, insert, send, receive}
+use Rattle.model.specs.Run.{run, start}
+use Rattle.model.specs.Claim.{Converges, Full}
 use Rattle.model.specs.Ours.{ours}
 use Rattle.model.specs.Marked.{lent}
 use Rattle.model.specs.Wrong.{leaving, repeating, firstOnly, refusing, miscounting, early, Refuted}

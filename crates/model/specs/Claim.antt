@@ -1,16 +1,15 @@
 -- Demands 2 and 3 as one claim over all lists of calls. Each field is a sentence of 01.
-use Prim.Native.Nat.{ℕ, suc, _+_, _≤_, _<_}
+use Prim.Native.Nat.{ℕ, suc, _+_, _≤_}
 use mathlib.Core.Path.{_≡_}
-use mathlib.Core.Bool.{Bool, true, false}
-use mathlib.Core.List.{List, [], _∷_, map}
+use mathlib.Core.Bool.{true}
+use mathlib.Core.List.{List, [], map}
 use lib.ListN.{length, take}
 use Rattle.jupiter.specs.Form.{replay}
 use Rattle.jupiter.specs.History.{History, order, missing}
 use Rattle.model.specs.Limits.{maxLines, maxPending, maxInitial}
-use Rattle.model.specs.Questions.{Answer, Sent}
 use Rattle.model.specs.Edits.{edits}
 use Rattle.model.specs.Sheet.{Sheet, Call}
-use Rattle.model.specs.Log.{Log, madeAt, takenAt, letterBytes}
+use Rattle.model.specs.Log.{madeAt, takenAt, letterBytes}
 use Rattle.model.specs.Run.{State, areItems, areBytes, run, start}
 
 module _ (S : Sheet) where

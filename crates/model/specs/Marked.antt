@@ -5,8 +5,8 @@ use mathlib.Core.List.{List, [], _∷_, map}
 use lib.ListN.{replicate}
 use Rattle.ot.specs.Cases.{TransformCases}
 use Rattle.wire.specs.Cases as bytes
-use Rattle.model.specs.Sheet.{Call, insert, delete, send, tell, receive}
-use Rattle.model.specs.Run.{State, run, start}
+use Rattle.model.specs.Sheet.{Call, insert, delete, send, receive}
+use Rattle.model.specs.Run.{run, start}
 use Rattle.model.specs.Ours.{ours, itemsOf}
 
 -- 14 bytes, enough for any message

@@ -1,6 +1,6 @@
 -- The sheet that this project builds.
 use Prim.Native.Nat.{ℕ}
-use mathlib.Core.List.{List, []}
+use mathlib.Core.List.{List}
 use Rattle.model.specs.Questions.{Answer, Sent}
 use Rattle.model.specs.Sheet.{Sheet}
 use Rattle.model.specs.Client as clients

@@ -1,8 +1,8 @@
 -- Every call is a list of numbered questions; the first no gives its number, and then nothing changes (01: "The questions, in order").
-use Prim.Native.Nat.{ℕ, _-_}
-use mathlib.Core.Bool.{Bool, true, false, _&&_, cond}
+use Prim.Native.Nat.{ℕ}
+use mathlib.Core.Bool.{Bool, true, _&&_, cond}
 use mathlib.Core.List.{List, [], _∷_, _++_}
-use lib.Dec.{leb, eqb}
+use lib.Dec.{eqb}
 use lib.ListN.{length, drop}
 pub use Rattle.wire.specs.Message.{between}
 

@@ -9,7 +9,7 @@ use lib.ListN.{getElem?}
 use Rattle.wire.specs.declared.Read.the-variants as read
 use Rattle.wire.specs.Bytes.{parsed}
 use Rattle.model.specs.Sheet.{Call}
-use Rattle.model.specs.Run.{State, areItems, run, start}
+use Rattle.model.specs.Run.{run, start}
 use Rattle.model.specs.Ours.{ours}
 
 unfoldable pub among : List ℕ → ℕ → Bool

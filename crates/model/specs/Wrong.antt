@@ -1,9 +1,8 @@
 -- Sheets that must not pass (01: promise c). Each is ours with one fault.
 use Prim.Native.Nat.{ℕ, suc, _+_, _-_}
 use mathlib.Core.Bool.{Bool, true, false, cond}
-use mathlib.Core.List.{List, [], _∷_, map}
-use lib.Dec.{leb, ltb, eqb}
-use lib.ListN.{length, drop}
+use mathlib.Core.List.{List, [], _∷_}
+use lib.Dec.{leb, eqb}
 use Rattle.ot.specs.declared.Edit.{Edit}
 use Rattle.ot.specs.declared.Edit.the-variants.{Nothing, Delete, Insert}
 use Rattle.ot.specs.Edit.{applied, transformed}
@@ -13,9 +12,9 @@ use Rattle.wire.specs.declared.Message.the-variants as message
 use Rattle.wire.specs.declared.Read.{Read}
 use Rattle.wire.specs.declared.Read.the-variants as read
 use Rattle.wire.specs.Bytes.{parsed}
-use Rattle.model.specs.Questions.{Question, ask, asks, every, Answer, answer}
-use Rattle.model.specs.Client.{Client, unacked, clientTakesAck, clientEditQuestions, clientTaken, takeClient}
-use Rattle.model.specs.Server.{Server, Line, lineOf, takeServer}
+use Rattle.model.specs.Questions.{asks, Answer, answer}
+use Rattle.model.specs.Client.{Client, unacked, clientTakesAck, clientEditQuestions}
+use Rattle.model.specs.Server.{Line, takeServer}
 use Rattle.model.specs.Sheet.{Sheet}
 use Rattle.model.specs.Claim.{Converges}
 use Rattle.model.specs.Ours.{End, client, server, itemsOf, insertAt, answerAs, takeAt, ours}

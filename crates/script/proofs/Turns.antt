@@ -4,11 +4,11 @@ use mathlib.Core.Path.{_≡_, refl, sym, ap, ap₂, _∙_, subst}
 use mathlib.Core.Bool.{Bool, true, false, _&&_, cond}
 use mathlib.Core.List.{List, [], _∷_, _++_, map}
 use native.Mathlib.Omega.{arith}
-use lib.ListN.{length, getD, take, drop, replicate, length-append, length-map, drop-of-length-le}
+use lib.ListN.{length, getD, take, drop, replicate, length-append, length-map}
 use lib.Dec.{leb, ltb}
 use Rattle.ot.specs.Items.{padded}
 use Rattle.model.specs.Limits.{maxLines}
-use Rattle.model.specs.Questions.{every, Sent}
+use Rattle.model.specs.Questions.{every}
 use Rattle.model.specs.Client as models
 use Rattle.model.specs.Server as serverModels
 use Rattle.model.proofs.Tests.{between-true}
@@ -27,9 +27,9 @@ use Rattle.text.specs.Sink.{Sink, sink, puts}
 use Rattle.text.specs.Text.{before, linesOf, wordsOf, same}
 use Rattle.text.specs.Decimal.{numberOf, tooWide}
 use Rattle.text.specs.Command.{Command, Bad, Insert, Delete, Up, Down, Ack, Told, withOne, afterNumber, verbOf, spoken, commandOf, ackWord, toldWord, delWord, upWord, downWord, insWord}
-use Rattle.bench.specs.Bench.{Bench, SoundBench, room, step, clientOf}
-use Rattle.text.specs.Lines.{unknown, replied, clientList}
-use Rattle.script.specs.Output.{understood, replies, clientLists, lists, ran}
+use Rattle.bench.specs.Bench.{Bench, SoundBench, step, clientOf}
+use Rattle.text.specs.Lines.{unknown, replied}
+use Rattle.script.specs.Output.{understood, replies, lists, ran}
 use Rattle.bench.specs.Ends.{Stepped, viewEnds, storeEnds, Whole, ordered}
 use Rattle.text.proofs.Sinks.{both, and-left, and-right, puts-append}
 use Rattle.text.proofs.Texts.{lines-none}

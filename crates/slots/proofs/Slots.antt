@@ -13,7 +13,6 @@ use Rattle.ot.specs.declared.Edit.{Edit}
 use Rattle.ot.specs.declared.Edit.the-variants.{Nothing}
 use Rattle.ot.specs.Items.{padded}
 use Rattle.model.specs.Limits.{maxPending}
-use Rattle.model.specs.Cross.{allPlaced}
 use Rattle.slots.specs.Slots.{placeOf, itemOf, editOf, editAt, editsFrom, stretch, filled, Kept, Whole}
 use Rattle.slots.proofs.Pad.{pad-getD, pad-length, pad-take, pad-drop, pad-snoc}
 

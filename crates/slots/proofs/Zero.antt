@@ -1,7 +1,7 @@
 -- A number that gathers the bits of others is zero where they all are.
 use Prim.Native.Nat.{ℕ, _+_}
 use native.Mathlib.Omega.{arith}
-use mathlib.Core.Path.{_≡_, refl, ap}
+use mathlib.Core.Path.{_≡_, refl}
 use mathlib.Core.Bool.{Bool, true, false, _&&_}
 use lib.Dec.{eqb}
 use lib.Bits.{bitOr, bitAnd, or-add-and, and-le-l, and-le-r}

@@ -1,10 +1,9 @@
 -- From a call that is done again to what the exported function answers.
 use Prim.Native.Nat.{ℕ, _+_, _-_, _*_, _/_, _≤_, _<_}
-use native.Mathlib.Omega.{arith}
-use mathlib.Core.Path.{_≡_, refl, ap, _∙_, sym, subst}
+use mathlib.Core.Path.{_≡_, ap, _∙_, sym}
 use mathlib.Core.Bool.{Bool, true, false, _&&_, cond, and-false}
-use mathlib.Core.List.{List, [], _∷_}
-use lib.Dec.{leb, eqb}
+use mathlib.Core.List.{List, []}
+use lib.Dec.{leb}
 use lib.ListN.{length, take, drop}
 use lib.Seq.{sets}
 use borrow.Author.Tests.{leb-true, le-leb, lt-leb}
@@ -12,13 +11,13 @@ use Rattle.model.proofs.Tests.{both, and-left, and-right}
 use Rattle.wire.specs.Bytes.{twoAt}
 use Rattle.calls.specs.declared.call.Call.{Call}
 use Rattle.calls.specs.Calls.{callOf, isCall, canRepeat}
-use Rattle.calls.specs.Dump.{Put}
-use Rattle.calls.specs.Header.{headed, itemsFrom, itemsIn, bodyAt, countIn}
+use Rattle.dump.specs.Dump.{Put}
+use Rattle.calls.specs.Header.{headed, itemsFrom, itemsIn, countIn}
 use Rattle.driver.specs.declared.drive.World.{World}
 use Rattle.driver.specs.Drive.{start, turnOf, afterAll, callsOf}
 use Rattle.driver.specs.Answers.{Wrote}
 use Rattle.timing.specs.Repeat.{Replied, lastCall, beforeLast, repeated}
-use Rattle.calls.proofs.Bytes.{whole-drop}
+use Rattle.calls.proofs.Reading.{whole-drop}
 
 pub last-is : (s : List ℕ) (c : ℕ) (k : Call) → c ≡ twoAt s 0
     → k ≡ callOf (drop (2 + 4 * c + 16 * ((length s - (2 + 4 * c)) / 16 - 1)) s)

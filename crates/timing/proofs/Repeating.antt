@@ -20,13 +20,15 @@ use Rattle.server.specs.declared.Server.{Server}
 use Rattle.server.specs.declared.Answer as fromServer
 use Rattle.server.specs.Calls as server
 use Rattle.calls.specs.declared.call.Call.{Call}
-use Rattle.calls.specs.Calls.{atEnd, canSet, isCall, placeOf, sends}
-use Rattle.calls.specs.Dump.{answerBytes}
+use Rattle.calls.specs.Calls.{atEnd, isCall, placeOf, sends}
+use Rattle.dump.specs.Dump.{answerBytes}
 use Rattle.driver.specs.declared.drive.World.{World}
-use Rattle.turns.specs.Turn.{Turn, front, slotOf, slotIn, lengthIn, sentBytes, changedBytes, changedTurn, clientAnswer, clientSends, serverAnswer, serverSends, clientSent, clientChanged, clientReply, clientTurn, serverSent, serverChanged, serverReply, serverTurn}
+use Rattle.messages.specs.Slot.{Turn, front, slotOf, slotIn, lengthIn, sentBytes, changedBytes, changedTurn}
+use Rattle.client_calls.specs.Turn.{clientAnswer, clientSends, clientSent, clientChanged, clientReply, clientTurn}
+use Rattle.server_calls.specs.Turn.{serverAnswer, serverSends, serverSent, serverChanged, serverReply, serverTurn}
 use Rattle.driver.specs.Drive.{noClient, turnAt, turnOf}
 use Rattle.timing.specs.Repeat.{changeOf, editedBytes, Replied}
-use Rattle.turns.proofs.Turns.{never}
+use Rattle.messages.proofs.Turned.{never}
 
 -- ---- copying 20 bytes
 

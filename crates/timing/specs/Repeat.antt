@@ -13,7 +13,7 @@ use Rattle.client.specs.Answers as client
 use Rattle.calls.specs.declared.call.Call.{Call}
 use Rattle.calls.specs.Calls.{callOf, canRepeat}
 use Rattle.calls.specs.Header.{headed, itemsIn, bodyAt, countIn}
-use Rattle.turns.specs.Turn.{changedBytes}
+use Rattle.messages.specs.Slot.{changedBytes}
 use Rattle.driver.specs.declared.drive.World.{World}
 use Rattle.driver.specs.Drive.{start, turnOf, afterAll, callsOf}
 

@@ -12,13 +12,14 @@ ghost use Rattle.server.specs.View.{serverOf};
 ghost use Rattle.server.specs.Sound.{Sizes as ServerSizes};
 ghost use Rattle.server.specs.Calls.{takes};
 ghost use Rattle.calls.specs.Calls.{isCall, sends};
-ghost use Rattle.calls.specs.Dump.{answerBytes};
+ghost use Rattle.dump.specs.Dump.{answerBytes};
 ghost use Rattle.driver.specs.Answers.{Wrote};
 ghost use Rattle.timing.specs.Repeat.{changeOf, editedBytes, Replied, repeated};
-ghost use Rattle.turns.specs.Turn.{clientChanged, clientSent, serverSent, changedBytes, sentBytes};
+ghost use Rattle.messages.specs.Slot.{changedBytes, sentBytes};
+ghost use Rattle.client_calls.specs.Turn.{clientChanged, clientSent};
+ghost use Rattle.server_calls.specs.Turn.{serverSent};
 use calls::call;
 use calls::call::Call;
-use calls::dump;
 use calls::header;
 use client::Client;
 use client::editing::Change;
@@ -170,7 +171,7 @@ fn repeat_client_sent(c: Client, k: Call, slot: [u8; 20], times: u32) -> Reply
     ensures { λ r. ⌜ answerBytes (r .refusal) (r .written) (r .passed) ≡ sentBytes (clientSent k c (take (min (k .size) 20) slot)) ⌝ }
 {
     let q = c.counts();
-    let size = turns::within(k.size);
+    let size = messages::within(k.size);
     let mut i = 1;
     loop {
         let mut lent = slot;
@@ -227,7 +228,7 @@ fn repeat_server_sent(s: Server, k: Call, slot: [u8; 20], times: u32) -> Reply
     ensures { λ r. ⌜ answerBytes (r .refusal) (r .written) (r .passed) ≡ sentBytes (serverSent k s (take (min (k .size) 20) slot)) ⌝ }
 {
     let q = s.counts();
-    let size = turns::within(k.size);
+    let size = messages::within(k.size);
     let mut i = 1;
     loop {
         let mut lent = slot;
@@ -254,9 +255,9 @@ fn repeat(w: World, k: Call, times: u32) -> Reply
     ensures { λ r. ⌜ Replied k w (answerBytes (r .refusal) (r .written) (r .passed)) ⌝ }
 {
     let lengths = w.lengths;
-    let n = turns::held(k, &lengths);
+    let n = messages::held(k, &lengths);
     let slots = w.slots;
-    let slot = slot_at(&slots, 20 * turns::slot_of(k));
+    let slot = slot_at(&slots, 20 * messages::slot_of(k));
     let sending = call::sends(k);
     if k.end == 0 {
         let server = w.server;

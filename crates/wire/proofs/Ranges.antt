@@ -6,7 +6,7 @@ use mathlib.Core.Bool.{Bool, true, false, _&&_, _||_}
 use lib.Dec.{leb, eqb}
 use borrow.Author.Tests.{eqb-true, leb-true}
 use Rattle.wire.specs.declared.Header.{Header}
-use Rattle.wire.specs.declared.Message.the-variants.{Insert, Delete, Nothing, Ack}
+use Rattle.wire.specs.declared.Message.the-variants.{Insert, Delete, Ack}
 use Rattle.wire.specs.Message.{maxUp, maxDown, between, headerInRange, inRange}
 
 pub both : (a b : Bool) → a && b ≡ true → (a ≡ true) × (b ≡ true)

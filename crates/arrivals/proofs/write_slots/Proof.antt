@@ -1,5 +1,5 @@
 use borrow.Author.Needs.{needs}
-use mathlib.Core.Path.{_≡_, subst}
+use mathlib.Core.Path.{subst}
 use Prim.Native.Nat.{ℕ}
 use Rattle.lines.specs.Taking.{stayingAt, Written}
 use Rattle.arrivals.proofs.write_slots.Statement.{statement}

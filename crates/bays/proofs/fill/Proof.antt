@@ -3,7 +3,6 @@ use mathlib.Core.Path.{_≡_, refl, sym, _∙_}
 use mathlib.Core.List.{[]}
 use native.Mathlib.Omega.{arith}
 use borrow.Author.Needs.{needs}
-use denote.Ref.{now}
 use lib.ListN.{length, getD}
 use Rattle.client.specs.declared.Client.{Client}
 use Rattle.bays.proofs.Beside.{put-is, Filling, filling-start, filling-turn, filling-end}

@@ -4,7 +4,7 @@ use mathlib.Core.Path.{ap, _∙_}
 use borrow.Author.Needs.{needs}
 use Rattle.client.specs.Store.{Sizes}
 use Rattle.client.specs.declared.Answer.{Answer}
-use Rattle.turns.specs.Turn.{changedBytes}
+use Rattle.messages.specs.Slot.{changedBytes}
 use Rattle.timing.proofs.burst.Statement.{statement}
 use Rattle.timing.proofs.burst.Tie as tie
 

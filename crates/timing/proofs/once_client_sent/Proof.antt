@@ -1,5 +1,5 @@
 use mathlib.Core.Path.{_∙_}
-use Rattle.turns.specs.Turn.{clientSent}
+use Rattle.client_calls.specs.Turn.{clientSent}
 use Rattle.timing.proofs.Repeating.{sent-edit, sent-ack}
 use borrow.Author.Needs.{needs}
 use Rattle.timing.proofs.once_client_sent.Statement.{statement}

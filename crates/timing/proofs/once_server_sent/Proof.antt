@@ -1,5 +1,5 @@
 use mathlib.Core.Path.{_∙_}
-use Rattle.turns.specs.Turn.{serverSent}
+use Rattle.server_calls.specs.Turn.{serverSent}
 use Rattle.timing.proofs.Repeating.{sent-edit, sent-ack}
 use borrow.Author.Needs.{needs}
 use Rattle.timing.proofs.once_server_sent.Statement.{statement}

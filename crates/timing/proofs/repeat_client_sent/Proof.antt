@@ -1,11 +1,11 @@
-use Prim.Native.Nat.{ℕ, _-_, _≤_}
+use Prim.Native.Nat.{_-_, _≤_}
 use native.Mathlib.Omega.{arith}
 use mathlib.Core.Path.{sym, _∙_}
 use lib.Seq.{length-take-le}
 use borrow.Author.Needs.{needs}
 use Rattle.line.specs.declared.Counts.{Counts}
 use Rattle.client.specs.Store.{clientOf}
-use Rattle.turns.specs.Turn.{clientSent}
+use Rattle.client_calls.specs.Turn.{clientSent}
 use Rattle.timing.proofs.Repeating.{sent-same}
 use Rattle.timing.proofs.repeat_client_sent.Statement.{statement}
 use Rattle.timing.proofs.repeat_client_sent.Tie as tie

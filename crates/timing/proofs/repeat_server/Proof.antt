@@ -1,10 +1,10 @@
-use Prim.Native.Nat.{ℕ, _-_, _≤_}
+use Prim.Native.Nat.{_-_, _≤_}
 use native.Mathlib.Omega.{arith}
 use mathlib.Core.Path.{ap, sym, _∙_}
 use lib.Seq.{length-take-le}
 use borrow.Author.Needs.{needs}
 use Rattle.server.specs.declared.Answer.{Answer}
-use Rattle.turns.specs.Turn.{changedBytes}
+use Rattle.messages.specs.Slot.{changedBytes}
 use Rattle.timing.proofs.repeat_server.Statement.{statement}
 use Rattle.timing.proofs.repeat_server.Tie as tie
 

@@ -1,4 +1,4 @@
-use Prim.Native.Nat.{ℕ, _-_, _≤_}
+use Prim.Native.Nat.{_-_, _≤_}
 use native.Mathlib.Omega.{arith}
 use mathlib.Core.Path.{sym, subst, _∙_}
 use lib.Seq.{length-take-le}
@@ -6,7 +6,7 @@ use borrow.Author.Needs.{needs}
 use Rattle.lines.specs.declared.Counts.{Counts}
 use Rattle.server.specs.View.{countsOf, serverOf}
 use Rattle.server.specs.Sound.{Sizes}
-use Rattle.turns.specs.Turn.{serverSent}
+use Rattle.server_calls.specs.Turn.{serverSent}
 use Rattle.timing.proofs.Repeating.{sent-same}
 use Rattle.timing.proofs.repeat_server_sent.Statement.{statement}
 use Rattle.timing.proofs.repeat_server_sent.Tie as tie

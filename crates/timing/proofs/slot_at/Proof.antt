@@ -3,7 +3,6 @@ use native.Mathlib.Omega.{arith}
 use mathlib.Core.Path.{_≡_, refl, ap, sym, _∙_}
 use lib.ListN.{length, take, drop, length-set, length-drop}
 use lib.Seq.{take-all}
-use borrow.Author.Needs.{needs}
 use Rattle.timing.proofs.Repeating.{copy-turn}
 use Rattle.timing.proofs.slot_at.Statement.{statement}
 use Rattle.timing.proofs.slot_at.Tie as tie

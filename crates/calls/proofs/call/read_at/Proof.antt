@@ -1,6 +1,6 @@
 use mathlib.Core.Path.{ap, _∙_}
 use Rattle.calls.specs.Calls.{callOf}
-use Rattle.calls.proofs.Bytes.{whole-drop}
+use Rattle.calls.proofs.Reading.{whole-drop}
 use borrow.Author.Needs.{needs}
 use Rattle.calls.proofs.call.read_at.Statement.{statement}
 use Rattle.calls.proofs.call.read_at.Tie as tie

@@ -5,7 +5,7 @@ use mathlib.Core.Path.{_≡_, refl, ap, sym, _∙_}
 use lib.ListN.{length, take, length-set}
 use borrow.Author.Needs.{needs}
 use Rattle.calls.specs.Header.{itemsFrom}
-use Rattle.calls.proofs.Items.{items-none, items-turn}
+use Rattle.calls.proofs.Reading.{items-none, items-turn}
 use Rattle.calls.proofs.header.items_in.Statement.{statement}
 use Rattle.calls.proofs.header.items_in.Tie as tie
 

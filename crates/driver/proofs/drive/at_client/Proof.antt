@@ -1,6 +1,7 @@
 use mathlib.Core.Path.{sym, ap, _∙_}
 use denote.Ref.{now}
-use Rattle.turns.specs.Turn.{front, slotIn, lengthIn, clientAfter}
+use Rattle.messages.specs.Slot.{front, slotIn, lengthIn}
+use Rattle.client_calls.specs.Turn.{clientAfter}
 use Rattle.bays.proofs.Places.{lent-sizes, client-lent, client-there, only-there}
 use Rattle.driver.proofs.Driving.{turned-of}
 use borrow.Author.Needs.{needs}

@@ -5,8 +5,8 @@ use mathlib.Core.Path.{refl, sym, ap, subst, _∙_}
 use denote.Ref.{now}
 use Rattle.server.specs.View.{serverOf}
 use Rattle.calls.specs.Calls.{sizeOf}
-use Rattle.turns.specs.Turn.{front, slotIn, lengthIn}
-use Rattle.turns.proofs.Sizes.{SizesOf, after-sizes}
+use Rattle.messages.specs.Slot.{front, slotIn, lengthIn}
+use Rattle.server_calls.proofs.Sizes.{SizesOf, after-sizes}
 use Rattle.bays.proofs.Places.{place, laid-back}
 use Rattle.driver.specs.Drive.{worldOf, Held}
 use Rattle.driver.proofs.Driving.{Going, going-start, going-on, going-end, going-stop, fits, fits-server, fits-client, fits-slot, step-server, step-bay, step-slot, in-place}

@@ -1,9 +1,8 @@
-use borrow.Author.Needs.{needs}
 use native.Mathlib.Omega.{arith}
 use denote.Ref.{now}
 use mathlib.Core.Path.{_≡_, sym, subst}
 use Prim.Native.Nat.{ℕ, _+_, _-_, _≤_}
-use lib.ListN.{length, set}
+use lib.ListN.{set}
 use Rattle.lines.specs.Taking.{Raised}
 use Rattle.lines.proofs.Writing.{raised-none, raised-here, raised-turn, raised-skip}
 use Rattle.lines.proofs.taking.raise.Statement.{statement}

@@ -1,6 +1,5 @@
 use denote.Ref.{now}
 use Rattle.lines.proofs.Writing.{both-written}
-use borrow.Author.Needs.{needs}
 use Rattle.lines.proofs.taking.write_places.Statement.{statement}
 use Rattle.lines.proofs.taking.write_places.Tie as tie
 
