@@ -27,9 +27,9 @@ use Rattle.slots.proofs.Slots.{edits-length, filled-length, kept-items}
 use Rattle.pending.proofs.Crossing.{filled-over}
 use Rattle.endpoint.specs.Items.{stored, roomy}
 use Rattle.endpoint.proofs.Room.{roomy-model, roomy-room, room-stored, room-length}
-use Rattle.line.specs.declared.taking.Decision.{Decision}
-use Rattle.line.specs.Taking.{Between, takeAsked, ackAsked, askedEdit, askedAck, asked, Decidable, Decided, deciding, left, nine, editDone, decided, staying, Droppable}
-use Rattle.line.proofs.Deciding.{take-then, ack-seen, deciding-no, deciding-yes, deciding-then, left-items, few-staying}
+use Rattle.arrival.specs.declared.Decision.{Decision}
+use Rattle.arrival.specs.Taking.{Between, takeAsked, ackAsked, askedEdit, askedAck, asked, Decidable, Decided, deciding, left, nine, editDone, decided, staying, Droppable}
+use Rattle.arrival.proofs.Deciding.{take-then, ack-seen, deciding-no, deciding-yes, deciding-then, left-items, few-staying}
 use Rattle.client.specs.declared.Client.{Client}
 use Rattle.client.specs.Store.{counts, view, store, Sound}
 use Rattle.client.specs.Answers.{refusedWith, guarded, taken}

@@ -35,7 +35,7 @@ pub fn take_lent(
             return crate::refused(3, k);
         };
         let mut later = [0u32; 64];
-        let d = line::taking::decide(k, places, pending, m, &mut later);
+        let d = arrival::decide(k, places, pending, m, &mut later);
         if d.refusal != 0 {
             return Changed {
                 refusal: d.refusal,
@@ -44,8 +44,8 @@ pub fn take_lent(
             };
         }
         let e = d.edit;
-        line::taking::put(places, &later);
-        line::taking::drop_items(pending, k.made, k.acked, d.acked);
+        arrival::put(places, &later);
+        arrival::drop_items(pending, k.made, k.acked, d.acked);
         let len = ot::apply(items, k.len, e);
         return Changed {
             refusal: 0,

@@ -1,5 +1,5 @@
-// A client's line by its numbers and lent arrays: what its counts say of question 2, the questions of each call, and what a message makes
-// of the line. The client's end lends its arrays.
+// A client's line by its numbers and lent arrays: what its counts say of question 2, the questions of editing and sending, and the message
+// of a pending edit. The client's end lends its arrays.
 ghost use mathlib.Core.Path.{_≡_};
 ghost use Prim.Native.Nat.{_-_};
 ghost use Rattle.model.specs.Questions.{every};
@@ -7,7 +7,6 @@ ghost use Rattle.line.specs.Numbers.{countTests};
 
 pub mod editing;
 pub mod sending;
-pub mod taking;
 
 // The numbers of a client. The counts stand first: four of them fill eight bytes from the struct's start, which are stored and read as one.
 pub struct Counts {

@@ -1,4 +1,4 @@
-use Rattle.line.proofs.Writing.{put-turn, put-end}
+use Rattle.arrival.proofs.Writing.{put-turn, put-end}
 use Rattle.ot.proofs.Sweep.{swept}
 use lib.ListN.{length, getD, length-set}
 use mathlib.Core.Path.{_≡_, refl, sym, _∙_}

@@ -15,7 +15,7 @@ use Rattle.client.proofs.Sound.{lent-answer, lent-facts, lent-sizes}
 use Rattle.client.specs.declared.Client.{Client}
 use Rattle.client.specs.declared.Answer.{Answer}
 use Rattle.client.specs.declared.Changed.{Changed}
-use Rattle.line.specs.declared.taking.Decision.{Decision}
+use Rattle.arrival.specs.declared.Decision.{Decision}
 use Rattle.client.specs.Store as store
 use Rattle.client.specs.Store.{clientOf, view, Sound}
 use Rattle.client.specs.Answers.{answerOf}
