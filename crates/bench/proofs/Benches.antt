@@ -21,7 +21,7 @@ use Rattle.model.proofs.Opens.{client-opens, server-opens}
 use Rattle.model.proofs.Sound.{accepted, keeps-sound}
 use Rattle.text.specs.Command.{Command, Bad, Insert, Delete, Up, Down, Ack, Told}
 use Rattle.bench.specs.Bench.{Bench, Step, SoundBench, clientOf, onClient, onServer, delivered, room, step, openClients, openBench}
-use Rattle.text.proofs.Sinks.{both, and-left, and-right}
+use Rattle.print.proofs.Sinks.{both, and-left, and-right}
 
 -- a property of both ends that an answer may hand back
 pub ends : {E : Type 0} (P : E → Type 0) (r : ℕ) (old new : E) (k : ℕ) → P old → P new → P (answer r old new k .end)

@@ -36,14 +36,14 @@ use Rattle.bays.proofs.Lists.{getD-default, pad-set, set-map}
 use Rattle.server.proofs.Stored.{view-store, store-sound}
 use Rattle.client.proofs.Stored.{client-view, client-stored}
 use Rattle.bench.specs.declared.Ends.{Ends}
-use Rattle.text.specs.declared.parse.Order.{Order}
+use Rattle.text.specs.declared.Order.{Order}
 use Rattle.text.specs.Order.{coded}
 use Rattle.text.specs.Command.{Command, Bad, Insert, Delete, Up, Down, Ack, Told}
 use Rattle.bench.specs.Bench.{Bench, Step, clientOf, onClient, onServer, delivered, room, step}
 use Rattle.endpoint.specs.declared.Sent as endpoint
 use Rattle.endpoint.specs.Sending.{answered as answeredAs}
 use Rattle.bench.specs.Ends.{Stepped, viewEnds, storeEnds, Whole, sentBy, changeOf, changedBy, unsent as unsentBy, atServer, atClient, delivered as deliveredTo, ordered}
-use Rattle.text.proofs.Sinks.{both}
+use Rattle.print.proofs.Sinks.{both}
 use Rattle.bench.proofs.Benches.{every-at}
 
 -- the line of a command is one of 1 to n

@@ -21,7 +21,7 @@ use Rattle.server.specs.declared.Answer as serverAnswer
 use Rattle.server.specs.Calls.{sends, tells, takes}
 use Rattle.bench.specs.declared.Ends.{Ends}
 use Rattle.bench.specs.declared.Turned.{Turned}
-use Rattle.text.specs.declared.parse.Order.{Order}
+use Rattle.text.specs.declared.Order.{Order}
 use Rattle.bench.specs.Bench.{Bench, SoundBench, room}
 
 -- the clients of lines 1 to n stand in the first n places

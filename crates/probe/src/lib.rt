@@ -1,7 +1,7 @@
 // The boundary between the proved ends and a harness in another language (harness/PROTOCOL.md).
 ghost use lib.ListN.{length};
 ghost use Rattle.script.specs.Output.{output};
-ghost use Rattle.text.specs.Sink.{Printed};
+ghost use Rattle.print.specs.Sink.{Printed};
 ghost use Rattle.driver.specs.Answers.{answers, Wrote};
 ghost use Rattle.timing.specs.Repeat.{repeated};
 

@@ -3,7 +3,7 @@ use mathlib.Core.Path.{_≡_, refl}
 use mathlib.Core.List.{[], _∷_}
 use Rattle.model.proofs.Computing.{computing}
 use Rattle.text.specs.Text.{before, parts, same}
-use Rattle.text.specs.Decimal.{digitsAt, decimal, listed, numberFrom, numberOf}
+use Rattle.print.specs.Decimal.{digitsAt, decimal, listed, numberFrom, numberOf}
 use Rattle.text.specs.Command.{commandOf}
 use Rattle.script.specs.Opening.{openingOf}
 use Rattle.bench.specs.Bench.{step}

@@ -13,12 +13,12 @@ use Rattle.server.specs.declared.Server.{Server}
 use Rattle.server.specs.View as server
 use Rattle.server.specs.Sound.{Sizes}
 use Rattle.server.proofs.Stored.{store-sizes}
-use Rattle.text.specs.declared.parse.Line.{Line}
-use Rattle.text.specs.declared.parse.Order.{Order}
+use Rattle.text.specs.declared.Line.{Line}
+use Rattle.text.specs.declared.Order.{Order}
 use Rattle.text.specs.Order.{Next}
-use Rattle.text.specs.Sink.{Sink, sink, puts}
-use Rattle.text.specs.Lines.{replied, serverList}
-use Rattle.text.proofs.Sinks.{then}
+use Rattle.print.specs.Sink.{Sink, sink, puts}
+use Rattle.print.specs.Lines.{replied, serverList}
+use Rattle.print.proofs.Sinks.{then}
 use Rattle.bays.specs.declared.Bays.{Bays}
 use Rattle.bench.specs.declared.Ends.{Ends}
 use Rattle.bench.specs.declared.Turned.{Turned}

@@ -25,14 +25,14 @@ use Rattle.server.specs.View as server
 use Rattle.server.specs.Calls as calls
 use Rattle.bench.specs.declared.Ends.{Ends}
 use Rattle.script.specs.declared.opening.First.{First}
-use Rattle.text.specs.Sink.{Sink, puts}
+use Rattle.print.specs.Sink.{Sink, puts}
 use Rattle.text.specs.Text.{before, linesOf, parts, same}
 use Rattle.script.specs.Opening.{Opening, none, sheet, openingOf, held, cut, maxHeld, Reads}
-use Rattle.text.specs.Lines.{replied}
+use Rattle.print.specs.Lines.{replied}
 use Rattle.script.specs.Output.{ran, started, printed, long, maxInput, output}
 use Rattle.bench.specs.Bench.{Bench, SoundBench, openClients, openBench}
 use Rattle.bench.specs.Ends.{storeEnds, viewEnds, opening, Whole}
-use Rattle.text.proofs.Sinks.{then}
+use Rattle.print.proofs.Sinks.{then}
 use Rattle.text.proofs.Texts.{lines-first}
 use Rattle.bench.proofs.Benches as benches
 use Rattle.bench.proofs.Structs.{open-keeps, end-stored}

@@ -11,10 +11,10 @@ use lib.ListN.{length, take, drop, set, length-append, length-set}
 use lib.Seq.{take-all, take-append-le, take-suc-set}
 use Rattle.model.specs.Questions.{every}
 use Rattle.script.specs.declared.opening.First.{First}
-use Rattle.text.specs.Decimal.{numberOf, tooWide}
+use Rattle.print.specs.Decimal.{numberOf, tooWide}
 use Rattle.text.specs.Text.{before, wordsOf, same}
 use Rattle.text.specs.Command.{linesWord, itemsWord}
-use Rattle.text.proofs.Sinks.{both}
+use Rattle.print.proofs.Sinks.{both}
 use Rattle.text.proofs.Texts.{words-cut, words-whole}
 use Rattle.script.specs.Opening.{Opening, none, sheet, withItems, afterNumber, afterLines, openingOf, held, cut, maxHeld, Reads, begun, push}
 

@@ -23,13 +23,13 @@ use Rattle.text.specs.Command as command
 use Rattle.ot.specs.declared.Edit.{Edit}
 use Rattle.ot.specs.declared.Edit.the-variants.{Nothing, Delete, Insert}
 use Rattle.text.specs.Text.{joined, parts, linesOf}
-use Rattle.text.specs.Decimal.{powers, digitsAt, decimal, listed}
+use Rattle.print.specs.Decimal.{powers, digitsAt, decimal, listed}
 use Rattle.text.specs.Command.{commandOf}
 use Rattle.script.specs.Opening.{Opening, none, sheet, openingOf}
 use Rattle.bench.specs.Bench.{Bench, Step, SoundBench, clientOf, onClient, onServer, delivered, room, step, openBench}
-use Rattle.text.specs.Lines.{unknown, serverWord, clientWord, replied, serverList, clientList}
+use Rattle.print.specs.Lines.{unknown, serverWord, clientWord, replied, serverList, clientList}
 use Rattle.script.specs.Output.{long, understood, replies, clientLists, lists, ran, started, printed, output, maxInput, maxOutput, OutputFits, AllPrinted}
-use Rattle.text.proofs.Sinks.{both, and-left, and-right}
+use Rattle.print.proofs.Sinks.{both, and-left, and-right}
 use Rattle.bench.proofs.Benches.{step-sound, opened, open-sound}
 
 -- A number has at most ten digits, a list eleven bytes an item.

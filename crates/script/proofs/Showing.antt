@@ -7,9 +7,9 @@ use lib.ListN.{getD, take, drop}
 use Rattle.model.specs.Limits.{maxItems, maxPending}
 use Rattle.line.specs.declared.Counts.{Counts}
 use Rattle.client.specs.Store as client
-use Rattle.text.specs.Sink.{Sink, puts}
-use Rattle.text.specs.Lines.{clientList}
-use Rattle.text.proofs.Sinks.{puts-append}
+use Rattle.print.specs.Sink.{Sink, puts}
+use Rattle.print.specs.Lines.{clientList}
+use Rattle.print.proofs.Sinks.{puts-append}
 use Rattle.bays.specs.Flat.{part, endsFrom}
 use Rattle.bays.specs.Bays.{noCounts}
 use Rattle.bays.proofs.Flat.{front-is}

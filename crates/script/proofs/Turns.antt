@@ -20,18 +20,18 @@ use Rattle.server.specs.View as server
 use Rattle.server.proofs.Stored.{view-store}
 use Rattle.client.proofs.Stored.{client-view}
 use Rattle.bench.specs.declared.Ends.{Ends}
-use Rattle.text.specs.declared.parse.Order.{Order}
-use Rattle.text.specs.declared.parse.Line.{Line}
+use Rattle.text.specs.declared.Order.{Order}
+use Rattle.text.specs.declared.Line.{Line}
 use Rattle.text.specs.Order.{coded, Next}
-use Rattle.text.specs.Sink.{Sink, sink, puts}
+use Rattle.print.specs.Sink.{Sink, sink, puts}
 use Rattle.text.specs.Text.{before, linesOf, wordsOf, same}
-use Rattle.text.specs.Decimal.{numberOf, tooWide}
+use Rattle.print.specs.Decimal.{numberOf, tooWide}
 use Rattle.text.specs.Command.{Command, Bad, Insert, Delete, Up, Down, Ack, Told, withOne, afterNumber, verbOf, spoken, commandOf, ackWord, toldWord, delWord, upWord, downWord, insWord}
 use Rattle.bench.specs.Bench.{Bench, SoundBench, step, clientOf}
-use Rattle.text.specs.Lines.{unknown, replied}
+use Rattle.print.specs.Lines.{unknown, replied}
 use Rattle.script.specs.Output.{understood, replies, lists, ran}
 use Rattle.bench.specs.Ends.{Stepped, viewEnds, storeEnds, Whole, ordered}
-use Rattle.text.proofs.Sinks.{both, and-left, and-right, puts-append}
+use Rattle.print.proofs.Sinks.{both, and-left, and-right, puts-append}
 use Rattle.text.proofs.Texts.{lines-none}
 use Rattle.bench.proofs.Benches.{step-sound}
 use Rattle.bench.proofs.Structs.{Within, Done, storeStep, steppedDone, lines-few, client-is, server-is, ordered-is}

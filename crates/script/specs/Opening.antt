@@ -7,7 +7,7 @@ use lib.Dec.{ltb}
 use lib.ListN.{take, set, replicate}
 use Rattle.model.specs.Questions.{every}
 use Rattle.script.specs.declared.opening.First.{First}
-use Rattle.text.specs.Decimal.{numberOf, tooWide}
+use Rattle.print.specs.Decimal.{numberOf, tooWide}
 use Rattle.text.specs.Text.{wordsOf, same}
 use Rattle.text.specs.Command.{linesWord, itemsWord}
 

@@ -7,9 +7,9 @@ use lib.Dec.{ltb, eqb}
 use lib.ListN.{length, take}
 use Rattle.model.specs.Client.{Client}
 use Rattle.model.specs.Server.{openServer}
-use Rattle.text.specs.Sink.{Printed}
+use Rattle.print.specs.Sink.{Printed}
 use Rattle.text.specs.Text.{linesOf}
-use Rattle.text.specs.Lines.{unknown, replied, serverList, clientList}
+use Rattle.print.specs.Lines.{unknown, replied, serverList, clientList}
 use Rattle.text.specs.Command.{Command, Bad, Insert, Delete, Up, Down, Ack, Told, commandOf}
 use Rattle.script.specs.Opening.{Opening, none, sheet, openingOf}
 use Rattle.bench.specs.Bench.{Bench, step, openBench}

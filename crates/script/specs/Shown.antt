@@ -5,7 +5,7 @@ use mathlib.Core.List.{List, [], _++_}
 use lib.ListN.{length, getD, take}
 use Rattle.model.specs.Limits.{maxItems}
 use Rattle.line.specs.declared.Counts.{Counts}
-use Rattle.text.specs.Lines.{clientList}
+use Rattle.print.specs.Lines.{clientList}
 use Rattle.bays.specs.Flat.{part}
 use Rattle.bays.specs.Bays.{noCounts}
 

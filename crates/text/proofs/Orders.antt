@@ -8,14 +8,14 @@ use borrow.Author.Tests.{eqb-true, eqb-false, ltb-true, ltb-false, leb-true, le-
 use lib.Dec.{leb, ltb, eqb}
 use lib.ListN.{length, take, drop}
 use lib.Seq.{take-all}
-use Rattle.text.specs.declared.parse.Order.{Order}
+use Rattle.text.specs.declared.Order.{Order}
 use Rattle.text.specs.Text.{before, wordsOf, linesOf, same}
-use Rattle.text.specs.Decimal.{tooWide, withDigit, numberFrom, numberOf}
+use Rattle.print.specs.Decimal.{tooWide, withDigit, numberFrom, numberOf}
 use Rattle.text.specs.Command.{Bad, Insert, Delete, Up, Down, Ack, Told, insWord, delWord, upWord, downWord, ackWord, toldWord, plain, withOne, withTwo, afterNumber, verbOf, commandOf}
 use Rattle.text.specs.Order.{order, coded, bare, named, ordered, Next}
-use Rattle.text.proofs.Sinks.{both, and-left, and-right}
+use Rattle.print.proofs.Sinks.{both, and-left, and-right}
 use Rattle.text.proofs.Texts.{words-some, words-one, words-cut, words-whole, lines-next, line-is}
-use Rattle.text.proofs.Numbers.{number-some}
+use Rattle.print.proofs.Numbers.{number-some}
 
 same-true : (a b : List ℕ) → same a b ≡ true → a ≡ b
 unfolding same

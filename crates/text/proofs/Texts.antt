@@ -11,7 +11,7 @@ use lib.Dec.{eqb, leb, ltb}
 use lib.ListN.{length, getD, take, drop, length-drop, drop-of-length-le}
 use lib.Seq.{drop-cons, drop-drop, length-take-le, take-all}
 use Rattle.text.specs.Text.{before, joined, parts, wordsOf, linesOf, same}
-use Rattle.text.proofs.Sinks.{both}
+use Rattle.print.proofs.Sinks.{both}
 
 -- One turn of the search for a separator: at i it is found, or it is not and the search goes on.
 module _ (s : List ℕ) (sep i : ℕ) (h : i < length s) where

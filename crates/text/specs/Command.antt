@@ -3,7 +3,7 @@ use Prim.Native.Nat.{ℕ}
 use mathlib.Core.Bool.{_&&_, cond}
 use mathlib.Core.List.{List, [], _∷_}
 use lib.Dec.{leb, ltb}
-use Rattle.text.specs.Decimal.{numberOf, tooWide}
+use Rattle.print.specs.Decimal.{numberOf, tooWide}
 use Rattle.text.specs.Text.{wordsOf, same}
 
 -- A client is named by its line (01: the bay), of 1 to the number of clients.

@@ -1,6 +1,3 @@
-pub mod Sink
-pub mod Decimal
 pub mod Text
 pub mod Command
 pub mod Order
-pub mod Lines

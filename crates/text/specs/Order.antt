@@ -5,9 +5,9 @@ use mathlib.Core.Bool.{Bool, _&&_, cond}
 use mathlib.Core.List.{List, _∷_}
 use lib.Dec.{ltb}
 use lib.ListN.{drop}
-use Rattle.text.specs.declared.parse.Order.{Order}
-use Rattle.text.specs.declared.parse.Line.{Line}
-use Rattle.text.specs.Decimal.{tooWide}
+use Rattle.text.specs.declared.Order.{Order}
+use Rattle.text.specs.declared.Line.{Line}
+use Rattle.print.specs.Decimal.{tooWide}
 use Rattle.text.specs.Text.{before, wordsOf, linesOf, same}
 use Rattle.text.specs.Command.{Command, Bad, Insert, Delete, Up, Down, Ack, Told, insWord, delWord, upWord, downWord, ackWord, toldWord, verbOf, commandOf}
 

@@ -1,7 +1,7 @@
 -- What `run` wrote lies within the output's buffer.
 use mathlib.Core.Path.{sym}
 use lib.Seq.{length-take-le}
-use Rattle.text.proofs.Sinks.{printed-within}
+use Rattle.print.proofs.Sinks.{printed-within}
 use borrow.Author.Needs.{needs}
 use Rattle.edges.proofs.show.Statement.{statement}
 use Rattle.edges.proofs.show.Tie as tie

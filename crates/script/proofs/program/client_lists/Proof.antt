@@ -4,7 +4,7 @@ use native.Mathlib.Omega.{arith}
 use borrow.Author.Needs.{needs}
 use denote.Ref.{now}
 use lib.ListN.{length}
-use Rattle.text.specs.Sink.{sink, puts}
+use Rattle.print.specs.Sink.{sink, puts}
 use Rattle.script.specs.Shown.{listsFrom}
 use Rattle.script.proofs.Showing.{lists-next, lists-none}
 use Rattle.script.proofs.program.client_lists.Statement.{statement}

@@ -4,7 +4,7 @@ use native.Mathlib.Omega.{arith}
 use borrow.Author.Needs.{needs}
 use denote.Ref.{now}
 use lib.ListN.{length, drop}
-use Rattle.text.specs.Sink.{sink, puts}
+use Rattle.print.specs.Sink.{sink, puts}
 use Rattle.text.specs.Text.{linesOf}
 use Rattle.bench.specs.declared.Ends.{Ends}
 use Rattle.bays.specs.Bays.{Laid}

@@ -3,8 +3,8 @@ use lib.ListN.{take}
 use lib.Seq.{length-take-le}
 use denote.Ref.{now}
 use borrow.Author.Needs.{needs}
-use Rattle.text.specs.Sink.{sink, puts}
-use Rattle.text.specs.Lines.{serverList}
+use Rattle.print.specs.Sink.{sink, puts}
+use Rattle.print.specs.Lines.{serverList}
 use Rattle.script.specs.Shown.{listsFrom}
 use Rattle.script.proofs.Showing.{in-turn}
 use Rattle.script.proofs.program.lists.Statement.{statement}

@@ -1,8 +1,8 @@
 use mathlib.Core.Path.{sym, ap, _∙_}
 use native.Mathlib.Omega.{arith}
 use lib.Seq.{length-take-le}
-use Rattle.text.specs.Sink.{sink, puts}
-use Rattle.text.proofs.Sinks.{printed}
+use Rattle.print.specs.Sink.{sink, puts}
+use Rattle.print.proofs.Sinks.{printed}
 use Rattle.text.proofs.Texts.{before-le}
 use Rattle.script.proofs.Opened.{output-long, output-is}
 use borrow.Author.Needs.{needs}

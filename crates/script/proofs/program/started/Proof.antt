@@ -2,7 +2,7 @@ use mathlib.Core.Path.{_≡_, sym}
 use native.Mathlib.Omega.{arith}
 use lib.ListN.{length, take, drop}
 use lib.Seq.{length-take-le}
-use Rattle.text.specs.Sink.{sink}
+use Rattle.print.specs.Sink.{sink}
 use Rattle.text.specs.Text.{linesOf}
 use Rattle.script.proofs.Opened.{opened-whole, started-on, started-off}
 use borrow.Author.Needs.{needs}

@@ -1,0 +1,3 @@
+pub mod Sinks
+pub mod Numbers
+pub mod Digits

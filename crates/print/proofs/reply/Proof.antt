@@ -1,0 +1,46 @@
+use Rattle.print.proofs.Numbers.{one-put}
+use Rattle.print.proofs.Sinks.{then-byte}
+use borrow.Author.Needs.{needs}
+use Rattle.print.proofs.reply.Statement.{statement}
+use Rattle.print.proofs.reply.Tie as tie
+
+add-put : tie.Need-add-put
+add-put c = search needs
+
+put-requires : tie.Need-put-requires
+put-requires c κs = search needs
+
+put-requires-2 : tie.Need-put-requires-2
+put-requires-2 c κs = search needs
+
+same-length : tie.Need-same-length
+same-length c = search needs
+
+returns : tie.Need-returns
+returns c = then-byte _ _ _ (one-put (c .before .before .before .before .before .before .before .before .before .before .args .r) _ (c .before .before .before .before .before .before .before .before .if1 .taken) (c .before .before .before .before .before .before .put .ensures)) (c .before .before .put2 .ensures)
+
+decimal-requires : tie.Need-decimal-requires
+decimal-requires c κs = search needs
+
+put-requires-3 : tie.Need-put-requires-3
+put-requires-3 c κs = search needs
+
+same-length-2 : tie.Need-same-length-2
+same-length-2 c = search needs
+
+returns-2 : tie.Need-returns-2
+returns-2 c = then-byte _ _ _ (c .before .before .before .before .before .before .decimal .ensures) (c .before .before .put3 .ensures)
+
+pub reply-spec : {M : Type 1} → statement M
+reply-spec =
+    tie.close
+    (tie.spec
+    add-put
+    put-requires
+    put-requires-2
+    same-length
+    returns
+    decimal-requires
+    put-requires-3
+    same-length-2
+    returns-2)

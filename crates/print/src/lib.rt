@@ -1,0 +1,159 @@
+// What the run program prints, as bytes, into a lent buffer. Each function takes the place of the next byte and answers the place after what it
+// wrote.
+ghost use mathlib.Core.Path.{_≡_};
+ghost use Prim.Native.Nat.{_+_, _*_, _<_, _/_, _%_};
+ghost use mathlib.Core.Bool.{cond};
+ghost use mathlib.Core.List.{[], _∷_};
+ghost use lib.ListN.{getD};
+ghost use Rattle.print.specs.Sink.{sink, put as Sink·put, puts as Sink·puts};
+ghost use Rattle.print.specs.Lines.{replied, serverList, clientList, unknown as Lines·unknown};
+ghost use Rattle.print.specs.Decimal.{powers, listed, decimal as Decimal·decimal};
+
+// One byte. Where the buffer is full it is dropped.
+fn put(out: &mut [u8], at: usize, b: u8) -> usize
+    ensures { λ r. ⌜ sink (now (out .exit)) r ≡ Sink·put b (sink (now (out .entry)) at) ⌝ }
+{
+    if at < out.len() {
+        out[at] = b;
+        return at + 1;
+    }
+    at
+}
+
+// All of a text.
+pub fn puts(out: &mut [u8], at: usize, s: &[u8]) -> usize
+    ensures { λ r. ⌜ sink (now (out .exit)) r ≡ Sink·puts (now (s .entry)) (sink (now (out .entry)) at) ⌝ }
+{
+    let mut i = 0;
+    let mut to = at;
+    while i < s.len() {
+        to = put(out, to, s[i]);
+        i += 1;
+    }
+    to
+}
+
+const POWERS: [u32; 9] = [
+    1_000_000_000,
+    100_000_000,
+    10_000_000,
+    1_000_000,
+    100_000,
+    10_000,
+    1_000,
+    100,
+    10,
+];
+
+fn power(k: usize) -> u32
+    requires { ⌜ k < 9 ⌝ }
+    ensures { λ r. ⌜ r ≡ getD powers k 0 ⌝ }
+{
+    POWERS[k]
+}
+
+// A digit, and what is left.
+struct Quotient {
+    digit: u8,
+    rest: u32,
+}
+
+// How often p goes into n, found by subtracting, and the rest.
+fn divide(n: u32, p: u32) -> Quotient
+    requires { ⌜ n < 10 * p ⌝ }
+    ensures { λ r. ⌜ (r .digit ≡ n / p) × (r .rest ≡ n % p) ⌝ }
+{
+    let mut digit: u8 = 0;
+    let mut rest = n;
+    while p <= rest {
+        rest -= p;
+        digit += 1;
+    }
+    Quotient { digit, rest }
+}
+
+// A digit, unless it is a zero in front of the first.
+fn place(out: &mut [u8], at: usize, shown: bool, d: u8) -> usize
+    requires { ⌜ d < 10 ⌝ }
+    ensures { λ r. ⌜ sink (now (out .exit)) r ≡ Sink·puts (cond shown ((48 + d) ∷ []) []) (sink (now (out .entry)) at) ⌝ }
+{
+    if shown {
+        return put(out, at, 48 + d);
+    }
+    at
+}
+
+// A number in decimal, without leading zeros.
+fn decimal(out: &mut [u8], at: usize, n: u32) -> usize
+    ensures { λ r. ⌜ sink (now (out .exit)) r ≡ Sink·puts (Decimal·decimal n) (sink (now (out .entry)) at) ⌝ }
+{
+    let mut to = at;
+    let mut rest = n;
+    let mut started = false;
+    let mut k = 0;
+    while k < 9 {
+        let p = power(k);
+        let s = divide(rest, p);
+        started = started | (p <= rest);
+        to = place(out, to, started, s.digit);
+        rest = s.rest;
+        k += 1;
+    }
+    put(out, to, 48 + rest as u8)
+}
+
+// A list of items: a space before each, and the end of the line.
+fn items(out: &mut [u8], at: usize, list: &[u32]) -> usize
+    ensures { λ r. ⌜ sink (now (out .exit)) r ≡ Sink·puts (listed (now (list .entry))) (sink (now (out .entry)) at) ⌝ }
+{
+    let mut to = at;
+    let mut i = 0;
+    while i < list.len() {
+        to = item(out, to, list[i]);
+        i += 1;
+    }
+    put(out, to, b'\n')
+}
+
+fn item(out: &mut [u8], at: usize, x: u32) -> usize
+    ensures { λ r. ⌜ sink (now (out .exit)) r ≡ Sink·puts (32 ∷ Decimal·decimal x) (sink (now (out .entry)) at) ⌝ }
+{
+    let to = put(out, at, b' ');
+    decimal(out, to, x)
+}
+
+// The answer to a line: a refusal's number, or 0. Most are one digit, which needs no powers of ten.
+pub fn reply(out: &mut [u8], at: usize, r: u8) -> usize
+    ensures { λ r′. ⌜ sink (now (out .exit)) r′ ≡ Sink·puts (replied r) (sink (now (out .entry)) at) ⌝ }
+{
+    if r < 10 {
+        let to = put(out, at, 48 + r);
+        return put(out, to, b'\n');
+    }
+    let to = decimal(out, at, r as u32);
+    put(out, to, b'\n')
+}
+
+// The answer to a line of no form.
+pub fn unknown(out: &mut [u8], at: usize) -> usize
+    ensures { λ r. ⌜ sink (now (out .exit)) r ≡ Sink·puts Lines·unknown (sink (now (out .entry)) at) ⌝ }
+{
+    puts(out, at, b"?\n")
+}
+
+// The server's list.
+pub fn server_list(out: &mut [u8], at: usize, list: &[u32]) -> usize
+    ensures { λ r. ⌜ sink (now (out .exit)) r ≡ Sink·puts (serverList (now (list .entry))) (sink (now (out .entry)) at) ⌝ }
+{
+    let to = puts(out, at, b"server");
+    items(out, to, list)
+}
+
+// The list of the client on a line.
+pub fn client_list(out: &mut [u8], at: usize, line: u8, list: &[u32]) -> usize
+    ensures { λ r. ⌜ sink (now (out .exit)) r ≡ Sink·puts (clientList line (now (list .entry))) (sink (now (out .entry)) at) ⌝ }
+{
+    let to = puts(out, at, b"client ");
+    let on = decimal(out, to, line as u32);
+    items(out, on, list)
+}
