@@ -3,26 +3,14 @@ use Prim.Native.Nat.{ℕ, _+_, _-_, _*_}
 use mathlib.Core.Path.{_≡_}
 use mathlib.Core.Bool.{_&&_, cond}
 use mathlib.Core.List.{List, []}
-use lib.Dec.{leb, eqb}
+use lib.Dec.{leb}
 use lib.ListN.{length, take, drop}
 use Rattle.wire.specs.Bytes.{twoAt}
-use Rattle.client.specs.declared.Client.{Client}
-use Rattle.client.specs.declared.editing.Change.{Change}
-use Rattle.client.specs.declared.editing.Change.the-variants.{Insert, Delete}
-use Rattle.client.specs.Answers as client
 use Rattle.calls.specs.declared.call.Call.{Call}
 use Rattle.calls.specs.Calls.{callOf, canRepeat}
 use Rattle.calls.specs.Header.{headed, itemsIn, bodyAt, countIn}
-use Rattle.messages.specs.Slot.{changedBytes}
 use Rattle.driver.specs.declared.drive.World.{World}
 use Rattle.driver.specs.Drive.{start, turnOf, afterAll, callsOf}
-
--- what an edit's call asks for, and the answer of an edit
-abbrev pub changeOf : Call → Change
-changeOf k = cond (eqb (k .op) 1) (Insert (k .position) (k .value)) (Delete (k .position))
-
-abbrev pub editedBytes : Client → Change → List ℕ
-editedBytes c d = changedBytes (client.changed c d .refusal) (client.changed c d .passed)
 
 -- The bytes are the answer of a call that opens no end, whatever the items to open with.
 pub record Replied (k : Call) (w : World) (bytes : List ℕ) : Type 0 where

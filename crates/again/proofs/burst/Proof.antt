@@ -5,8 +5,8 @@ use borrow.Author.Needs.{needs}
 use Rattle.client.specs.Store.{Sizes}
 use Rattle.client.specs.declared.Answer.{Answer}
 use Rattle.messages.specs.Slot.{changedBytes}
-use Rattle.timing.proofs.burst.Statement.{statement}
-use Rattle.timing.proofs.burst.Tie as tie
+use Rattle.again.proofs.burst.Statement.{statement}
+use Rattle.again.proofs.burst.Tie as tie
 
 abbrev Inv-loop : tie.InvT-loop
 Inv-loop items₀ places₀ pending₀ change first last₀ made₀ items places pending last made = Sizes items places pending × (made ≤ 8)

@@ -6,9 +6,9 @@ use borrow.Author.Needs.{needs}
 use Rattle.line.specs.declared.Counts.{Counts}
 use Rattle.client.specs.Store.{clientOf}
 use Rattle.client_calls.specs.Turn.{clientSent}
-use Rattle.timing.proofs.Repeating.{sent-same}
-use Rattle.timing.proofs.repeat_client_sent.Statement.{statement}
-use Rattle.timing.proofs.repeat_client_sent.Tie as tie
+use Rattle.again.proofs.Once.{sent-same}
+use Rattle.again.proofs.repeat_client_sent.Statement.{statement}
+use Rattle.again.proofs.repeat_client_sent.Tie as tie
 
 abbrev Inv-loop : tie.InvT-loop
 Inv-loop k slot times c q size i₀ i = 1 ≤ i

@@ -1,11 +1,11 @@
 use native.Mathlib.Omega.{arith}
 use mathlib.Core.Path.{ap, _∙_}
 use lib.ListN.{take}
-use Rattle.timing.specs.Repeat.{editedBytes}
-use Rattle.timing.proofs.Repeating.{take-op, client-edits, client-takes}
+use Rattle.again.specs.Again.{editedBytes}
+use Rattle.again.proofs.Once.{take-op, client-edits, client-takes}
 use borrow.Author.Needs.{needs}
-use Rattle.timing.proofs.repeat_client.Statement.{statement}
-use Rattle.timing.proofs.repeat_client.Tie as tie
+use Rattle.again.proofs.repeat_client.Statement.{statement}
+use Rattle.again.proofs.repeat_client.Tie as tie
 
 change-of-requires : tie.Need-change-of-requires
 change-of-requires c κs = search needs

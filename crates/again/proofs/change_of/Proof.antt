@@ -1,6 +1,6 @@
 use borrow.Author.Tests.{eq-eqb, ne-eqb}
-use Rattle.timing.proofs.change_of.Statement.{statement}
-use Rattle.timing.proofs.change_of.Tie as tie
+use Rattle.again.proofs.change_of.Statement.{statement}
+use Rattle.again.proofs.change_of.Tie as tie
 
 returns : tie.Need-returns
 returns c = simp (eq-eqb (c .before .before .args .k .op) 1 (c .if1 .taken))

@@ -7,9 +7,9 @@ use Rattle.lines.specs.declared.Counts.{Counts}
 use Rattle.server.specs.View.{countsOf, serverOf}
 use Rattle.server.specs.Sound.{Sizes}
 use Rattle.server_calls.specs.Turn.{serverSent}
-use Rattle.timing.proofs.Repeating.{sent-same}
-use Rattle.timing.proofs.repeat_server_sent.Statement.{statement}
-use Rattle.timing.proofs.repeat_server_sent.Tie as tie
+use Rattle.again.proofs.Once.{sent-same}
+use Rattle.again.proofs.repeat_server_sent.Statement.{statement}
+use Rattle.again.proofs.repeat_server_sent.Tie as tie
 
 abbrev Inv-loop : tie.InvT-loop
 Inv-loop k slot times s q size i₀ i = 1 ≤ i

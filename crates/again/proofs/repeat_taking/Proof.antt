@@ -3,16 +3,16 @@ use native.Mathlib.Omega.{arith}
 use mathlib.Core.Path.{ap, sym, _∙_}
 use lib.Seq.{length-take-le}
 use borrow.Author.Needs.{needs}
-use Rattle.server.specs.declared.Answer.{Answer}
+use Rattle.client.specs.declared.Answer.{Answer}
 use Rattle.messages.specs.Slot.{changedBytes}
-use Rattle.timing.proofs.repeat_server.Statement.{statement}
-use Rattle.timing.proofs.repeat_server.Tie as tie
+use Rattle.again.proofs.repeat_taking.Statement.{statement}
+use Rattle.again.proofs.repeat_taking.Tie as tie
 
 abbrev Inv-loop : tie.InvT-loop
-Inv-loop s n times slot i₀ i = 1 ≤ i
+Inv-loop c n times slot i₀ i = 1 ≤ i
 
 abbrev μ-loop : tie.MeasureT-loop
-μ-loop s n times slot i₀ i = times - i
+μ-loop c n times slot i₀ i = times - i
 
 loop-holds : tie.Need-loop-holds Inv-loop μ-loop
 loop-holds c = omega arith
@@ -41,8 +41,8 @@ loop-less c = omega arith
 loop-again : tie.Need-loop-again Inv-loop μ-loop
 loop-again c = omega arith
 
-pub repeat-server-spec : {M : Type 1} → statement M
-repeat-server-spec =
+pub repeat-taking-spec : {M : Type 1} → statement M
+repeat-taking-spec =
     tie.close
     (tie.spec
     Inv-loop

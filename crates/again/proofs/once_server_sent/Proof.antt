@@ -1,9 +1,9 @@
 use mathlib.Core.Path.{_∙_}
 use Rattle.server_calls.specs.Turn.{serverSent}
-use Rattle.timing.proofs.Repeating.{sent-edit, sent-ack}
+use Rattle.again.proofs.Once.{sent-edit, sent-ack}
 use borrow.Author.Needs.{needs}
-use Rattle.timing.proofs.once_server_sent.Statement.{statement}
-use Rattle.timing.proofs.once_server_sent.Tie as tie
+use Rattle.again.proofs.once_server_sent.Statement.{statement}
+use Rattle.again.proofs.once_server_sent.Tie as tie
 
 send-lent-requires : tie.Need-send-lent-requires
 send-lent-requires c κs = search needs

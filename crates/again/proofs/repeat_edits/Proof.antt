@@ -4,9 +4,9 @@ use mathlib.Core.Path.{ap, _∙_}
 use borrow.Author.Needs.{needs}
 use Rattle.line.specs.declared.Counts.{Counts}
 use Rattle.client.specs.Store.{clientOf}
-use Rattle.timing.specs.Repeat.{editedBytes}
-use Rattle.timing.proofs.repeat_edits.Statement.{statement}
-use Rattle.timing.proofs.repeat_edits.Tie as tie
+use Rattle.again.specs.Again.{editedBytes}
+use Rattle.again.proofs.repeat_edits.Statement.{statement}
+use Rattle.again.proofs.repeat_edits.Tie as tie
 
 abbrev Inv-loop : tie.InvT-loop
 Inv-loop c change times q i₀ i = 1 ≤ i
