@@ -5,7 +5,7 @@ use Rattle.model.proofs.Computing.{computing}
 use Rattle.text.specs.Text.{before, parts, same}
 use Rattle.print.specs.Decimal.{digitsAt, decimal, listed, numberFrom, numberOf}
 use Rattle.text.specs.Command.{commandOf}
-use Rattle.script.specs.Opening.{openingOf}
+use Rattle.opening.specs.Opening.{openingOf}
 use Rattle.bench.specs.Bench.{step}
 use Rattle.script.specs.Output.{clientLists, understood, ran, output}
 

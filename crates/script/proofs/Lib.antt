@@ -1,6 +1,5 @@
 pub mod Showing
 pub mod Examples
-pub mod Openings
 pub mod Room
 pub mod Turns
 pub mod Lines

@@ -24,10 +24,10 @@ use Rattle.server.specs.declared.Answer as serverAnswer
 use Rattle.server.specs.View as server
 use Rattle.server.specs.Calls as calls
 use Rattle.bench.specs.declared.Ends.{Ends}
-use Rattle.script.specs.declared.opening.First.{First}
+use Rattle.opening.specs.declared.First.{First}
 use Rattle.print.specs.Sink.{Sink, puts}
 use Rattle.text.specs.Text.{before, linesOf, parts, same}
-use Rattle.script.specs.Opening.{Opening, none, sheet, openingOf, held, cut, maxHeld, Reads}
+use Rattle.opening.specs.Opening.{Opening, none, sheet, openingOf, held, cut, maxHeld, Reads}
 use Rattle.print.specs.Lines.{replied}
 use Rattle.script.specs.Output.{ran, started, printed, long, maxInput, output}
 use Rattle.bench.specs.Bench.{Bench, SoundBench, openClients, openBench}

@@ -25,7 +25,7 @@ use Rattle.ot.specs.declared.Edit.the-variants.{Nothing, Delete, Insert}
 use Rattle.text.specs.Text.{joined, parts, linesOf}
 use Rattle.print.specs.Decimal.{powers, digitsAt, decimal, listed}
 use Rattle.text.specs.Command.{commandOf}
-use Rattle.script.specs.Opening.{Opening, none, sheet, openingOf}
+use Rattle.opening.specs.Opening.{Opening, none, sheet, openingOf}
 use Rattle.bench.specs.Bench.{Bench, Step, SoundBench, clientOf, onClient, onServer, delivered, room, step, openBench}
 use Rattle.print.specs.Lines.{unknown, serverWord, clientWord, replied, serverList, clientList}
 use Rattle.script.specs.Output.{long, understood, replies, clientLists, lists, ran, started, printed, output, maxInput, maxOutput, OutputFits, AllPrinted}

@@ -1,4 +1,3 @@
-pub mod Opening
 pub mod Shown
 pub mod Place
 pub mod Output

@@ -11,7 +11,7 @@ use Rattle.print.specs.Sink.{Printed}
 use Rattle.text.specs.Text.{linesOf}
 use Rattle.print.specs.Lines.{unknown, replied, serverList, clientList}
 use Rattle.text.specs.Command.{Command, Bad, Insert, Delete, Up, Down, Ack, Told, commandOf}
-use Rattle.script.specs.Opening.{Opening, none, sheet, openingOf}
+use Rattle.opening.specs.Opening.{Opening, none, sheet, openingOf}
 use Rattle.bench.specs.Bench.{Bench, step, openBench}
 
 -- `long`, as bytes
