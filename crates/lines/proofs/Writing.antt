@@ -2,7 +2,7 @@
 use mathlib.Core.Path.{_≡_, refl, ap, sym, _∙_, subst}
 use mathlib.Core.Bool.{Bool, true, false, _&&_, not, cond}
 use mathlib.Core.List.{List}
-use Prim.Native.Nat.{ℕ, suc, _+_, _-_, _*_, _≤_, _<_}
+use Prim.Native.Nat.{ℕ, _+_, _-_, _*_, _≤_, _<_}
 use native.Mathlib.Numerals.{add-one}
 use native.Mathlib.Omega.{arith}
 use lib.Dec.{ltb, eqb}
@@ -16,7 +16,7 @@ use Rattle.slots.specs.Slots.{stretch}
 use Rattle.slots.proofs.Slots.{stretch-set, stretch-length}
 use Rattle.slots.proofs.Pad.{pad-length}
 use Rattle.lines.specs.declared.Counts.{Counts}
-use Rattle.lines.specs.Lines.{sumFrom, pendingCount}
+use Rattle.lines.specs.Lines.{pendingCount}
 use Rattle.lines.specs.Taking.{keeps, staying, Filled, Seen, Replaced, Kept, Raised, Written}
 
 -- ---- the 64 numbers of a line
@@ -47,25 +47,6 @@ stretch-other j i k ws v h n = go (ltb j i) refl
             go′ : (b : Bool) → ltb i j ≡ b → i < j
             go′ true t = ltb-true i j t
             go′ false g = let ge : j ≤ i = ltb-false i j g in absurd (n (omega arith))
-
--- ---- a sum
-
-pub sum-turn : (ws : List ℕ) (i n : ℕ) → i < n → sumFrom ws i (n - i) ≡ getD ws i 0 + sumFrom ws (i + 1) (n - (i + 1))
-unfolding sumFrom
-sum-turn ws i n h =
-    let more : n - i ≡ suc (n - (i + 1)) = omega arith in
-    ap (sumFrom ws i) more ∙ ap (λ (j : ℕ). getD ws i 0 + sumFrom ws j (n - (i + 1))) (sym (add-one i))
-
-pub sum-start : (ws : List ℕ) (n : ℕ) → 0 + sumFrom ws 0 (n - 0) ≡ sumFrom ws 0 n
-sum-start ws n =
-    let all : n - 0 ≡ n = omega arith in
-    omega (arith, ap (sumFrom ws 0) all)
-
-pub sum-end : (ws : List ℕ) (i n : ℕ) → n ≤ i → sumFrom ws i (n - i) ≡ 0
-unfolding sumFrom
-sum-end ws i n h =
-    let none′ : n - i ≡ 0 = omega arith in
-    ap (sumFrom ws i) none′
 
 -- ---- which places keep an edit
 

@@ -1,14 +1,9 @@
--- The counts and the slots of the server's lines, eight places of them, and question 2 about each place.
-use mathlib.Core.Path.{_≡_}
-use mathlib.Core.Bool.{Bool, cond}
-use mathlib.Core.List.{List, [], _∷_}
-use Prim.Native.Nat.{ℕ, zero, suc, _+_, _-_, _*_, _<_}
-use lib.Dec.{leb, ltb, eqb}
-use lib.ListN.{length, getD}
-use Rattle.model.specs.Limits.{maxLines, maxInserts, maxEdits, maxPending}
-use Rattle.model.specs.Questions.{every}
-use Rattle.model.specs.Client.{other}
-use Rattle.slots.specs.Slots.{soundSlots, Kept}
+-- The counts and the slots of the server's lines, eight places of them.
+use mathlib.Core.List.{List}
+use Prim.Native.Nat.{ℕ, _-_, _*_, _<_}
+use lib.ListN.{getD}
+use Rattle.model.specs.Limits.{maxLines, maxPending}
+use Rattle.slots.specs.Slots.{Kept}
 use Rattle.lines.specs.declared.Counts.{Counts}
 
 abbrev pub counts : ℕ → ℕ → ℕ → List ℕ → List ℕ → List ℕ → List ℕ → Counts
@@ -18,39 +13,6 @@ counts n initial len made taken acked inserts =
 -- how many edits are pending at place i
 abbrev pub pendingCount : Counts → ℕ → ℕ
 pendingCount k i = getD (k .made) i 0 - getD (k .acked) i 0
-
--- so many numbers together, the first of them at place i
-unfoldable pub sumFrom : List ℕ → ℕ → ℕ → ℕ
-sumFrom ws i zero = 0
-sumFrom ws i (suc count) = getD ws i 0 + sumFrom ws (suc i) count
-
--- question 2 about the counts of a line, in use and not in use
-abbrev pub countsSound : ℕ → ℕ → ℕ → ℕ → ℕ → Bool
-countsSound sum made taken acked inserts =
-    every (leb taken maxEdits ∷ eqb made (sum - taken) ∷ leb acked made ∷ leb inserts maxInserts ∷ leb inserts taken ∷ [])
-
-abbrev pub countsZero : ℕ → ℕ → ℕ → ℕ → Bool
-countsZero made taken acked inserts = every (eqb made 0 ∷ eqb taken 0 ∷ eqb acked 0 ∷ eqb inserts 0 ∷ [])
-
--- the counts at place i, counted from 0: one of the first n holds a line in use
-abbrev pub usedAt : Counts → ℕ → ℕ → Bool
-usedAt k sum i =
-    countsSound sum (getD (k .made) i 0) (getD (k .taken) i 0) (getD (k .acked) i 0) (getD (k .inserts) i 0)
-
-abbrev pub unusedAt : Counts → ℕ → Bool
-unusedAt k i = countsZero (getD (k .made) i 0) (getD (k .taken) i 0) (getD (k .acked) i 0) (getD (k .inserts) i 0)
-
-abbrev pub countsAt : Counts → ℕ → ℕ → Bool
-countsAt k sum i = cond (ltb i (k .n)) (usedAt k sum i) (unusedAt k i)
-
--- four arrays of eight counts
-abbrev pub Eights : List ℕ → List ℕ → List ℕ → List ℕ → Type 0
-Eights made taken acked inserts =
-    (length made ≡ maxLines) × ((length taken ≡ maxLines) × ((length acked ≡ maxLines) × (length inserts ≡ maxLines)))
-
--- the slots at place i
-abbrev pub slotsAt : Counts → List ℕ → List ℕ → ℕ → Bool
-slotsAt k ps xs i = soundSlots (other (k .n) (i + 1)) (maxPending * i) (pendingCount k i) ps xs
 
 -- every line's slots are those of its pending edits
 abbrev pub AllKept : Counts → List ℕ → List ℕ → Type 0

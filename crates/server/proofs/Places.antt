@@ -18,9 +18,10 @@ use Rattle.slots.specs.Slots.{editsFrom, allFrom, tidyAt, emptyAt, soundTests, 
 use Rattle.slots.proofs.Slots.{edits-length}
 use Rattle.slots.proofs.Tests.{all-each, each-all}
 use Rattle.lines.specs.declared.Counts.{Counts}
-use Rattle.lines.specs.Lines.{pendingCount, sumFrom}
+use Rattle.lines.specs.Lines.{pendingCount}
+use Rattle.lines_sound.specs.Sound.{sumFrom}
 use Rattle.server.specs.View.{lineAt, linesFrom}
-use Rattle.lines.specs.Lines.{countsAt, slotsAt}
+use Rattle.lines_sound.specs.Sound.{countsAt, slotsAt}
 use Rattle.server.specs.Sound.{tidyLine, zeroLine}
 
 -- ---- tests of the first places

@@ -22,9 +22,11 @@ use Rattle.slots.proofs.Tests.{sound-kept}
 use Rattle.endpoint.specs.Items.{allZero}
 use Rattle.endpoint.proofs.Items.{stored-of}
 use Rattle.server.specs.declared.Server.{Server}
-use Rattle.lines.specs.Lines.{pendingCount, sumFrom}
+use Rattle.lines.specs.Lines.{pendingCount}
+use Rattle.lines_sound.specs.Sound.{sumFrom}
 use Rattle.server.specs.View.{countsOf, lineAt, linesFrom, view, store}
-use Rattle.lines.specs.Lines.{countsAt, slotsAt, AllKept}
+use Rattle.lines.specs.Lines.{AllKept}
+use Rattle.lines_sound.specs.Sound.{countsAt, slotsAt}
 use Rattle.server.specs.Sound.{zeroLine, structTests, soundStruct, Sized, Sound}
 use Rattle.server.proofs.Rows.{Row, store-is}
 use Rattle.server.proofs.Places.{each-first, each-last, lines-length, line-used, line-unused, total-is, places-yes, yes-places}

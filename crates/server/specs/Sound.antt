@@ -12,7 +12,8 @@ use Rattle.model.specs.Server.{soundServer}
 use Rattle.slots.specs.Slots.{allFrom, tidyAt, emptyAt, soundSlots, Kept}
 use Rattle.endpoint.specs.Items.{allZero}
 use Rattle.lines.specs.declared.Counts.{Counts}
-use Rattle.lines.specs.Lines.{countsZero, pendingCount, AllKept}
+use Rattle.lines.specs.Lines.{pendingCount, AllKept}
+use Rattle.lines_sound.specs.Sound.{countsZero}
 use Rattle.server.specs.declared.Server.{Server}
 use Rattle.server.specs.View.{countsOf, serverOf, view, store}
 

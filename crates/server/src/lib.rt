@@ -63,11 +63,11 @@ fn is_sound<'a>(
     let lines = (1 <= n) & (n as usize <= Server::LINES);
     if lines & (initial as usize <= Server::INITIAL) & (len as usize <= Server::ITEMS) {
         let m = n as usize;
-        let most = initial as u32 + lines::sum(m, inserts);
+        let most = initial as u32 + lines_sound::sum(m, inserts);
         return (len as u32 <= most)
             & endpoint::zero_from(items, len as usize)
-            & lines::places_sound(n, made, taken, acked, inserts, lines::sum(m, taken))
-            & lines::slots_sound(n, made, acked, places, slots);
+            & lines_sound::places_sound(n, made, taken, acked, inserts, lines_sound::sum(m, taken))
+            & lines_sound::slots_sound(n, made, acked, places, slots);
     }
     false
 }

@@ -5,8 +5,8 @@ use Prim.Native.Nat.{ℕ, zero, suc, _+_, _-_, _≤_}
 use native.Mathlib.Omega.{arith}
 use borrow.Author.Tests.{lt-ltb, le-ltb}
 use Rattle.slots.specs.Slots.{allFrom}
 use Rattle.lines.specs.declared.Counts.{Counts}
-use Rattle.lines.specs.Lines.{usedAt, unusedAt, countsAt}
+use Rattle.lines_sound.specs.Sound.{usedAt, unusedAt, countsAt}
 
 -- a test of some numbers, and of those behind them
 all-on : (test : ℕ → Bool) (from count rest : ℕ) → (allFrom test from count && allFrom test (from + count) rest) ≡ allFrom test from (count + rest)

@@ -1,7 +1,7 @@
 use borrow.Author.Needs.{needs}
 use mathlib.Core.Bool.{and-assoc, and-true}
-use Rattle.lines.proofs.counts_sound.Statement.{statement}
-use Rattle.lines.proofs.counts_sound.Tie as tie
+use Rattle.lines_sound.proofs.counts_sound.Statement.{statement}
+use Rattle.lines_sound.proofs.counts_sound.Tie as tie
 
 minus-requires : tie.Need-minus-requires
 minus-requires c κs = search needs

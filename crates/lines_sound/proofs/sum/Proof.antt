@@ -3,10 +3,10 @@ use native.Mathlib.Omega.{arith}
 use denote.Ref.{now}
 use mathlib.Core.Path.{_≡_}
 use Prim.Native.Nat.{_+_, _-_, _*_, _≤_}
-use Rattle.lines.specs.Lines.{sumFrom}
-use Rattle.lines.proofs.Writing.{sum-start, sum-turn, sum-end}
-use Rattle.lines.proofs.sum.Statement.{statement}
-use Rattle.lines.proofs.sum.Tie as tie
+use Rattle.lines_sound.specs.Sound.{sumFrom}
+use Rattle.lines_sound.proofs.Sums.{sum-start, sum-turn, sum-end}
+use Rattle.lines_sound.proofs.sum.Statement.{statement}
+use Rattle.lines_sound.proofs.sum.Tie as tie
 
 abbrev Inv-loop : tie.InvT-loop
 Inv-loop n xs s₀ i₀ s i = (i ≤ n) × ((s + sumFrom xs i (n - i) ≡ sumFrom xs 0 n) × (s ≤ 65535 * i))

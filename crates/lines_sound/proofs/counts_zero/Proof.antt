@@ -1,6 +1,6 @@
 use mathlib.Core.Bool.{and-assoc, and-true}
-use Rattle.lines.proofs.counts_zero.Statement.{statement}
-use Rattle.lines.proofs.counts_zero.Tie as tie
+use Rattle.lines_sound.proofs.counts_zero.Statement.{statement}
+use Rattle.lines_sound.proofs.counts_zero.Tie as tie
 
 returns : tie.Need-returns
 returns c = simp (and-assoc, and-true)

@@ -1,9 +1,9 @@
 use borrow.Author.Needs.{needs}
 use denote.Ref.{now}
 use Rattle.lines.specs.Lines.{counts}
-use Rattle.lines.proofs.Places.{all-places}
-use Rattle.lines.proofs.places_sound.Statement.{statement}
-use Rattle.lines.proofs.places_sound.Tie as tie
+use Rattle.lines_sound.proofs.Places.{all-places}
+use Rattle.lines_sound.proofs.places_sound.Statement.{statement}
+use Rattle.lines_sound.proofs.places_sound.Tie as tie
 
 used-sound-requires : tie.Need-used-sound-requires
 used-sound-requires c κs = search needs

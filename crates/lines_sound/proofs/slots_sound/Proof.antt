@@ -7,10 +7,10 @@ use mathlib.Core.List.{[]}
 use Prim.Native.Nat.{_-_, _≤_}
 use Rattle.slots.specs.Slots.{allFrom}
 use Rattle.slots.proofs.Tests.{all-turn, all-end}
 use Rattle.lines.specs.Lines.{counts}
-use Rattle.lines.specs.Lines.{slotsAt}
-use Rattle.lines.proofs.slots_sound.Statement.{statement}
-use Rattle.lines.proofs.slots_sound.Tie as tie
+use Rattle.lines_sound.specs.Sound.{slotsAt}
+use Rattle.lines_sound.proofs.slots_sound.Statement.{statement}
+use Rattle.lines_sound.proofs.slots_sound.Tie as tie
 
 abbrev Inv-loop : tie.InvT-loop
 Inv-loop n made acked places items well₀ i₀ well i = (i ≤ 8) × ((well && allFrom (slotsAt (counts n 0 0 made [] acked []) places items) i (8 - i)) ≡ allFrom (slotsAt (counts n 0 0 made [] acked []) places items) 0 8)

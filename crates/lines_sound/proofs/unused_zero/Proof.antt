@@ -6,9 +6,10 @@ use mathlib.Core.Bool.{Bool, _&&_}
 use Prim.Native.Nat.{ℕ, _-_, _≤_}
 use Rattle.slots.specs.Slots.{allFrom}
 use Rattle.slots.proofs.Tests.{all-turn, all-end}
-use Rattle.lines.specs.Lines.{counts, unusedAt}
-use Rattle.lines.proofs.unused_zero.Statement.{statement}
-use Rattle.lines.proofs.unused_zero.Tie as tie
+use Rattle.lines.specs.Lines.{counts}
+use Rattle.lines_sound.specs.Sound.{unusedAt}
+use Rattle.lines_sound.proofs.unused_zero.Statement.{statement}
+use Rattle.lines_sound.proofs.unused_zero.Tie as tie
 
 abbrev Inv-loop : tie.InvT-loop
 Inv-loop n made taken acked inserts well₀ i₀ well i = (i ≤ 8) × ((well && allFrom (unusedAt (counts n 0 0 made taken acked inserts)) i (8 - i)) ≡ allFrom (unusedAt (counts n 0 0 made taken acked inserts)) n (8 - n))

@@ -6,9 +6,10 @@ use mathlib.Core.Bool.{Bool, _&&_}
 use Prim.Native.Nat.{ℕ, _-_, _≤_}
 use Rattle.slots.specs.Slots.{allFrom}
 use Rattle.slots.proofs.Tests.{all-turn, all-end, all-count}
-use Rattle.lines.specs.Lines.{counts, usedAt}
-use Rattle.lines.proofs.used_sound.Statement.{statement}
-use Rattle.lines.proofs.used_sound.Tie as tie
+use Rattle.lines.specs.Lines.{counts}
+use Rattle.lines_sound.specs.Sound.{usedAt}
+use Rattle.lines_sound.proofs.used_sound.Statement.{statement}
+use Rattle.lines_sound.proofs.used_sound.Tie as tie
 
 abbrev Inv-loop : tie.InvT-loop
 Inv-loop n made taken acked inserts total well₀ i₀ well i = (i ≤ n) × ((well && allFrom (usedAt (counts n 0 0 made taken acked inserts) total) i (n - i)) ≡ allFrom (usedAt (counts n 0 0 made taken acked inserts) total) 0 n)
