@@ -70,3 +70,10 @@ module _ (k : Call) (initial : List ℕ) (c : Client) (slots lengths : List ℕ)
           answer = p;
         }),
   )
+
+-- what is known of a call at a client is known of it whatever the client is called
+pub turned-of : (k : Call) (initial : List ℕ) (len : ℕ) (slot : List ℕ) {c c₁ : Client} {at : ℕ} {slots slots₁ lengths lengths₁ out out₁ : List ℕ} → c ≡ c₁
+    → Turned k (clientTurn k initial len slot c) at (clientSize k) slots slots₁ lengths lengths₁ out out₁
+    → Turned k (clientTurn k initial len slot c₁) at (clientSize k) slots slots₁ lengths lengths₁ out out₁
+turned-of k initial len slot {at = at} {slots} {slots₁} {lengths} {lengths₁} {out} {out₁} e t =
+    subst (λ (x : Client). Turned k (clientTurn k initial len slot x) at (clientSize k) slots slots₁ lengths lengths₁ out out₁) e t

@@ -8,6 +8,7 @@ ghost use Rattle.client.specs.Store.{clientOf, Sizes as ClientSizes};
 ghost use Rattle.client.specs.Answers as client;
 ghost use Rattle.dump.specs.Dump.{Put};
 ghost use Rattle.messages.specs.Slot.{front, slotIn, lengthIn, Turned};
+ghost use Rattle.bays.specs.Place.{Place, Only, clientAt};
 ghost use Rattle.client_calls.specs.Turn.{clientSent, clientSends, clientChanged, clientSize, clientAnswer, clientAfter, clientTurn};
 use bays::put;
 use calls::call::Call;
@@ -158,7 +159,7 @@ fn change_client(
 }
 
 // Any call at a client.
-pub fn turn_client(
+fn turn_client(
     c: Counts,
     items: &mut [u32],
     places: &mut [u32],
@@ -183,6 +184,43 @@ pub fn turn_client(
         items,
         places,
         pending,
+        k,
+        initial,
+        slots,
+        lengths,
+        out,
+        at,
+    )
+}
+
+// A call at the client in place j, whose own parts of the clients' arrays are lent.
+pub fn at_client(
+    c: Counts,
+    j: usize,
+    own: &mut [u32],
+    own_places: &mut [u32],
+    own_pending: &mut [u32],
+    k: Call,
+    initial: &[u32],
+    slots: &mut [u8],
+    lengths: &mut [u8],
+    out: &mut [u8],
+    at: usize,
+) -> Counts
+    requires { ⌜ Place j (now own) (now «own_places») (now «own_pending») × (length (now slots) ≡ 1280) × (length (now lengths) ≡ 64) × (at + clientSize k ≤ length (now out)) ⌝ }
+    ensures end { λ r. ⌜ clientAt r j (now (own .exit)) (now («own_places» .exit)) (now («own_pending» .exit)) ≡ clientAfter k (front (k .number) (now (initial .entry))) (lengthIn k (now (lengths .entry))) (slotIn k (now (slots .entry))) (clientAt c j (now (own .entry)) (now («own_places» .entry)) (now («own_pending» .entry))) ⌝ }
+    ensures turned { λ _. ⌜ Turned k (clientTurn k (front (k .number) (now (initial .entry))) (lengthIn k (now (lengths .entry))) (slotIn k (now (slots .entry))) (clientAt c j (now (own .entry)) (now («own_places» .entry)) (now («own_pending» .entry)))) at (clientSize k) (now (slots .entry)) (now (slots .exit)) (now (lengths .entry)) (now (lengths .exit)) (now (out .entry)) (now (out .exit)) ⌝ }
+    ensures only { λ _. ⌜ Only j (now (own .entry)) (now (own .exit)) (now («own_places» .entry)) (now («own_places» .exit)) (now («own_pending» .entry)) (now («own_pending» .exit)) ⌝ }
+{
+    let from = 512 * j;
+    let end = from + 512;
+    let first = 64 * j;
+    let last = first + 64;
+    turn_client(
+        c,
+        &mut own[from..end],
+        &mut own_places[first..last],
+        &mut own_pending[first..last],
         k,
         initial,
         slots,

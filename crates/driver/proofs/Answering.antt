@@ -10,8 +10,8 @@ use lib.Seq.{sets}
 use borrow.Author.Tests.{leb-true, le-leb}
 use Rattle.model.proofs.Tests.{and-left, and-right}
 use Rattle.wire.specs.Bytes.{twoAt}
-use Rattle.driver.specs.declared.drive.World.{World}
-use Rattle.driver.specs.declared.drive.Driven.{Driven}
+use Rattle.driver.specs.declared.World.{World}
+use Rattle.driver.specs.declared.Driven.{Driven}
 use Rattle.calls.specs.declared.call.Call.{Call}
 use Rattle.calls.specs.Calls.{placeOf, sizeOf}
 use Rattle.driver.specs.Drive.{start, after, Run, run, afterAll, callsOf, Drove}

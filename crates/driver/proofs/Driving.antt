@@ -22,13 +22,14 @@ use Rattle.calls.specs.declared.call.Call.{Call}
 use Rattle.calls.specs.Calls.{callOf, placeOf, sizeOf}
 use Rattle.dump.specs.Dump.{Put}
 use Rattle.dump.proofs.Bytes.{put-length, sets-append}
-use Rattle.driver.specs.declared.drive.World.{World}
-use Rattle.driver.specs.declared.drive.Driven.{Driven}
+use Rattle.driver.specs.declared.World.{World}
+use Rattle.driver.specs.declared.Driven.{Driven}
 use Rattle.messages.specs.Slot.{Turned, front, slotIn, lengthIn, slotSize, slotTurn}
 use Rattle.client_calls.specs.Turn.{clientSize, clientAfter, clientTurn}
 use Rattle.server_calls.specs.Turn.{serverSize, serverAfter, serverTurn}
 use Rattle.driver.specs.Drive.{start, noClient, turnAt, stepAt, turnOf, after, Run, kept, left, more, run, callsOf, Drove, worldOf, Held}
 use Rattle.messages.proofs.Turned.{never}
+use Rattle.client_calls.proofs.Turns.{turned-of}
 use Rattle.server_calls.proofs.Sizes.{SizesOf, opened-sizes}
 use Rattle.bays.specs.declared.Bays.{Bays}
 use Rattle.bays.specs.Bays.{noCounts, clientsIn, Laid, Standing}
@@ -80,14 +81,7 @@ module _ {initial : List ℕ} {k : Call} {w : World} {at : ℕ} {out out₁ : Li
       stepped (simp (ne-eqb place 0 z, lt-leb place 8 y) (t .answer))
       (simp (ne-eqb place 0 z, lt-leb place 8 y) (world-is refl refl (t .slot-bytes) (t .slot-length)))
 
--- what is known of a call at a client is known of it whatever the client is called
-pub turned-of : (k : Call) (initial : List ℕ) (len : ℕ) (slot : List ℕ) {c c₁ : Client} {at : ℕ} {slots slots₁ lengths lengths₁ out out₁ : List ℕ} → c ≡ c₁
-    → Turned k (clientTurn k initial len slot c) at (clientSize k) slots slots₁ lengths lengths₁ out out₁
-    → Turned k (clientTurn k initial len slot c₁) at (clientSize k) slots slots₁ lengths lengths₁ out out₁
-turned-of k initial len slot {at = at} {slots} {slots₁} {lengths} {lengths₁} {out} {out₁} e t =
-    subst (λ (x : Client). Turned k (clientTurn k initial len slot x) at (clientSize k) slots slots₁ lengths lengths₁ out out₁) e t
-
--- the same of a client that stands among others
+-- a client that stands among others
 module _ {place : ℕ} (z : place ≡ 0 → ⊥) (y : place ≤ 8) (ks : List Counts) (own ps xs : List ℕ) where
   abbrev was : Client
   was = clientAt (getD ks (place - 1) noCounts) (place - 1) own ps xs

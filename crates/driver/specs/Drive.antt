@@ -16,8 +16,8 @@ use Rattle.server.specs.Sound.{Sizes}
 use Rattle.server.specs.Calls as server
 use Rattle.bays.specs.Bays.{Laid, clientsIn}
 use Rattle.calls.specs.declared.call.Call.{Call}
-use Rattle.driver.specs.declared.drive.World.{World}
-use Rattle.driver.specs.declared.drive.Driven.{Driven}
+use Rattle.driver.specs.declared.World.{World}
+use Rattle.driver.specs.declared.Driven.{Driven}
 use Rattle.calls.specs.Calls.{callOf, placeOf, sizeOf}
 use Rattle.messages.specs.Slot.{Turn, slotOf, slotPut, slotAt, front, slotTurn}
 use Rattle.client_calls.specs.Turn.{clientAfter, clientTurn}

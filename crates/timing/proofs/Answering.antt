@@ -13,7 +13,7 @@ use Rattle.calls.specs.declared.call.Call.{Call}
 use Rattle.calls.specs.Calls.{callOf, isCall, canRepeat}
 use Rattle.dump.specs.Dump.{Put}
 use Rattle.calls.specs.Header.{headed, itemsFrom, itemsIn, countIn}
-use Rattle.driver.specs.declared.drive.World.{World}
+use Rattle.driver.specs.declared.World.{World}
 use Rattle.driver.specs.Drive.{start, turnOf, afterAll, callsOf}
 use Rattle.driver.specs.Answers.{Wrote}
 use Rattle.timing.specs.Repeat.{Replied, lastCall, beforeLast, repeated}

@@ -17,7 +17,7 @@ use Rattle.server.specs.declared.Answer as fromServer
 use Rattle.server.specs.Calls as server
 use Rattle.calls.specs.declared.call.Call.{Call}
 use Rattle.calls.specs.Calls.{atEnd, isCall, placeOf, sends}
-use Rattle.driver.specs.declared.drive.World.{World}
+use Rattle.driver.specs.declared.World.{World}
 use Rattle.messages.specs.Slot.{Turn, front, slotOf, slotIn, lengthIn, sentBytes, changedBytes, changedTurn}
 use Rattle.client_calls.specs.Turn.{clientAnswer, clientSends, clientSent, clientChanged, clientReply, clientTurn}
 use Rattle.server_calls.specs.Turn.{serverAnswer, serverSends, serverSent, serverChanged, serverReply, serverTurn}

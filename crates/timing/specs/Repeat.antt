@@ -9,7 +9,7 @@ use Rattle.wire.specs.Bytes.{twoAt}
 use Rattle.calls.specs.declared.call.Call.{Call}
 use Rattle.calls.specs.Calls.{callOf, canRepeat}
 use Rattle.calls.specs.Header.{headed, itemsIn, bodyAt, countIn}
-use Rattle.driver.specs.declared.drive.World.{World}
+use Rattle.driver.specs.declared.World.{World}
 use Rattle.driver.specs.Drive.{start, turnOf, afterAll, callsOf}
 
 -- The bytes are the answer of a call that opens no end, whatever the items to open with.

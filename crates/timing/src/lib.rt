@@ -15,8 +15,8 @@ use again::repeat_server_sent;
 use calls::call;
 use calls::call::Call;
 use calls::header;
-use driver::drive;
-use driver::drive::World;
+use driver::World;
+use driver::drive_quietly;
 
 // The 20 bytes from a place on.
 fn slot_at(slots: &[u8], first: usize) -> [u8; 20]
@@ -74,7 +74,7 @@ pub fn run_again(calls: &[u8], times: u32, out: &mut [u8]) -> usize
     let k = call::read_at(calls, last);
     if call::can_repeat(k, out.len()) {
         let items = header::items_in(calls, c);
-        let w = drive::drive_quietly(&calls[from..], count - 1, &items[..c]);
+        let w = drive_quietly(&calls[from..], count - 1, &items[..c]);
         let a = repeat(w, k, times);
         dump::put_answer(out, 0, a.refusal, a.written, a.passed);
         return 4;

@@ -1,6 +1,6 @@
 use borrow.Author.Needs.{needs}
-use Rattle.driver.proofs.drive.further.Statement.{statement}
-use Rattle.driver.proofs.drive.further.Tie as tie
+use Rattle.driver.proofs.further.Statement.{statement}
+use Rattle.driver.proofs.further.Tie as tie
 
 add-result : tie.Need-add-result
 add-result c = search needs

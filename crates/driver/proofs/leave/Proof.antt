@@ -1,7 +1,7 @@
 use Rattle.driver.proofs.Driving.{left-is}
 use borrow.Author.Needs.{needs}
-use Rattle.driver.proofs.drive.leave.Statement.{statement}
-use Rattle.driver.proofs.drive.leave.Tie as tie
+use Rattle.driver.proofs.leave.Statement.{statement}
+use Rattle.driver.proofs.leave.Tie as tie
 
 of-requires : tie.Need-of-requires
 of-requires c κs = search needs

@@ -1,8 +1,8 @@
 use Rattle.driver.specs.Drive.{callsOf}
 use Rattle.driver.proofs.Answering.{quiet-world}
 use borrow.Author.Needs.{needs}
-use Rattle.driver.proofs.drive.drive_quietly.Statement.{statement}
-use Rattle.driver.proofs.drive.drive_quietly.Tie as tie
+use Rattle.driver.proofs.drive_quietly.Statement.{statement}
+use Rattle.driver.proofs.drive_quietly.Tie as tie
 
 slice-aggregate-drive : tie.Need-slice-aggregate-drive
 slice-aggregate-drive c = search needs

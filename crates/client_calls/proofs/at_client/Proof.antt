@@ -1,12 +1,12 @@
 use mathlib.Core.Path.{sym, ap, _∙_}
 use denote.Ref.{now}
 use Rattle.messages.specs.Slot.{front, slotIn, lengthIn}
 use Rattle.client_calls.specs.Turn.{clientAfter}
 use Rattle.bays.proofs.Places.{lent-sizes, client-lent, client-there, only-there}
-use Rattle.driver.proofs.Driving.{turned-of}
+use Rattle.client_calls.proofs.Turns.{turned-of}
 use borrow.Author.Needs.{needs}
-use Rattle.driver.proofs.drive.at_client.Statement.{statement}
-use Rattle.driver.proofs.drive.at_client.Tie as tie
+use Rattle.client_calls.proofs.at_client.Statement.{statement}
+use Rattle.client_calls.proofs.at_client.Tie as tie
 
 mul-from : tie.Need-mul-from
 mul-from c = search needs

@@ -10,8 +10,8 @@ use Rattle.server_calls.proofs.Sizes.{SizesOf, after-sizes}
 use Rattle.bays.proofs.Places.{place, laid-back}
 use Rattle.driver.specs.Drive.{worldOf, Held}
 use Rattle.driver.proofs.Driving.{Going, going-start, going-on, going-end, going-stop, fits, fits-server, fits-client, fits-slot, step-server, step-bay, step-slot, in-place}
-use Rattle.driver.proofs.drive.steps.Statement.{statement}
-use Rattle.driver.proofs.drive.steps.Tie as tie
+use Rattle.driver.proofs.steps.Statement.{statement}
+use Rattle.driver.proofs.steps.Tie as tie
 
 abbrev Inv-loop : tie.InvT-loop
 Inv-loop calls count first quiet out₀ s₀ items₀ places₀ pending₀ own₀ own-places₀ own-pending₀ slots₀ lengths₀ counts₀ end₀ i₀ out s items places pending own own-places own-pending slots lengths counts end i =

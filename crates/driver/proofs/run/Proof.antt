@@ -4,8 +4,8 @@ use lib.ListN.{length}
 use lib.Seq.{length-take-le}
 use Rattle.driver.proofs.Answering.{headed-items, headed-length, wrote-answers, no-answers}
 use borrow.Author.Needs.{needs}
-use Rattle.driver.proofs.drive.run.Statement.{statement}
-use Rattle.driver.proofs.drive.run.Tie as tie
+use Rattle.driver.proofs.run.Statement.{statement}
+use Rattle.driver.proofs.run.Tie as tie
 
 two-at-requires : tie.Need-two-at-requires
 two-at-requires c κs = search needs

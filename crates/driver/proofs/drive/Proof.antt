@@ -1,8 +1,8 @@
 use Rattle.driver.specs.Drive.{callsOf}
 use Rattle.driver.proofs.Driving.{start-held, start-is, drove-from}
 use borrow.Author.Needs.{needs}
-use Rattle.driver.proofs.drive.drive.Statement.{statement}
-use Rattle.driver.proofs.drive.drive.Tie as tie
+use Rattle.driver.proofs.drive.Statement.{statement}
+use Rattle.driver.proofs.drive.Tie as tie
 
 no-server-requires : tie.Need-no-server-requires
 no-server-requires c κs = search needs
