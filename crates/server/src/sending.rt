@@ -35,9 +35,9 @@ pub fn send_lent<'a>(
         places,
         pending,
     ) {
-        let refusal = sending::ask_send(k, line, n);
+        let refusal = sending::ask_send(k.n, &k.made, &k.acked, line, n);
         if refusal == 0 {
-            let m = sending::message(k, places, pending, line, n);
+            let m = sending::message(&k.taken, &k.acked, places, pending, line, n);
             return endpoint::finish(0, m, out);
         }
         return Sent {
