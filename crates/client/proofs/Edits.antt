@@ -23,7 +23,7 @@ use Rattle.endpoint.specs.Items.{stored, roomy}
 use Rattle.endpoint.proofs.Room.{roomy-model, roomy-room, room-stored, room-length}
 use Rattle.line.specs.Asking.{editAsked}
 use Rattle.client.specs.declared.Client.{Client}
-use Rattle.client.specs.Store.{pendingCount, view, store, sound, Sound}
+use Rattle.client.specs.Store.{pendingCount, view, sound, Sound}
 use Rattle.client.specs.Answers.{refusedWith, doneWith, guarded, edited}
 use Rattle.client.proofs.Answers.{unsound, refused, done}
 

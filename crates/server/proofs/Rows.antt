@@ -1,14 +1,11 @@
 -- The arrays of the struct, line by line: what the one struct for an end holds of each line, and that a struct which holds it is
 -- that one.
 use mathlib.Core.Path.{_≡_, refl, ap, sym, _∙_}
-use mathlib.Core.Bool.{Bool, true, false}
 use mathlib.Core.List.{List, [], _∷_, _++_, map}
-use Prim.Native.Nat.{ℕ, zero, suc, _+_, _-_, _*_, _≤_, _<_}
+use Prim.Native.Nat.{ℕ, zero, suc, _+_, _*_, _≤_, _<_}
 use native.Mathlib.Omega.{arith}
-use lib.Dec.{ltb}
-use lib.ListN.{length, getD, take, drop, set, length-append, length-map, take-append-drop, drop-of-length-le, List·getD-map}
-use lib.Seq.{take-at, drop-append-add, drop-drop, drop-set-add, drop-set-lt, take-set-le, ext-getD}
-use borrow.Author.Tests.{ltb-true, ltb-false}
+use lib.ListN.{length, getD, take, drop, length-append, length-map, take-append-drop, drop-of-length-le, List·getD-map}
+use lib.Seq.{take-at, drop-append-add, drop-drop, ext-getD}
 use Rattle.ot.specs.declared.Edit.{Edit}
 use Rattle.ot.specs.Items.{padded}
 use Rattle.model.specs.Limits.{maxLines, maxPending, maxItems}

@@ -29,7 +29,7 @@ use Rattle.lines.specs.Taking.{keeps, stayingAt, Raised, Few, Written}
 use Rattle.arrivals.specs.Deciding.{refusing}
 use Rattle.arrivals.specs.Accepting.{Acceptable}
 use Rattle.server.proofs.Rows.{Row, store-is}
-use Rattle.server.proofs.Whole.{means, lines-few, items-are, len-view, at-view, made-few, lines-row}
+use Rattle.server.proofs.Whole.{lines-few, items-are, len-view, at-view, made-few, lines-row}
 use Rattle.lines.proofs.Writing.{keeps-own}
 use Rattle.server.proofs.Deciding.{readDecided, readStays, Decides, Right, read-right}
 

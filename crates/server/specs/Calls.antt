@@ -1,10 +1,9 @@
 -- What each call answers, whatever struct it is handed. Of an unsound one: refusal 2, and the struct as it came. Of a sound one: the
 -- answer of the same call at its meaning.
-use mathlib.Core.Bool.{_&&_, cond}
-use mathlib.Core.List.{List, [], _∷_}
-use Prim.Native.Nat.{ℕ, _+_, _-_, _*_}
-use lib.Dec.{ltb, leb, eqb}
-use lib.ListN.{getD}
+use mathlib.Core.Bool.{cond}
+use mathlib.Core.List.{List, []}
+use Prim.Native.Nat.{ℕ}
+use lib.Dec.{eqb}
 use Rattle.model.specs.Questions as model
 use Rattle.model.specs.Server as end
 use Rattle.server.specs.declared.Server.{Server}

@@ -1,15 +1,14 @@
 -- Question 2 about the server's struct: its meaning is sound, and the places that are not in use are zero.
 use mathlib.Core.Path.{_≡_}
-use mathlib.Core.Bool.{Bool, true, _&&_, cond}
+use mathlib.Core.Bool.{Bool, true, _&&_}
 use mathlib.Core.List.{List, [], _∷_}
-use Prim.Native.Nat.{ℕ, _+_, _-_, _*_, _<_}
-use lib.Dec.{leb, ltb, eqb}
+use Prim.Native.Nat.{ℕ, _+_, _-_, _*_}
+use lib.Dec.{leb}
 use lib.ListN.{length, getD, drop}
-use Rattle.model.specs.Limits.{maxLines, maxInserts, maxEdits, maxItems, maxPending}
+use Rattle.model.specs.Limits.{maxLines, maxItems, maxPending}
 use Rattle.model.specs.Questions.{every}
-use Rattle.model.specs.Client.{other}
 use Rattle.model.specs.Server.{soundServer}
-use Rattle.slots.specs.Slots.{allFrom, tidyAt, emptyAt, soundSlots, Kept}
+use Rattle.slots.specs.Slots.{allFrom, tidyAt, emptyAt}
 use Rattle.endpoint.specs.Items.{allZero}
 use Rattle.lines.specs.declared.Counts.{Counts}
 use Rattle.lines.specs.Lines.{pendingCount, AllKept}

@@ -1,5 +1,5 @@
 -- What the server's struct means as an end over lists, and the one struct for such an end.
-use Prim.Native.Nat.{ℕ, zero, suc, _+_, _-_, _*_}
+use Prim.Native.Nat.{ℕ, zero, suc, _+_, _*_}
 use mathlib.Core.List.{List, [], _∷_, _++_, map}
 use lib.ListN.{length, getD, take, replicate}
 use Rattle.ot.specs.declared.Edit.{Edit}

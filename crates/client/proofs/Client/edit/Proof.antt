@@ -1,7 +1,6 @@
 use Rattle.line.specs.declared.Counts.{Counts}
 use Rattle.client.specs.Store.{clientOf}
 use mathlib.Core.Path.{ap, _∙_}
-use denote.Ref.{now}
 use Rattle.client.specs.Answers.{changed}
 use borrow.Author.Needs.{needs}
 use Rattle.client.proofs.Client.edit.Statement.{statement}
