@@ -10,7 +10,7 @@ use borrow.Author.Tests.{eqb-false, ne-eqb, eq-eqb, leb-true}
 use Rattle.ot.specs.declared.Edit.{Edit}
 use Rattle.ot.specs.declared.Edit.the-variants.{Nothing, Delete, Insert}
 use Rattle.ot.specs.Edit.{positionOf}
-use Rattle.ot.specs.Items.{padded}
+use Rattle.list.specs.Items.{padded}
 use Rattle.wire.specs.declared.Header.{Header}
 use Rattle.wire.specs.declared.Message.{Message}
 use Rattle.wire.specs.declared.Message.the-variants as message

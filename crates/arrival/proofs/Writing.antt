@@ -5,8 +5,8 @@ use native.Mathlib.Omega.{arith}
 use mathlib.Core.Path.{_≡_, ap, _∙_, sym}
 use mathlib.Core.List.{List}
 use lib.ListN.{length, getD, set, take, drop, drop-of-length-le}
-use Rattle.ot.specs.Items.{padded}
-use Rattle.ot.proofs.Sweep.{swept, swept-store, swept-to}
+use Rattle.list.specs.Items.{padded}
+use Rattle.list.proofs.Sweep.{swept, swept-store, swept-to}
 use Rattle.model.specs.Limits.{maxPending}
 use Rattle.arrival.specs.Taking.{Droppable}
 

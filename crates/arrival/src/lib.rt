@@ -5,7 +5,7 @@ ghost use mathlib.Core.Bool.{true};
 ghost use Prim.Native.Nat.{_≤_, _-_};
 ghost use lib.ListN.{length, take, drop};
 ghost use Rattle.ot.specs.Edit.{positionOf};
-ghost use Rattle.ot.specs.Items.{padded};
+ghost use Rattle.list.specs.Items.{padded};
 ghost use Rattle.wire.specs.Message.{inRange};
 ghost use Rattle.model.specs.Limits.{maxItems, maxPending};
 ghost use Rattle.model.specs.Cross.{priority, over};

@@ -8,7 +8,7 @@ use lib.Dec.{leb, eqb}
 use lib.ListN.{getD, take, drop}
 use borrow.Author.Tests.{eqb-false, leb-true, le-leb, lt-leb}
 use Rattle.ot.specs.declared.Edit.{Edit}
-use Rattle.ot.specs.Items.{padded}
+use Rattle.list.specs.Items.{padded}
 use Rattle.wire.specs.declared.Header.{Header}
 use Rattle.model.specs.Limits.{maxLines, maxPending, maxInserts}
 use Rattle.model.specs.Questions.{ask, asks, between}

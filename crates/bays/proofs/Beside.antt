@@ -5,7 +5,7 @@ use mathlib.Core.List.{List, [], _∷_, _++_}
 use native.Mathlib.Omega.{arith}
 use native.Mathlib.Numerals.{add-one}
 use lib.ListN.{length, getD, take, drop, set, length-set, drop-of-length-le}
-use Rattle.ot.proofs.Sweep.{swept, swept-from, swept-store, swept-to}
+use Rattle.list.proofs.Sweep.{swept, swept-from, swept-store, swept-to}
 use Rattle.model.specs.Limits.{maxItems, maxPending, maxLines}
 use Rattle.client.specs.declared.Client.{Client}
 use Rattle.line.specs.declared.Counts.{Counts}

@@ -5,7 +5,7 @@ use Prim.Native.Nat.{ℕ, zero, suc, _-_, _<_}
 use native.Mathlib.Omega.{arith}
 use lib.ListN.{length, getD, set, replicate, length-set}
 use lib.Seq.{set-append-left}
-use Rattle.ot.specs.Items.{padded}
+use Rattle.list.specs.Items.{padded}
 
 module _ {A : Type 0} where
   pub getD-default : (l : List A) (i : ℕ) (d e : A) → i < length l → getD l i d ≡ getD l i e

@@ -9,7 +9,7 @@ use lib.Dec.{leb, eqb}
 use lib.ListN.{length, getD, take, drop, set, length-map, length-append, List·getD-append, List·getD-map}
 use lib.Seq.{set-getD}
 use Rattle.ot.specs.declared.Edit.{Edit}
-use Rattle.ot.specs.Items.{padded}
+use Rattle.list.specs.Items.{padded}
 use Rattle.wire.specs.declared.Read.{Read}
 use Rattle.wire.specs.declared.Read.the-variants as read
 use Rattle.wire.specs.declared.Message.the-variants as message
@@ -19,7 +19,7 @@ use Rattle.model.specs.Questions.{Answer, answer, Sent, sent}
 use Rattle.model.specs.Client as models
 use Rattle.model.specs.Server as serverModels
 use Rattle.model.proofs.SoundServer.{server-facts}
-use Rattle.slots.proofs.Pad.{pad-length}
+use Rattle.list.proofs.Pad.{pad-length}
 use Rattle.client.specs.declared.Client.{Client}
 use Rattle.client.specs.declared.Answer as clientAnswer
 use Rattle.client.specs.declared.Changed.{Changed}

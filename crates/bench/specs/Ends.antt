@@ -5,7 +5,7 @@ use mathlib.Core.Bool.{cond}
 use mathlib.Core.List.{List, [], _∷_, map}
 use lib.Dec.{leb, eqb}
 use lib.ListN.{take}
-use Rattle.ot.specs.Items.{padded}
+use Rattle.list.specs.Items.{padded}
 use Rattle.model.specs.Limits.{maxLines}
 use Rattle.model.specs.Questions.{Sent}
 use Rattle.model.specs.Client.{noClient, openClient}

@@ -57,9 +57,9 @@ fn bytes(s: &[u8]) {
 fn message(n: u64, s: &[u8]) {
     label(n);
     bytes(s);
-    match wire::parse(s) {
+    match reading::parse(s) {
         Read::Refused => number(0),
-        Read::Message(m) => number(wire::size(m) as u64),
+        Read::Message(m) => number(writing::size(m) as u64),
     }
     io::write_all(1, b"\n");
 }
@@ -72,13 +72,13 @@ fn insert_message() {
         seen: 0,
     };
     let mut out = [0u8; 14];
-    wire::write(Message::Insert(h, 1, 30, 1), &mut out);
+    writing::write(Message::Insert(h, 1, 30, 1), &mut out);
     message(9, &out);
 }
 
 fn ack_message() {
     let mut out = [0u8; 5];
-    wire::write(Message::Ack(2, 1, 3), &mut out);
+    writing::write(Message::Ack(2, 1, 3), &mut out);
     message(10, &out);
 }
 

@@ -1,7 +1,7 @@
 -- The ways in which a call ends: the end is not sound, a question says no, the call is done.
 use Prim.Native.Nat.{ℕ, _≤_}
 use mathlib.Core.Path.{_≡_, ap, _∙_, sym}
-use mathlib.Core.Bool.{Bool, true, false, _&&_}
+use mathlib.Core.Bool.{Bool, true, false, _&&_, and-true, and-assoc}
 use mathlib.Core.List.{List, [], _∷_}
 use lib.Dec.{leb}
 use lib.ListN.{length, replicate}
@@ -11,7 +11,6 @@ use Rattle.model.specs.Limits.{maxLines, maxInitial}
 use Rattle.model.specs.Questions as model
 use Rattle.model.specs.Client as client
 use Rattle.model.proofs.Tests.{and-right}
-use Rattle.endpoint.proofs.Bools.{and-true, and-assoc}
 use Rattle.endpoint.specs.Items.{stored, initialItems}
 use Rattle.client.specs.declared.Client.{Client}
 use Rattle.client.specs.declared.Answer.{Answer}

@@ -9,7 +9,7 @@ use lib.ListN.{length, set}
 use borrow.Author.Tests.{eqb-false, ltb-true, leb-true}
 use Rattle.ot.specs.declared.Edit.{Edit}
 use Rattle.ot.specs.Edit.{applied, fits}
-use Rattle.ot.specs.Items.{Room, Edited}
+use Rattle.list.specs.Items.{Room, Edited}
 use Rattle.model.specs.Limits.{maxInserts, maxEdits, maxPending, maxItems}
 use Rattle.model.specs.Cross.{insertsOf}
 use Rattle.model.specs.Questions.{Question, ask, asks, answer}

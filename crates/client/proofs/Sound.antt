@@ -11,13 +11,13 @@ use borrow.Author.Tests.{leb-true, le-leb, eq-eqb}
 use Rattle.model.specs.Limits.{maxItems, maxPending}
 use Rattle.model.specs.Questions.{every}
 use Rattle.model.specs.Client.{clientTests, soundClient}
-use Rattle.model.proofs.Tests.{both, and-left, and-right, hold, held}
-use Rattle.slots.specs.Slots.{placeOf, itemOf, filled, soundSlots, Kept, Whole}
-use Rattle.slots.specs.Slots as slots
+use Rattle.model.proofs.Tests.{both, and-left, and-right, hold, held, bool-ext}
+use Rattle.slots.specs.Slots.{placeOf, itemOf, filled, Kept, Whole}
+use Rattle.slots_sound.specs.Sound.{soundSlots}
+use Rattle.slots_sound.specs.Sound as slots
 use Rattle.slots.proofs.Slots.{edits-length, stretch-all}
-use Rattle.slots.proofs.Tests.{sound-kept}
+use Rattle.slots_sound.proofs.Tests.{sound-kept}
 use Rattle.endpoint.specs.Items.{stored, allZero}
-use Rattle.endpoint.proofs.Bools.{bool-ext}
 use Rattle.endpoint.proofs.Items.{stored-of}
 use Rattle.line.specs.declared.Counts.{Counts}
 use Rattle.line.specs.Numbers.{countTests}

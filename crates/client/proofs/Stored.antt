@@ -12,11 +12,12 @@ use Rattle.model.specs.Limits.{maxItems, maxPending}
 use Rattle.model.specs.Client as model
 use Rattle.model.proofs.Tests.{held}
 use Rattle.model.proofs.SoundClient.{ClientFacts, client-facts}
-use Rattle.slots.specs.Slots.{placeOf, itemOf, editsFrom, stretch, filled, soundSlots}
-use Rattle.slots.proofs.Pad.{pad-take, pad-drop}
+use Rattle.slots.specs.Slots.{placeOf, itemOf, editsFrom, stretch, filled}
+use Rattle.slots_sound.specs.Sound.{soundSlots}
+use Rattle.list.proofs.Pad.{pad-take, pad-drop}
 use Rattle.slots.proofs.Slot.{Ranks, own-ranks}
 use Rattle.slots.proofs.Slots.{stretch-all, filled-length}
-use Rattle.slots.proofs.Tests.{filled-edits, sound-filled}
+use Rattle.slots_sound.proofs.Tests.{filled-edits, sound-filled}
 use Rattle.endpoint.specs.Items.{stored, allZero}
 use Rattle.client.specs.Store as clients
 

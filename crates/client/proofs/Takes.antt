@@ -10,7 +10,7 @@ use borrow.Author.Tests.{eqb-false, eqb-true, leb-true, le-leb}
 use Rattle.ot.specs.declared.Edit.{Edit}
 use Rattle.ot.specs.declared.Edit.the-variants.{Nothing, Delete, Insert}
 use Rattle.ot.specs.Edit.{applied, fits}
-use Rattle.ot.specs.Items.{padded, Room, Edited}
+use Rattle.list.specs.Items.{padded, Room, Edited}
 use Rattle.wire.specs.declared.Header.{Header}
 use Rattle.wire.specs.declared.Message.{Message}
 use Rattle.wire.specs.declared.Message.the-variants as message

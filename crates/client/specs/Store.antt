@@ -8,7 +8,8 @@ use lib.ListN.{length, take, drop}
 use Rattle.model.specs.Limits.{maxPending, maxItems}
 use Rattle.model.specs.Questions.{every}
 use Rattle.model.specs.Client as model
-use Rattle.slots.specs.Slots.{placeOf, itemOf, editsFrom, filled, soundSlots, Kept, Whole}
+use Rattle.slots.specs.Slots.{placeOf, itemOf, editsFrom, filled, Kept, Whole}
+use Rattle.slots_sound.specs.Sound.{soundSlots}
 use Rattle.endpoint.specs.Items.{stored, allZero}
 use Rattle.client.specs.declared.Client.{Client}
 use Rattle.line.specs.declared.Counts.{Counts}

@@ -69,7 +69,7 @@ pub fn edit_lent(
     let count = (k.made - k.acked) as usize;
     places[count] = slots::place_of(e);
     pending[count] = slots::item_of(e);
-    let len = ot::apply(items, k.len, e);
+    let len = list::apply(items, k.len, e);
     let made = k.made + 1;
     let inserts = k.inserts + endpoint::inserts_of(e);
     Changed {

@@ -93,7 +93,7 @@ fn is_sound<'a>(
     let count = line::less(made, acked) as usize;
     line::counts_sound(n, line, made, taken, acked, inserts, len)
         & endpoint::zero_from(items, len as usize)
-        & slots::sound(places, pending, 0, count, n, line, true)
+        & slots_sound::sound(places, pending, 0, count, n, line, true)
 }
 
 impl Client {

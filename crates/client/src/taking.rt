@@ -31,7 +31,7 @@ pub fn take_lent(
         &places[..Client::PENDING],
         &pending[..Client::PENDING],
     ) {
-        let Read::Message(m) = wire::parse(bytes) else {
+        let Read::Message(m) = reading::parse(bytes) else {
             return crate::refused(3, k);
         };
         let mut later = [0u32; 64];
@@ -46,7 +46,7 @@ pub fn take_lent(
         let e = d.edit;
         arrival::put(places, &later);
         arrival::drop_items(pending, k.made, k.acked, d.acked);
-        let len = ot::apply(items, k.len, e);
+        let len = list::apply(items, k.len, e);
         return Changed {
             refusal: 0,
             passed: d.passed,

@@ -127,7 +127,7 @@ unfolding view.store
 items-same (ofClient c) (ours.client m) r = ap (λ (x : Client). take (x .len) (x .items)) (r .0) ∙ ap (λ (v : model.Client). v .items) (client-view m (r .1))
 items-same (ofClient c) (ours.server m) r = absurd r
 items-same (ofServer s) (ours.client m) r = absurd r
-items-same (ofServer s) (ours.server m) r = ap (λ (x : Server). take (x .len) (x .items)) (r .0) ∙ Rattle.slots.proofs.Pad.pad-take 512 0 (m .items)
+items-same (ofServer s) (ours.server m) r = ap (λ (x : Server). take (x .len) (x .items)) (r .0) ∙ Rattle.list.proofs.Pad.pad-take 512 0 (m .items)
 
 made-same : (a : End) (b : ours.End) → Stands a b → (l : ℕ) → built .made a l ≡ ours .made b l
 made-same (ofClient c) (ours.client m) r l = ap (λ (x : Client). x .made) (r .0)

@@ -3,7 +3,7 @@ use Prim.Native.Nat.{ℕ, suc, _+_, _-_, _≤_, _<_}
 use native.Mathlib.Numerals.{add-one}
 use native.Mathlib.Omega.{arith}
 use mathlib.Core.Path.{_≡_, refl, ap, _∙_, sym}
-use mathlib.Core.Bool.{Bool, true, _&&_}
+use mathlib.Core.Bool.{Bool, true, _&&_, and-true, and-assoc}
 use mathlib.Core.List.{List, [], _∷_}
 use lib.Dec.{eqb}
 use lib.ListN.{length, getD, take, drop, set, replicate, length-take, length-drop, drop-of-length-le}
@@ -12,12 +12,11 @@ use lib.Bits.{bitOr}
 use borrow.Author.Tests.{eqb-true}
 use Rattle.model.specs.Limits.{maxItems}
 use Rattle.model.proofs.Tests.{and-left, and-right}
-use Rattle.ot.specs.Items.{padded}
-use Rattle.slots.proofs.Pad.{pad-of, fill-turn, fill-end}
-use Rattle.slots.proofs.Zero.{or-zero}
-use Rattle.ot.proofs.Sweep.{swept}
+use Rattle.list.specs.Items.{padded}
+use Rattle.list.proofs.Pad.{pad-of, fill-turn, fill-end}
+use Rattle.list.proofs.Zero.{or-zero}
+use Rattle.list.proofs.Sweep.{swept}
 use Rattle.endpoint.specs.Items.{stored, allZero}
-use Rattle.endpoint.proofs.Bools.{and-true, and-assoc}
 
 -- ---- unused places
 

@@ -1,4 +1,3 @@
-pub mod Bools
 pub mod Items
 pub mod Room
 pub mod Line

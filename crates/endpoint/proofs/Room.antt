@@ -9,10 +9,10 @@ use lib.ListN.{length}
 use borrow.Author.Tests.{leb-true, le-leb}
 use Rattle.ot.specs.declared.Edit.{Edit}
 use Rattle.ot.specs.declared.Edit.the-variants.{Nothing, Delete, Insert}
-use Rattle.ot.specs.Edit.{applied, fits}
-use Rattle.ot.specs.Items.{sizeAfter, edited, Room}
+use Rattle.ot.specs.Edit.{applied, sizeAfter, fits}
+use Rattle.list.specs.Items.{edited, Room}
 use Rattle.ot.proofs.Laws.{laws}
-use Rattle.ot.proofs.Array.{array}
+use Rattle.list.proofs.Array.{array}
 use Rattle.model.specs.Limits.{maxItems}
 use Rattle.model.specs.Cross.{insertsOf}
 use Rattle.model.proofs.Tests.{and-left, and-right}

@@ -9,7 +9,8 @@ use lib.ListN.{length, drop}
 use borrow.Author.Tests.{ne-eqb}
 use Rattle.wire.specs.declared.Message.{Message}
 use Rattle.wire.specs.declared.Message.the-variants.{Insert, Delete, Nothing, Ack}
-use Rattle.wire.specs.Bytes.{bytesOf, Written}
+use Rattle.wire.specs.Bytes.{bytesOf}
+use Rattle.writing.specs.Buffer.{Written}
 use Rattle.model.specs.Questions.{sent}
 use Rattle.endpoint.specs.Sending.{answered, finished}
 

@@ -6,7 +6,7 @@ use lib.Dec.{eqb, leb}
 use lib.ListN.{take}
 use Rattle.ot.specs.declared.Edit.{Edit}
 use Rattle.ot.specs.Edit.{fits}
-use Rattle.ot.specs.Items.{padded}
+use Rattle.list.specs.Items.{padded}
 use Rattle.model.specs.Limits.{maxItems, maxInitial}
 use Rattle.model.specs.Cross.{insertsOf}
 

@@ -106,7 +106,7 @@ pub fn finish(refusal: u8, m: Message, out: &mut [u8]) -> Sent
             written: 0,
         };
     }
-    let written = wire::write(m, out);
+    let written = writing::write(m, out);
     if written == 0 {
         return Sent {
             refusal: 14,

@@ -9,12 +9,12 @@ use lib.Dec.{ltb, eqb}
 use lib.ListN.{length, getD, set, take, drop, length-set, length-take, drop-of-length-le}
 use lib.Seq.{getD-set-same, getD-set-other, drop-set-add, drop-set-lt, take-set-le}
 use borrow.Author.Tests.{lt-ltb, le-ltb, ltb-true, ltb-false, eqb-true, eqb-false, eq-eqb, ne-eqb}
-use Rattle.ot.specs.Items.{padded}
-use Rattle.ot.proofs.Sweep.{swept, swept-store, swept-to}
+use Rattle.list.specs.Items.{padded}
+use Rattle.list.proofs.Sweep.{swept, swept-store, swept-to}
 use Rattle.model.specs.Limits.{maxLines, maxPending}
 use Rattle.slots.specs.Slots.{stretch}
 use Rattle.slots.proofs.Slots.{stretch-set, stretch-length}
-use Rattle.slots.proofs.Pad.{pad-length}
+use Rattle.list.proofs.Pad.{pad-length}
 use Rattle.lines.specs.declared.Counts.{Counts}
 use Rattle.lines.specs.Lines.{pendingCount}
 use Rattle.lines.specs.Taking.{keeps, staying, Filled, Seen, Replaced, Kept, Raised, Written}

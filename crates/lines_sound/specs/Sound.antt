@@ -8,7 +8,7 @@ use lib.ListN.{length, getD}
 use Rattle.model.specs.Limits.{maxLines, maxInserts, maxEdits, maxPending}
 use Rattle.model.specs.Questions.{every}
 use Rattle.model.specs.Client.{other}
-use Rattle.slots.specs.Slots.{soundSlots}
+use Rattle.slots_sound.specs.Sound.{soundSlots}
 use Rattle.lines.specs.declared.Counts.{Counts}
 use Rattle.lines.specs.Lines.{pendingCount}
 

@@ -118,7 +118,7 @@ pub fn slots_sound<'a>(
     for i in 0..8 {
         let count = less(made[i], acked[i]) as usize;
         let line = i as u8 + 1;
-        well = well & slots::sound(places, items, 64 * i, count, n, line, false);
+        well = well & slots_sound::sound(places, items, 64 * i, count, n, line, false);
     }
     well
 }

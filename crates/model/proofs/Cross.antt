@@ -8,9 +8,8 @@ use native.Mathlib.Omega.{arith}
 use lib.ListN.{length, drop}
 use Rattle.ot.specs.declared.Edit.{Edit}
 use Rattle.ot.specs.declared.Edit.the-variants.{Nothing, Delete, Insert}
-use Rattle.ot.specs.Edit.{applied, fits, transformed}
+use Rattle.ot.specs.Edit.{applied, sizeAfter, fits, transformed}
 use Rattle.ot.specs.Laws.{stamp, within}
-use Rattle.ot.specs.Items.{sizeAfter}
 use Rattle.ot.proofs.Laws.{laws}
 use Rattle.model.specs.Limits.{maxItems}
 use Rattle.model.specs.Cross.{past, over, placed, allPlaced, priority, priorities, insertsOf}

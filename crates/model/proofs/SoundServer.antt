@@ -9,8 +9,7 @@ use lib.ListN.{length, getD, length-append, length-drop, length-map}
 use borrow.Author.Tests.{leb-true, le-leb, ltb-true, eq-eqb, eqb-true, ne-eqb}
 use Rattle.ot.specs.declared.Edit.{Edit}
 use Rattle.ot.specs.declared.Edit.the-variants.{Nothing, Delete, Insert}
-use Rattle.ot.specs.Edit.{applied, fits}
-use Rattle.ot.specs.Items.{sizeAfter}
+use Rattle.ot.specs.Edit.{applied, sizeAfter, fits}
 use Rattle.ot.proofs.Laws.{laws}
 use Rattle.model.specs.Limits.{maxLines, maxInserts, maxEdits, maxPending, maxItems, maxInitial}
 use Rattle.model.specs.Questions.{every, between}

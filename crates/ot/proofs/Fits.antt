@@ -9,8 +9,7 @@ use lib.ListN.{length, length-append, length-take, length-drop}
 use borrow.Author.Tests.{ltb-true, ltb-false, leb-true, leb-false, le-leb}
 use Rattle.ot.specs.declared.Edit.{Edit}
 use Rattle.ot.specs.declared.Edit.the-variants.{Nothing, Delete, Insert}
-use Rattle.ot.specs.Edit.{insertedAt, deletedAt, applied, fits}
-use Rattle.ot.specs.Items.{sizeAfter}
+use Rattle.ot.specs.Edit.{insertedAt, deletedAt, applied, sizeAfter, fits}
 
 -- ---- tests
 
@@ -28,16 +27,6 @@ between-true a p b e = (leb-true a p (and-left (leb a p) (leb p b) e), leb-true 
 
 pub true-between : (a p b : ℕ) → a ≤ p → p ≤ b → (leb a p && leb p b) ≡ true
 true-between a p b h k = rw (le-leb a p h) (le-leb p b k)
-
--- two tests that say the same
-pub leb-same : (a b c d : ℕ) → (a ≤ b → c ≤ d) → (c ≤ d → a ≤ b) → leb a b ≡ leb c d
-leb-same a b c d f g = go (leb a b) (leb c d) refl refl
-  where
-    go : (s t : Bool) → leb a b ≡ s → leb c d ≡ t → s ≡ t
-    go true true d e = refl
-    go false false d e = refl
-    go true false h e = absurd (omega (arith, f (leb-true a b h), leb-false c d e))
-    go false true h e = absurd (omega (arith, g (leb-true c d e), leb-false a b h))
 
 -- the three ways in which two positions can stand
 pub data Order (p q : ℕ) : Type 0 where

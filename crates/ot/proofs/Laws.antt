@@ -1,6 +1,5 @@
 -- The laws of specs/Laws.antt, proved.
 use Rattle.ot.specs.Laws.{Laws}
-use Rattle.ot.proofs.Array as array
 use Rattle.ot.proofs.Fits as fits
 use Rattle.ot.proofs.Keeps as keeps
 use Rattle.ot.proofs.Square as square
@@ -14,5 +13,4 @@ laws =
       stays = keeps.stays;
       size = fits.size;
       grows = fits.grows;
-      array = array.array;
     }

@@ -3,7 +3,5 @@ pub mod Fits
 pub mod Keeps
 pub mod Moved
 pub mod Square
-pub mod Sweep
-pub mod Array
 pub mod Laws
 pub mod Cases

@@ -9,9 +9,8 @@ use lib.ListN.{length}
 use borrow.Author.Tests.{ltb-true, leb-true, leb-false, eqb-false, lt-ltb, le-ltb, le-leb, lt-leb, not-true}
 use Rattle.ot.specs.declared.Edit.{Edit}
 use Rattle.ot.specs.declared.Edit.the-variants.{Nothing, Delete, Insert}
-use Rattle.ot.specs.Edit.{deletedAt, applied, fits, transformed}
+use Rattle.ot.specs.Edit.{deletedAt, applied, sizeAfter, fits, transformed}
 use Rattle.ot.specs.Laws.{distinct, Closes}
-use Rattle.ot.specs.Items.{sizeAfter}
 use Rattle.ot.proofs.Exchange.{swap-insert-insert, swap-insert-delete, swap-delete-insert, swap-delete-delete}
 use Rattle.ot.proofs.Fits.{between-true, true-between, Order, below, level, above, order, size}
 use Rattle.ot.proofs.Keeps.{either}

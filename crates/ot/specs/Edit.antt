@@ -25,6 +25,12 @@ applied Nothing l = l
 applied (Delete p) l = deletedAt (p - 1) l
 applied (Insert p x r) l = insertedAt (p - 1) x l
 
+-- how many items a list of n has after the edit
+unfoldable pub sizeAfter : Edit → ℕ → ℕ
+sizeAfter Nothing n = n
+sizeAfter (Delete p) n = n - 1
+sizeAfter (Insert p x r) n = n + 1
+
 -- The edit's position fits a list of n items: 1 to n for a delete, 1 to n + 1 for an insert.
 unfoldable pub fits : Edit → ℕ → Bool
 fits Nothing n = true

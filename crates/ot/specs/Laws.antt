@@ -8,8 +8,7 @@ use lib.Dec.{leb, eqb}
 use lib.ListN.{length}
 use Rattle.ot.specs.declared.Edit.{Edit}
 use Rattle.ot.specs.declared.Edit.the-variants.{Nothing, Delete, Insert}
-use Rattle.ot.specs.Edit.{positionOf, applied, fits, transformed}
-use Rattle.ot.specs.Items.{sizeAfter, padded, edited, Room}
+use Rattle.ot.specs.Edit.{positionOf, applied, sizeAfter, fits, transformed}
 
 -- what an insert brings with it: item and priority
 unfoldable pub stamp : Edit → Option (ℕ × ℕ)
@@ -48,5 +47,3 @@ pub record Laws : Type 0 where
   -- an edit that fits changes the length as its kind says; no edit adds more than one item
   pub size : (e : Edit) (l : List ℕ) → fits e (length l) ≡ true → length (applied e l) ≡ sizeAfter e (length l)
   pub grows : (e : Edit) (l : List ℕ) → length (applied e l) ≤ length l + 1
-  -- an array whose unused places are 0 stays one
-  pub array : (m : ℕ) (e : Edit) (l : List ℕ) → Room e (length l) m → edited e (length l) (padded 0 m l) ≡ padded 0 m (applied e l)

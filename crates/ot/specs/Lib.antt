@@ -1,4 +1,3 @@
 pub mod Edit
 pub mod Cases
-pub mod Items
 pub mod Laws

@@ -12,10 +12,10 @@ use lib.Seq.{take-all}
 use Rattle.ot.specs.declared.Edit.{Edit}
 use Rattle.ot.specs.declared.Edit.the-variants.{Nothing, Delete, Insert}
 use Rattle.ot.specs.Edit.{positionOf, transformed}
-use Rattle.ot.specs.Items.{padded}
+use Rattle.list.specs.Items.{padded}
 use Rattle.ot.specs.Laws.{within, stamp}
 use Rattle.ot.proofs.Laws.{laws}
-use Rattle.ot.proofs.Sweep.{swept}
+use Rattle.list.proofs.Sweep.{swept}
 use Rattle.model.specs.Limits.{maxPending, maxItems}
 use Rattle.model.specs.Cross.{past, over, placed, allPlaced}
 use Rattle.model.proofs.Tests.{and-left, and-right, between-true}
@@ -23,7 +23,7 @@ use Rattle.model.proofs.Cross.{length-over, placed-drop}
 use Rattle.pending.specs.declared.Crossed.{Crossed}
 use Rattle.slots.specs.Slots.{placeOf, itemOf, editAt, editsFrom, filled, Kept, Whole}
 use Rattle.pending.specs.Crossing.{steps, crossed, Ready}
-use Rattle.slots.proofs.Pad.{fill-turn, fill-end}
+use Rattle.list.proofs.Pad.{fill-turn, fill-end}
 use Rattle.slots.proofs.Slots.{edits-length, edits-at, edits-drop}
 
 -- One step more of each of the model's recursions.

@@ -6,7 +6,7 @@ ghost use lib.ListN.{length, take, drop, replicate};
 ghost use Rattle.model.specs.Limits.{maxItems, maxPending};
 ghost use Rattle.model.specs.Cross.{over, placed};
 ghost use Rattle.ot.specs.Edit.{positionOf};
-ghost use Rattle.ot.specs.Items.{padded};
+ghost use Rattle.list.specs.Items.{padded};
 ghost use Rattle.slots.specs.Slots.{placeOf, editsFrom, filled};
 ghost use Rattle.pending.specs.Crossing.{crossed, Ready};
 use ot::Edit;

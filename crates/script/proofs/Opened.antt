@@ -10,8 +10,8 @@ use borrow.Author.Tests.{lt-leb, leb-true, leb-false, eq-eqb, ne-eqb, lt-ltb, le
 use lib.Dec.{leb, ltb}
 use lib.ListN.{length, getD, take, drop, set, replicate, length-map, drop-of-length-le}
 use lib.Seq.{take-all, length-take-le}
-use Rattle.ot.specs.Items.{padded}
-use Rattle.ot.proofs.Sweep.{swept, swept-store, swept-to}
+use Rattle.list.specs.Items.{padded}
+use Rattle.list.proofs.Sweep.{swept, swept-store, swept-to}
 use Rattle.model.specs.Limits.{maxLines, maxInitial}
 use Rattle.model.specs.Questions.{between, Answer, answer}
 use Rattle.model.specs.Client as models

@@ -6,13 +6,13 @@ use mathlib.Core.List.{List, [], _∷_, _++_, map}
 use native.Mathlib.Omega.{arith}
 use lib.ListN.{length, getD, take, drop, replicate, length-append, length-map}
 use lib.Dec.{leb, ltb}
-use Rattle.ot.specs.Items.{padded}
+use Rattle.list.specs.Items.{padded}
 use Rattle.model.specs.Limits.{maxLines}
 use Rattle.model.specs.Questions.{every}
 use Rattle.model.specs.Client as models
 use Rattle.model.specs.Server as serverModels
 use Rattle.model.proofs.Tests.{between-true}
-use Rattle.slots.proofs.Pad.{pad-take}
+use Rattle.list.proofs.Pad.{pad-take}
 use Rattle.client.specs.declared.Client.{Client}
 use Rattle.client.specs.Store as client
 use Rattle.server.specs.declared.Server.{Server}

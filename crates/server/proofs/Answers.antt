@@ -10,7 +10,7 @@ use lib.ListN.{length, getD, take, replicate, length-replicate}
 use lib.Seq.{take-all}
 use borrow.Author.Tests.{ne-eqb, eqb-false, leb-true}
 use Rattle.ot.specs.declared.Edit.the-variants.{Nothing}
-use Rattle.ot.specs.Items.{padded}
+use Rattle.list.specs.Items.{padded}
 use Rattle.wire.specs.declared.Message.{Message}
 use Rattle.wire.specs.declared.Message.the-variants as message
 use Rattle.wire.specs.Message.{messageOf}
@@ -21,7 +21,7 @@ use Rattle.model.specs.Client.{pendingAt}
 use Rattle.model.specs.Server as model
 use Rattle.model.proofs.Tests.{and-left, and-right, yes-all}
 use Rattle.slots.specs.Slots.{stretch, filled}
-use Rattle.slots.proofs.Pad.{pad-drop}
+use Rattle.list.proofs.Pad.{pad-drop}
 use Rattle.slots.proofs.Slots.{edits-at}
 use Rattle.endpoint.specs.Items.{initialItems}
 use Rattle.endpoint.specs.Sending.{answered as sentAs, finished}

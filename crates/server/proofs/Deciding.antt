@@ -9,8 +9,8 @@ use lib.ListN.{length, getD, List·getD-eq-default}
 use borrow.Author.Tests.{eqb-true, eqb-false, ne-eqb, eq-eqb, ltb-true, lt-ltb, le-ltb, ltb-false}
 use Rattle.ot.specs.declared.Edit.{Edit}
 use Rattle.ot.specs.declared.Edit.the-variants.{Nothing, Delete, Insert}
-use Rattle.ot.specs.Edit.{applied, fits}
-use Rattle.ot.specs.Items.{Room, sizeAfter}
+use Rattle.ot.specs.Edit.{applied, sizeAfter, fits}
+use Rattle.list.specs.Items.{Room}
 use Rattle.wire.specs.declared.Header.{Header}
 use Rattle.wire.specs.declared.Message.{Message}
 use Rattle.wire.specs.declared.Message.the-variants as message

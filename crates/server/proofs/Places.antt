@@ -14,9 +14,10 @@ use Rattle.model.specs.Cross.{allPlaced, priorities}
 use Rattle.model.specs.Client.{other}
 use Rattle.model.specs.Server as model
 use Rattle.model.proofs.Tests.{both, and-left, and-right, hold, held}
-use Rattle.slots.specs.Slots.{editsFrom, allFrom, tidyAt, emptyAt, soundTests, soundSlots}
+use Rattle.slots.specs.Slots.{editsFrom, allFrom}
+use Rattle.slots_sound.specs.Sound.{tidyAt, emptyAt, soundTests, soundSlots}
 use Rattle.slots.proofs.Slots.{edits-length}
-use Rattle.slots.proofs.Tests.{all-each, each-all}
+use Rattle.slots.proofs.All.{all-each, each-all}
 use Rattle.lines.specs.declared.Counts.{Counts}
 use Rattle.lines.specs.Lines.{pendingCount}
 use Rattle.lines_sound.specs.Sound.{sumFrom}

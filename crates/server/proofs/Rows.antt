@@ -7,11 +7,11 @@ use native.Mathlib.Omega.{arith}
 use lib.ListN.{length, getD, take, drop, length-append, length-map, take-append-drop, drop-of-length-le, List·getD-map}
 use lib.Seq.{take-at, drop-append-add, drop-drop, ext-getD}
 use Rattle.ot.specs.declared.Edit.{Edit}
-use Rattle.ot.specs.Items.{padded}
+use Rattle.list.specs.Items.{padded}
 use Rattle.model.specs.Limits.{maxLines, maxPending, maxItems}
 use Rattle.model.specs.Server as model
 use Rattle.slots.specs.Slots.{placeOf, itemOf, stretch, filled}
-use Rattle.slots.proofs.Pad.{pad-getD, pad-length}
+use Rattle.list.proofs.Pad.{pad-getD, pad-length}
 use Rattle.slots.proofs.Slots.{filled-length}
 use Rattle.server.specs.declared.Server.{Server}
 use Rattle.server.specs.View.{slotsOf, allLines, store}

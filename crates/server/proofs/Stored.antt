@@ -9,7 +9,7 @@ use lib.Dec.{eqb, ltb}
 use lib.ListN.{length, getD, take, replicate, List·getD-eq-default}
 use lib.Seq.{ext-getD}
 use borrow.Author.Tests.{le-leb, eq-eqb, ltb-true, ltb-false}
-use Rattle.ot.specs.Items.{padded}
+use Rattle.list.specs.Items.{padded}
 use Rattle.model.specs.Limits.{maxLines, maxItems, maxPending}
 use Rattle.model.specs.Questions.{every}
 use Rattle.model.specs.Cross.{allPlaced, priorities}
@@ -17,10 +17,11 @@ use Rattle.model.specs.Client.{other}
 use Rattle.model.specs.Server as model
 use Rattle.model.proofs.Tests.{both, held}
 use Rattle.model.proofs.SoundServer.{LineFacts, ServerFacts, server-facts, takenSum}
-use Rattle.slots.specs.Slots.{editsFrom, allFrom, tidyAt, emptyAt}
-use Rattle.slots.proofs.Pad.{pad-length, pad-take, pad-drop}
+use Rattle.slots.specs.Slots.{editsFrom, allFrom}
+use Rattle.slots_sound.specs.Sound.{tidyAt, emptyAt}
+use Rattle.list.proofs.Pad.{pad-length, pad-take, pad-drop}
 use Rattle.slots.proofs.Slot.{other-ranks}
-use Rattle.slots.proofs.Tests.{filled-edits, filled-tidy, filled-empty}
+use Rattle.slots_sound.proofs.Tests.{filled-edits, filled-tidy, filled-empty}
 use Rattle.endpoint.specs.Items.{allZero}
 use Rattle.server.specs.declared.Server.{Server}
 use Rattle.lines.specs.Lines.{pendingCount}

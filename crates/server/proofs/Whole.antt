@@ -8,17 +8,17 @@ use lib.Dec.{leb, ltb, eqb}
 use lib.ListN.{length, getD, take, drop, length-take}
 use lib.Seq.{length-take-le}
 use borrow.Author.Tests.{leb-true, le-leb, eq-eqb, eqb-true, ltb-true, ltb-false}
-use Rattle.ot.specs.Items.{padded}
+use Rattle.list.specs.Items.{padded}
 use Rattle.model.specs.Limits.{maxLines, maxItems, maxPending}
 use Rattle.model.specs.Questions.{every, between}
 use Rattle.model.specs.Client.{other}
 use Rattle.model.specs.Server as model
-use Rattle.model.proofs.Tests.{both, and-left, and-right, hold, held, between-true}
+use Rattle.model.proofs.Tests.{both, and-left, and-right, hold, held, between-true, bool-ext}
 use Rattle.model.proofs.SoundServer.{LineFacts, LinesFacts, ServerFacts, server-facts, takenSum}
-use Rattle.slots.specs.Slots.{placeOf, itemOf, editsFrom, filled, allFrom, emptyAt}
-use Rattle.slots.proofs.Pad.{pad-length}
-use Rattle.slots.proofs.Slot.{bool-ext}
-use Rattle.slots.proofs.Tests.{sound-kept}
+use Rattle.slots.specs.Slots.{placeOf, itemOf, editsFrom, filled, allFrom}
+use Rattle.slots_sound.specs.Sound.{emptyAt}
+use Rattle.list.proofs.Pad.{pad-length}
+use Rattle.slots_sound.proofs.Tests.{sound-kept}
 use Rattle.endpoint.specs.Items.{allZero}
 use Rattle.endpoint.proofs.Items.{stored-of}
 use Rattle.server.specs.declared.Server.{Server}

@@ -8,7 +8,8 @@ use lib.ListN.{length, getD, drop}
 use Rattle.model.specs.Limits.{maxLines, maxItems, maxPending}
 use Rattle.model.specs.Questions.{every}
 use Rattle.model.specs.Server.{soundServer}
-use Rattle.slots.specs.Slots.{allFrom, tidyAt, emptyAt}
+use Rattle.slots.specs.Slots.{allFrom}
+use Rattle.slots_sound.specs.Sound.{tidyAt, emptyAt}
 use Rattle.endpoint.specs.Items.{allZero}
 use Rattle.lines.specs.declared.Counts.{Counts}
 use Rattle.lines.specs.Lines.{pendingCount, AllKept}

@@ -3,7 +3,7 @@ use Prim.Native.Nat.{ℕ, zero, suc, _+_, _*_}
 use mathlib.Core.List.{List, [], _∷_, _++_, map}
 use lib.ListN.{length, getD, take, replicate}
 use Rattle.ot.specs.declared.Edit.{Edit}
-use Rattle.ot.specs.Items.{padded}
+use Rattle.list.specs.Items.{padded}
 use Rattle.model.specs.Limits.{maxLines, maxPending, maxItems}
 use Rattle.model.specs.Server as model
 use Rattle.slots.specs.Slots.{placeOf, itemOf, editsFrom, filled}

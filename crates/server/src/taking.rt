@@ -53,7 +53,7 @@ pub fn take_lent(
         places,
         pending,
     ) {
-        let Read::Message(m) = wire::parse(bytes) else {
+        let Read::Message(m) = reading::parse(bytes) else {
             return refused(3, k);
         };
         let mut later = [0u32; 64];
@@ -62,7 +62,7 @@ pub fn take_lent(
             let i = d.at;
             let e = d.edit;
             arrivals::write_slots(k, places, pending, d, &later);
-            k.len = ot::apply(items, k.len, e);
+            k.len = list::apply(items, k.len, e);
             taking::raise(&mut k.made, d.others, i);
             k.taken[i] = d.taken;
             k.acked[i] = d.acked;

@@ -1,5 +1,3 @@
-pub mod Zero
-pub mod Pad
 pub mod Slot
 pub mod Slots
-pub mod Tests
+pub mod All

@@ -11,10 +11,10 @@ use lib.Seq.{getD-take, getD-drop, take-all, take-set-lt, drop-set-add, ext-getD
 use borrow.Author.Tests.{ltb-true, ltb-false}
 use Rattle.ot.specs.declared.Edit.{Edit}
 use Rattle.ot.specs.declared.Edit.the-variants.{Nothing}
-use Rattle.ot.specs.Items.{padded}
+use Rattle.list.specs.Items.{padded}
 use Rattle.model.specs.Limits.{maxPending}
 use Rattle.slots.specs.Slots.{placeOf, itemOf, editOf, editAt, editsFrom, stretch, filled, Kept, Whole}
-use Rattle.slots.proofs.Pad.{pad-getD, pad-length, pad-take, pad-drop, pad-snoc}
+use Rattle.list.proofs.Pad.{pad-getD, pad-length, pad-take, pad-drop, pad-snoc}
 
 -- ---- the edits that slots mean
 

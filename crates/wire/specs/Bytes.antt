@@ -1,10 +1,9 @@
 -- The bytes of a message, high byte first, and what bytes read as (01: "Message bytes").
 use Prim.Native.Nat.{ℕ, _+_, _*_, _/_, _%_}
 use mathlib.Core.Bool.{_&&_, cond}
-use mathlib.Core.Path.{_≡_}
 use mathlib.Core.List.{List, [], _∷_, _++_}
 use lib.Dec.{leb, eqb}
-use lib.ListN.{length, getD, drop}
+use lib.ListN.{length, getD}
 use Rattle.wire.specs.declared.Header.{Header}
 use Rattle.wire.specs.declared.Message.{Message}
 use Rattle.wire.specs.declared.Message.the-variants.{Insert, Delete, Nothing, Ack}
@@ -52,9 +51,3 @@ parsed s =
     cond (leb 1 (length s) && eqb (length s) (sizeOfKind (getD s 0 0)) && inRange (fieldsOf (getD s 0 0) s))
     (read.Message (fieldsOf (getD s 0 0) s))
     read.Refused
-
--- What writing a message into a buffer answers, and what the buffer then holds: bytes past the message stay. Where it does not fit,
--- the answer is 0 and every byte stays.
-pub record Written (m : Message) (before : List ℕ) (answer : ℕ) (after : List ℕ) : Type 0 where
-  pub size : answer ≡ cond (leb (length (bytesOf m)) (length before)) (length (bytesOf m)) 0
-  pub bytes : after ≡ cond (leb (length (bytesOf m)) (length before)) (bytesOf m ++ drop (length (bytesOf m)) before) before

@@ -5,7 +5,7 @@ use native.Mathlib.Omega.{arith}
 use Prim.Native.Nat.{ℕ, _-_, _≤_}
 use lib.Dec.{eqb, ltb}
 use Rattle.slots.specs.Slots.{allFrom}
-use Rattle.slots.proofs.Tests.{all-turn, all-end}
+use Rattle.slots.proofs.All.{all-turn, all-end}
 use Rattle.arrivals.specs.Deciding.{roomyAt}
 use Rattle.arrivals.proofs.others_roomy.Statement.{statement}
 use Rattle.arrivals.proofs.others_roomy.Tie as tie

@@ -4,7 +4,7 @@ use mathlib.Core.Path.{_≡_, refl}
 use lib.ListN.{replicate}
 use denote.Ref.{now}
 use borrow.Author.Needs.{needs}
-use Rattle.ot.proofs.Sweep.{swept}
+use Rattle.list.proofs.Sweep.{swept}
 use Rattle.endpoint.specs.Items.{initialItems}
 use Rattle.endpoint.proofs.Items.{initial-turn, initial-end}
 use Rattle.endpoint.proofs.initial.Statement.{statement}

@@ -1,4 +1,4 @@
-use Rattle.endpoint.proofs.Bools.{and-true, and-assoc}
+use mathlib.Core.Bool.{and-true, and-assoc}
 use Rattle.line.proofs.counts_sound.Statement.{statement}
 use Rattle.line.proofs.counts_sound.Tie as tie
 

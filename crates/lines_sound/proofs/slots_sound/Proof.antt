@@ -6,7 +6,7 @@ use mathlib.Core.Bool.{_&&_}
 use mathlib.Core.List.{[]}
 use Prim.Native.Nat.{_-_, _≤_}
 use Rattle.slots.specs.Slots.{allFrom}
-use Rattle.slots.proofs.Tests.{all-turn, all-end}
+use Rattle.slots.proofs.All.{all-turn, all-end}
 use Rattle.lines.specs.Lines.{counts}
 use Rattle.lines_sound.specs.Sound.{slotsAt}
 use Rattle.lines_sound.proofs.slots_sound.Statement.{statement}

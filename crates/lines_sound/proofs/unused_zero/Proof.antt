@@ -5,7 +5,7 @@ use mathlib.Core.Path.{_≡_, refl, _∙_}
 use mathlib.Core.Bool.{Bool, _&&_}
 use Prim.Native.Nat.{ℕ, _-_, _≤_}
 use Rattle.slots.specs.Slots.{allFrom}
-use Rattle.slots.proofs.Tests.{all-turn, all-end}
+use Rattle.slots.proofs.All.{all-turn, all-end}
 use Rattle.lines.specs.Lines.{counts}
 use Rattle.lines_sound.specs.Sound.{unusedAt}
 use Rattle.lines_sound.proofs.unused_zero.Statement.{statement}

@@ -5,7 +5,7 @@ use mathlib.Core.Path.{_≡_, _∙_}
 use mathlib.Core.Bool.{Bool, _&&_}
 use Prim.Native.Nat.{ℕ, _-_, _≤_}
 use Rattle.slots.specs.Slots.{allFrom}
-use Rattle.slots.proofs.Tests.{all-turn, all-end, all-count}
+use Rattle.slots.proofs.All.{all-turn, all-end, all-count}
 use Rattle.lines.specs.Lines.{counts}
 use Rattle.lines_sound.specs.Sound.{usedAt}
 use Rattle.lines_sound.proofs.used_sound.Statement.{statement}

@@ -1,7 +1,7 @@
-use Rattle.slots.proofs.Pad.{fill-turn, fill-end}
+use Rattle.list.proofs.Pad.{fill-turn, fill-end}
 use Rattle.model.specs.Limits.{maxPending}
-use Rattle.ot.proofs.Sweep.{swept}
-use Rattle.ot.specs.Items.{padded}
+use Rattle.list.proofs.Sweep.{swept}
+use Rattle.list.specs.Items.{padded}
 use lib.Seq.{getD-take, getD-drop}
 use lib.ListN.{take, drop, replicate, length-take}
 use mathlib.Core.Path.{_≡_, refl, _∙_, sym}

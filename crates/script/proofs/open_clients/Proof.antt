@@ -3,7 +3,7 @@ use mathlib.Core.Path.{_≡_, refl}
 use native.Mathlib.Omega.{arith}
 use borrow.Author.Needs.{needs}
 use lib.ListN.{length, length-set}
-use Rattle.ot.proofs.Sweep.{swept}
+use Rattle.list.proofs.Sweep.{swept}
 use Rattle.bench.specs.Ends.{opening}
 use Rattle.script.proofs.Opened.{opening-turn, opening-end}
 use Rattle.script.proofs.open_clients.Statement.{statement}

@@ -1,0 +1,4 @@
+pub mod Sweep
+pub mod Array
+pub mod Pad
+pub mod Zero
