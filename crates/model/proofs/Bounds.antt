@@ -9,7 +9,7 @@ use lib.ListN.{length, getD}
 use borrow.Author.Tests.{eqb-true, eqb-false, ne-eqb}
 use Rattle.ot.specs.declared.Edit.{Edit}
 use Rattle.ot.specs.declared.Edit.the-variants.{Nothing}
-use Rattle.ot.specs.Edit.{applied, fits}
+use Rattle.ot.specs.Edit.{fits}
 use Rattle.jupiter.specs.Made.{Made, select, isBy, mine, others}
 use Rattle.jupiter.specs.Point.{blank, point, ownForm, othForm}
 use Rattle.jupiter.specs.History.{History, order}
