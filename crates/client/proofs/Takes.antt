@@ -32,7 +32,7 @@ use Rattle.arrival.specs.Taking.{Between, takeAsked, ackAsked, askedEdit, asked
 use Rattle.arrival.proofs.Deciding.{take-then, ack-seen, deciding-no, deciding-yes, deciding-then, left-items, few-staying}
 use Rattle.client.specs.declared.Client.{Client}
 use Rattle.client.specs.Store.{counts, view, store, Sound}
-use Rattle.client.specs.Answers.{refusedWith, guarded, taken}
+use Rattle.client.specs.Answers.{refusedWith, guarded, taken, takenMessage}
 use Rattle.client.proofs.Answers.{refused, done}
 use Rattle.client.proofs.Edits.{facts, len-few, items-stored}
 
@@ -245,8 +245,12 @@ module _ (c : Client) (s : Sound c) where
       ∙ ap (λ (b : Bool). guarded c (answer (asks (ask 2 b ∷ ask 3 false ∷ [])) (view c) (view c) 0)) (sym (s .model))
       ∙ ap (λ (r : Read). guarded c (client.clientReads (view c) r)) (sym p)
 
+pub read-taken : (c : Client) (bytes : List ℕ) (m : Message) → parsed bytes ≡ read.Message m → takenMessage c m ≡ taken c bytes
+unfolding client.takeClient
+read-taken c bytes m p = ap (λ (r : Read). guarded c (client.clientReads (view c) r)) (sym p)
+
 -- What is written by the decision of a message that was read.
-module _ (c : Client) (s : Sound c) (bytes : List ℕ) (m : Message) (p : parsed bytes ≡ read.Message m) (d : Decision) (later : List ℕ)
+module _ (c : Client) (s : Sound c) (m : Message) (d : Decision) (later : List ℕ)
     (v : Decided (decided (counts c) (view c .pending) (asked (counts c) m)) (staying (counts c) (view c .pending) (asked (counts c) m)) d later) where
   abbrev stay : List Edit
   stay = staying (counts c) (view c .pending) (asked (counts c) m)
@@ -254,12 +258,8 @@ module _ (c : Client) (s : Sound c) (bytes : List ℕ) (m : Message) (p : parsed
   model : Decides c d stay (client.clientTakes (view c) m)
   model = subst (λ (x : Decision). Decides c x stay (client.clientTakes (view c) m)) (sym (v .answer)) (message-decides c s m)
 
-  is-taken : guarded c (client.clientTakes (view c) m) ≡ taken c bytes
-  unfolding client.takeClient
-  is-taken = ap (λ (r : Read). guarded c (client.clientReads (view c) r)) (sym p)
-
-  pub take-refused : (d .refusal ≡ 0 → ⊥) → record { refusal = d .refusal; passed = d .passed; client = c } ≡ taken c bytes
-  take-refused n = decided-refused c s d stay (client.clientTakes (view c) m) model n ∙ is-taken
+  pub take-refused : (d .refusal ≡ 0 → ⊥) → record { refusal = d .refusal; passed = d .passed; client = c } ≡ takenMessage c m
+  take-refused n = decided-refused c s d stay (client.clientTakes (view c) m) model n
 
   module _ (z : d .refusal ≡ 0) where
     pub take-room : Room (d .edit) (c .len) maxItems
@@ -292,8 +292,7 @@ module _ (c : Client) (s : Sound c) (bytes : List ℕ) (m : Message) (p : parsed
 
     pub take-done : (len : ℕ) (after items : List ℕ) → Edited (d .edit) (c .len) (c .items) after len
         → items ≡ padded 0 maxPending (take (c .made - d .acked) (drop (d .acked - c .acked) (c .«pending_items»)))
-        → record { refusal = d .refusal; passed = d .passed; client = moved c (d .taken) (d .acked) len after later items } ≡ taken c bytes
+        → record { refusal = d .refusal; passed = d .passed; client = moved c (d .taken) (d .acked) len after later items } ≡ takenMessage c m
     take-done len after items ed ei =
         decided-done c s d stay (client.clientTakes (view c) m) model z len after later items ed (v .places z)
         (ei ∙ items-moved c s d stay (client.clientTakes (view c) m) model z)
-        ∙ is-taken

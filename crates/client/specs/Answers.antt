@@ -5,6 +5,7 @@ use mathlib.Core.List.{List}
 use lib.Dec.{eqb}
 use Rattle.ot.specs.declared.Edit.{Edit}
 use Rattle.ot.specs.declared.Edit.the-variants.{Delete, Insert}
+use Rattle.wire.specs.declared.Message.{Message}
 use Rattle.model.specs.Questions as model
 use Rattle.model.specs.Client as client
 use Rattle.line.specs.declared.Counts.{Counts}
@@ -59,6 +60,10 @@ changed c d = edited c (madeAs (c .line) d)
 
 abbrev pub taken : Client → List ℕ → Answer
 taken c bytes = guarded c (client.takeClient (view c) bytes)
+
+-- the same of a message that was read
+abbrev pub takenMessage : Client → Message → Answer
+takenMessage c m = guarded c (client.clientTakes (view c) m)
 
 -- A sending changes no end: the answer, and the lent buffer.
 unfoldable pub guardedSending : Client → model.Sent → List ℕ → model.Sent

@@ -1,12 +1,54 @@
 // Taking: a message from the server, an edit of another client or an acknowledgement.
 ghost use mathlib.Core.Path.{_≡_};
-ghost use Rattle.client.specs.Answers.{taken, answerOf};
-ghost use Rattle.client.specs.Store.{clientOf, Sizes};
+ghost use mathlib.Core.Bool.{true};
+ghost use Rattle.wire.specs.Message.{inRange};
+ghost use Rattle.client.specs.Answers.{taken, takenMessage, answerOf};
+ghost use Rattle.client.specs.Store.{clientOf, Sizes, Sound};
 use crate::Answer;
 use crate::Changed;
 use crate::Client;
 use line::Counts;
+use wire::Message;
 use wire::Read;
+
+// Takes a message that was read, at a client that question 2 found sound: the decision, then what an accepted message changes.
+fn take_message(
+    k: Counts,
+    items: &mut [u32],
+    places: &mut [u32],
+    pending: &mut [u32],
+    m: Message,
+) -> Changed
+    requires { ⌜ (inRange m ≡ true) × (Sizes (now items) (now places) (now pending) × Sound (clientOf k (now items) (now places) (now pending))) ⌝ }
+    ensures { λ r. ⌜ answerOf r (now (items .exit)) (now (places .exit)) (now (pending .exit)) ≡ takenMessage (clientOf k (now (items .entry)) (now (places .entry)) (now (pending .entry))) m ⌝ }
+{
+    let mut later = [0u32; 64];
+    let d = arrival::decide(k, places, pending, m, &mut later);
+    if d.refusal != 0 {
+        return Changed {
+            refusal: d.refusal,
+            passed: d.passed,
+            counts: k,
+        };
+    }
+    let e = d.edit;
+    arrival::put(places, &later);
+    arrival::drop_items(pending, k.made, k.acked, d.acked);
+    let len = list::apply(items, k.len, e);
+    Changed {
+        refusal: 0,
+        passed: d.passed,
+        counts: Counts {
+            n: k.n,
+            line: k.line,
+            made: k.made,
+            taken: d.taken,
+            acked: d.acked,
+            inserts: k.inserts,
+            len,
+        },
+    }
+}
 
 // Takes one message, in place.
 pub fn take_lent(
@@ -34,32 +76,7 @@ pub fn take_lent(
         let Read::Message(m) = reading::parse(bytes) else {
             return crate::refused(3, k);
         };
-        let mut later = [0u32; 64];
-        let d = arrival::decide(k, places, pending, m, &mut later);
-        if d.refusal != 0 {
-            return Changed {
-                refusal: d.refusal,
-                passed: d.passed,
-                counts: k,
-            };
-        }
-        let e = d.edit;
-        arrival::put(places, &later);
-        arrival::drop_items(pending, k.made, k.acked, d.acked);
-        let len = list::apply(items, k.len, e);
-        return Changed {
-            refusal: 0,
-            passed: d.passed,
-            counts: Counts {
-                n: k.n,
-                line: k.line,
-                made: k.made,
-                taken: d.taken,
-                acked: d.acked,
-                inserts: k.inserts,
-                len,
-            },
-        };
+        return take_message(k, items, places, pending, m);
     }
     crate::refused(2, k)
 }

@@ -1,26 +1,23 @@
 use borrow.Author.Needs.{needs}
 use native.Mathlib.Omega.{arith}
 use mathlib.Core.Bool.{true, false}
-use mathlib.Core.Path.{_≡_, refl, ap, sym, _∙_}
+use mathlib.Core.Path.{_≡_, ap, sym, _∙_}
 use mathlib.Core.List.{List}
 use Prim.Native.Nat.{ℕ}
-use lib.ListN.{length}
 use Rattle.wire.specs.declared.Message.{Message}
 use Rattle.wire.specs.declared.Read.the-variants as read
 use Rattle.wire.specs.Bytes.{parsed}
 use Rattle.wire.proofs.Codec.{codec}
 use Rattle.model.specs.Client.{takeClient}
-use Rattle.model.specs.Limits.{maxPending}
 use Rattle.client.proofs.Sound.{lent-answer, lent-facts, lent-sizes}
 use Rattle.client.specs.declared.Client.{Client}
 use Rattle.client.specs.declared.Answer.{Answer}
 use Rattle.client.specs.declared.Changed.{Changed}
-use Rattle.arrival.specs.declared.Decision.{Decision}
 use Rattle.client.specs.Store as store
 use Rattle.client.specs.Store.{clientOf, view, Sound}
 use Rattle.client.specs.Answers.{answerOf}
 use Rattle.client.proofs.Answers.{unsound}
-use Rattle.client.proofs.Takes.{decidable, moved, read-refused, take-refused, take-room, take-later, take-droppable, take-done}
+use Rattle.client.proofs.Takes.{read-refused, read-taken}
 use Rattle.client.proofs.taking.take_lent.Statement.{statement}
 use Rattle.client.proofs.taking.take_lent.Tie as tie
 
@@ -63,28 +60,6 @@ message c = c .m .given .0 .0
 
 reads : (c : tie.After-m) → parsed (bytes c) ≡ read.Message (message c)
 reads c = sym (c .before .before .parse .ensures) ∙ c .m .given .1
-
--- ---- and decided
-
-abbrev told : tie.After-decide → tie.After-m
-told c = c .before .before .before .before .before
-
-abbrev end : tie.After-decide → Client
-end c = whole (well (told c) .before)
-
-abbrev decision : tie.After-decide → Decision
-decision c = c .decide .result
-
-abbrev kept : tie.After-decide → List ℕ
-kept c = c .decide .last .1 .1 .1 .1 .0
-
--- ---- and not refused
-
-kept-length : (c : tie.Else2) → length (kept (c .before .before)) ≡ maxPending
-kept-length c =
-    let a = c .before .before in
-    let t = told a in
-    take-later (end a) (sound (well t)) (bytes t) (message t) (reads t) (decision a) (kept a) (a .decide .ensures) (c .if2 .left)
 
 -- ---- the needs
 
@@ -136,10 +111,10 @@ returns c =
     ap (untouched (t .before)) (c .refused .ensures)
     ∙ read-refused (whole (t .before)) (sound t) (start (t .before) .args .bytes .now) (sym (c .before .before .before .parse .ensures) ∙ c .before .enum-told .given .1)
 
-decide-requires : tie.Need-decide-requires
-decide-requires c κs =
-    let t = c .before .before .before .before in
-    (codec .read-in-range (bytes t) (message t) (reads t), decidable (whole (well t .before)) (sound (well t)) _ refl)
+take-message-requires : tie.Need-take-message-requires
+take-message-requires c κs =
+    let m = c .before .before .before .before in
+    (codec .read-in-range (bytes m) (message m) (reads m), (start (well m .before) .pre, sound (well m)))
 
 same-length-4 : tie.Need-same-length-4
 same-length-4 c = search needs
@@ -152,27 +127,12 @@ same-length-6 c = search needs
 
 returns-2 : tie.Need-returns-2
 returns-2 c =
-    let a = c .before .before in
-    let t = told a in
-    take-refused (end a) (sound (well t)) (bytes t) (message t) (reads t) (decision a) (kept a) (a .decide .ensures) (c .if2 .taken)
+    let t = c .before .before .before .before .before .before in
+    let m = t .before .before .before .before .before in
+    t .take-message .ensures ∙ read-taken (whole (well m .before)) (bytes m) (message m) (reads m)
 
-slice-aggregate-put : tie.Need-slice-aggregate-put
-slice-aggregate-put c = sym (kept-length (c .before .before))
-
-put-requires : tie.Need-put-requires
-put-requires c κs = (start (well (told (c .before .before .before .before)) .before) .pre .places-size, kept-length (c .before .before))
-
-drop-items-requires : tie.Need-drop-items-requires
-drop-items-requires c κs =
-    let a = c .before .before .before .before .before .before .before .before in
-    let t = told a in
-    take-droppable (end a) (sound (well t)) (bytes t) (message t) (reads t) (decision a) (kept a) (a .decide .ensures) (c .before .before .before .before .before .before .if2 .left)
-
-apply-requires : tie.Need-apply-requires
-apply-requires c κs =
-    let a = c .before .before .before .before .before .before .before .before .before .before .before .before in
-    let t = told a in
-    (start (well t .before) .pre .items-size, take-room (end a) (sound (well t)) (bytes t) (message t) (reads t) (decision a) (kept a) (a .decide .ensures) (c .before .before .before .before .before .before .before .before .before .before .if2 .left))
+refused-requires-2 : tie.Need-refused-requires-2
+refused-requires-2 c κs = search needs
 
 same-length-7 : tie.Need-same-length-7
 same-length-7 c = search needs
@@ -185,30 +145,6 @@ same-length-9 c = search needs
 
 returns-3 : tie.Need-returns-3
 returns-3 c =
-    let a = c .before .before .before .before .before .before .before .before .before .before .before .before .before .before .before in
-    let t = told a in
-    let d = decision a in
-    let len = c .before .before .apply .result in
-    let after = c .before .before .apply .last .0 in
-    let rest = c .before .before .before .before .before .before .drop-items .last .0 in
-    ap (λ (ps : List ℕ). record { refusal = 0; passed = d .passed; client = moved (end a) (d .taken) (d .acked) len after ps rest }) (c .before .before .before .before .before .before .before .before .before .before .put .ensures)
-    ∙ ap (λ (r : ℕ). record { refusal = r; passed = d .passed; client = moved (end a) (d .taken) (d .acked) len after (kept a) rest }) (sym (c .before .before .before .before .before .before .before .before .before .before .before .before .before .if2 .left))
-    ∙ take-done (end a) (sound (well t)) (bytes t) (message t) (reads t) d (kept a) (a .decide .ensures) (c .before .before .before .before .before .before .before .before .before .before .before .before .before .if2 .left) len after rest (c .before .before .apply .ensures) (c .before .before .before .before .before .before .drop-items .ensures)
-
-refused-requires-2 : tie.Need-refused-requires-2
-refused-requires-2 c κs = search needs
-
-same-length-10 : tie.Need-same-length-10
-same-length-10 c = search needs
-
-same-length-11 : tie.Need-same-length-11
-same-length-11 c = search needs
-
-same-length-12 : tie.Need-same-length-12
-same-length-12 c = search needs
-
-returns-4 : tie.Need-returns-4
-returns-4 c =
     let a = c .before .before in
     ap (untouched a) (c .refused2 .ensures) ∙ unsound (whole a) (takeClient (view (whole a)) (start a .args .bytes .now)) (not-sound (c .before))
 
@@ -231,21 +167,13 @@ take-lent-spec =
     same-length-2
     same-length-3
     returns
-    decide-requires
+    take-message-requires
     same-length-4
     same-length-5
     same-length-6
     returns-2
-    slice-aggregate-put
-    put-requires
-    drop-items-requires
-    apply-requires
+    refused-requires-2
     same-length-7
     same-length-8
     same-length-9
-    returns-3
-    refused-requires-2
-    same-length-10
-    same-length-11
-    same-length-12
-    returns-4)
+    returns-3)
