@@ -223,11 +223,18 @@ pub fn replay(bytes: &[u8], subjects: &[&dyn Subject]) -> bool {
 pub fn timed(seconds: u64, first: u64, subjects: &[&dyn Subject]) -> bool {
     let start = Instant::now();
     let mut tally = Tally::default();
-    let mut fine = crate::cases::all(subjects) && judge_openings(subjects, &mut tally);
+    let fine = crate::cases::all(subjects) && judge_openings(subjects, &mut tally);
+    // honest runs, limits and hostile ends get most of the time
+    let turns = [0, 0, 2, 6, 4, 0, 2, 1, 6, 0, 2, 3, 5];
+    let going = |_: &Tally| start.elapsed() < Duration::from_secs(seconds);
+    seeds(first, &turns, fine, going, subjects, tally)
+}
+
+/// Seed after seed, the sorts of runs by turns, as long as nothing is different and it is to go on.
+fn seeds(first: u64, turns: &[usize], mut fine: bool, going: impl Fn(&Tally) -> bool, subjects: &[&dyn Subject], mut tally: Tally) -> bool {
     let mut now = first;
-    while fine && start.elapsed() < Duration::from_secs(seconds) {
-        // honest runs, limits and hostile ends get most of the time
-        let sort = SORTS[[0, 0, 2, 6, 4, 0, 2, 1, 6, 0, 2, 3, 5][(now % 13) as usize]];
+    while fine && going(&tally) {
+        let sort = SORTS[turns[now as usize % turns.len()]];
         fine = seed(sort, now, subjects, &mut tally);
         now += 1;
     }
@@ -248,16 +255,6 @@ fn judge_openings(subjects: &[&dyn Subject], tally: &mut Tally) -> bool {
 
 /// Runs of calls until so many were made.
 pub fn long(calls: u64, first: u64, subjects: &[&dyn Subject]) -> bool {
-    let mut tally = Tally::default();
-    let mut fine = true;
-    let mut now = first;
-    while fine && tally.calls < calls {
-        let sort = SORTS[[0, 2, 0, 1, 0, 2][(now % 6) as usize]];
-        fine = seed(sort, now, subjects, &mut tally);
-        now += 1;
-    }
-    println!("seeds {first} to {}", now - 1);
-    tally.print();
-    println!("{}", if fine { "no difference" } else { "DIFFERENT" });
-    fine
+    let going = |tally: &Tally| tally.calls < calls;
+    seeds(first, &[0, 2, 0, 1, 0, 2], true, going, subjects, Tally::default())
 }
