@@ -103,19 +103,19 @@ fn tasks() -> Vec<Task> {
             4,
         ));
     }
-    tasks.push(script_task());
+    tasks.push(script_task(scripts::full(), 2));
     tasks
 }
 
-fn script_task() -> Task {
-    let script = scripts::full();
+fn script_task(script: Vec<u8>, times: u32) -> Task {
+    let name = format!("run program, {} bytes", script.len());
     let work = move |subject: &dyn Subject, times: u32| {
         let mut out = vec![0; SCRIPT_OUT];
         for _ in 0..times {
             assert!(subject.script(std::hint::black_box(&script), &mut out) > 0);
         }
     };
-    Task { name: "run program, 65,536 bytes".to_string(), work: Box::new(work), times: 2, calls: 1 }
+    Task { name, work: Box::new(work), times, calls: 1 }
 }
 
 /// Nanoseconds for so many repeats.
@@ -149,37 +149,68 @@ fn unit(nanoseconds: f64) -> String {
     }
 }
 
-/// The table of single calls, in Markdown.
-fn calls_table(subjects: &[&dyn Subject]) -> String {
-    let mut table = "| call |".to_string();
+/// The times of each subject, which take turns.
+fn turns(subjects: &[&dyn Subject], one: impl Fn(&dyn Subject) -> f64) -> Vec<Vec<f64>> {
+    let mut turns = vec![Vec::new(); subjects.len()];
+    for _ in 0..TURNS {
+        for (subject, times) in subjects.iter().zip(&mut turns) {
+            times.push(one(*subject));
+        }
+    }
+    eprint!(".");
+    turns
+}
+
+/// The first two lines of a table of times, in Markdown.
+fn head(what: &str, subjects: &[&dyn Subject]) -> String {
+    let mut table = format!("| {what} |");
     for subject in subjects {
         write!(table, " {} |", subject.name()).unwrap();
     }
     for subject in &subjects[1..] {
         write!(table, " {} / {} (lowest to highest) |", subject.name(), subjects[0].name()).unwrap();
     }
-    table += "\n|---|";
-    table += &"--:|".repeat(2 * subjects.len() - 1);
-    table.push('\n');
+    table + "\n|---|" + &"--:|".repeat(2 * subjects.len() - 1) + "\n"
+}
+
+/// A line of it: each subject's times, and their ratios to the first one's.
+fn row(name: &str, turns: &[Vec<f64>]) -> String {
+    let mut row = format!("| {name} |");
+    for times in turns {
+        let (half, low, high) = middle(&mut times.clone());
+        write!(row, " {} ({} to {}) |", unit(half), unit(low), unit(high)).unwrap();
+    }
+    for times in &turns[1..] {
+        let (half, low, high) = ratio(times, &turns[0]);
+        assert!(half > 0.1, "{name}: the compiler has taken the call out of the loop");
+        write!(row, " {half:.2} ({low:.2} to {high:.2}) |").unwrap();
+    }
+    row + "\n"
+}
+
+fn calls_table(subjects: &[&dyn Subject]) -> String {
+    let mut table = head("call", subjects);
     for task in tasks() {
-        let mut turns = vec![Vec::new(); subjects.len()];
-        for _ in 0..TURNS {
-            for (subject, times) in subjects.iter().zip(&mut turns) {
-                times.push(time(&task, *subject));
-            }
-        }
-        write!(table, "| {} |", task.name).unwrap();
-        for times in &turns {
-            let (half, low, high) = middle(&mut times.clone());
-            write!(table, " {} ({} to {}) |", unit(half), unit(low), unit(high)).unwrap();
-        }
-        for times in &turns[1..] {
-            let (half, low, high) = ratio(times, &turns[0]);
-            assert!(half > 0.1, "{}: the compiler has taken the call out of the loop", task.name);
-            write!(table, " {half:.2} ({low:.2} to {high:.2}) |").unwrap();
-        }
-        table.push('\n');
-        eprint!(".");
+        table += &row(&task.name, &turns(subjects, |subject| time(&task, subject)));
+    }
+    eprintln!();
+    table
+}
+
+/// The longest script, its first line alone, and cut after an eighth, a quarter and a half of its lines. Of these the time of one line
+/// more, which is what is left without the first.
+fn scripts_table(subjects: &[&dyn Subject]) -> String {
+    let script = scripts::full();
+    let ends: Vec<usize> = (0..script.len()).filter(|&i| script[i] == b'\n').map(|i| i + 1).collect();
+    let first = script_task(script[..ends[0]].to_vec(), 100);
+    let mut table = head("script", subjects);
+    table += &row("the first line alone", &turns(subjects, |subject| time(&first, subject)));
+    for part in [8, 4, 2, 1] {
+        let lines = ends.len() / part;
+        let whole = script_task(script[..ends[lines - 1]].to_vec(), 2 * part as u32);
+        let name = format!("{lines} lines, {} bytes, a line", ends[lines - 1]);
+        let line = |subject: &dyn Subject| (time(&whole, subject) - time(&first, subject)) / (lines - 1) as f64;
+        table += &row(&name, &turns(subjects, line));
     }
     eprintln!();
     table
@@ -304,12 +335,15 @@ fn growth_table(rows: &[Growth], subjects: &[&dyn Subject]) -> String {
 /// Runs everything and writes benchmarks.md and growth.svg into a folder.
 pub fn run(folder: &Path, subjects: &[&dyn Subject]) -> bool {
     let calls = calls_table(subjects);
+    let scripts = scripts_table(subjects);
     let rows = growth(subjects);
     let growth = growth_table(&rows, subjects);
     let names: Vec<&str> = subjects.iter().map(|subject| subject.name()).collect();
     let text = format!(
         "## Single calls\n\nEdits are made {BURST} in a row on a fresh copy of the end, and a taking includes a fresh copy. Processor time of one call,\n\
          middle of {TURNS} turns, lowest to highest in brackets.\n\n{calls}\n\
+         ## As a script grows\n\nThe script of the last row above, cut after a part of its lines, less the time of its first line alone, which opens the ends\n\
+         and has their lists printed. Middle of {TURNS} turns.\n\n{scripts}\n\
          ## As edits grow\n\nA whole sheet of eight, all editing at once: every edit is made, sent, taken by the server, sent on and taken by\n\
          seven clients, with acknowledgements both ways. Middle of {TURNS} turns.\n\n{growth}\n![Bytes kept and time per edit](growth.svg)\n"
     );
