@@ -1,0 +1,75 @@
+// Lent bytes as words and back, four bytes to a word. The words of an end have their low byte first, opening items their high byte first.
+// Nothing here knows what a word means.
+ghost use mathlib.Core.Path.{_≡_};
+ghost use Prim.Native.Nat.{_*_};
+ghost use lib.ListN.{length, getD};
+ghost use Rattle.c_layout.specs.Words.{lowFirst, highFirst, wordAt, wordsOf, itemsOf, bytesOf};
+ghost use Rattle.c_layout.specs.Called.{packed};
+
+fn low_first(a: u8, b: u8, c: u8, d: u8) -> u32
+    ensures { λ r. ⌜ r ≡ lowFirst a b c d ⌝ }
+{
+    a as u32 + b as u32 * 256 + c as u32 * 65536 + d as u32 * 16777216
+}
+
+// The word of four lent bytes. Read at fixed places of one slice they become one load.
+fn word_in(b: &[u8]) -> u32
+    requires { ⌜ length (now b) ≡ 4 ⌝ }
+    ensures { λ r. ⌜ r ≡ wordAt lowFirst (now (b .entry)) 0 ⌝ }
+{
+    low_first(b[0], b[1], b[2], b[3])
+}
+
+// The same, high byte first.
+fn item_in(b: &[u8]) -> u32
+    requires { ⌜ length (now b) ≡ 4 ⌝ }
+    ensures { λ r. ⌜ r ≡ wordAt highFirst (now (b .entry)) 0 ⌝ }
+{
+    low_first(b[3], b[2], b[1], b[0])
+}
+
+// The words of an end.
+pub fn decode(bytes: &[u8], words: &mut [u32])
+    requires { ⌜ length (now bytes) ≡ 4 * length (now words) ⌝ }
+    ensures { λ _. ⌜ now (words .exit) ≡ wordsOf (now (bytes .entry)) ⌝ }
+{
+    for i in 0..words.len() {
+        let at = 4 * i;
+        let end = at + 4;
+        words[i] = word_in(&bytes[at..end]);
+    }
+}
+
+// Opening items.
+pub fn decode_items(bytes: &[u8], words: &mut [u32])
+    requires { ⌜ length (now bytes) ≡ 4 * length (now words) ⌝ }
+    ensures { λ _. ⌜ now (words .exit) ≡ itemsOf (now (bytes .entry)) ⌝ }
+{
+    for i in 0..words.len() {
+        let at = 4 * i;
+        let end = at + 4;
+        words[i] = item_in(&bytes[at..end]);
+    }
+}
+
+// The bytes of an end's words.
+pub fn encode(words: &[u32], bytes: &mut [u8])
+    requires { ⌜ length (now bytes) ≡ 4 * length (now words) ⌝ }
+    ensures { λ _. ⌜ now (bytes .exit) ≡ bytesOf (now (words .entry)) ⌝ }
+{
+    for i in 0..words.len() {
+        let at = 4 * i;
+        let x = words[i];
+        bytes[at] = (x % 256) as u8;
+        bytes[at + 1] = (x / 256 % 256) as u8;
+        bytes[at + 2] = (x / 65536 % 256) as u8;
+        bytes[at + 3] = (x / 16777216) as u8;
+    }
+}
+
+// What an exported call returns: the refusal, and the count or length beside it.
+pub fn answer(refusal: u8, count: u16) -> u64
+    ensures { λ r. ⌜ r ≡ packed refusal count ⌝ }
+{
+    refusal as u64 + 256 * count as u64
+}
