@@ -46,9 +46,9 @@ pub fn decode_items(bytes: &[u8], words: &mut [u32])
     ensures { λ _. ⌜ now (words .exit) ≡ itemsOf (now (bytes .entry)) ⌝ }
 {
     for i in 0..words.len() {
-        let at = 4 * i;
-        let end = at + 4;
-        words[i] = item_in(&bytes[at..end]);
+        let from = 4 * i;
+        let to = from + 4;
+        words[i] = item_in(&bytes[from..to]);
     }
 }
 
@@ -58,12 +58,12 @@ pub fn encode(words: &[u32], bytes: &mut [u8])
     ensures { λ _. ⌜ now (bytes .exit) ≡ bytesOf (now (words .entry)) ⌝ }
 {
     for i in 0..words.len() {
-        let at = 4 * i;
+        let first = 4 * i;
         let x = words[i];
-        bytes[at] = (x % 256) as u8;
-        bytes[at + 1] = (x / 256 % 256) as u8;
-        bytes[at + 2] = (x / 65536 % 256) as u8;
-        bytes[at + 3] = (x / 16777216) as u8;
+        bytes[first] = (x % 256) as u8;
+        bytes[first + 1] = (x / 256 % 256) as u8;
+        bytes[first + 2] = (x / 65536 % 256) as u8;
+        bytes[first + 3] = (x / 16777216) as u8;
     }
 }
 

@@ -17,11 +17,11 @@ abbrev μ-loop : tie.MeasureT-loop
 loop-holds : tie.Need-loop-holds Inv-loop μ-loop
 loop-holds c = (omega arith, refl, refl)
 
-mul-at : tie.Need-mul-at Inv-loop μ-loop
-mul-at c = omega arith
+mul-from : tie.Need-mul-from Inv-loop μ-loop
+mul-from c = omega arith
 
-add-end : tie.Need-add-end Inv-loop μ-loop
-add-end c = omega arith
+add-to : tie.Need-add-to Inv-loop μ-loop
+add-to c = omega arith
 
 sub-item-in : tie.Need-sub-item-in Inv-loop μ-loop
 sub-item-in c = omega arith
@@ -68,8 +68,8 @@ decode-items-spec =
     Inv-loop
     μ-loop
     loop-holds
-    mul-at
-    add-end
+    mul-from
+    add-to
     sub-item-in
     part-item-in-start
     part-item-in-end

@@ -18,8 +18,8 @@ abbrev μ-loop : tie.MeasureT-loop
 loop-holds : tie.Need-loop-holds Inv-loop μ-loop
 loop-holds c = (omega arith, refl, refl)
 
-mul-at : tie.Need-mul-at Inv-loop μ-loop
-mul-at c = omega arith
+mul-first : tie.Need-mul-first Inv-loop μ-loop
+mul-first c = omega arith
 
 mul-x : tie.Need-mul-x Inv-loop μ-loop
 mul-x c = omega arith
@@ -82,7 +82,7 @@ encode-spec =
     Inv-loop
     μ-loop
     loop-holds
-    mul-at
+    mul-first
     mul-x
     shared-slice-read-x
     cast-bytes

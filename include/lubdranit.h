@@ -1,0 +1,174 @@
+/* lubdranit.h: one shared, ordered list of test steps, edited in up to eight bays at once.
+ *
+ * A client (a bay's terminal) and the server each keep their end of the sheet in bytes that you lend: a static array of
+ * LUB_CLIENT_BYTES or LUB_SERVER_BYTES. There is no other state, no allocation and no input or output. You carry the messages.
+ *
+ *     static uint8_t end[LUB_CLIENT_BYTES];
+ *     static const uint8_t steps[8] = {0, 0, 0, 101, 0, 0, 0, 102};
+ *     uint8_t message[LUB_MESSAGE_BYTES];
+ *     uint64_t answer;
+ *
+ *     lub_client_open(end, sizeof end, 3, 1, steps, sizeof steps);   client 1 of 3, with the list 101 102
+ *     lub_client_insert(end, sizeof end, 1, 201);               step 201 at the front, shown at once
+ *     answer = lub_client_send(end, sizeof end, 1, 1, message, sizeof message);
+ *     if (lub_refusal(answer) == 0)
+ *         carry(message, lub_count(answer));                    to the server, which takes it
+ *     answer = lub_client_take(end, sizeof end, received, received_length);
+ *     if (lub_refusal(answer) == LUB_REFUSED_GAP)
+ *         wait_or_ask_again();
+ *
+ * Every call returns one number: bits 0 to 7 are the refusal, 0 for none, and bits 8 to 23 a count or a length. A call that is
+ * refused changes no lent byte, neither of the end nor of the buffer. What each call does is proved; docs/PROMISES.md says what that
+ * covers. An end's bytes may be stored and lent again later: the promise that all copies agree holds while each call gets the bytes
+ * that the last call on that end left.
+ *
+ * What a call is lent may not overlap, and no pointer is NULL, not even one with length 0. One call at a time on an end; two ends
+ * share nothing.
+ */
+#ifndef LUBDRANIT_H
+#define LUBDRANIT_H
+
+#include <stddef.h>
+#include <stdint.h>
+
+#ifdef __cplusplus
+extern "C" {
+#endif
+
+/* ---- limits and lengths */
+
+#define LUB_LINES 8u            /* clients of a sheet */
+#define LUB_INSERTS 48u         /* inserts that a client may make */
+#define LUB_EDITS 400u          /* edits that a client may make */
+#define LUB_PENDING 64u         /* pending edits of a line */
+#define LUB_ITEMS 512u          /* items of a list */
+#define LUB_INITIAL 128u        /* items at opening */
+
+#define LUB_CLIENT_BYTES 2588u  /* a client's end */
+#define LUB_SERVER_BYTES 6284u  /* the server's end */
+#define LUB_MESSAGE_BYTES 14u   /* the longest message */
+#define LUB_RUN_BYTES 262144u   /* room for any output of lub_run */
+
+/* ---- refusals: the number of the question that said no, in the order in which a call asks them */
+
+enum lub_refusal_number {
+    LUB_OK = 0,
+    LUB_REFUSED_OPENING = 1,       /* n, line, number of items, or a cut item */
+    LUB_REFUSED_UNSOUND = 2,       /* the end's bytes are damaged */
+    LUB_REFUSED_NO_MESSAGE = 3,    /* not exactly one message with its fields in range */
+    LUB_REFUSED_MISDIRECTED = 4,   /* another direction, line or priority */
+    LUB_REFUSED_REPEAT = 5,        /* taken before: drop it */
+    LUB_REFUSED_GAP = 6,           /* an earlier edit is missing */
+    LUB_REFUSED_OVERTAKEN = 7,     /* its sender knew less than a message taken before: drop it */
+    LUB_REFUSED_UNMADE = 8,        /* it acknowledges edits that were not made */
+    LUB_REFUSED_POSITION = 9,      /* outside the list, or the list would pass 512 */
+    LUB_REFUSED_INSERTS = 10,      /* 48 inserts were made */
+    LUB_REFUSED_EDITS = 11,        /* 400 edits were made */
+    LUB_REFUSED_PENDING = 12,      /* 64 edits are pending here, or at the server on another line */
+    LUB_REFUSED_NOT_PENDING = 13,  /* that number is not pending */
+    LUB_REFUSED_SHORT_BUFFER = 14, /* the message does not fit */
+    LUB_REFUSED_SHORT_END = 18     /* the end's lent bytes are shorter than its layout; asked before all others */
+};
+
+/* ---- a client
+ * `end` is the client's end: LUB_CLIENT_BYTES lent bytes. More are fine; those behind the layout stay as they are. */
+
+/* Opens the end of client `line` of n with the opening list: `items`, four bytes each, high byte first. The bytes of `end` need not
+ * be set before. Refusals: 18 1. */
+uint64_t lub_client_open(uint8_t *end, size_t end_length, uint8_t n, uint8_t line, const uint8_t *items, size_t items_length);
+
+/* Inserts an item before the one at `position`, which counts from 1; length + 1 appends. The edit is applied at once and pending
+ * until the server has acknowledged it. Refusals: 18 2 9 10 11 12. */
+uint64_t lub_client_insert(uint8_t *end, size_t end_length, uint16_t position, uint32_t item);
+
+/* Deletes the item at `position`. Refusals: 18 2 9 11 12. */
+uint64_t lub_client_delete(uint8_t *end, size_t end_length, uint16_t position);
+
+/* Writes the message of pending edit `number` in its present form into `out`, for the server. Counts the bytes written. Changes no
+ * end, and may be repeated: a message that may be lost is sent again. `line` is the client's own. Refusals: 18 2 4 13 14. */
+uint64_t lub_client_send(const uint8_t *end, size_t end_length, uint8_t line, uint16_t number, uint8_t *out, size_t out_length);
+
+/* Writes an acknowledgement of all edits taken into `out`, for the server. Send one when no edit is waiting to go up, so that the
+ * server can drop what it keeps. Counts the bytes written. Refusals: 18 2 4 14. */
+uint64_t lub_client_acknowledge(const uint8_t *end, size_t end_length, uint8_t line, uint8_t *out, size_t out_length);
+
+/* Takes one message of the server: an edit, which is applied, or an acknowledgement. Counts the pending edits that the edit was
+ * transformed past. Refusals: 18 2 3 4 5 6 7 8 9. 5 and 7 are normal on a lossy line: drop the message. */
+uint64_t lub_client_take(uint8_t *end, size_t end_length, const uint8_t *message, size_t message_length);
+
+/* ---- the server
+ * `end` is the server's end: LUB_SERVER_BYTES lent bytes. */
+
+/* Opens the server's end for n clients with the opening list, which each client is opened with as well. Refusals: 18 1. */
+uint64_t lub_server_open(uint8_t *end, size_t end_length, uint8_t n, const uint8_t *items, size_t items_length);
+
+/* Writes the message of edit `number` pending on `line` into `out`, for that line's client. Counts the bytes written. Changes no end.
+ * Refusals: 18 2 4 13 14. */
+uint64_t lub_server_send(const uint8_t *end, size_t end_length, uint8_t line, uint16_t number, uint8_t *out, size_t out_length);
+
+/* Writes an acknowledgement of all edits taken on `line` into `out`, for its client. Counts the bytes written. Refusals: 18 2 4 14. */
+uint64_t lub_server_acknowledge(const uint8_t *end, size_t end_length, uint8_t line, uint8_t *out, size_t out_length);
+
+/* Takes one message of a client: an edit, which is applied and then pending on every other line, or an acknowledgement. Counts the
+ * pending edits that the edit was transformed past. Refusals: 18 2 3 4 5 6 7 8 9 10 12. */
+uint64_t lub_server_take(uint8_t *end, size_t end_length, const uint8_t *message, size_t message_length);
+
+/* ---- the lengths as the library has them, and the run program */
+
+uint64_t lub_client_bytes(void);
+uint64_t lub_server_bytes(void);
+
+/* The run program in memory: reads a script of at most 65,536 bytes, writes what it prints, and returns how many bytes that is. What
+ * does not fit is left out; LUB_RUN_BYTES always suffice. */
+uint64_t lub_run(const uint8_t *input, size_t input_length, uint8_t *out, size_t out_length);
+
+/* ---- an answer taken apart */
+
+static inline unsigned lub_refusal(uint64_t answer) { return (unsigned)(answer & 0xff); }
+
+static inline unsigned lub_count(uint64_t answer) { return (unsigned)(answer >> 8 & 0xffff); }
+
+/* ---- reading an end (docs/LAYOUT.md)
+ * These ask nothing of the bytes: the end has to be one that the last call on it left. A position outside the list reads 0. */
+
+static inline uint32_t lub_word(const uint8_t *end, size_t word) {
+    const uint8_t *at = end + 4 * word;
+    return (uint32_t)at[0] | (uint32_t)at[1] << 8 | (uint32_t)at[2] << 16 | (uint32_t)at[3] << 24;
+}
+
+/* How many items the list has, and the item at a position from 1. */
+static inline unsigned lub_client_length(const uint8_t *end) { return (unsigned)lub_word(end, 2); }
+
+static inline uint32_t lub_client_item(const uint8_t *end, unsigned position) {
+    return position < 1 || position > LUB_ITEMS ? 0 : lub_word(end, 7 + (size_t)position - 1);
+}
+
+/* Edits made here, edits taken, and how many of those made the server has acknowledged: numbers acked + 1 to made are pending. */
+static inline unsigned lub_client_made(const uint8_t *end) { return (unsigned)lub_word(end, 3); }
+
+static inline unsigned lub_client_taken(const uint8_t *end) { return (unsigned)lub_word(end, 4); }
+
+static inline unsigned lub_client_acked(const uint8_t *end) { return (unsigned)lub_word(end, 5); }
+
+static inline unsigned lub_server_length(const uint8_t *end) { return (unsigned)lub_word(end, 2); }
+
+static inline uint32_t lub_server_item(const uint8_t *end, unsigned position) {
+    return position < 1 || position > LUB_ITEMS ? 0 : lub_word(end, 35 + (size_t)position - 1);
+}
+
+/* Of a line from 1 to 8: edits made for it, edits taken on it, and how many of those made its client has acknowledged. */
+static inline unsigned lub_server_count(const uint8_t *end, size_t first, unsigned line) {
+    return line < 1 || line > LUB_LINES ? 0 : (unsigned)lub_word(end, first + line - 1);
+}
+
+static inline unsigned lub_server_made(const uint8_t *end, unsigned line) { return lub_server_count(end, 3, line); }
+
+static inline unsigned lub_server_taken(const uint8_t *end, unsigned line) { return lub_server_count(end, 11, line); }
+
+static inline unsigned lub_server_acked(const uint8_t *end, unsigned line) { return lub_server_count(end, 19, line); }
+
+#ifdef __cplusplus
+}
+#endif
+
+#endif
