@@ -1,12 +1,12 @@
 -- What reading finds, kind by kind, in the words of `fieldsOf`, `inRange` and `parsed`.
-use Prim.Native.Nat.{ℕ, _≤_}
+use Prim.Native.Nat.{ℕ, zero, suc, _≤_}
 use native.Mathlib.Omega.{arith}
-use mathlib.Core.Path.{_≡_}
-use mathlib.Core.Bool.{Bool, true, false, _&&_, and-true}
+use mathlib.Core.Path.{_≡_, refl, ap, sym, _∙_}
+use mathlib.Core.Bool.{Bool, true, false, _&&_, cond, and-true, and-false, false≢true}
 use mathlib.Core.List.{List}
 use lib.Dec.{leb, eqb}
 use lib.ListN.{length, getD}
-use borrow.Author.Tests.{le-leb, ne-eqb}
+use borrow.Author.Tests.{le-leb, eq-eqb, ne-eqb}
 use Rattle.wire.specs.declared.Header.{Header}
 use Rattle.wire.specs.declared.Message.{Message}
 use Rattle.wire.specs.declared.Message.the-variants.{Insert, Delete, Nothing, Ack}
@@ -14,6 +14,9 @@ use Rattle.wire.specs.declared.Read.the-variants as read
 use Rattle.wire.specs.Message.{between, headerInRange, inRange}
 use Rattle.wire.specs.Bytes.{sizeOfKind, twoAt, fourAt, headerAt, fieldsOf, parsed}
 use Rattle.wire.specs.Codec.{AreBytes}
+use Rattle.reading.specs.declared.Size.{Size}
+use Rattle.reading.specs.declared.Size.the-variants as size
+use Rattle.reading.specs.Size.{sizeOf}
 
 -- no kind that stands in front of the last
 abbrev Other : ℕ → Type 0
@@ -58,18 +61,50 @@ module _ (s : List ℕ) {k : ℕ} {h : Header} {b : Bool} (header-read : h ≡ h
   unfolding inRange
   ack-range o t = simp (t, ne-eqb _ _ (o .0), ne-eqb _ _ (o .1), ne-eqb _ _ (o .2), header-read, and-true)
 
+-- ---- what the kind byte decides
+
+abbrev lengthIn : Size → ℕ
+lengthIn size.Refused = 0
+lengthIn (size.Bytes n) = n
+
+length-in : (m : ℕ) → lengthIn (cond (eqb m 0) size.Refused (size.Bytes m)) ≡ m
+length-in zero = refl
+length-in (suc m) = rw (ne-eqb (suc m) 0 (λ e. omega (arith, e))) refl
+
 -- ---- the whole
 
-module _ (s : List ℕ) {kind size : ℕ} (first : kind ≡ getD s 0 0) (sized : size ≡ sizeOfKind kind) where
-  pub not-whole : leb 1 (length s) && eqb (length s) size ≡ false → read.Refused ≡ parsed s
+module _ (s : List ℕ) {kind : ℕ} (first : kind ≡ getD s 0 0) where
+  -- the length that the kind fixes; 0 where it is none
+  sized : (z : Size) → sizeOf kind ≡ z → sizeOfKind kind ≡ lengthIn z
+  sized z e = sym (length-in (sizeOfKind kind)) ∙ ap lengthIn e
+
+  pub no-kind : sizeOf kind ≡ size.Refused → read.Refused ≡ parsed s
   unfolding parsed
-  not-whole h = simp (← first, ← sized, h)
+  no-kind e = simp (← first, sized size.Refused e) (go (length s))
+    where
+      go : (n : ℕ) → read.Refused ≡ cond (leb 1 n && eqb n 0 && inRange (fieldsOf kind s)) (read.Message (fieldsOf kind s)) read.Refused
+      go zero = refl
+      go (suc n) = simp (ne-eqb (suc n) 0 (λ e. omega (arith, e)), and-false)
 
-  module _ {ranged : Bool} (whole : leb 1 (length s) && eqb (length s) size ≡ true) (tested : ranged ≡ inRange (fieldsOf kind s)) where
-    pub out-of-range : ranged ≡ false → read.Refused ≡ parsed s
+  module _ (n : ℕ) (kind-size : sizeOf kind ≡ size.Bytes n) where
+    pub other-length : (length s ≡ n → ⊥) → read.Refused ≡ parsed s
     unfolding parsed
-    out-of-range h = simp (← first, ← sized, whole, ← tested, h)
+    other-length h = simp (← first, sized (size.Bytes n) kind-size, ne-eqb _ _ h, and-false)
 
-    pub accepted : {m : Message} → ranged ≡ true → m ≡ fieldsOf kind s → read.Message m ≡ parsed s
-    unfolding parsed
-    accepted h e = simp (← first, ← sized, whole, ← tested, h, e)
+    module _ {ranged : Bool} (whole : length s ≡ n) (tested : ranged ≡ inRange (fieldsOf kind s)) where
+      pub out-of-range : ranged ≡ false → read.Refused ≡ parsed s
+      unfolding parsed
+      out-of-range h = simp (← first, ← tested, h, and-false)
+
+      -- a kind's length is not 0
+      some : (m : ℕ) → cond (eqb m 0) size.Refused (size.Bytes m) ≡ size.Bytes n → 1 ≤ n
+      some zero e = absurd (false≢true (ap isBytes e))
+        where
+          isBytes : Size → Bool
+          isBytes size.Refused = false
+          isBytes (size.Bytes k) = true
+      some (suc m) e = omega (arith, sym (length-in (suc m)) ∙ ap lengthIn e)
+
+      pub accepted : {m : Message} → ranged ≡ true → m ≡ fieldsOf kind s → read.Message m ≡ parsed s
+      unfolding parsed
+      accepted h e = simp (← first, sized (size.Bytes n) kind-size, whole, le-leb _ _ (some (sizeOfKind kind) kind-size), eq-eqb n n refl, ← tested, h, e)

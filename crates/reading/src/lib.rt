@@ -4,7 +4,8 @@ ghost use mathlib.Core.Bool.{_&&_};
 ghost use Prim.Native.Nat.{_<_};
 ghost use lib.ListN.{getD};
 ghost use Rattle.wire.specs.Message.{between, headerInRange, inRange};
-ghost use Rattle.wire.specs.Bytes.{sizeOfKind, twoAt, fourAt, headerAt, fieldsOf, parsed};
+ghost use Rattle.wire.specs.Bytes.{twoAt, fourAt, headerAt, fieldsOf, parsed};
+ghost use Rattle.reading.specs.Size.{sizeOf};
 use wire::Header;
 use wire::Message;
 use wire::Read;
@@ -69,16 +70,21 @@ fn header_at(s: &[u8]) -> Header
     }
 }
 
-// The length of a message, which its kind byte alone fixes; 0 for a byte that is no kind.
-pub fn size_of_kind(kind: u8) -> usize
-    ensures { λ r. ⌜ r ≡ sizeOfKind kind ⌝ }
+// What the kind byte alone decides: the length of the message, or the refusal of a byte that is no kind.
+pub enum Size {
+    Refused,
+    Bytes(usize),
+}
+
+pub fn size_of_kind(kind: u8) -> Size
+    ensures { λ r. ⌜ r ≡ sizeOf kind ⌝ }
 {
     match kind {
-        1 => 14,
-        2 => 9,
-        3 => 7,
-        4 => 5,
-        _ => 0,
+        1 => Size::Bytes(14),
+        2 => Size::Bytes(9),
+        3 => Size::Bytes(7),
+        4 => Size::Bytes(5),
+        _ => Size::Refused,
     }
 }
 
@@ -121,8 +127,11 @@ pub fn parse(s: &[u8]) -> Read
     ensures { λ r. ⌜ r ≡ parsed (now (s .entry)) ⌝ }
 {
     let kind = byte_at(s, 0);
-    let n = s.len();
-    if (1 <= n) & (n == size_of_kind(kind)) {
+    let size = size_of_kind(kind);
+    let Size::Bytes(n) = size else {
+        return Read::Refused;
+    };
+    if s.len() == n {
         if in_range(kind, s) {
             return Read::Message(fields(kind, s));
         }
