@@ -18,6 +18,10 @@ packed refusal count = refusal + 256 * count
 abbrev pub called : ℕ → ℕ → List ℕ → Called
 called refusal count bytes = record { answer = packed refusal count; bytes = bytes }
 
+-- what a call returned, and the bytes as it left them
+abbrev pub returned : ℕ → List ℕ → Called
+returned answer bytes = record { answer = answer; bytes = bytes }
+
 -- Question 18, before all others: the end's lent bytes are at least as many as its layout has. No byte changes.
 unfoldable pub laidOut : ℕ → List ℕ → List ℕ → Called → Called
 laidOut size end bytes rest = cond (ltb (length end) size) (called 18 0 bytes) rest

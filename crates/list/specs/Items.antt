@@ -4,13 +4,14 @@ use mathlib.Core.Path.{_≡_}
 use mathlib.Core.Bool.{true}
 use mathlib.Core.List.{List, _∷_, _++_}
 use lib.ListN.{length, take, drop, replicate}
+use Rattle.limits.specs.Limits.{maxItems}
 use Rattle.ot.specs.declared.Edit.{Edit}
 use Rattle.ot.specs.declared.Edit.the-variants.{Nothing, Delete, Insert}
 use Rattle.ot.specs.Edit.{applied, fits, sizeAfter}
 
 -- how many items a list can have
 abbrev pub capacity : ℕ
-capacity = 512
+capacity = maxItems
 
 -- an array of n places that holds the list l: the unused places hold z
 abbrev pub padded : {A : Type 0} → A → ℕ → List A → List A

@@ -13,7 +13,8 @@ use Rattle.ot.specs.Laws.{within}
 use Rattle.wire.specs.declared.Header.{Header}
 use Rattle.wire.specs.declared.Message.{Message}
 use Rattle.wire.specs.declared.Message.the-variants as message
-use Rattle.wire.specs.Message.{messageOf, headerInRange, inRange, maxUp, maxDown, between}
+use Rattle.wire.specs.Message.{messageOf, headerInRange, inRange, between}
+use Rattle.limits.specs.Limits.{maxEdits, maxOthers}
 use Rattle.wire.specs.Bytes.{bytesOf}
 use Rattle.model.specs.Cross.{placed, allPlaced, priority, priorities}
 use Rattle.model.proofs.Tests.{both, and-left, and-right, true-between}
@@ -50,23 +51,23 @@ or-right : (a b : Bool) → b ≡ true → (a || b) ≡ true
 or-right true b e = refl
 or-right false b e = e
 
-pub up-range : (l k s : ℕ) → 1 ≤ l → l ≤ 8 → 1 ≤ k → k ≤ maxUp → s ≤ maxDown → headerInRange (record { line = l; direction = 0; number = k; seen = s }) ≡ true
+pub up-range : (l k s : ℕ) → 1 ≤ l → l ≤ 8 → 1 ≤ k → k ≤ maxEdits → s ≤ maxOthers → headerInRange (record { line = l; direction = 0; number = k; seen = s }) ≡ true
 up-range l k s a b c d e =
-    both (between 1 8 l) (between 1 maxUp k && leb s maxDown || false) (true-between 1 8 l a b)
-    (or-left (between 1 maxUp k && leb s maxDown) false (both (between 1 maxUp k) (leb s maxDown) (true-between 1 maxUp k c d) (le-leb s maxDown e)))
+    both (between 1 8 l) (between 1 maxEdits k && leb s maxOthers || false) (true-between 1 8 l a b)
+    (or-left (between 1 maxEdits k && leb s maxOthers) false (both (between 1 maxEdits k) (leb s maxOthers) (true-between 1 maxEdits k c d) (le-leb s maxOthers e)))
 
-pub down-range : (l k s : ℕ) → 1 ≤ l → l ≤ 8 → 1 ≤ k → k ≤ maxDown → s ≤ maxUp → headerInRange (record { line = l; direction = 1; number = k; seen = s }) ≡ true
+pub down-range : (l k s : ℕ) → 1 ≤ l → l ≤ 8 → 1 ≤ k → k ≤ maxOthers → s ≤ maxEdits → headerInRange (record { line = l; direction = 1; number = k; seen = s }) ≡ true
 down-range l k s a b c d e =
-    both (between 1 8 l) (between 1 maxDown k && leb s maxUp) (true-between 1 8 l a b)
-    (both (between 1 maxDown k) (leb s maxUp) (true-between 1 maxDown k c d) (le-leb s maxUp e))
+    both (between 1 8 l) (between 1 maxOthers k && leb s maxEdits) (true-between 1 8 l a b)
+    (both (between 1 maxOthers k) (leb s maxEdits) (true-between 1 maxOthers k c d) (le-leb s maxEdits e))
 
-pub up-ack-range : (l s : ℕ) → 1 ≤ l → l ≤ 8 → s ≤ maxDown → inRange (message.Ack l 0 s) ≡ true
+pub up-ack-range : (l s : ℕ) → 1 ≤ l → l ≤ 8 → s ≤ maxOthers → inRange (message.Ack l 0 s) ≡ true
 unfolding inRange
-up-ack-range l s a b c = both (between 1 8 l) (leb s maxDown || false) (true-between 1 8 l a b) (or-left (leb s maxDown) false (le-leb s maxDown c))
+up-ack-range l s a b c = both (between 1 8 l) (leb s maxOthers || false) (true-between 1 8 l a b) (or-left (leb s maxOthers) false (le-leb s maxOthers c))
 
-pub down-ack-range : (l s : ℕ) → 1 ≤ l → l ≤ 8 → s ≤ maxUp → inRange (message.Ack l 1 s) ≡ true
+pub down-ack-range : (l s : ℕ) → 1 ≤ l → l ≤ 8 → s ≤ maxEdits → inRange (message.Ack l 1 s) ≡ true
 unfolding inRange
-down-ack-range l s a b c = both (between 1 8 l) (leb s maxUp) (true-between 1 8 l a b) (le-leb s maxUp c)
+down-ack-range l s a b c = both (between 1 8 l) (leb s maxEdits) (true-between 1 8 l a b) (le-leb s maxEdits c)
 
 -- no message is longer than 14 bytes
 pub short : (m : Message) → length (bytesOf m) ≤ 14

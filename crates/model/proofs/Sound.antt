@@ -15,11 +15,11 @@ use Rattle.wire.specs.declared.Message.{Message}
 use Rattle.wire.specs.declared.Message.the-variants as message
 use Rattle.wire.specs.declared.Read.{Read}
 use Rattle.wire.specs.declared.Read.the-variants as read
-use Rattle.wire.specs.Message.{inRange, headerInRange, maxUp, maxDown}
+use Rattle.wire.specs.Message.{inRange, headerInRange}
 use Rattle.wire.specs.Bytes.{parsed}
 use Rattle.wire.proofs.Ranges.{header-bounds, insert-bounds, delete-bounds}
 use Rattle.wire.proofs.Codec.{codec}
-use Rattle.model.specs.Limits.{maxLines, maxInserts, maxEdits, maxPending, maxItems, maxInitial}
+use Rattle.model.specs.Limits.{maxLines, maxInserts, maxEdits, maxPending, maxItems, maxInitial, maxOthers}
 use Rattle.model.specs.Questions.{ask, asks, between, Answer, answer}
 use Rattle.model.specs.Cross.{past, over, allPlaced, priority, priorities, insertsOf}
 use Rattle.model.specs.Client.{Client, noClient, soundClient, openClientQuestions, openClient, edited, editQuestions, editClient, unacked, clientTaken, clientAcked, clientEditQuestions, clientTakesEdit, clientAckQuestions, clientTakesAck, clientReads, takeClient}
@@ -175,12 +175,12 @@ opens-server n items e =
 -- going up, a number is at most 400
 up-number : (h : Header) → headerInRange h ≡ true → h .direction ≡ 0 → h .number ≤ maxEdits
 up-number h range d =
-    let tests = and-right (between 1 8 (h .line)) (eqb (h .direction) 0 && (between 1 maxUp (h .number) && leb (h .seen) maxDown) || eqb (h .direction) 1 && (between 1 maxDown (h .number) && leb (h .seen) maxUp)) range in
-    go (eqb (h .direction) 0) (between 1 maxUp (h .number) && leb (h .seen) maxDown) (eqb (h .direction) 1) (between 1 maxDown (h .number) && leb (h .seen) maxUp) refl refl
+    let tests = and-right (between 1 8 (h .line)) (eqb (h .direction) 0 && (between 1 maxEdits (h .number) && leb (h .seen) maxOthers) || eqb (h .direction) 1 && (between 1 maxOthers (h .number) && leb (h .seen) maxEdits)) range in
+    go (eqb (h .direction) 0) (between 1 maxEdits (h .number) && leb (h .seen) maxOthers) (eqb (h .direction) 1) (between 1 maxOthers (h .number) && leb (h .seen) maxEdits) refl refl
     (eq-eqb (h .direction) 0 d) tests
   where
-    go : (a b x y : Bool) → (between 1 maxUp (h .number) && leb (h .seen) maxDown) ≡ b → eqb (h .direction) 1 ≡ x → a ≡ true → (a && b || x && y) ≡ true → h .number ≤ maxEdits
-    go true true x y eb ex ea t = between-true 1 maxUp (h .number) (and-left (between 1 maxUp (h .number)) (leb (h .seen) maxDown) eb) .1
+    go : (a b x y : Bool) → (between 1 maxEdits (h .number) && leb (h .seen) maxOthers) ≡ b → eqb (h .direction) 1 ≡ x → a ≡ true → (a && b || x && y) ≡ true → h .number ≤ maxEdits
+    go true true x y eb ex ea t = between-true 1 maxEdits (h .number) (and-left (between 1 maxEdits (h .number)) (leb (h .seen) maxOthers) eb) .1
     go true false true y eb ex ea t = absurd (omega (arith, d, eqb-true (h .direction) 1 ex))
     go true false false y eb ex ea t = absurd (let w : _≡_ {A = ℕ} 0 1 = cc in omega arith)
     go false b x y eb ex ea t = absurd (let w : _≡_ {A = ℕ} 0 1 = cc in omega arith)

@@ -3,6 +3,7 @@ ghost use mathlib.Core.Path.{_≡_};
 ghost use mathlib.Core.Bool.{_&&_};
 ghost use Prim.Native.Nat.{_<_};
 ghost use lib.ListN.{getD};
+ghost use Rattle.limits.specs.Limits.{maxLines, maxItems};
 ghost use Rattle.wire.specs.Message.{between, headerInRange, inRange};
 ghost use Rattle.wire.specs.Bytes.{twoAt, fourAt, headerAt, fieldsOf, parsed};
 ghost use Rattle.reading.specs.Size.{sizeOf};
@@ -12,25 +13,20 @@ use wire::Read;
 
 // ---- the ranges of the fields
 
-// The most edits that go up on a line, and the most that come down: those of the seven other clients.
-const MAX_UP: u16 = 400;
-
-const MAX_DOWN: u16 = 2800;
-
 // The header of an edit message, its position p and its priority r, field by field.
 fn numbers_in_range(line: u8, direction: u8, number: u16, seen: u16, p: u16, r: u8) -> bool
-    ensures { λ b. ⌜ b ≡ (headerInRange (record { line = line; direction = direction; number = number; seen = seen }) && between 1 512 p && between 1 8 r) ⌝ }
+    ensures { λ b. ⌜ b ≡ (headerInRange (record { line = line; direction = direction; number = number; seen = seen }) && between 1 maxItems p && between 1 maxLines r) ⌝ }
 {
     let mut up = 1 <= number;
-    up &= number <= MAX_UP;
-    up &= seen <= MAX_DOWN;
+    up &= number <= limits::EDITS;
+    up &= seen <= limits::OTHERS;
     let mut down = 1 <= number;
-    down &= number <= MAX_DOWN;
-    down &= seen <= MAX_UP;
-    let mut all = (1 <= line) & (line <= 8);
+    down &= number <= limits::OTHERS;
+    down &= seen <= limits::EDITS;
+    let mut all = (1 <= line) & (line <= limits::LINES);
     all &= (direction == 0) & up | (direction == 1) & down;
-    all &= (1 <= p) & (p <= 512);
-    all & ((1 <= r) & (r <= 8))
+    all &= (1 <= p) & (p as usize <= limits::ITEMS);
+    all & ((1 <= r) & (r <= limits::LINES))
 }
 
 // ---- reading

@@ -7,7 +7,8 @@ use lib.Dec.{leb, eqb}
 use borrow.Author.Tests.{eqb-true, leb-true}
 use Rattle.wire.specs.declared.Header.{Header}
 use Rattle.wire.specs.declared.Message.the-variants.{Insert, Delete, Ack}
-use Rattle.wire.specs.Message.{maxUp, maxDown, between, headerInRange, inRange}
+use Rattle.wire.specs.Message.{between, headerInRange, inRange}
+use Rattle.limits.specs.Limits.{maxEdits, maxOthers}
 
 pub both : (a b : Bool) → a && b ≡ true → (a ≡ true) × (b ≡ true)
 both true b e = (refl, e)
@@ -40,13 +41,13 @@ directed k most room d n s e =
 
 pub header-bounds : (h : Header) → headerInRange h ≡ true → HeaderBounds (h .line) (h .direction) (h .number) (h .seen)
 header-bounds h e =
-    let up = eqb (h .direction) 0 && (between 1 maxUp (h .number) && leb (h .seen) maxDown) in
-    let down = eqb (h .direction) 1 && (between 1 maxDown (h .number) && leb (h .seen) maxUp) in
+    let up = eqb (h .direction) 0 && (between 1 maxEdits (h .number) && leb (h .seen) maxOthers) in
+    let down = eqb (h .direction) 1 && (between 1 maxOthers (h .number) && leb (h .seen) maxEdits) in
     let tests = both (between 1 8 (h .line)) (up || down) e in
     let lines = within 1 8 (h .line) (tests .0) in
     either up down
-    (λ u. let t = directed 0 maxUp maxDown (h .direction) (h .number) (h .seen) u in omega arith)
-    (λ u. let t = directed 1 maxDown maxUp (h .direction) (h .number) (h .seen) u in omega arith)
+    (λ u. let t = directed 0 maxEdits maxOthers (h .direction) (h .number) (h .seen) u in omega arith)
+    (λ u. let t = directed 1 maxOthers maxEdits (h .direction) (h .number) (h .seen) u in omega arith)
     (tests .1)
 
 pub record InsertBounds (h : Header) (position item priority : ℕ) : Type 0 where
@@ -95,11 +96,11 @@ pub record AckBounds (line direction seen : ℕ) : Type 0 where
 pub ack-bounds : (l d s : ℕ) → inRange (Ack l d s) ≡ true → AckBounds l d s
 unfolding inRange
 ack-bounds l d s e =
-    let up = eqb d 0 && leb s maxDown in
-    let down = eqb d 1 && leb s maxUp in
+    let up = eqb d 0 && leb s maxOthers in
+    let down = eqb d 1 && leb s maxEdits in
     let tests = both (between 1 8 l) (up || down) e in
     let lines = within 1 8 l (tests .0) in
     either up down
-    (λ u. let t = both (eqb d 0) (leb s maxDown) u in omega (arith, eqb-true d 0 (t .0), leb-true s maxDown (t .1)))
-    (λ u. let t = both (eqb d 1) (leb s maxUp) u in omega (arith, eqb-true d 1 (t .0), leb-true s maxUp (t .1)))
+    (λ u. let t = both (eqb d 0) (leb s maxOthers) u in omega (arith, eqb-true d 0 (t .0), leb-true s maxOthers (t .1)))
+    (λ u. let t = both (eqb d 1) (leb s maxEdits) u in omega (arith, eqb-true d 1 (t .0), leb-true s maxEdits (t .1)))
     (tests .1)

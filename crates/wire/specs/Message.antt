@@ -2,18 +2,12 @@
 use Prim.Native.Nat.{ℕ}
 use mathlib.Core.Bool.{Bool, _&&_, _||_}
 use lib.Dec.{leb, eqb}
+use Rattle.limits.specs.Limits.{maxLines, maxEdits, maxOthers, maxItems}
 use Rattle.ot.specs.declared.Edit.{Edit}
 use Rattle.ot.specs.declared.Edit.the-variants as edit
 use Rattle.wire.specs.declared.Header.{Header}
 use Rattle.wire.specs.declared.Message.{Message}
 use Rattle.wire.specs.declared.Message.the-variants.{Insert, Delete, Nothing, Ack}
-
--- 400 edits a client, and 2,800 = 7 × 400 that the others can have made
-abbrev pub maxUp : ℕ
-maxUp = 400
-
-abbrev pub maxDown : ℕ
-maxDown = 2800
 
 -- the message of an edit
 abbrev pub messageOf : Header → Edit → Message
@@ -27,11 +21,11 @@ between low high n = leb low n && leb n high
 -- direction 0: number to 400 and seen to 2,800; direction 1: the other way round
 abbrev pub headerInRange : Header → Bool
 headerInRange h =
-    between 1 8 (h .line) && (eqb (h .direction) 0 && (between 1 maxUp (h .number) && leb (h .seen) maxDown)
-    || eqb (h .direction) 1 && (between 1 maxDown (h .number) && leb (h .seen) maxUp))
+    between 1 maxLines (h .line) && (eqb (h .direction) 0 && (between 1 maxEdits (h .number) && leb (h .seen) maxOthers)
+    || eqb (h .direction) 1 && (between 1 maxOthers (h .number) && leb (h .seen) maxEdits))
 
 unfoldable pub inRange : Message → Bool
-inRange (Insert h p x r) = headerInRange h && between 1 512 p && leb x 4294967295 && between 1 8 r
-inRange (Delete h p) = headerInRange h && between 1 512 p
+inRange (Insert h p x r) = headerInRange h && between 1 maxItems p && leb x 4294967295 && between 1 maxLines r
+inRange (Delete h p) = headerInRange h && between 1 maxItems p
 inRange (Nothing h) = headerInRange h
-inRange (Ack l d s) = between 1 8 l && (eqb d 0 && leb s maxDown || eqb d 1 && leb s maxUp)
+inRange (Ack l d s) = between 1 maxLines l && (eqb d 0 && leb s maxOthers || eqb d 1 && leb s maxEdits)
