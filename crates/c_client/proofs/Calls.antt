@@ -163,12 +163,16 @@ module _ (bytes : List ℕ) (n line : ℕ) (items : List ℕ) (long : size ≤ l
         ap (λ (b : Bool). tested && b) (lt-leb (length (itemsOf items)) maxInitial (omega (arith, items-length))) ∙ and-no tested in
         ap (λ (k : ℕ). returned k bytes) e ∙ ap (λ (a : Answer). answered a bytes) (open-no n line (itemsOf items) _ no refl) ∙ opening
 
-    pub open-done : (l : List ℕ) (a : Answer) (k : Counts) (r : ℕ) (after : List ℕ) → l ≡ itemsOf items → a ≡ opened n line l → k ≡ counts (a .client)
-        → returned r after
-        ≡ answered (answerOf (record { refusal = a .refusal; passed = a .passed; counts = k }) (a .client .items) (a .client .«pending_places») (a .client .«pending_items»)) bytes
-        → returned r after ≡ openedIn bytes n line items
-    open-done l a k r after el ea ek er =
-        er
-        ∙ ap (λ (m : Counts). answered (answerOf (record { refusal = a .refusal; passed = a .passed; counts = m }) (a .client .items) (a .client .«pending_places») (a .client .«pending_items»)) bytes) ek
-        ∙ ap (λ (b : Answer). answered b bytes) (ea ∙ ap (opened n line) el)
-        ∙ opening
+    pub open-done : (r : ℕ) (after : List ℕ) → returned r after ≡ answered (opened n line (itemsOf items)) bytes → returned r after ≡ openedIn bytes n line items
+    open-done r after e = e ∙ opening
+
+-- the client that was opened, by its parts
+pub open-answered : (bytes : List ℕ) (n line : ℕ) (items l : List ℕ) (a : Answer) (k : Counts) (r : ℕ) (after : List ℕ) → l ≡ itemsOf items → a ≡ opened n line l
+    → k ≡ counts (a .client)
+    → returned r after
+    ≡ answered (answerOf (record { refusal = a .refusal; passed = a .passed; counts = k }) (a .client .items) (a .client .«pending_places») (a .client .«pending_items»)) bytes
+    → returned r after ≡ answered (opened n line (itemsOf items)) bytes
+open-answered bytes n line items l a k r after el ea ek er =
+    er
+    ∙ ap (λ (m : Counts). answered (answerOf (record { refusal = a .refusal; passed = a .passed; counts = m }) (a .client .items) (a .client .«pending_places») (a .client .«pending_items»)) bytes) ek
+    ∙ ap (λ (b : Answer). answered b bytes) (ea ∙ ap (opened n line) el)

@@ -6,8 +6,8 @@ ghost use Prim.Native.Nat.{_+_, _*_, _≤_};
 ghost use lib.ListN.{length, take, drop};
 ghost use Rattle.client.specs.declared.editing.Change.the-variants.{Insert, Delete};
 ghost use Rattle.client.specs.Store.{clientOf, Sizes};
-ghost use Rattle.client.specs.Answers.{answerOf};
-ghost use Rattle.c_layout.specs.Words.{wordsOf};
+ghost use Rattle.client.specs.Answers.{answerOf, opened};
+ghost use Rattle.c_layout.specs.Words.{wordsOf, itemsOf};
 ghost use Rattle.c_client.specs.Layout.{size, writtenAt, bytesIn, endIn, countsIn, capped, cappedEnd, cappedCounts};
 ghost use Rattle.c_client.specs.Calls.{returned, answered, openedIn, changedIn, insertedIn, deletedIn, takenIn, sentIn, acknowledgedIn};
 use client::Changed;
@@ -132,6 +132,28 @@ fn finish<'a>(
 
 // ---- the calls
 
+// The opened client, from items as bytes. The words are room for these.
+fn open_with(
+    end: &mut [u8],
+    n: u8,
+    line: u8,
+    items: &[u8],
+    words: &mut [u32],
+) -> u64
+    requires { ⌜ (size ≤ length (now end)) × (length (now items) ≡ 4 * length (now words)) ⌝ }
+    ensures { λ r. ⌜ returned r (now (end .exit)) ≡ answered (opened n line (itemsOf (now (items .entry)))) (now (end .entry)) ⌝ }
+{
+    c_layout::decode_items(items, words);
+    let a = Client::open(n, line, words);
+    let c = a.client;
+    let changed = Changed {
+        refusal: a.refusal,
+        passed: a.passed,
+        counts: c.counts(),
+    };
+    finish(end, changed, &c.items, &c.pending_places, &c.pending_items)
+}
+
 // Opens a client of line `line` of n, with the items as its list: four bytes each, high byte first.
 pub fn open(end: &mut [u8], n: u8, line: u8, items: &[u8]) -> u64
     ensures { λ r. ⌜ returned r (now (end .exit)) ≡ openedIn (now (end .entry)) n line (now (items .entry)) ⌝ }
@@ -147,15 +169,7 @@ pub fn open(end: &mut [u8], n: u8, line: u8, items: &[u8]) -> u64
         return c_layout::answer(1, 0);
     }
     let mut words = [0u32; 128];
-    c_layout::decode_items(items, &mut words[0..count]);
-    let a = Client::open(n, line, &words[0..count]);
-    let c = a.client;
-    let changed = Changed {
-        refusal: a.refusal,
-        passed: a.passed,
-        counts: c.counts(),
-    };
-    finish(end, changed, &c.items, &c.pending_places, &c.pending_items)
+    open_with(end, n, line, items, &mut words[0..count])
 }
 
 fn edit(end: &mut [u8], change: Change) -> u64
