@@ -3,9 +3,8 @@ ghost use mathlib.Core.Path.{_≡_};
 ghost use lib.ListN.{length};
 ghost use Rattle.server.specs.View.{serverOf};
 ghost use Rattle.server.specs.Sound.{Sizes};
-ghost use Rattle.c_layout.specs.Words.{wordsOf};
-ghost use Rattle.c_server.specs.Layout.{size, countsIn, serverIn, bytesIn};
-ghost use Rattle.c_server.specs.Numbers.{Places};
+ghost use Rattle.c_server.specs.Layout.{size, bytesIn};
+ghost use Rattle.c_server.specs.Numbers.{Reads, Places};
 use crate::numbers;
 use lines::Counts;
 
@@ -15,20 +14,17 @@ const PLACES: usize = 2188;
 const PENDING: usize = 4236;
 pub const SIZE: usize = 6284;
 
-pub fn read(
-    bytes: &[u8],
-    words: &mut [u32],
-    items: &mut [u32],
-    places: &mut [u32],
-    pending: &mut [u32],
-)
-    requires { ⌜ (length (now bytes) ≡ size) × Places (now words) (now items) (now places) (now pending) ⌝ }
-    ensures { λ _. ⌜ serverOf (countsIn (now (words .exit))) (now (items .exit)) (now (places .exit)) (now (pending .exit)) ≡ serverIn (wordsOf (now (bytes .entry))) ⌝ }
+// The end's numbers; its arrays are filled.
+pub fn read(bytes: &[u8], items: &mut [u32], places: &mut [u32], pending: &mut [u32]) -> Counts
+    requires { ⌜ (length (now bytes) ≡ size) × Places (now items) (now places) (now pending) ⌝ }
+    ensures { λ r. ⌜ Reads (now (bytes .entry)) r (now (items .exit)) (now (places .exit)) (now (pending .exit)) ⌝ }
 {
-    c_layout::decode(&bytes[0..ITEMS], words);
+    let mut words = [0u32; numbers::NUMBERS];
+    c_layout::decode(&bytes[0..ITEMS], &mut words);
     c_layout::decode(&bytes[ITEMS..PLACES], items);
     c_layout::decode(&bytes[PLACES..PENDING], places);
     c_layout::decode(&bytes[PENDING..SIZE], pending);
+    numbers::counts(&words)
 }
 
 pub fn write<'a>(

@@ -17,7 +17,10 @@ pub fn open(end: &mut [u8], n: u8, items: &[u8]) -> u64
         return answer(18, 0);
     }
     let count = items.len() / 4;
-    if (items.len() % 4 != 0) | (Server::INITIAL < count) {
+    if items.len() % 4 != 0 {
+        return answer(1, 0);
+    }
+    if Server::INITIAL < count {
         return answer(1, 0);
     }
     let mut words = [0u32; Server::INITIAL];
@@ -26,9 +29,9 @@ pub fn open(end: &mut [u8], n: u8, items: &[u8]) -> u64
     if a.refusal == 0 {
         let s = a.server;
         layout::write(s.counts(), &s.items, &s.pending_places, &s.pending_items, &mut end[0..SIZE]);
-        return answer(0, 0);
+        return answer(0, a.passed);
     }
-    answer(a.refusal, 0)
+    answer(a.refusal, a.passed)
 }
 
 // Writes number `number` of the pending edits of a line. Refusals: 18 2 4 13 14.
@@ -38,17 +41,12 @@ pub fn send(end: &[u8], line: u8, number: u16, out: &mut [u8]) -> u64
     if end.len() < SIZE {
         return answer(18, 0);
     }
-    let mut words = [0u32; numbers::NUMBERS];
     let mut items = [0u32; 512];
     let mut places = [0u32; 512];
     let mut pending = [0u32; 512];
-    layout::read(&end[0..SIZE], &mut words, &mut items, &mut places, &mut pending);
-    if numbers::fit(&words) {
-        let k = numbers::counts(&words);
-        let s = server::sending::send_lent(k, &items, &places, &pending, line, number, out);
-        return answer(s.refusal, s.written as u16);
-    }
-    answer(2, 0)
+    let k = layout::read(&end[0..SIZE], &mut items, &mut places, &mut pending);
+    let s = server::sending::send_lent(k, &items, &places, &pending, line, number, out);
+    answer(s.refusal, s.written as u16)
 }
 
 // Writes an acknowledgement of what was taken on a line. Refusals: 18 2 4 14.
@@ -58,17 +56,12 @@ pub fn acknowledge(end: &[u8], line: u8, out: &mut [u8]) -> u64
     if end.len() < SIZE {
         return answer(18, 0);
     }
-    let mut words = [0u32; numbers::NUMBERS];
     let mut items = [0u32; 512];
     let mut places = [0u32; 512];
     let mut pending = [0u32; 512];
-    layout::read(&end[0..SIZE], &mut words, &mut items, &mut places, &mut pending);
-    if numbers::fit(&words) {
-        let k = numbers::counts(&words);
-        let s = server::sending::tell_lent(k, &items, &places, &pending, line, out);
-        return answer(s.refusal, s.written as u16);
-    }
-    answer(2, 0)
+    let k = layout::read(&end[0..SIZE], &mut items, &mut places, &mut pending);
+    let s = server::sending::tell_lent(k, &items, &places, &pending, line, out);
+    answer(s.refusal, s.written as u16)
 }
 
 // Takes a message of a client. Refusals: 18 2 3 4 5 6 7 8 9 10 12.
@@ -78,19 +71,14 @@ pub fn take(end: &mut [u8], message: &[u8]) -> u64
     if end.len() < SIZE {
         return answer(18, 0);
     }
-    let mut words = [0u32; numbers::NUMBERS];
     let mut items = [0u32; 512];
     let mut places = [0u32; 512];
     let mut pending = [0u32; 512];
-    layout::read(&end[0..SIZE], &mut words, &mut items, &mut places, &mut pending);
-    if numbers::fit(&words) {
-        let k = numbers::counts(&words);
-        let a = server::taking::take_lent(k, &mut items, &mut places, &mut pending, message);
-        if a.refusal == 0 {
-            layout::write(a.counts, &items, &places, &pending, &mut end[0..SIZE]);
-            return answer(0, a.passed);
-        }
-        return answer(a.refusal, 0);
+    let k = layout::read(&end[0..SIZE], &mut items, &mut places, &mut pending);
+    let a = server::taking::take_lent(k, &mut items, &mut places, &mut pending, message);
+    if a.refusal == 0 {
+        layout::write(a.counts, &items, &places, &pending, &mut end[0..SIZE]);
+        return answer(0, a.passed);
     }
-    answer(2, 0)
+    answer(a.refusal, a.passed)
 }

@@ -1,9 +1,9 @@
-// The numbers of an end as words, and back. A word may hold more than the number's field does: then no sound end stands there.
+// The numbers of an end as words, and back. A word that its number's field cannot hold is read as the largest number of the field: no sound end has it.
 ghost use mathlib.Core.Path.{_≡_};
-ghost use mathlib.Core.Bool.{true};
+ghost use Prim.Native.Nat.{min};
 ghost use lib.ListN.{length};
-ghost use Rattle.c_server.specs.Layout.{countsIn, numbersIn};
-ghost use Rattle.c_server.specs.Numbers.{fit, Small, Eights};
+ghost use Rattle.c_server.specs.Layout.{numbersIn};
+ghost use Rattle.c_server.specs.Numbers.{capped, countsCapped, Eights};
 use lines::Counts;
 
 // Where each line's counts begin, and how many numbers there are.
@@ -13,42 +13,42 @@ const ACKED: usize = 19;
 const INSERTS: usize = 27;
 pub const NUMBERS: usize = 35;
 
-// Does each word fit the field of its number?
-pub fn fit(words: &[u32]) -> bool
-    requires { ⌜ length (now words) ≡ 35 ⌝ }
-    ensures { λ r. ⌜ r ≡ fit (now (words .entry)) ⌝ }
+fn narrow(x: u32) -> u16
+    ensures { λ r. ⌜ r ≡ min x 65535 ⌝ }
 {
-    let mut all = words[0] < 256;
-    for i in 0..NUMBERS {
-        all &= words[i] < 65536;
-    }
-    all
+    if x < 65535 { x as u16 } else { 65535 }
+}
+
+fn narrow_n(x: u32) -> u8
+    ensures { λ r. ⌜ r ≡ min x 255 ⌝ }
+{
+    if x < 255 { x as u8 } else { 255 }
 }
 
 // A count of each of the eight lines.
 fn eight(words: &[u32]) -> [u16; 8]
-    requires { ⌜ (length (now words) ≡ 8) × Small (now words) ⌝ }
-    ensures { λ r. ⌜ r ≡ now (words .entry) ⌝ }
+    requires { ⌜ length (now words) ≡ 8 ⌝ }
+    ensures { λ r. ⌜ r ≡ capped (now (words .entry)) ⌝ }
 {
     let mut counts = [0u16; 8];
     for i in 0..8 {
-        counts[i] = words[i] as u16;
+        counts[i] = narrow(words[i]);
     }
     counts
 }
 
 pub fn counts(words: &[u32]) -> Counts
-    requires { ⌜ (length (now words) ≡ 35) × (fit (now words) ≡ true) ⌝ }
-    ensures { λ r. ⌜ r ≡ countsIn (now (words .entry)) ⌝ }
+    requires { ⌜ length (now words) ≡ 35 ⌝ }
+    ensures { λ r. ⌜ r ≡ countsCapped (now (words .entry)) ⌝ }
 {
     let made = eight(&words[MADE..TAKEN]);
     let taken = eight(&words[TAKEN..ACKED]);
     let acked = eight(&words[ACKED..INSERTS]);
     let inserts = eight(&words[INSERTS..NUMBERS]);
     Counts {
-        n: words[0] as u8,
-        initial: words[1] as u16,
-        len: words[2] as u16,
+        n: narrow_n(words[0]),
+        initial: narrow(words[1]),
+        len: narrow(words[2]),
         made,
         taken,
         acked,
