@@ -5,7 +5,7 @@ use mathlib.Core.Path.{_≡_, refl, ap, sym, _∙_, subst}
 use mathlib.Core.Bool.{Bool, true, false, cond, _&&_, and-false}
 use mathlib.Core.List.{List, [], _++_}
 use lib.Dec.{eqb, leb}
-use lib.ListN.{length, take, drop, replicate}
+use lib.ListN.{length, take, drop, replicate, length-append}
 use borrow.Author.Tests.{lt-ltb, le-ltb, lt-leb, eq-eqb, ne-eqb}
 use Rattle.wire.specs.declared.Message.{Message}
 use Rattle.wire.specs.declared.Message.the-variants.{Insert, Delete, Nothing, Ack}
@@ -36,13 +36,30 @@ use Rattle.c_server.specs.Calls.{returned, answered, written, openedIn, 
 
 -- ---- question 18
 
-pub short : (end bytes : List ℕ) (r : ℕ) (rest : Called) → length end < size → r ≡ packed 18 0 → returned r bytes ≡ laidOut size end bytes rest
+short : (end bytes : List ℕ) (r : ℕ) (rest : Called) → length end < size → r ≡ packed 18 0 → returned r bytes ≡ laidOut size end bytes rest
 unfolding laidOut
 short end bytes r rest h e = ap (λ (n : ℕ). returned n bytes) e ∙ rw (lt-ltb (length end) size h)
 
-pub long : (end bytes : List ℕ) (rest : Called) → size ≤ length end → rest ≡ laidOut size end bytes rest
+long : (end bytes : List ℕ) (rest : Called) → size ≤ length end → rest ≡ laidOut size end bytes rest
 unfolding laidOut
 long end bytes rest h = rw (le-ltb (length end) size h)
+
+module _ (bytes : List ℕ) where
+  pub taken-short : (message : List ℕ) (r : ℕ) → length bytes < size → r ≡ packed 18 0 → returned r bytes ≡ takenIn bytes message
+  unfolding takenIn
+  taken-short message r = short bytes bytes r (answered (takes (endIn bytes) message) bytes)
+
+  pub send-short : (line number : ℕ) (out : List ℕ) (r : ℕ) → length bytes < size → r ≡ packed 18 0 → returned r out ≡ sentIn bytes line number out
+  unfolding sentIn
+  send-short line number out r = short bytes out r (written (sends (endIn bytes) line number out))
+
+  pub acknowledge-short : (line : ℕ) (out : List ℕ) (r : ℕ) → length bytes < size → r ≡ packed 18 0 → returned r out ≡ acknowledgedIn bytes line out
+  unfolding acknowledgedIn
+  acknowledge-short line out r = short bytes out r (written (tells (endIn bytes) line out))
+
+  pub open-short : (n : ℕ) (items : List ℕ) (r : ℕ) → length bytes < size → r ≡ packed 18 0 → returned r bytes ≡ openedIn bytes n items
+  unfolding openedIn
+  open-short n items r = short bytes bytes r _
 
 -- ---- an answer with the end's bytes beside it
 
@@ -100,20 +117,28 @@ sent-few : (r : ℕ) (bytes out : List ℕ) → length bytes < 65536 → Few (se
 unfolding sent
 sent-few r bytes out h = one-of (eqb r 0) (record { refusal = 0; written = length bytes; buffer = bytes ++ drop (length bytes) out }) (record { refusal = r; written = 0; buffer = out }) h (omega arith)
 
-pub sends-few : (s : Server) (line number : ℕ) (out : List ℕ) → Few (sends s line number out)
+sends-few : (s : Server) (line number : ℕ) (out : List ℕ) → Few (sends s line number out)
 unfolding sends model.sendServer
 sends-few s line number out =
+    let m = model.serverMessage (view s) line number in
     one-of (soundStruct s) (model.sendServer (view s) line number out) (sent 2 [] out)
-    (sent-few (asks (model.sendServerQuestions (view s) line number out)) (wire.bytesOf (model.serverMessage (view s) line number)) out (message-few (model.serverMessage (view s) line number)))
+    (sent-few (asks (model.sendServerQuestions (view s) line number out)) (wire.bytesOf m) out (message-few m))
     (sent-few 2 [] out (omega arith))
 
-pub tells-few : (s : Server) (line : ℕ) (out : List ℕ) → Few (tells s line out)
+tells-few : (s : Server) (line : ℕ) (out : List ℕ) → Few (tells s line out)
 unfolding tells model.tellServer
 tells-few s line out =
     let m = Ack line 1 (model.lineOf (view s) line .taken) in
     one-of (soundStruct s) (model.tellServer (view s) line out) (sent 2 [] out)
     (sent-few (asks (model.tellServerQuestions (view s) line out)) (wire.bytesOf m) out (message-few m))
     (sent-few 2 [] out (omega arith))
+
+module _ (s : Server) (line : ℕ) (out left : List ℕ) (a : endpoint.Sent) where
+  pub send-few : (number : ℕ) → sentAs a left ≡ sends s line number out → a .written < 65536
+  send-few number e = subst Few (sym e) (sends-few s line number out)
+
+  pub acknowledge-few : sentAs a left ≡ tells s line out → a .written < 65536
+  acknowledge-few e = subst Few (sym e) (tells-few s line out)
 
 -- ---- the arrays of a new end have their lengths
 
@@ -186,6 +211,13 @@ module _ (bytes : List ℕ) (whole : size ≤ length bytes) (k : Counts) (items 
 
 -- ---- opening
 
+pub front-within : (x l : List ℕ) (n : ℕ) → length x ≡ n → n ≤ length (x ++ l)
+front-within x l n e = simp length-append (omega arith)
+
+module _ (items : List ℕ) (even : length items % 4 ≡ 0) where
+  pub items-count : length (itemsOf items) ≡ length items / 4
+  items-count = words-length highFirst (length items / 4) items (omega arith)
+
 module _ (bytes items : List ℕ) (n : ℕ) (whole : size ≤ length bytes) where
   pub open-cut : (r : ℕ) → (length items % 4 ≡ 0 → ⊥) → r ≡ packed 1 0 → returned r bytes ≡ openedIn bytes n items
   unfolding openedIn
@@ -197,14 +229,11 @@ module _ (bytes items : List ℕ) (n : ℕ) (whole : size ≤ length bytes) wher
     unfolding openedIn
     opened-is = rw (eq-eqb (length items % 4) 0 even) (long bytes bytes (answered (opened n (itemsOf items)) bytes) whole)
 
-    pub items-count : length (itemsOf items) ≡ length items / 4
-    items-count = words-length highFirst (length items / 4) items (omega arith)
-
     pub open-many : (r : ℕ) → 128 < length items / 4 → r ≡ packed 1 0 → returned r bytes ≡ openedIn bytes n items
     open-many r l is =
         let its = itemsOf items in
         let none′ = fresh 0 0 (replicate 512 0) in
-        let wide = lt-leb (length its) 128 (omega (arith, items-count)) in
+        let wide = lt-leb (length its) 128 (omega (arith, items-count items even)) in
         let no′ = ap (λ (b : Bool). (leb 1 n && leb n 8) && b) wide ∙ and-false (leb 1 n && leb n 8) in
         answered-no (record { refusal = 1; passed = 0; server = none′ }) bytes r is (λ z. omega arith)
         ∙ ap (λ (x : Answer). answered x bytes) (open-refused n its none′ no′ refl)
