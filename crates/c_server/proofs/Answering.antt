@@ -66,7 +66,7 @@ module _ (bytes : List ℕ) where
 module _ (a : Answer) (bytes : List ℕ) (r : ℕ) (is : r ≡ packed (a .refusal) (a .passed)) where
   pub answered-done : (front : List ℕ) → a .refusal ≡ 0 → front ≡ bytesIn (a .server) → returned r (front ++ drop size bytes) ≡ answered a bytes
   unfolding answered
-  answered-done front z e = 
+  answered-done front z e =
       ap (λ (n : ℕ). returned n (front ++ drop size bytes)) is ∙ ap (λ (l : List ℕ). called (a .refusal) (a .passed) (l ++ drop size bytes)) e
       ∙ rw (eq-eqb (a .refusal) 0 z)
 

@@ -135,11 +135,11 @@ module _ (ws items ps xs : List ℕ) where
     capped-alike =
         record {
           left = λ t.
-          let s = serverOf (countsCapped ws) items ps xs in
-          if-was (sound-small s (struct-whole s (h .list) (capped-sizes .sized) t));
+              let s = serverOf (countsCapped ws) items ps xs in
+              if-was (sound-small s (struct-whole s (h .list) (capped-sizes .sized) t));
           right = λ t.
-          let s = serverOf (countsIn ws) items ps xs in
-          if-kept (sound-small s (struct-whole s (h .list) (sizes-of .sized) t));
+              let s = serverOf (countsIn ws) items ps xs in
+              if-kept (sound-small s (struct-whole s (h .list) (sizes-of .sized) t));
         }
 
 -- the parts as they were read, of the end that the bytes are

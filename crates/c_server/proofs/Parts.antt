@@ -130,15 +130,15 @@ unfolding bytesIn endIn
 fits =
     record {
       read-back = λ s rest z.
-      let ws = wordsIn s in
-      ap (λ (t : List ℕ). serverIn (wordsOf t))
-      (take-at (bytesOf ws) rest size (bytes-length ws ∙ ap (λ (n : ℕ). 4 * n) (ws-length (countsOf s) (s .items) (s .«pending_places») (s .«pending_items») z)))
-      ∙ ap serverIn (read-back ws)
-      ∙ end-again (countsOf s) (s .items) (s .«pending_places») (s .«pending_items») z;
+          let ws = wordsIn s in
+          ap (λ (t : List ℕ). serverIn (wordsOf t))
+          (take-at (bytesOf ws) rest size (bytes-length ws ∙ ap (λ (n : ℕ). 4 * n) (ws-length (countsOf s) (s .items) (s .«pending_places») (s .«pending_items») z)))
+          ∙ ap serverIn (read-back ws)
+          ∙ end-again (countsOf s) (s .items) (s .«pending_places») (s .«pending_items») z;
       written-back = λ bytes long small.
-      let cut : length (take size bytes) ≡ 4 * 1571 = simp length-take (omega arith) in
-      ap (λ (t : List ℕ). t ++ drop size bytes)
-      (ap bytesOf (words-again (wordsOf (take size bytes)) (words-length lowFirst 1571 (take size bytes) cut))
-      ∙ written-back (take size bytes) 1571 cut (below-take 256 (omega arith) size bytes small))
-      ∙ take-append-drop size bytes;
+          let cut : length (take size bytes) ≡ 4 * 1571 = simp length-take (omega arith) in
+          ap (λ (t : List ℕ). t ++ drop size bytes)
+          (ap bytesOf (words-again (wordsOf (take size bytes)) (words-length lowFirst 1571 (take size bytes) cut))
+          ∙ written-back (take size bytes) 1571 cut (below-take 256 (omega arith) size bytes small))
+          ∙ take-append-drop size bytes;
     }

@@ -10,8 +10,11 @@ use lines::Counts;
 
 // Where each part's bytes begin, and how many bytes there are. The numbers stand first.
 const ITEMS: usize = 140;
+
 const PLACES: usize = 2188;
+
 const PENDING: usize = 4236;
+
 pub const SIZE: usize = 6284;
 
 // The end's numbers; its arrays are filled.

@@ -28,7 +28,13 @@ pub fn open(end: &mut [u8], n: u8, items: &[u8]) -> u64
     let a = Server::open(n, &words[0..count]);
     if a.refusal == 0 {
         let s = a.server;
-        layout::write(s.counts(), &s.items, &s.pending_places, &s.pending_items, &mut end[0..SIZE]);
+        layout::write(
+            s.counts(),
+            &s.items,
+            &s.pending_places,
+            &s.pending_items,
+            &mut end[0..SIZE],
+        );
         return answer(0, a.passed);
     }
     answer(a.refusal, a.passed)

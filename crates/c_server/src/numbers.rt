@@ -8,9 +8,13 @@ use lines::Counts;
 
 // Where each line's counts begin, and how many numbers there are.
 const MADE: usize = 3;
+
 const TAKEN: usize = 11;
+
 const ACKED: usize = 19;
+
 const INSERTS: usize = 27;
+
 pub const NUMBERS: usize = 35;
 
 fn narrow(x: u32) -> u16
