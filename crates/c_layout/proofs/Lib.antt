@@ -2,3 +2,4 @@ pub mod Words
 pub mod Loops
 pub mod Called
 pub mod Parts
+pub mod Sections

@@ -1,0 +1,4 @@
+pub mod Copy
+pub mod Parts
+pub mod Fitting
+pub mod Answering

@@ -1,0 +1,95 @@
+use native.Mathlib.Omega.{arith}
+use Prim.Native.Nat.{ℕ, _≤_, _<_}
+use mathlib.Core.Path.{_≡_, refl, ap, sym, _∙_}
+use mathlib.Core.List.{List}
+use lib.ListN.{length, take}
+use lib.Seq.{length-take-le}
+use Rattle.lines.specs.declared.Counts.{Counts}
+use Rattle.server.specs.View.{serverOf}
+use Rattle.server.specs.Sound.{Sizes}
+use Rattle.c_server.specs.Layout.{size}
+use Rattle.c_server.specs.Numbers.{Reads}
+use Rattle.c_server.proofs.Answering.{acknowledge-short, acknowledge-few, acknowledge-is}
+use borrow.Author.Needs.{needs}
+use Rattle.c_server.proofs.acknowledge.Statement.{statement}
+use Rattle.c_server.proofs.acknowledge.Tie as tie
+
+answer-requires : tie.Need-answer-requires
+answer-requires c κs = search needs
+
+returns : tie.Need-returns
+returns c = let s = c .before .before .before .before in
+    acknowledge-short (s .args .end .now) (s .args .line) (s .args .out .now) (c .answer .result) (c .before .if1 .taken) (c .answer .ensures)
+
+sub-read : tie.Need-sub-read
+sub-read c = search needs
+
+part-read-start : tie.Need-part-read-start
+part-read-start c = search needs
+
+part-read-end : tie.Need-part-read-end
+part-read-end c = search needs
+
+slice-aggregate-read : tie.Need-slice-aggregate-read
+slice-aggregate-read c = search needs
+
+slice-aggregate-read-2 : tie.Need-slice-aggregate-read-2
+slice-aggregate-read-2 c = search needs
+
+slice-aggregate-read-3 : tie.Need-slice-aggregate-read-3
+slice-aggregate-read-3 c = search needs
+
+read-requires : tie.Need-read-requires
+read-requires c κs = search needs
+
+slice-aggregate-tell-lent : tie.Need-slice-aggregate-tell-lent
+slice-aggregate-tell-lent c = search needs
+
+slice-aggregate-tell-lent-2 : tie.Need-slice-aggregate-tell-lent-2
+slice-aggregate-tell-lent-2 c = search needs
+
+slice-aggregate-tell-lent-3 : tie.Need-slice-aggregate-tell-lent-3
+slice-aggregate-tell-lent-3 c = search needs
+
+tell-lent-requires : tie.Need-tell-lent-requires
+tell-lent-requires c κs = search needs
+
+cast-answer : tie.Need-cast-answer
+cast-answer c = let l = c .before .before .before .tell-lent in
+    let s = c .before .before .before .before .before .before .before .before .before .before .before .before .before .before .before .before .before .before .before in
+    let r = c .before .before .before .before .before .before .before .before .before .before .before .read in
+    record { fits = acknowledge-few (serverOf (r .result) (r .last .1 .0) (r .last .1 .1 .0) (r .last .1 .1 .1 .0)) (s .args .line) (s .args .out .now) (l .last .1 .1 .1 .1 .1 .0) (l .result) (l .ensures) }
+
+answer-requires-2 : tie.Need-answer-requires-2
+answer-requires-2 c κs = search needs
+
+same-length : tie.Need-same-length
+same-length c = search needs
+
+returns-2 : tie.Need-returns-2
+returns-2 c = let l = c .before .before .before .before .tell-lent in
+    let s = c .before .before .before .before .before .before .before .before .before .before .before .before .before .before .before .before .before .before .before .before in
+    let r = c .before .before .before .before .before .before .before .before .before .before .before .before .read in
+    acknowledge-is (s .args .end .now) (c .before .before .before .before .before .before .before .before .before .before .before .before .before .before .before .before .before .if1 .left) (r .result) (r .last .1 .0) (r .last .1 .1 .0) (r .last .1 .1 .1 .0) (r .ensures) (s .args .line) (s .args .out .now) (l .last .1 .1 .1 .1 .1 .0) (l .result) (c .answer2 .result) (l .ensures) (c .answer2 .ensures)
+
+pub acknowledge-spec : {M : Type 1} → statement M
+acknowledge-spec =
+    tie.close
+    (tie.spec
+    answer-requires
+    returns
+    sub-read
+    part-read-start
+    part-read-end
+    slice-aggregate-read
+    slice-aggregate-read-2
+    slice-aggregate-read-3
+    read-requires
+    slice-aggregate-tell-lent
+    slice-aggregate-tell-lent-2
+    slice-aggregate-tell-lent-3
+    tell-lent-requires
+    cast-answer
+    answer-requires-2
+    same-length
+    returns-2)

@@ -1,0 +1,148 @@
+use native.Mathlib.Omega.{arith}
+use Prim.Native.Nat.{ℕ, _≤_, _<_}
+use mathlib.Core.Path.{_≡_, refl, ap, sym, _∙_}
+use mathlib.Core.List.{List}
+use lib.ListN.{length, take}
+use lib.Seq.{length-take-le}
+use Rattle.lines.specs.declared.Counts.{Counts}
+use Rattle.server.specs.View.{serverOf}
+use Rattle.server.specs.Sound.{Sizes}
+use Rattle.c_server.specs.Layout.{size}
+use Rattle.c_server.specs.Numbers.{Reads}
+use Rattle.c_server.proofs.Answering.{taken-short, taken-sizes, take-done, take-no}
+use borrow.Author.Needs.{needs}
+use Rattle.c_server.proofs.take.Statement.{statement}
+use Rattle.c_server.proofs.take.Tie as tie
+
+-- ---- the end was read, and the message taken
+
+abbrev start : tie.After-take-lent → tie.Start
+start c = c .before .before .before .before .before .before .before .before .before .before .before .before .before .before .before .before
+
+abbrev bytes : tie.After-take-lent → List ℕ
+bytes c = start c .args .end .now
+
+whole : (c : tie.After-take-lent) → size ≤ length (bytes c)
+whole c = c .before .before .before .before .before .before .before .before .before .before .before .before .before .if1 .left
+
+abbrev read : tie.After-take-lent → tie.After-read
+read c = c .before .before .before .before .before .before .before
+
+-- ---- and accepted
+
+abbrev done : tie.Then2 → tie.After-take-lent
+done c = c .before .before
+
+sizes : (c : tie.Then2) → let t = done c .take-lent in Sizes (t .result .counts) (t .last .1 .0) (t .last .1 .1 .0) (t .last .1 .1 .1 .0)
+sizes c =
+    let d = done c in
+    let r = read d .read in
+    taken-sizes (bytes d) (whole d) (r .result) (r .last .1 .0) (r .last .1 .1 .0) (r .last .1 .1 .1 .0) (r .ensures) (start d .args .message .now)
+    (d .take-lent .result) (d .take-lent .last .1 .0) (d .take-lent .last .1 .1 .0) (d .take-lent .last .1 .1 .1 .0) (d .take-lent .ensures) (c .if2 .taken)
+
+-- ---- the needs
+
+answer-requires : tie.Need-answer-requires
+answer-requires c κs = search needs
+
+returns : tie.Need-returns
+returns c = let s = c .before .before .before .before in
+    taken-short (s .args .end .now) (s .args .message .now) (c .answer .result) (c .before .if1 .taken) (c .answer .ensures)
+
+sub-read : tie.Need-sub-read
+sub-read c = search needs
+
+part-read-start : tie.Need-part-read-start
+part-read-start c = search needs
+
+part-read-end : tie.Need-part-read-end
+part-read-end c = search needs
+
+slice-aggregate-read : tie.Need-slice-aggregate-read
+slice-aggregate-read c = search needs
+
+slice-aggregate-read-2 : tie.Need-slice-aggregate-read-2
+slice-aggregate-read-2 c = search needs
+
+slice-aggregate-read-3 : tie.Need-slice-aggregate-read-3
+slice-aggregate-read-3 c = search needs
+
+read-requires : tie.Need-read-requires
+read-requires c κs = search needs
+
+take-lent-requires : tie.Need-take-lent-requires
+take-lent-requires c κs = search needs
+
+slice-aggregate-write : tie.Need-slice-aggregate-write
+slice-aggregate-write c = sym (sizes (c .before) .list)
+
+slice-aggregate-write-2 : tie.Need-slice-aggregate-write-2
+slice-aggregate-write-2 c = sym (sizes (c .before .before) .sized .places)
+
+slice-aggregate-write-3 : tie.Need-slice-aggregate-write-3
+slice-aggregate-write-3 c = sym (sizes (c .before .before .before) .sized .items)
+
+sub-write : tie.Need-sub-write
+sub-write c = search needs
+
+part-write-start : tie.Need-part-write-start
+part-write-start c = search needs
+
+part-write-end : tie.Need-part-write-end
+part-write-end c = whole (done (c .before .before .before))
+
+write-requires : tie.Need-write-requires
+write-requires c κs = (sizes (c .before .before .before .before), length-take-le 6284 (bytes (done (c .before .before .before .before))) (whole (done (c .before .before .before .before))))
+
+answer-requires-2 : tie.Need-answer-requires-2
+answer-requires-2 c κs = search needs
+
+same-length : tie.Need-same-length
+same-length c = search needs
+
+returns-2 : tie.Need-returns-2
+returns-2 c = let t = c .before .before .before .before .before .before .before .before in
+    let d = done t in
+    let r = read d .read in
+    take-done (bytes d) (whole d) (r .result) (r .last .1 .0) (r .last .1 .1 .0) (r .last .1 .1 .1 .0) (r .ensures) (start d .args .message .now)
+    (d .take-lent .result) (d .take-lent .last .1 .0) (d .take-lent .last .1 .1 .0) (d .take-lent .last .1 .1 .1 .0) (d .take-lent .ensures) (c .before .before .before .write .last .1 .1 .1 .1 .0) (c .answer2 .result) (t .if2 .taken) (c .before .before .before .write .ensures) (c .answer2 .ensures)
+
+answer-requires-3 : tie.Need-answer-requires-3
+answer-requires-3 c κs = search needs
+
+same-length-2 : tie.Need-same-length-2
+same-length-2 c = search needs
+
+returns-3 : tie.Need-returns-3
+returns-3 c = let d = c .before .before .before in
+    let r = read d .read in
+    take-no (bytes d) (whole d) (r .result) (r .last .1 .0) (r .last .1 .1 .0) (r .last .1 .1 .1 .0) (r .ensures) (start d .args .message .now)
+    (d .take-lent .result) (d .take-lent .last .1 .0) (d .take-lent .last .1 .1 .0) (d .take-lent .last .1 .1 .1 .0) (d .take-lent .ensures) (c .answer3 .result) (c .before .if2 .left) (c .answer3 .ensures)
+
+pub take-spec : {M : Type 1} → statement M
+take-spec =
+    tie.close
+    (tie.spec
+    answer-requires
+    returns
+    sub-read
+    part-read-start
+    part-read-end
+    slice-aggregate-read
+    slice-aggregate-read-2
+    slice-aggregate-read-3
+    read-requires
+    take-lent-requires
+    slice-aggregate-write
+    slice-aggregate-write-2
+    slice-aggregate-write-3
+    sub-write
+    part-write-start
+    part-write-end
+    write-requires
+    answer-requires-2
+    same-length
+    returns-2
+    answer-requires-3
+    same-length-2
+    returns-3)

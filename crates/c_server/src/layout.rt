@@ -1,0 +1,49 @@
+// An end's parts from its bytes, and back.
+ghost use mathlib.Core.Path.{_≡_};
+ghost use lib.ListN.{length};
+ghost use Rattle.server.specs.View.{serverOf};
+ghost use Rattle.server.specs.Sound.{Sizes};
+ghost use Rattle.c_server.specs.Layout.{size, bytesIn};
+ghost use Rattle.c_server.specs.Numbers.{Reads, Places};
+use crate::numbers;
+use lines::Counts;
+
+// Where each part's bytes begin, and how many bytes there are. The numbers stand first.
+const ITEMS: usize = 140;
+
+const PLACES: usize = 2188;
+
+const PENDING: usize = 4236;
+
+pub const SIZE: usize = 6284;
+
+// The end's numbers; its arrays are filled.
+pub fn read(bytes: &[u8], items: &mut [u32], places: &mut [u32], pending: &mut [u32]) -> Counts
+    requires { ⌜ (length (now bytes) ≡ size) × Places (now items) (now places) (now pending) ⌝ }
+    ensures { λ r. ⌜ Reads (now (bytes .entry)) r (now (items .exit)) (now (places .exit)) (now (pending .exit)) ⌝ }
+{
+    let mut words = [0u32; numbers::NUMBERS];
+    c_layout::decode(&bytes[0..ITEMS], &mut words);
+    c_layout::decode(&bytes[ITEMS..PLACES], items);
+    c_layout::decode(&bytes[PLACES..PENDING], places);
+    c_layout::decode(&bytes[PENDING..SIZE], pending);
+    numbers::counts(&words)
+}
+
+pub fn write<'a>(
+    k: Counts,
+    items: &'a [u32],
+    places: &'a [u32],
+    pending: &'a [u32],
+    bytes: &mut [u8],
+)
+    requires { ⌜ Sizes k (now items) (now places) (now pending) × (length (now bytes) ≡ size) ⌝ }
+    ensures { λ _. ⌜ now (bytes .exit) ≡ bytesIn (serverOf k (now (items .entry)) (now (places .entry)) (now (pending .entry))) ⌝ }
+{
+    let mut words = [0u32; numbers::NUMBERS];
+    numbers::put(k, &mut words);
+    c_layout::encode(&words, &mut bytes[0..ITEMS]);
+    c_layout::encode(items, &mut bytes[ITEMS..PLACES]);
+    c_layout::encode(places, &mut bytes[PLACES..PENDING]);
+    c_layout::encode(pending, &mut bytes[PENDING..SIZE]);
+}
