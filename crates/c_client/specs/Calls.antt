@@ -10,11 +10,8 @@ use Rattle.client.specs.declared.editing.Change.{Change}
 use Rattle.client.specs.Answers.{opened, inserted, deleted, changed, taken, sentEdit, sentAck}
 use Rattle.c_layout.specs.Words.{itemsOf}
 use Rattle.c_layout.specs.Called.{Called, called, laidOut}
+pub use Rattle.c_layout.specs.Called.{returned}
 use Rattle.c_client.specs.Layout.{size, bytesIn, endIn}
-
--- what a function returns and the bytes that it leaves
-abbrev pub returned : ℕ → List ℕ → Called
-returned r bytes = record { answer = r; bytes = bytes }
 
 -- the answer of a call that may change its end; the bytes past the layout stay
 abbrev pub answered : Answer → List ℕ → Called

@@ -6,14 +6,11 @@ use lib.Dec.{eqb}
 use lib.ListN.{length, drop}
 use Rattle.c_layout.specs.Words.{itemsOf}
 use Rattle.c_layout.specs.Called.{Called, called, laidOut}
+pub use Rattle.c_layout.specs.Called.{returned}
 use Rattle.model.specs.Questions.{Sent}
 use Rattle.server.specs.declared.Answer.{Answer}
 use Rattle.server.specs.Calls.{opened, sends, tells, takes}
 use Rattle.c_server.specs.Layout.{size, bytesIn, endIn}
-
--- what a call returned, and the bytes as it left them
-abbrev pub returned : ℕ → List ℕ → Called
-returned answer bytes = record { answer = answer; bytes = bytes }
 
 -- A refusal leaves every byte. Else the new end stands in the first bytes, and those past the layout stay.
 unfoldable pub answered : Answer → List ℕ → Called
