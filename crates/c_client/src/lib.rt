@@ -20,8 +20,11 @@ pub const LAYOUT: usize = 2588;
 
 // Where its parts begin: the seven numbers, the items, and the places and the items of the pending edits.
 const NUMBERS: usize = 0;
+
 const ITEMS: usize = 28;
+
 const PLACES: usize = 2076;
+
 const PENDING: usize = 2332;
 
 // ---- the end, read and written
@@ -85,13 +88,7 @@ fn read(bytes: &[u8], items: &mut [u32], places: &mut [u32], pending: &mut [u32]
     numbers(bytes)
 }
 
-fn write<'a>(
-    bytes: &mut [u8],
-    k: Counts,
-    items: &'a [u32],
-    places: &'a [u32],
-    pending: &'a [u32],
-)
+fn write<'a>(bytes: &mut [u8], k: Counts, items: &'a [u32], places: &'a [u32], pending: &'a [u32])
     requires { ⌜ (size ≤ length (now bytes)) × Sizes (now items) (now places) (now pending) ⌝ }
     ensures { λ _. ⌜ now (bytes .exit) ≡ bytesIn (clientOf k (now (items .entry)) (now (places .entry)) (now (pending .entry))) ++ drop size (now (bytes .entry)) ⌝ }
 {
@@ -133,13 +130,7 @@ fn finish<'a>(
 // ---- the calls
 
 // The opened client, from items as bytes. The words are room for these.
-fn open_with(
-    end: &mut [u8],
-    n: u8,
-    line: u8,
-    items: &[u8],
-    words: &mut [u32],
-) -> u64
+fn open_with(end: &mut [u8], n: u8, line: u8, items: &[u8], words: &mut [u32]) -> u64
     requires { ⌜ (size ≤ length (now end)) × (length (now items) ≡ 4 * length (now words)) ⌝ }
     ensures { λ r. ⌜ returned r (now (end .exit)) ≡ answered (opened n line (itemsOf (now (items .entry)))) (now (end .entry)) ⌝ }
 {
@@ -168,7 +159,7 @@ pub fn open(end: &mut [u8], n: u8, line: u8, items: &[u8]) -> u64
     if Client::INITIAL < count {
         return c_layout::answer(1, 0);
     }
-    let mut words = [0u32; 128];
+    let mut words = [0u32; Client::INITIAL];
     open_with(end, n, line, items, &mut words[0..count])
 }
 
@@ -178,9 +169,9 @@ fn edit(end: &mut [u8], change: Change) -> u64
     if end.len() < LAYOUT {
         return c_layout::answer(18, 0);
     }
-    let mut items = [0u32; 512];
-    let mut places = [0u32; 64];
-    let mut pending = [0u32; 64];
+    let mut items = [0u32; Client::ITEMS];
+    let mut places = [0u32; Client::PENDING];
+    let mut pending = [0u32; Client::PENDING];
     let k = read(end, &mut items, &mut places, &mut pending);
     let a = client::editing::edit_lent(k, &mut items, &mut places, &mut pending, change);
     finish(end, a, &items, &places, &pending)
@@ -207,12 +198,12 @@ pub fn send(end: &[u8], line: u8, number: u16, out: &mut [u8]) -> u64
     if end.len() < LAYOUT {
         return c_layout::answer(18, 0);
     }
-    let mut items = [0u32; 512];
-    let mut places = [0u32; 64];
-    let mut pending = [0u32; 64];
+    let mut items = [0u32; Client::ITEMS];
+    let mut places = [0u32; Client::PENDING];
+    let mut pending = [0u32; Client::PENDING];
     let k = read(end, &mut items, &mut places, &mut pending);
-    let s = client::sending::send_lent(k, &items, &places, &pending, line, number, out);
-    c_layout::answer(s.refusal, s.written as u16)
+    let sent = client::sending::send_lent(k, &items, &places, &pending, line, number, out);
+    c_layout::answer(sent.refusal, sent.written as u16)
 }
 
 // Writes an acknowledgement of all edits taken.
@@ -222,12 +213,12 @@ pub fn acknowledge(end: &[u8], line: u8, out: &mut [u8]) -> u64
     if end.len() < LAYOUT {
         return c_layout::answer(18, 0);
     }
-    let mut items = [0u32; 512];
-    let mut places = [0u32; 64];
-    let mut pending = [0u32; 64];
+    let mut items = [0u32; Client::ITEMS];
+    let mut places = [0u32; Client::PENDING];
+    let mut pending = [0u32; Client::PENDING];
     let k = read(end, &mut items, &mut places, &mut pending);
-    let s = client::sending::tell_lent(k, &items, &places, &pending, line, out);
-    c_layout::answer(s.refusal, s.written as u16)
+    let told = client::sending::tell_lent(k, &items, &places, &pending, line, out);
+    c_layout::answer(told.refusal, told.written as u16)
 }
 
 // Takes one message from the server.
@@ -237,10 +228,10 @@ pub fn take(end: &mut [u8], message: &[u8]) -> u64
     if end.len() < LAYOUT {
         return c_layout::answer(18, 0);
     }
-    let mut items = [0u32; 512];
-    let mut places = [0u32; 64];
-    let mut pending = [0u32; 64];
+    let mut items = [0u32; Client::ITEMS];
+    let mut places = [0u32; Client::PENDING];
+    let mut pending = [0u32; Client::PENDING];
     let k = read(end, &mut items, &mut places, &mut pending);
-    let a = client::taking::take_lent(k, &mut items, &mut places, &mut pending, message);
-    finish(end, a, &items, &places, &pending)
+    let taken = client::taking::take_lent(k, &mut items, &mut places, &mut pending, message);
+    finish(end, taken, &items, &places, &pending)
 }

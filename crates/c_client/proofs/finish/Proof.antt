@@ -11,7 +11,7 @@ answer-requires : tie.Need-answer-requires
 answer-requires c κs = search needs
 
 returns : tie.Need-returns
-returns c = 
+returns c =
     let t = c .before in
     let a = start (t .before) .args in
     end-refused (a .a) (now (a .items)) (now (a .places)) (now (a .pending)) (now (a .bytes)) (c .answer .result) (t .if1 .taken) (c .answer .ensures)
@@ -26,7 +26,7 @@ same-length : tie.Need-same-length
 same-length c = search needs
 
 returns-2 : tie.Need-returns-2
-returns-2 c = 
+returns-2 c =
     let w = c .before .before .before in
     let e = w .before .before in
     let a = start (e .before) .args in

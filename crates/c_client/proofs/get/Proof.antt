@@ -33,7 +33,7 @@ same-length : tie.Need-same-length
 same-length c = search needs
 
 returns : tie.Need-returns
-returns c = 
+returns c =
     let d = c .before .before in
     let a = start d .args in
     let width : a .from + 4 * length (now (a .words)) - a .from ≡ 4 * length (now (a .words)) = omega arith in

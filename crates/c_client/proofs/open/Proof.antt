@@ -25,7 +25,7 @@ answer-requires : tie.Need-answer-requires
 answer-requires c κs = search needs
 
 returns : tie.Need-returns
-returns c = 
+returns c =
     let s = start (c .before .before) in
     too-short (now (s .args .end)) (now (s .args .end)) (rest s) (c .answer .result) (c .before .if1 .taken) (c .answer .ensures)
 
@@ -33,7 +33,7 @@ answer-requires-2 : tie.Need-answer-requires-2
 answer-requires-2 c κs = search needs
 
 returns-2 : tie.Need-returns-2
-returns-2 c = 
+returns-2 c =
     let e = c .before .before in
     let s = start (e .before) in
     open-cut (now (s .args .end)) (s .args .n) (s .args .line) (now (s .args .items)) (e .if1 .left) (c .answer2 .result) (c .before .if2 .taken) (c .answer2 .ensures)
@@ -42,7 +42,7 @@ answer-requires-3 : tie.Need-answer-requires-3
 answer-requires-3 c κs = search needs
 
 returns-3 : tie.Need-returns-3
-returns-3 c = 
+returns-3 c =
     let w = c .before .before in
     let s = start (w .before .before) in
     open-long (now (s .args .end)) (s .args .n) (s .args .line) (now (s .args .items)) (w .before .if1 .left) (w .if2 .left) (c .answer3 .result) (c .before .if3 .taken) (c .answer3 .ensures)
@@ -63,7 +63,7 @@ same-length : tie.Need-same-length
 same-length c = search needs
 
 returns-4 : tie.Need-returns-4
-returns-4 c = 
+returns-4 c =
     let o = c .before .before .before in
     let w = o .before .before .before .before in
     let s = start (w .before .before) in

@@ -34,7 +34,7 @@ same-length : tie.Need-same-length
 same-length c = search needs
 
 returns : tie.Need-returns
-returns c = 
+returns c =
     let e = c .before .before in
     let a = start e .args in
     let far : a .from + (a .from + 4 * length (now (a .words)) - a .from) ≡ a .from + 4 * length (now (a .words)) = omega arith in

@@ -38,7 +38,7 @@ same-length-3 : tie.Need-same-length-3
 same-length-3 c = search needs
 
 returns : tie.Need-returns
-returns c = 
+returns c =
     let r₃ = third c in
     let r₂ = second r₃ in
     let r₁ = first r₂ in

@@ -45,18 +45,18 @@ put-requires : tie.Need-put-requires
 put-requires c κs = search needs
 
 put-requires-2 : tie.Need-put-requires-2
-put-requires-2 c κs = 
+put-requires-2 c κs =
     let p₁ = c .before .before .before in
     omega (arith, p₁ .put .kept .0, start p₁ .pre .0, start p₁ .pre .1 .items-size)
 
 put-requires-3 : tie.Need-put-requires-3
-put-requires-3 c κs = 
+put-requires-3 c κs =
     let p₂ = c .before .before .before in
     let p₁ = first p₂ in
     omega (arith, p₂ .put2 .kept .0, p₁ .put .kept .0, start p₁ .pre .0, start p₁ .pre .1 .places-size)
 
 put-requires-4 : tie.Need-put-requires-4
-put-requires-4 c κs = 
+put-requires-4 c κs =
     let p₃ = c .before .before .before in
     let p₂ = second p₃ in
     let p₁ = first p₂ in
@@ -66,7 +66,7 @@ same-length : tie.Need-same-length
 same-length c = search needs
 
 returns : tie.Need-returns
-returns c = 
+returns c =
     let p₄ = c .before .before in
     let p₃ = third p₄ in
     let p₂ = second p₃ in
