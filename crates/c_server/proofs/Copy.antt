@@ -4,7 +4,7 @@ use native.Mathlib.Omega.{arith}
 use native.Mathlib.Numerals.{add-one}
 use mathlib.Core.Path.{_≡_, refl, ap₂, sym, _∙_}
 use mathlib.Core.List.{List}
-use lib.ListN.{length, getD, set, drop, drop-of-length-le, length-set}
+use lib.ListN.{length, getD, set, drop-of-length-le, length-set}
 use Rattle.list.proofs.Sweep.{swept, swept-store, swept-to}
 
 pub record Copied (from to now : List ℕ) (i : ℕ) : Type 0 where

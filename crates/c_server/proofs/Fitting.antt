@@ -1,10 +1,10 @@
 -- A sound end has no number as large as its field allows. So where words are capped, the end that is read is the one that the words are, or neither
 -- is sound.
-use Prim.Native.Nat.{ℕ, zero, suc, _+_, _≤_, _<_, min}
+use Prim.Native.Nat.{ℕ, suc, _+_, _≤_, _<_, min}
 use native.Mathlib.Omega.{arith}
-use mathlib.Core.Path.{_≡_, refl, ap, ap₂, sym, _∙_, subst}
+use mathlib.Core.Path.{_≡_, refl, ap₂, sym, _∙_, subst}
 use mathlib.Core.Bool.{Bool, true, false}
-use mathlib.Core.List.{List, [], _∷_, map}
+use mathlib.Core.List.{List, [], _∷_}
 use lib.Dec.{ltb}
 use lib.ListN.{length, getD, length-map, List·getD-eq-default}
 use borrow.Author.Tests.{ltb-true, ltb-false}
@@ -15,7 +15,7 @@ use Rattle.lines.specs.declared.Counts.{Counts}
 use Rattle.lines.specs.Lines.{counts}
 use Rattle.server.specs.declared.Server.{Server}
 use Rattle.server.specs.View.{countsOf, serverOf, view}
-use Rattle.server.specs.Sound.{soundStruct, Sound, Sizes}
+use Rattle.server.specs.Sound.{Sound, Sizes}
 use Rattle.server.proofs.Places.{line-unused}
 use Rattle.server.proofs.Rows.{Row}
 use Rattle.server.proofs.Whole.{struct-whole, facts, lines-few, len-view, lines-row, at-facts, made-few}
@@ -62,6 +62,11 @@ module _ (s : Server) (h : Sound s) where
       }
 
 -- ---- what capping leaves alone
+
+pub counts-are : (ws made taken acked inserts : List ℕ) (n initial len : ℕ) → n ≡ min (getD ws 0 0) 255 → initial ≡ min (getD ws 1 0) 65535
+    → len ≡ min (getD ws 2 0) 65535 → made ≡ capped (section madeAt 8 ws) → taken ≡ capped (section takenAt 8 ws)
+    → acked ≡ capped (section ackedAt 8 ws) → inserts ≡ capped (section insertsAt 8 ws) → counts n initial len made taken acked inserts ≡ countsCapped ws
+counts-are ws made taken acked inserts n initial len e₀ e₁ e₂ e₃ e₄ e₅ e₆ = cc
 
 kept : (w top : ℕ) → w < top → min w top ≡ w
 kept w top h = omega arith

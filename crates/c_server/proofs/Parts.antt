@@ -1,16 +1,15 @@
 -- The parts of an end, read from its bytes and written into them.
-use Prim.Native.Nat.{ℕ, zero, suc, _+_, _-_, _*_, _≤_, _<_}
+use Prim.Native.Nat.{ℕ, _+_, _-_, _*_}
 use native.Mathlib.Omega.{arith}
 use mathlib.Core.Path.{_≡_, refl, ap, ap₂, sym, _∙_}
 use mathlib.Core.List.{List, [], _∷_, _++_, append-assoc}
 use lib.ListN.{length, getD, take, drop, set, length-take, length-append, take-append-drop}
 use lib.Seq.{take-add, take-all, take-at}
-use Rattle.c_layout.specs.Words.{lowFirst, wordsOf, bytesOf, Bytes}
+use Rattle.c_layout.specs.Words.{lowFirst, wordsOf, bytesOf}
 use Rattle.c_layout.proofs.Words.{words-length, bytes-length, read-back, written-back}
 use Rattle.c_layout.proofs.Sections.{words-section, section-at, section-last, Reached, below-take}
 use Rattle.lines.specs.declared.Counts.{Counts}
 use Rattle.lines.specs.Lines.{counts}
-use Rattle.server.specs.declared.Server.{Server}
 use Rattle.server.specs.View.{countsOf, serverOf}
 use Rattle.server.specs.Sound.{Sizes}
 use Rattle.c_server.specs.Layout.{Fits, size, section, countsIn, serverIn, numbersIn, wordsIn, bytesIn, endIn}

@@ -17,6 +17,9 @@ const PENDING: usize = 4236;
 
 pub const SIZE: usize = 6284;
 
+// How many slots the pending edits of all lines have.
+pub const SLOTS: usize = 512;
+
 // The end's numbers; its arrays are filled.
 pub fn read(bytes: &[u8], items: &mut [u32], places: &mut [u32], pending: &mut [u32]) -> Counts
     requires { ⌜ (length (now bytes) ≡ size) × Places (now items) (now places) (now pending) ⌝ }

@@ -1,5 +1,5 @@
-// The server's end in lent bytes, for programs in C and Rust. Each call asks question 18, reads the end, makes the call on its parts, and writes the bytes
-// only if nothing said no. Items of an opening have their high byte first.
+// The server's end in lent bytes, for programs in C and Rust. A call asks question 18, reads the end's parts, and goes on as the same call of `server`
+// does. Only a call that is not refused writes.
 mod layout;
 mod numbers;
 
@@ -7,9 +7,10 @@ ghost use mathlib.Core.Path.{_≡_};
 ghost use Rattle.c_server.specs.Calls.{returned, openedIn, sentIn, acknowledgedIn, takenIn};
 use c_layout::answer;
 use layout::SIZE;
+use layout::SLOTS;
 use server::Server;
 
-// Opens a sheet. Refusals: 18 1.
+// Opens a sheet of n lines. Items are four bytes each, high byte first. Refusals: 18 1.
 pub fn open(end: &mut [u8], n: u8, items: &[u8]) -> u64
     ensures { λ r. ⌜ returned r (now (end .exit)) ≡ openedIn (now (end .entry)) n (now (items .entry)) ⌝ }
 {
@@ -47,9 +48,9 @@ pub fn send(end: &[u8], line: u8, number: u16, out: &mut [u8]) -> u64
     if end.len() < SIZE {
         return answer(18, 0);
     }
-    let mut items = [0u32; 512];
-    let mut places = [0u32; 512];
-    let mut pending = [0u32; 512];
+    let mut items = [0u32; Server::ITEMS];
+    let mut places = [0u32; SLOTS];
+    let mut pending = [0u32; SLOTS];
     let k = layout::read(&end[0..SIZE], &mut items, &mut places, &mut pending);
     let s = server::sending::send_lent(k, &items, &places, &pending, line, number, out);
     answer(s.refusal, s.written as u16)
@@ -62,9 +63,9 @@ pub fn acknowledge(end: &[u8], line: u8, out: &mut [u8]) -> u64
     if end.len() < SIZE {
         return answer(18, 0);
     }
-    let mut items = [0u32; 512];
-    let mut places = [0u32; 512];
-    let mut pending = [0u32; 512];
+    let mut items = [0u32; Server::ITEMS];
+    let mut places = [0u32; SLOTS];
+    let mut pending = [0u32; SLOTS];
     let k = layout::read(&end[0..SIZE], &mut items, &mut places, &mut pending);
     let s = server::sending::tell_lent(k, &items, &places, &pending, line, out);
     answer(s.refusal, s.written as u16)
@@ -77,9 +78,9 @@ pub fn take(end: &mut [u8], message: &[u8]) -> u64
     if end.len() < SIZE {
         return answer(18, 0);
     }
-    let mut items = [0u32; 512];
-    let mut places = [0u32; 512];
-    let mut pending = [0u32; 512];
+    let mut items = [0u32; Server::ITEMS];
+    let mut places = [0u32; SLOTS];
+    let mut pending = [0u32; SLOTS];
     let k = layout::read(&end[0..SIZE], &mut items, &mut places, &mut pending);
     let a = server::taking::take_lent(k, &mut items, &mut places, &mut pending, message);
     if a.refusal == 0 {

@@ -6,7 +6,13 @@ ghost use Rattle.c_server.specs.Layout.{numbersIn};
 ghost use Rattle.c_server.specs.Numbers.{capped, countsCapped, Eights};
 use lines::Counts;
 
-// Where each line's counts begin, and how many numbers there are.
+// Where each number stands, or the eight of the lines begin; and how many there are.
+const N: usize = 0;
+
+const INITIAL: usize = 1;
+
+const LEN: usize = 2;
+
 const MADE: usize = 3;
 
 const TAKEN: usize = 11;
@@ -50,9 +56,9 @@ pub fn counts(words: &[u32]) -> Counts
     let acked = eight(&words[ACKED..INSERTS]);
     let inserts = eight(&words[INSERTS..NUMBERS]);
     Counts {
-        n: narrow_n(words[0]),
-        initial: narrow(words[1]),
-        len: narrow(words[2]),
+        n: narrow_n(words[N]),
+        initial: narrow(words[INITIAL]),
+        len: narrow(words[LEN]),
         made,
         taken,
         acked,
@@ -74,9 +80,9 @@ pub fn put(k: Counts, words: &mut [u32])
     requires { ⌜ (length (now words) ≡ 35) × Eights k ⌝ }
     ensures { λ _. ⌜ now (words .exit) ≡ numbersIn k ⌝ }
 {
-    words[0] = k.n as u32;
-    words[1] = k.initial as u32;
-    words[2] = k.len as u32;
+    words[N] = k.n as u32;
+    words[INITIAL] = k.initial as u32;
+    words[LEN] = k.len as u32;
     put_eight(&k.made, &mut words[MADE..TAKEN]);
     put_eight(&k.taken, &mut words[TAKEN..ACKED]);
     put_eight(&k.acked, &mut words[ACKED..INSERTS]);

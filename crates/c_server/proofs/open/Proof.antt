@@ -1,6 +1,6 @@
 use native.Mathlib.Omega.{arith}
-use Prim.Native.Nat.{ℕ, _≤_, _<_, _/_, _%_, _-_}
-use mathlib.Core.Path.{_≡_, refl, ap, sym, _∙_, subst}
+use Prim.Native.Nat.{ℕ, _≤_, _/_, _%_, _-_}
+use mathlib.Core.Path.{_≡_, ap, sym, _∙_, subst}
 use mathlib.Core.List.{List, _++_}
 use lib.ListN.{length, take, drop, replicate}
 use lib.Seq.{length-take-le, take-at}
@@ -8,10 +8,8 @@ use Rattle.lines.specs.declared.Counts.{Counts}
 use Rattle.server.specs.View.{serverOf}
 use Rattle.server.specs.Sound.{Sizes}
 use Rattle.c_server.specs.Layout.{size, bytesIn}
-use Rattle.c_server.specs.Numbers.{Reads}
 use Rattle.c_layout.specs.Words.{itemsOf}
 use Rattle.c_server.proofs.Answering.{open-short, open-cut, open-many, items-count, front-within, open-sizes, open-done, open-no}
-use borrow.Author.Needs.{needs}
 use Rattle.c_server.proofs.open.Statement.{statement}
 use Rattle.c_server.proofs.open.Tie as tie
 
@@ -67,61 +65,61 @@ sizes c =
 -- ---- the needs
 
 answer-requires : tie.Need-answer-requires
-answer-requires c κs = search needs
+answer-requires c κs = omega arith
 
 returns : tie.Need-returns
 returns c = let s = c .before .before .before .before in
     open-short (s .args .end .now) (s .args .n) (s .args .items .now) (c .answer .result) (c .before .if1 .taken) (c .answer .ensures)
 
 answer-requires-2 : tie.Need-answer-requires-2
-answer-requires-2 c κs = search needs
+answer-requires-2 c κs = omega arith
 
 returns-2 : tie.Need-returns-2
 returns-2 c = let s = c .before .before .before .before .before in
     open-cut (s .args .end .now) (s .args .items .now) (s .args .n) (c .before .before .if1 .left) (c .answer2 .result) (c .before .if2 .taken) (c .answer2 .ensures)
 
 answer-requires-3 : tie.Need-answer-requires-3
-answer-requires-3 c κs = search needs
+answer-requires-3 c κs = omega arith
 
 returns-3 : tie.Need-returns-3
 returns-3 c = let s = c .before .before .before .before .before .before in
     open-many (s .args .end .now) (s .args .items .now) (s .args .n) (c .before .before .before .if1 .left) (c .before .before .if2 .left) (c .answer3 .result) (c .before .if3 .taken) (c .answer3 .ensures)
 
 sub-decode-items : tie.Need-sub-decode-items
-sub-decode-items c = search needs
+sub-decode-items c = omega arith
 
 part-words-start : tie.Need-part-words-start
-part-words-start c = search needs
+part-words-start c = omega arith
 
 part-words-end : tie.Need-part-words-end
-part-words-end c = search needs
+part-words-end c = omega arith
 
 decode-items-requires : tie.Need-decode-items-requires
-decode-items-requires c κs = search needs
+decode-items-requires c κs = omega arith
 
 sub-open : tie.Need-sub-open
-sub-open c = search needs
+sub-open c = omega arith
 
 part-open-start : tie.Need-part-open-start
-part-open-start c = search needs
+part-open-start c = omega arith
 
 part-open-end : tie.Need-part-open-end
 part-open-end c = front-within (read (c .before .before)) _ _ (count (c .before .before))
 
 open-requires : tie.Need-open-requires
-open-requires c κs = search needs
+open-requires c κs = omega arith
 
 counts-requires : tie.Need-counts-requires
-counts-requires c κs = search needs
+counts-requires c κs = omega arith
 
 sub-write : tie.Need-sub-write
-sub-write c = search needs
+sub-write c = omega arith
 
 part-write-start : tie.Need-part-write-start
-part-write-start c = search needs
+part-write-start c = omega arith
 
 part-write-end : tie.Need-part-write-end
-part-write-end c = search needs
+part-write-end c = omega arith
 
 write-requires : tie.Need-write-requires
 write-requires c κs = let k = c .before .before .before .before .before .before .before .before in
@@ -129,10 +127,10 @@ write-requires c κs = let k = c .before .before .before .before .before .before
     (sizes k, length-take-le 6284 (start d .args .end .now) (whole d))
 
 answer-requires-4 : tie.Need-answer-requires-4
-answer-requires-4 c κs = search needs
+answer-requires-4 c κs = omega arith
 
 same-length : tie.Need-same-length
-same-length c = search needs
+same-length c = omega arith
 
 returns-4 : tie.Need-returns-4
 returns-4 c = let k = c .before .before .before .before .before .before .before .before .before .before .before .before in
@@ -145,7 +143,7 @@ returns-4 c = let k = c .before .before .before .before .before .before .before 
     (c .answer4 .ensures)
 
 answer-requires-5 : tie.Need-answer-requires-5
-answer-requires-5 c κs = search needs
+answer-requires-5 c κs = omega arith
 
 returns-5 : tie.Need-returns-5
 returns-5 c = let o = c .before .before .before in

@@ -1,16 +1,12 @@
 use native.Mathlib.Omega.{arith}
-use Prim.Native.Nat.{ℕ, _≤_, _<_}
-use mathlib.Core.Path.{_≡_, refl, ap, sym, _∙_}
+use Prim.Native.Nat.{ℕ, _≤_}
+use mathlib.Core.Path.{sym}
 use mathlib.Core.List.{List}
-use lib.ListN.{length, take}
+use lib.ListN.{length}
 use lib.Seq.{length-take-le}
-use Rattle.lines.specs.declared.Counts.{Counts}
-use Rattle.server.specs.View.{serverOf}
 use Rattle.server.specs.Sound.{Sizes}
 use Rattle.c_server.specs.Layout.{size}
-use Rattle.c_server.specs.Numbers.{Reads}
 use Rattle.c_server.proofs.Answering.{taken-short, taken-sizes, take-done, take-no}
-use borrow.Author.Needs.{needs}
 use Rattle.c_server.proofs.take.Statement.{statement}
 use Rattle.c_server.proofs.take.Tie as tie
 
@@ -43,35 +39,35 @@ sizes c =
 -- ---- the needs
 
 answer-requires : tie.Need-answer-requires
-answer-requires c κs = search needs
+answer-requires c κs = omega arith
 
 returns : tie.Need-returns
 returns c = let s = c .before .before .before .before in
     taken-short (s .args .end .now) (s .args .message .now) (c .answer .result) (c .before .if1 .taken) (c .answer .ensures)
 
 sub-read : tie.Need-sub-read
-sub-read c = search needs
+sub-read c = omega arith
 
 part-read-start : tie.Need-part-read-start
-part-read-start c = search needs
+part-read-start c = omega arith
 
 part-read-end : tie.Need-part-read-end
-part-read-end c = search needs
+part-read-end c = omega arith
 
 slice-aggregate-read : tie.Need-slice-aggregate-read
-slice-aggregate-read c = search needs
+slice-aggregate-read c = omega arith
 
 slice-aggregate-read-2 : tie.Need-slice-aggregate-read-2
-slice-aggregate-read-2 c = search needs
+slice-aggregate-read-2 c = omega arith
 
 slice-aggregate-read-3 : tie.Need-slice-aggregate-read-3
-slice-aggregate-read-3 c = search needs
+slice-aggregate-read-3 c = omega arith
 
 read-requires : tie.Need-read-requires
-read-requires c κs = search needs
+read-requires c κs = omega arith
 
 take-lent-requires : tie.Need-take-lent-requires
-take-lent-requires c κs = search needs
+take-lent-requires c κs = omega arith
 
 slice-aggregate-write : tie.Need-slice-aggregate-write
 slice-aggregate-write c = sym (sizes (c .before) .list)
@@ -83,10 +79,10 @@ slice-aggregate-write-3 : tie.Need-slice-aggregate-write-3
 slice-aggregate-write-3 c = sym (sizes (c .before .before .before) .sized .items)
 
 sub-write : tie.Need-sub-write
-sub-write c = search needs
+sub-write c = omega arith
 
 part-write-start : tie.Need-part-write-start
-part-write-start c = search needs
+part-write-start c = omega arith
 
 part-write-end : tie.Need-part-write-end
 part-write-end c = whole (done (c .before .before .before))
@@ -95,10 +91,10 @@ write-requires : tie.Need-write-requires
 write-requires c κs = (sizes (c .before .before .before .before), length-take-le 6284 (bytes (done (c .before .before .before .before))) (whole (done (c .before .before .before .before))))
 
 answer-requires-2 : tie.Need-answer-requires-2
-answer-requires-2 c κs = search needs
+answer-requires-2 c κs = omega arith
 
 same-length : tie.Need-same-length
-same-length c = search needs
+same-length c = omega arith
 
 returns-2 : tie.Need-returns-2
 returns-2 c = let t = c .before .before .before .before .before .before .before .before in
@@ -108,10 +104,10 @@ returns-2 c = let t = c .before .before .before .before .before .before .before 
     (d .take-lent .result) (d .take-lent .last .1 .0) (d .take-lent .last .1 .1 .0) (d .take-lent .last .1 .1 .1 .0) (d .take-lent .ensures) (c .before .before .before .write .last .1 .1 .1 .1 .0) (c .answer2 .result) (t .if2 .taken) (c .before .before .before .write .ensures) (c .answer2 .ensures)
 
 answer-requires-3 : tie.Need-answer-requires-3
-answer-requires-3 c κs = search needs
+answer-requires-3 c κs = omega arith
 
 same-length-2 : tie.Need-same-length-2
-same-length-2 c = search needs
+same-length-2 c = omega arith
 
 returns-3 : tie.Need-returns-3
 returns-3 c = let d = c .before .before .before in

@@ -1,13 +1,12 @@
 use Prim.Native.Nat.{ℕ, _*_}
 use native.Mathlib.Omega.{arith}
-use mathlib.Core.Path.{_≡_, refl, ap, sym, _∙_}
+use mathlib.Core.Path.{refl, ap, sym, _∙_}
 use mathlib.Core.List.{List, [], _++_}
 use borrow.Rule.Slice.PartMut.{putMid}
 use Rattle.c_layout.specs.Words.{bytesOf}
 use Rattle.c_layout.proofs.Sections.{section-length, Reached, reached-none, reached-bytes, reached-all}
 use Rattle.c_server.specs.Layout.{numbersIn, bytesIn}
 use Rattle.c_server.proofs.Parts.{numbers-length, eights}
-use borrow.Author.Needs.{needs}
 use Rattle.c_server.proofs.layout.write.Statement.{statement}
 use Rattle.c_server.proofs.layout.write.Tie as tie
 
@@ -69,58 +68,58 @@ pending-in c =
 -- ---- the needs
 
 slice-aggregate-put : tie.Need-slice-aggregate-put
-slice-aggregate-put c = search needs
+slice-aggregate-put c = omega arith
 
 put-requires : tie.Need-put-requires
-put-requires c κs = search needs
+put-requires c κs = omega arith
 
 slice-aggregate-encode : tie.Need-slice-aggregate-encode
-slice-aggregate-encode c = search needs
+slice-aggregate-encode c = omega arith
 
 sub-encode : tie.Need-sub-encode
-sub-encode c = search needs
+sub-encode c = omega arith
 
 part-encode-start : tie.Need-part-encode-start
-part-encode-start c = search needs
+part-encode-start c = omega arith
 
 part-encode-end : tie.Need-part-encode-end
-part-encode-end c = search needs
+part-encode-end c = omega arith
 
 encode-requires : tie.Need-encode-requires
-encode-requires c κs = search needs
+encode-requires c κs = omega arith
 
 sub-encode-2 : tie.Need-sub-encode-2
-sub-encode-2 c = search needs
+sub-encode-2 c = omega arith
 
 part-encode-start-2 : tie.Need-part-encode-start-2
-part-encode-start-2 c = search needs
+part-encode-start-2 c = omega arith
 
 part-encode-end-2 : tie.Need-part-encode-end-2
-part-encode-end-2 c = search needs
+part-encode-end-2 c = omega arith
 
 encode-requires-2 : tie.Need-encode-requires-2
-encode-requires-2 c κs = search needs
+encode-requires-2 c κs = omega arith
 
 sub-encode-3 : tie.Need-sub-encode-3
-sub-encode-3 c = search needs
+sub-encode-3 c = omega arith
 
 part-encode-start-3 : tie.Need-part-encode-start-3
-part-encode-start-3 c = search needs
+part-encode-start-3 c = omega arith
 
 part-encode-end-3 : tie.Need-part-encode-end-3
-part-encode-end-3 c = search needs
+part-encode-end-3 c = omega arith
 
 encode-requires-3 : tie.Need-encode-requires-3
-encode-requires-3 c κs = search needs
+encode-requires-3 c κs = omega arith
 
 sub-encode-4 : tie.Need-sub-encode-4
-sub-encode-4 c = search needs
+sub-encode-4 c = omega arith
 
 part-encode-start-4 : tie.Need-part-encode-start-4
-part-encode-start-4 c = search needs
+part-encode-start-4 c = omega arith
 
 part-encode-end-4 : tie.Need-part-encode-end-4
-part-encode-end-4 c = search needs
+part-encode-end-4 c = omega arith
 
 encode-requires-4 : tie.Need-encode-requires-4
 encode-requires-4 c κs = let p = c .before .before .before in section-length (bytes₃ p) 4236 2048 (omega (arith, places-in p .long)) ∙ ap (λ (n : ℕ). 4 * n) (sym (entry (after-numbers (after-items p)) .pre .0 .sized .items))

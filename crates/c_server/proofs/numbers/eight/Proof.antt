@@ -1,7 +1,6 @@
 use Prim.Native.Nat.{_-_, min}
 use native.Mathlib.Omega.{arith}
-use borrow.Author.Needs.{needs}
-use mathlib.Core.Path.{_≡_, refl, sym, _∙_}
+use mathlib.Core.Path.{sym, _∙_}
 use lib.ListN.{length-map, List·getD-map}
 use Rattle.c_server.specs.Numbers.{capped}
 use Rattle.c_server.proofs.Copy.{Copied, copy-start, copy-turn, copy-end}
@@ -24,7 +23,7 @@ shared-slice-read-narrow : tie.Need-shared-slice-read-narrow Inv-loop μ-loop
 shared-slice-read-narrow c = omega arith
 
 narrow-requires : tie.Need-narrow-requires Inv-loop μ-loop
-narrow-requires c κs = search needs
+narrow-requires c κs = omega arith
 
 mul-counts : tie.Need-mul-counts Inv-loop μ-loop
 mul-counts c = omega arith

@@ -1,6 +1,6 @@
 use Prim.Native.Nat.{ℕ}
 use native.Mathlib.Omega.{arith}
-use mathlib.Core.Path.{_≡_, refl, sym, _∙_}
+use mathlib.Core.Path.{refl, sym, _∙_}
 use mathlib.Core.List.{List, [], _∷_, _++_}
 use lib.ListN.{set}
 use borrow.Rule.Slice.PartMut.{putMid}
@@ -71,70 +71,70 @@ inserts c =
 -- ---- the needs
 
 cast-words : tie.Need-cast-words
-cast-words c = search needs
+cast-words c = omega arith
 
 slice-write-words : tie.Need-slice-write-words
-slice-write-words c = search needs
+slice-write-words c = omega arith
 
 cast-words-2 : tie.Need-cast-words-2
-cast-words-2 c = search needs
+cast-words-2 c = omega arith
 
 slice-write-words-2 : tie.Need-slice-write-words-2
 slice-write-words-2 c = search needs
 
 cast-words-3 : tie.Need-cast-words-3
-cast-words-3 c = search needs
+cast-words-3 c = omega arith
 
 slice-write-words-3 : tie.Need-slice-write-words-3
 slice-write-words-3 c = search needs
 
 sub-put-eight : tie.Need-sub-put-eight
-sub-put-eight c = search needs
+sub-put-eight c = omega arith
 
 part-put-eight-start : tie.Need-part-put-eight-start
-part-put-eight-start c = search needs
+part-put-eight-start c = omega arith
 
 part-put-eight-end : tie.Need-part-put-eight-end
 part-put-eight-end c = omega (arith, numbers (c .before .before .before .before) .long)
 
 put-eight-requires : tie.Need-put-eight-requires
-put-eight-requires c κs = search needs
+put-eight-requires c κs = omega arith
 
 sub-put-eight-2 : tie.Need-sub-put-eight-2
-sub-put-eight-2 c = search needs
+sub-put-eight-2 c = omega arith
 
 part-put-eight-start-2 : tie.Need-part-put-eight-start-2
-part-put-eight-start-2 c = search needs
+part-put-eight-start-2 c = omega arith
 
 part-put-eight-end-2 : tie.Need-part-put-eight-end-2
 part-put-eight-end-2 c = omega (arith, made (c .before .before .before .before .before) .long)
 
 put-eight-requires-2 : tie.Need-put-eight-requires-2
-put-eight-requires-2 c κs = search needs
+put-eight-requires-2 c κs = omega arith
 
 sub-put-eight-3 : tie.Need-sub-put-eight-3
-sub-put-eight-3 c = search needs
+sub-put-eight-3 c = omega arith
 
 part-put-eight-start-3 : tie.Need-part-put-eight-start-3
-part-put-eight-start-3 c = search needs
+part-put-eight-start-3 c = omega arith
 
 part-put-eight-end-3 : tie.Need-part-put-eight-end-3
 part-put-eight-end-3 c = omega (arith, taken (c .before .before .before .before .before) .long)
 
 put-eight-requires-3 : tie.Need-put-eight-requires-3
-put-eight-requires-3 c κs = search needs
+put-eight-requires-3 c κs = omega arith
 
 sub-put-eight-4 : tie.Need-sub-put-eight-4
-sub-put-eight-4 c = search needs
+sub-put-eight-4 c = omega arith
 
 part-put-eight-start-4 : tie.Need-part-put-eight-start-4
-part-put-eight-start-4 c = search needs
+part-put-eight-start-4 c = omega arith
 
 part-put-eight-end-4 : tie.Need-part-put-eight-end-4
 part-put-eight-end-4 c = omega (arith, acked (c .before .before .before .before .before) .long)
 
 put-eight-requires-4 : tie.Need-put-eight-requires-4
-put-eight-requires-4 c κs = search needs
+put-eight-requires-4 c κs = omega arith
 
 same-length : tie.Need-same-length
 same-length c = inserts (c .before .before) .long ∙ sym (entry (after-made (after-taken (after-acked (c .before .before)))) .pre .0)

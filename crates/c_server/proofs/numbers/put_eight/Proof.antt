@@ -1,8 +1,7 @@
 use Prim.Native.Nat.{_-_}
 use native.Mathlib.Omega.{arith}
-use mathlib.Core.Path.{_≡_, refl, sym, _∙_}
+use mathlib.Core.Path.{sym, _∙_}
 use Rattle.c_server.proofs.Copy.{Copied, copy-start, copy-turn, copy-end}
-use borrow.Author.Needs.{needs}
 use Rattle.c_server.proofs.numbers.put_eight.Statement.{statement}
 use Rattle.c_server.proofs.numbers.put_eight.Tie as tie
 
@@ -22,7 +21,7 @@ shared-slice-read-wide : tie.Need-shared-slice-read-wide Inv-loop μ-loop
 shared-slice-read-wide c = omega arith
 
 wide-requires : tie.Need-wide-requires Inv-loop μ-loop
-wide-requires c κs = search needs
+wide-requires c κs = omega arith
 
 mul-words : tie.Need-mul-words Inv-loop μ-loop
 mul-words c = omega arith
