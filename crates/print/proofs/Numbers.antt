@@ -1,17 +1,20 @@
 -- Laws of numbers as text.
-use Prim.Native.Nat.{ℕ, zero, suc, _+_, _-_, _*_, _/_, _%_, _<_, _≤_, min}
-use mathlib.Core.Path.{_≡_, refl, ap, sym, _∙_}
-use mathlib.Core.Bool.{Bool, true, false, _&&_, _||_, cond}
-use mathlib.Core.List.{List, [], _∷_}
+use Prim.Native.Nat.{ℕ, zero, suc, _+_, _-_, _*_, _^_, _/_, _%_, _<_, _≤_, min}
+use mathlib.Core.Path.{_≡_, refl, ap, sym, _∙_, subst}
+use mathlib.Core.Bool.{Bool, true, false, _&&_, cond}
+use mathlib.Core.List.{List, [], _∷_, _++_, append-assoc}
 use native.Mathlib.Numerals.{add-one}
-use native.Mathlib.Nat.{lt-of-mul-lt-mul-left, div-lt-iff-lt-mul, mod-lt, mod-eq-of-lt}
+use native.Mathlib.Nat.{add-zero, zero-add, lt-of-mul-lt-mul-left, mod-lt, mod-eq-of-lt, div-lt-iff-lt-mul, div-div-eq-div-mul, pow-succ', pow-le-pow-right, one-le-pow}
 use native.Mathlib.Omega.{arith}
-use borrow.Author.Tests.{eqb-true, lt-leb}
+use borrow.Author.Tests.{eqb-true, leb-true, leb-false, le-leb, lt-leb}
+use lib.Arith.{digits-div, digits-mod, mod-mul}
 use lib.Dec.{leb, eqb}
 use lib.ListN.{length, getD, drop, drop-of-length-le}
 use lib.Seq.{drop-cons}
 use Rattle.print.specs.Sink.{Sink, put, puts}
-use Rattle.print.specs.Decimal.{powers, digitsAt, decimal, listed, tooWide, withDigit, numberFrom, numberOf}
+use Rattle.print.specs.declared.Part.{Part}
+use Rattle.print.specs.Part.{taken}
+use Rattle.print.specs.Decimal.{digits, decimal, listed, tooWide, withDigit, numberFrom, numberOf}
 use Rattle.print.proofs.Sinks.{both, and-left, and-right, puts-append}
 
 -- Reading a word byte by byte.
@@ -36,72 +39,163 @@ unfolding numberOf
 number-some [] h = absurd (h refl)
 number-some (b ∷ w) h = refl
 
--- The digits of a division by subtracting.
-pub digit-small : (d p r n : ℕ) → d * p + r ≡ n → p ≤ r → n < 10 * p → d < 9
-digit-small d p r n e h small = let k : d + 1 < 10 = lt-of-mul-lt-mul-left p (omega arith) in omega arith
+-- The powers of ten in a table.
+abbrev rising : ℕ → List ℕ → Bool
+rising j [] = true
+rising j (x ∷ l) = eqb x (10 ^ j) && rising (suc j) l
 
--- Printing: the powers of ten, each ten times the next.
-abbrev tenfold : ℕ → List ℕ → Bool
-tenfold b [] = true
-tenfold b (p ∷ ps) = eqb b (10 * p) && tenfold p ps
+rising-at : (l : List ℕ) (j k : ℕ) → rising j l ≡ true → k < length l → getD l k 0 ≡ 10 ^ (j + k)
+rising-at [] j k h small = absurd (omega arith)
+rising-at (x ∷ l) j zero h small = eqb-true x (10 ^ j) (and-left (eqb x (10 ^ j)) (rising (suc j) l) h) ∙ ap (λ i. 10 ^ i) (sym (add-zero j))
+rising-at (x ∷ l) j (suc k) h small =
+    rising-at l (suc j) k (and-right (eqb x (10 ^ j)) (rising (suc j) l) h) (omega arith) ∙ ap (λ i. 10 ^ i) (omega arith)
 
-tenfold-at : (b : ℕ) (l : List ℕ) (k : ℕ) → tenfold b l ≡ true → k < length l → getD (b ∷ l) k 0 ≡ 10 * getD l k 0
-tenfold-at b [] k h small = absurd (omega arith)
-tenfold-at b (p ∷ l) zero h small = eqb-true b (10 * p) (and-left (eqb b (10 * p)) (tenfold p l) h)
-tenfold-at b (p ∷ l) (suc k) h small = tenfold-at p l k (and-right (eqb b (10 * p)) (tenfold p l) h) (omega arith)
+abbrev pub powers : List ℕ
+powers = 1 ∷ 10 ∷ 100 ∷ 1000 ∷ 10000 ∷ 100000 ∷ 1000000 ∷ 10000000 ∷ 100000000 ∷ 1000000000 ∷ []
 
--- What is left of a number is below this before the power at k.
-abbrev pub bound : ℕ → ℕ
-bound k = getD (10000000000 ∷ powers) k 0
+pub power-at : (k : ℕ) → k < 10 → getD powers k 0 ≡ 10 ^ k
+power-at k small = rising-at powers 0 k refl small ∙ ap (λ i. 10 ^ i) (zero-add k)
 
-pub bound-power : (k : ℕ) → k < 9 → bound k ≡ 10 * getD powers k 0
-bound-power k h = tenfold-at 10000000000 powers k refl h
+-- Finding a digit: it stands for so many p, which with what is left make n; what is left is below b.
+pub record Left (n p b : ℕ) (a : Part) : Type 0 where
+  pub sum : a .digit * p + a .rest ≡ n
+  pub less : a .rest < b
 
-pub bound-next : (k : ℕ) → bound (k + 1) ≡ getD powers k 0
-bound-next k = rw (add-one k)
+pub left-take : (n p b c times : ℕ) (a : Part) {r : Part} → Left n p b a → b ≤ times * p + c → times * p ≤ c → r ≡ taken a p times → Left n p c r
+left-take n p b c times a {r} l h h′ is = subst (Left n p c) (sym is) (go (leb (times * p) (a .rest)) refl)
+  where
+    go : (t : Bool) → leb (times * p) (a .rest) ≡ t
+        → Left n p c (cond t (record { digit = a .digit + times; rest = a .rest - times * p }) a)
+    go true e =
+        let k = leb-true (times * p) (a .rest) e in
+        let s = l .sum in
+        let r = l .less in
+        record { sum = omega arith; less = omega arith }
+    go false e =
+        let k = leb-false (times * p) (a .rest) e in
+        record { sum = l .sum; less = omega arith }
 
-pub digit-lt : (n p : ℕ) → n < 10 * p → n / p < 10
-digit-lt n p h = div-lt-iff-lt-mul {k = p} (omega arith) .1 h
+pub left-digit : (n p b : ℕ) (a : Part) → Left n p b a → n < 10 * p → a .digit < 10
+left-digit n p b a l h = lt-of-mul-lt-mul-left p (let s = l .sum in omega arith)
 
-pub rest-lt : (k n : ℕ) → k < 9 → n < bound k → n % getD powers k 0 < bound (k + 1)
-rest-lt k n h small = rw (bound-next k) (mod-lt n (let e = bound-power k h in omega arith))
+pub left-end : (n p : ℕ) (a : Part) → Left n p p a → (a .digit ≡ n / p) × (a .rest ≡ n % p)
+left-end n p a l =
+    (sym (digits-div (a .digit) (l .less)) ∙ ap (λ k. k / p) (l .sum), sym (digits-mod (a .digit) (l .less)) ∙ ap (λ k. k % p) (l .sum))
+
+-- The digits from the front: the one at a power of ten, unless n is below it, and then those after it.
+abbrev front : ℕ → ℕ → List ℕ
+front p n = cond (leb p n) ((48 + n / p % 10) ∷ []) []
+
+leb-tenth : (p n : ℕ) → leb p (n / 10) ≡ leb (10 * p) n
+leb-tenth p n = go (leb (10 * p) n) refl
+  where
+    go : (t : Bool) → leb (10 * p) n ≡ t → leb p (n / 10) ≡ t
+    go true e = let h = leb-true (10 * p) n e in le-leb p (n / 10) (omega arith)
+    go false e = let h = leb-false (10 * p) n e in lt-leb p (n / 10) (omega arith)
+
+front-tenth : (p n : ℕ) → front p (n / 10) ≡ front (10 * p) n
+front-tenth p n = rw (leb-tenth p n, div-div-eq-div-mul n 10 p)
+
+pub peel : (k n : ℕ) → digits (suc k) n ≡ front (10 ^ suc k) n ++ digits k n
+unfolding digits
+peel zero n = refl
+peel (suc k) n = go (leb 10 n) refl (peel k (n / 10))
+  where
+    go : (t : Bool) → leb 10 n ≡ t → digits (suc k) (n / 10) ≡ front (10 ^ suc k) (n / 10) ++ digits k (n / 10)
+        → cond t (digits (suc k) (n / 10)) [] ++ ((48 + n % 10) ∷ []) ≡ front (10 ^ suc (suc k)) n ++ (cond t (digits k (n / 10)) [] ++ ((48 + n % 10) ∷ []))
+    go true e ih = rw (ih, front-tenth (10 ^ suc k) n, ← (pow-succ' 10 (suc k)), append-assoc (front (10 ^ suc (suc k)) n) (digits k (n / 10)) ((48 + n % 10) ∷ []))
+    go false e ih =
+        let h = leb-false 10 n e in
+        let p = pow-le-pow-right {n = 10} (omega arith) {i = 1} {j = suc (suc k)} (omega arith) in
+        rw (lt-leb (10 ^ suc (suc k)) n (omega arith))
+
+below : (k n : ℕ) → n < 10 ^ suc k → digits (suc k) n ≡ digits k n
+below k n h = peel k n ∙ rw (lt-leb (10 ^ suc k) n h)
+
+from : (k n : ℕ) → 10 ^ suc k ≤ n → digits (suc k) n ≡ (48 + n / 10 ^ suc k % 10) ∷ digits k n
+from k n h = peel k n ∙ rw (le-leb (10 ^ suc k) n h)
+
+-- Printing has come to the place k: the digits from there on are still to come, and what is left of n is what they stand for.
+pub record Coming (n k rest : ℕ) (a z : Sink) : Type 0 where
+  pub few : k ≤ 9
+  pub left : rest ≡ n % 10 ^ suc k
+  pub come : puts (digits k n) a ≡ z
+
+pub coming-all : (n : ℕ) (a : Sink) → n < tooWide → Coming n 9 n a (puts (decimal n) a)
+unfolding decimal
+coming-all n a h = record { few = omega arith; left = sym (mod-eq-of-lt (omega arith)); come = refl }
+
+-- what is left, over a power of ten and below it
+module _ (n p rest : ℕ) (pos : 0 < p) (e : rest ≡ n % (10 * p)) where
+  parts : rest ≡ n / p % 10 * p + n % p
+  parts = e ∙ mod-mul n {m = 10} {c = p} (omega arith) pos
+
+  over : rest / p ≡ n / p % 10
+  over = ap (λ x. x / p) parts ∙ digits-div (n / p % 10) (mod-lt n pos)
+
+  under : rest % p ≡ n % p
+  under = ap (λ x. x % p) parts ∙ digits-mod (n / p % 10) (mod-lt n pos)
+
+power-pos : (k : ℕ) → 0 < 10 ^ k
+power-pos k = one-le-pow k 10 (omega arith)
 
 -- one turn of the loop over the powers
-pub digits-turn : (k rest d r p : ℕ) (started : Bool) (a : Sink) {b z : Sink} → k < 9 → p ≡ getD powers k 0 → d ≡ rest / p → r ≡ rest % p
-    → b ≡ puts (cond (started || leb p rest) ((48 + d) ∷ []) []) a → puts (digitsAt (drop k powers) started rest) a ≡ z
-    → puts (digitsAt (drop (k + 1) powers) (started || leb p rest) r) b ≡ z
-unfolding digitsAt
-digits-turn k rest d r p started a {b} {z} h ep ed er eb ez =
-    rw (eb, er, add-one k, ← (puts-append (cond (started || leb p rest) ((48 + d) ∷ []) []) (digitsAt (drop (suc k) powers) (started || leb p rest) (rest % p)) a))
-    (rw (ed, ep) (rw (drop-cons powers k 0 h) at ez))
+pub coming-skip : (n k rest p : ℕ) (a z : Sink) → Coming n k rest a z → 0 < k → p ≡ 10 ^ k → n < p → Coming n (k - 1) rest a z
+coming-skip n zero rest p a z c pos ep h = absurd (omega arith)
+coming-skip n (suc k) rest p a z c pos ep h =
+    let small : n < 10 ^ suc k = rw ep at h in
+    let e = pow-succ' 10 (suc k) in
+    let back : suc k - 1 ≡ k = omega arith in
+    rw back
+    record
+      { few = let f = c .few in omega arith
+      ; left = c .left ∙ mod-eq-of-lt (omega arith) ∙ sym (mod-eq-of-lt small)
+      ; come = ap (λ (l : List ℕ). puts l a) (sym (below k n small)) ∙ c .come
+      }
+
+pub coming-show : (n k rest p d r : ℕ) (a b z : Sink) → Coming n k rest a z → 0 < k → p ≡ 10 ^ k → p ≤ n → (d ≡ rest / p) × (r ≡ rest % p)
+    → b ≡ put (48 + d) a → Coming n (k - 1) r b z
+unfolding puts
+coming-show n zero rest p d r a b z c pos ep h q eb = absurd (omega arith)
+coming-show n (suc k) rest p d r a b z c pos ep h q eb =
+    let e : rest ≡ n % (10 * 10 ^ suc k) = c .left ∙ ap (λ x. n % x) (pow-succ' 10 (suc k)) in
+    let back : suc k - 1 ≡ k = omega arith in
+    rw back
+    record
+      { few = let f = c .few in omega arith
+      ; left = q .1 ∙ ap (λ x. rest % x) ep ∙ under n (10 ^ suc k) rest (power-pos (suc k)) e
+      ; come =
+          rw (eb, q .0, ep, over n (10 ^ suc k) rest (power-pos (suc k)) e)
+          (ap (λ (l : List ℕ). puts l a) (sym (from k n (rw ep at h))) ∙ c .come)
+      }
+
+-- what the search for a digit asks
+pub coming-less : (n k rest p : ℕ) (a z : Sink) → Coming n k rest a z → p ≡ 10 ^ k → (rest < 10 * p) × (p ≤ 1000000000)
+coming-less n k rest p a z c ep =
+    rw (ep, c .left, pow-succ' 10 k) (mod-lt n (let h = power-pos k in omega arith), pow-le-pow-right {n = 10} (omega arith) (c .few))
+
+pub coming-digit : (n k rest p d : ℕ) (a z : Sink) → Coming n k rest a z → p ≡ 10 ^ k → d ≡ rest / p → d < 10
+coming-digit n k rest p d a z c ep ed = rw ed (div-lt-iff-lt-mul {k = p} (rw ep (power-pos k)) .1 (coming-less n k rest p a z c ep .0))
 
 -- past the last power
-module _ (k rest : ℕ) (h : k ≤ 9) (h′ : 9 ≤ k) where
-  at-last : k ≡ 9
-  at-last = omega arith
+pub coming-last : (n k rest : ℕ) (a z : Sink) → Coming n k rest a z → k ≤ 0 → rest < 10
+coming-last n zero rest a z c h = rw (c .left) (mod-lt n (omega arith))
+coming-last n (suc k) rest a z c h = absurd (omega arith)
 
-  pub last-lt : rest < bound k → rest < 10
-  last-lt small = rw at-last at small
+pub coming-end : (n k rest : ℕ) (a b z : Sink) → Coming n k rest a z → k ≤ 0 → b ≡ put (48 + rest) a → b ≡ z
+unfolding digits puts
+coming-end n zero rest a b z c h eb = rw (eb, c .left) (c .come)
+coming-end n (suc k) rest a b z c h eb = absurd (omega arith)
 
-  pub digits-last : (started : Bool) (a : Sink) {b z : Sink} → b ≡ put (48 + rest) a → puts (digitsAt (drop k powers) started rest) a ≡ z → b ≡ z
-  unfolding digitsAt puts
-  digits-last started a {b} {z} e ez = e ∙ (rw at-last at ez)
-
--- a power above the number leaves nothing in front, so a number below ten is its one digit
-below : (p : ℕ) (ps : List ℕ) (n : ℕ) → n < p → digitsAt (p ∷ ps) false n ≡ digitsAt ps false n
-unfolding digitsAt
-below p ps n h = rw (lt-leb p n h, mod-eq-of-lt h)
-
-one-digit : (n : ℕ) → n < 10 → decimal n ≡ (48 + n) ∷ []
-unfolding decimal digitsAt
-one-digit n h =
-    below 1000000000 (drop 1 powers) n (omega arith) ∙ below 100000000 (drop 2 powers) n (omega arith) ∙ below 10000000 (drop 3 powers) n (omega arith)
-    ∙ below 1000000 (drop 4 powers) n (omega arith) ∙ below 100000 (drop 5 powers) n (omega arith) ∙ below 10000 (drop 6 powers) n (omega arith)
-    ∙ below 1000 (drop 7 powers) n (omega arith) ∙ below 100 (drop 8 powers) n (omega arith) ∙ below 10 [] n h
+-- a number below ten is its one digit
+short : (k n : ℕ) → n < 10 → digits k n ≡ (48 + n) ∷ []
+unfolding digits
+short zero n h = rw (mod-eq-of-lt h)
+short (suc k) n h = rw (lt-leb 10 n h, mod-eq-of-lt h)
 
 pub one-put : (n : ℕ) (a : Sink) {b : Sink} → n < 10 → b ≡ put (48 + n) a → b ≡ puts (decimal n) a
-unfolding puts
-one-put n a h e = e ∙ ap (λ (l : List ℕ). puts l a) (sym (one-digit n h))
+unfolding puts decimal
+one-put n a h e = e ∙ ap (λ (l : List ℕ). puts l a) (sym (short 9 n h))
 
 -- one turn of the loop over a list, and its end
 pub listed-turn : (l : List ℕ) (i : ℕ) (a : Sink) {b z : Sink} → i < length l → b ≡ puts (32 ∷ decimal (getD l i 0)) a

@@ -1,13 +1,12 @@
 // What the run program prints, as bytes, into a lent buffer. Each function takes the place of the next byte and answers the place after what it
 // wrote.
 ghost use mathlib.Core.Path.{_≡_};
-ghost use Prim.Native.Nat.{_+_, _*_, _<_, _/_, _%_};
-ghost use mathlib.Core.Bool.{cond};
-ghost use mathlib.Core.List.{[], _∷_};
-ghost use lib.ListN.{getD};
+ghost use Prim.Native.Nat.{_+_, _*_, _^_, _<_, _≤_, _/_, _%_};
+ghost use mathlib.Core.List.{_∷_};
 ghost use Rattle.print.specs.Sink.{sink, put as Sink·put, puts as Sink·puts};
 ghost use Rattle.print.specs.Lines.{replied, serverList, clientList, unknown as Lines·unknown};
-ghost use Rattle.print.specs.Decimal.{powers, listed, decimal as Decimal·decimal};
+ghost use Rattle.print.specs.Decimal.{listed, decimal as Decimal·decimal};
+ghost use Rattle.print.specs.Part.{taken};
 
 // One byte. Where the buffer is full it is dropped.
 fn put(out: &mut [u8], at: usize, b: u8) -> usize
@@ -33,71 +32,75 @@ pub fn puts(out: &mut [u8], at: usize, s: &[u8]) -> usize
     to
 }
 
-const POWERS: [u32; 9] = [
-    1_000_000_000,
-    100_000_000,
-    10_000_000,
-    1_000_000,
-    100_000,
-    10_000,
-    1_000,
-    100,
+const POWERS: [u32; 10] = [
+    1,
     10,
+    100,
+    1_000,
+    10_000,
+    100_000,
+    1_000_000,
+    10_000_000,
+    100_000_000,
+    1_000_000_000,
 ];
 
 fn power(k: usize) -> u32
-    requires { ⌜ k < 9 ⌝ }
-    ensures { λ r. ⌜ r ≡ getD powers k 0 ⌝ }
+    requires { ⌜ k < 10 ⌝ }
+    ensures { λ r. ⌜ r ≡ 10 ^ k ⌝ }
 {
     POWERS[k]
 }
 
-// A digit, and what is left.
-struct Quotient {
+// A digit so far, and what is left of the number.
+struct Part {
     digit: u8,
     rest: u32,
 }
 
-// How often p goes into n, found by subtracting, and the rest.
-fn divide(n: u32, p: u32) -> Quotient
-    requires { ⌜ n < 10 * p ⌝ }
+// Takes `times` times p off what is left, where it holds that much, and counts it in the digit.
+fn take(a: Part, p: u32, times: u8) -> Part
+    requires { ⌜ (a .digit < 10) × (times * p < 4294967296) × (times < 10) ⌝ }
+    ensures { λ r. ⌜ r ≡ taken a p times ⌝ }
+{
+    let m = times as u32 * p;
+    if m <= a.rest {
+        return Part {
+            digit: a.digit + times,
+            rest: a.rest - m,
+        };
+    }
+    a
+}
+
+// The digit of n at the power p, and the rest. Each is one comparison, and 4, 3, 1 and 1 make up every digit.
+fn digit_at(n: u32, p: u32) -> Part
+    requires { ⌜ (n < 10 * p) × (p ≤ 1000000000) ⌝ }
     ensures { λ r. ⌜ (r .digit ≡ n / p) × (r .rest ≡ n % p) ⌝ }
 {
-    let mut digit: u8 = 0;
-    let mut rest = n;
-    while p <= rest {
-        rest -= p;
-        digit += 1;
-    }
-    Quotient { digit, rest }
+    let a = Part { digit: 0, rest: n };
+    let b = take(a, p, 4);
+    let c = take(b, p, 3);
+    let d = take(c, p, 1);
+    take(d, p, 1)
 }
 
-// A digit, unless it is a zero in front of the first.
-fn place(out: &mut [u8], at: usize, shown: bool, d: u8) -> usize
-    requires { ⌜ d < 10 ⌝ }
-    ensures { λ r. ⌜ sink (now (out .exit)) r ≡ Sink·puts (cond shown ((48 + d) ∷ []) []) (sink (now (out .entry)) at) ⌝ }
-{
-    if shown {
-        return put(out, at, 48 + d);
-    }
-    at
-}
-
-// A number in decimal, without leading zeros.
+// A number in decimal. Powers of ten above it have no digit.
 fn decimal(out: &mut [u8], at: usize, n: u32) -> usize
     ensures { λ r. ⌜ sink (now (out .exit)) r ≡ Sink·puts (Decimal·decimal n) (sink (now (out .entry)) at) ⌝ }
 {
     let mut to = at;
     let mut rest = n;
-    let mut started = false;
-    let mut k = 0;
-    while k < 9 {
+    let mut k = 9;
+    while 0 < k {
         let p = power(k);
-        let s = divide(rest, p);
-        started = started | (p <= rest);
-        to = place(out, to, started, s.digit);
-        rest = s.rest;
-        k += 1;
+        k -= 1;
+        if n < p {
+            continue;
+        }
+        let d = digit_at(rest, p);
+        to = put(out, to, 48 + d.digit);
+        rest = d.rest;
     }
     put(out, to, 48 + rest as u8)
 }

@@ -1,55 +1,63 @@
-use Prim.Native.Nat.{_-_, _≤_, _<_}
 use mathlib.Core.Path.{_≡_, refl, _∙_}
 use native.Mathlib.Omega.{arith}
-use lib.ListN.{length, drop}
+use borrow.Author.Needs.{needs}
+use lib.ListN.{length}
 use Rattle.print.specs.Sink.{sink, puts}
-use Rattle.print.specs.Decimal.{powers, digitsAt, decimal}
-use Rattle.print.proofs.Numbers.{bound, bound-power, digit-lt, rest-lt, digits-turn, last-lt, digits-last}
+use Rattle.print.specs.Decimal.{decimal}
+use Rattle.print.proofs.Numbers.{Coming, coming-all, coming-skip, coming-show, coming-less, coming-digit, coming-last, coming-end}
 use Rattle.print.proofs.decimal.Statement.{statement}
 use Rattle.print.proofs.decimal.Tie as tie
 
 abbrev Inv-loop : tie.InvT-loop
-Inv-loop out₀ at n to₀ rest₀ started₀ k₀ out to rest started k = (k ≤ 9) × (length out ≡ length out₀) × (rest < bound k) × (puts (digitsAt (drop k powers) started rest) (sink out to) ≡ puts (decimal n) (sink out₀ at))
+Inv-loop out₀ at n to₀ rest₀ k₀ out to rest k = (length out ≡ length out₀) × Coming n k rest (sink out to) (puts (decimal n) (sink out₀ at))
 
 abbrev μ-loop : tie.MeasureT-loop
-μ-loop out₀ at n to₀ rest₀ started₀ k₀ out to rest started k = 9 - k
+μ-loop out₀ at n to₀ rest₀ k₀ out to rest k = k
 
 loop-holds : tie.Need-loop-holds Inv-loop μ-loop
-unfolding decimal
-loop-holds c = (omega arith, refl, omega arith, refl)
+loop-holds c = (refl, coming-all _ _ (search needs))
 
 power-requires : tie.Need-power-requires Inv-loop μ-loop
-power-requires c κs = omega arith
+power-requires c κs = let f = c .before .loop .inv .1 .few in omega arith
 
-divide-requires : tie.Need-divide-requires Inv-loop μ-loop
-divide-requires c κs = let e = bound-power (c .before .before .loop .k) (c .before .loop-test .taken) in let p = c .power .ensures in let s = c .before .before .loop .inv .2 in omega arith
-
-place-requires : tie.Need-place-requires Inv-loop μ-loop
-place-requires c κs = rw (c .before .divide .ensures .0) (digit-lt (c .before .before .before .before .loop .rest) (c .before .before .power .result) (let e = bound-power (c .before .before .before .before .loop .k) (c .before .before .before .loop-test .taken) in let p = c .before .before .power .ensures in let s = c .before .before .before .before .loop .inv .2 in omega arith))
-
-add-k : tie.Need-add-k Inv-loop μ-loop
-add-k c = omega arith
+sub-k : tie.Need-sub-k Inv-loop μ-loop
+sub-k c = search needs
 
 loop-less : tie.Need-loop-less Inv-loop μ-loop
-loop-less c = omega arith
+loop-less c = let h = c .before .before .loop-test .taken in omega arith
 
 loop-again : tie.Need-loop-again Inv-loop μ-loop
-loop-again c = (omega arith, c .before .before .place .kept .0 ∙ c .before .before .before .before .before .before .before .loop .inv .1, rw (c .before .before .before .before .divide .ensures .1, c .before .before .before .before .before .power .ensures) (rest-lt (c .before .before .before .before .before .before .before .loop .k) (c .before .before .before .before .before .before .before .loop .rest) (c .before .before .before .before .before .before .loop-test .taken) (c .before .before .before .before .before .before .before .loop .inv .2)), digits-turn (c .before .before .before .before .before .before .before .loop .k) (c .before .before .before .before .before .before .before .loop .rest) (c .before .before .before .before .divide .result .digit) (c .before .before .before .before .divide .result .rest) (c .before .before .before .before .before .power .result) (c .before .before .before .before .before .before .before .loop .started) _ (c .before .before .before .before .before .before .loop-test .taken) (c .before .before .before .before .before .power .ensures) (c .before .before .before .before .divide .ensures .0) (c .before .before .before .before .divide .ensures .1) (c .before .before .place .ensures) (c .before .before .before .before .before .before .before .loop .inv .3))
+loop-again c = (c .before .before .before .loop .inv .0, coming-skip _ _ _ _ _ _ (c .before .before .before .loop .inv .1) (c .before .before .loop-test .taken) (c .before .power .ensures) (c .if1 .taken))
 
-cast-put : tie.Need-cast-put Inv-loop μ-loop
-cast-put c = let h = last-lt (c .before .before .loop .k) (c .before .before .loop .rest) (c .before .before .loop .inv .0) (c .before .loop-test .left) (c .before .before .loop .inv .2) in omega arith
+digit-at-requires : tie.Need-digit-at-requires Inv-loop μ-loop
+digit-at-requires c κs = coming-less _ _ _ _ _ _ (c .before .before .before .loop .inv .1) (c .before .power .ensures)
 
 add-put : tie.Need-add-put Inv-loop μ-loop
-add-put c = let h = last-lt (c .before .before .loop .k) (c .before .before .loop .rest) (c .before .before .loop .inv .0) (c .before .loop-test .left) (c .before .before .loop .inv .2) in omega arith
+add-put c = let h = coming-digit _ _ _ _ _ _ _ (c .before .before .before .before .before .before .loop .inv .1) (c .before .before .before .before .power .ensures) (c .before .before .digit-at .ensures .0) in omega arith
 
 put-requires : tie.Need-put-requires Inv-loop μ-loop
 put-requires c κs = tt
 
+loop-less-2 : tie.Need-loop-less-2 Inv-loop μ-loop
+loop-less-2 c = let h = c .before .before .before .before .before .before .before .before .loop-test .taken in omega arith
+
+loop-again-2 : tie.Need-loop-again-2 Inv-loop μ-loop
+loop-again-2 c = (c .before .before .put .kept .0 ∙ c .before .before .before .before .before .before .before .before .before .loop .inv .0, coming-show _ _ _ _ _ _ _ _ _ (c .before .before .before .before .before .before .before .before .before .loop .inv .1) (c .before .before .before .before .before .before .before .before .loop-test .taken) (c .before .before .before .before .before .before .before .power .ensures) (c .before .before .before .before .before .before .if1 .left) (c .before .before .before .before .before .digit-at .ensures) (c .before .before .put .ensures))
+
+cast-put : tie.Need-cast-put Inv-loop μ-loop
+cast-put c = let h = coming-last _ _ _ _ _ (c .before .before .loop .inv .1) (c .before .loop-test .left) in omega arith
+
+add-put-2 : tie.Need-add-put-2 Inv-loop μ-loop
+add-put-2 c = let h = coming-last _ _ _ _ _ (c .before .before .loop .inv .1) (c .before .loop-test .left) in omega arith
+
+put-requires-2 : tie.Need-put-requires-2 Inv-loop μ-loop
+put-requires-2 c κs = tt
+
 same-length : tie.Need-same-length Inv-loop μ-loop
-same-length c = c .before .before .put .kept .0 ∙ c .before .before .before .before .before .loop .inv .1
+same-length c = c .before .before .put2 .kept .0 ∙ c .before .before .before .before .before .loop .inv .0
 
 returns : tie.Need-returns Inv-loop μ-loop
-returns c = digits-last (c .before .before .before .before .before .loop .k) (c .before .before .before .before .before .loop .rest) (c .before .before .before .before .before .loop .inv .0) (c .before .before .before .before .loop-test .left) (c .before .before .before .before .before .loop .started) _ (c .before .before .put .ensures) (c .before .before .before .before .before .loop .inv .3)
+returns c = coming-end _ _ _ _ _ _ (c .before .before .before .before .before .loop .inv .1) (c .before .before .before .before .loop-test .left) (c .before .before .put2 .ensures)
 
 pub decimal-spec : {M : Type 1} → statement M
 decimal-spec =
@@ -59,13 +67,16 @@ decimal-spec =
     μ-loop
     loop-holds
     power-requires
-    divide-requires
-    place-requires
-    add-k
+    sub-k
     loop-less
     loop-again
-    cast-put
+    digit-at-requires
     add-put
     put-requires
+    loop-less-2
+    loop-again-2
+    cast-put
+    add-put-2
+    put-requires-2
     same-length
     returns)
