@@ -4,7 +4,7 @@ use mathlib.Core.Path.{_≡_, refl, ap, sym, _∙_, subst}
 use mathlib.Core.Bool.{Bool, true, false, _&&_, cond}
 use mathlib.Core.List.{List, [], _∷_, _++_, append-assoc}
 use native.Mathlib.Numerals.{add-one}
-use native.Mathlib.Nat.{add-zero, zero-add, lt-of-mul-lt-mul-left, mod-lt, mod-eq-of-lt, div-lt-iff-lt-mul, div-div-eq-div-mul, pow-succ', pow-le-pow-right, one-le-pow}
+use native.Mathlib.Nat.{add-zero, zero-add, lt-of-mul-lt-mul-left, mod-lt, mod-le, mod-eq-of-lt, div-lt-iff-lt-mul, div-div-eq-div-mul, pow-succ', pow-le-pow-right, one-le-pow}
 use native.Mathlib.Omega.{arith}
 use borrow.Author.Tests.{eqb-true, leb-true, leb-false, le-leb, lt-leb}
 use lib.Arith.{digits-div, digits-mod, mod-mul}
@@ -82,6 +82,20 @@ pub left-end : (n p : ℕ) (a : Part) → Left n p p a → (a .digit ≡ n / p) 
 left-end n p a l =
     (sym (digits-div (a .digit) (l .less)) ∙ ap (λ k. k / p) (l .sum), sym (digits-mod (a .digit) (l .less)) ∙ ap (λ k. k % p) (l .sum))
 
+-- a digit where n holds the power p, and none where it does not
+module _ (n rest p : ℕ) (a : Sink) where
+  pub none-put : n < p → rest ≤ n → (a ≡ puts (cond (leb p n) ((48 + rest / p) ∷ []) []) a) × (rest ≡ rest % p)
+  unfolding puts
+  none-put h le = (rw (lt-leb p n h), sym (mod-eq-of-lt (omega arith)))
+
+  pub digit-put : (d r : ℕ) {b : Sink} → p ≤ n → (d ≡ rest / p) × (r ≡ rest % p) → b ≡ put (48 + d) a
+      → (b ≡ puts (cond (leb p n) ((48 + rest / p) ∷ []) []) a) × (r ≡ rest % p)
+  unfolding puts
+  digit-put d r h q e = (rw (le-leb p n h) (e ∙ ap (λ x. put (48 + x) a) (q .0)), q .1)
+
+pub digit-lt : (n p : ℕ) → n < 10 * p → n / p < 10
+digit-lt n p h = div-lt-iff-lt-mul {k = p} (omega arith) .1 h
+
 -- The digits from the front: the one at a power of ten, unless n is below it, and then those after it.
 abbrev front : ℕ → ℕ → List ℕ
 front p n = cond (leb p n) ((48 + n / p % 10) ∷ []) []
@@ -96,7 +110,7 @@ leb-tenth p n = go (leb (10 * p) n) refl
 front-tenth : (p n : ℕ) → front p (n / 10) ≡ front (10 * p) n
 front-tenth p n = rw (leb-tenth p n, div-div-eq-div-mul n 10 p)
 
-pub peel : (k n : ℕ) → digits (suc k) n ≡ front (10 ^ suc k) n ++ digits k n
+peel : (k n : ℕ) → digits (suc k) n ≡ front (10 ^ suc k) n ++ digits k n
 unfolding digits
 peel zero n = refl
 peel (suc k) n = go (leb 10 n) refl (peel k (n / 10))
@@ -108,12 +122,6 @@ peel (suc k) n = go (leb 10 n) refl (peel k (n / 10))
         let h = leb-false 10 n e in
         let p = pow-le-pow-right {n = 10} (omega arith) {i = 1} {j = suc (suc k)} (omega arith) in
         rw (lt-leb (10 ^ suc (suc k)) n (omega arith))
-
-below : (k n : ℕ) → n < 10 ^ suc k → digits (suc k) n ≡ digits k n
-below k n h = peel k n ∙ rw (lt-leb (10 ^ suc k) n h)
-
-from : (k n : ℕ) → 10 ^ suc k ≤ n → digits (suc k) n ≡ (48 + n / 10 ^ suc k % 10) ∷ digits k n
-from k n h = peel k n ∙ rw (le-leb (10 ^ suc k) n h)
 
 -- Printing has come to the place k: the digits from there on are still to come, and what is left of n is what they stand for.
 pub record Coming (n k rest : ℕ) (a z : Sink) : Type 0 where
@@ -140,24 +148,10 @@ power-pos : (k : ℕ) → 0 < 10 ^ k
 power-pos k = one-le-pow k 10 (omega arith)
 
 -- one turn of the loop over the powers
-pub coming-skip : (n k rest p : ℕ) (a z : Sink) → Coming n k rest a z → 0 < k → p ≡ 10 ^ k → n < p → Coming n (k - 1) rest a z
-coming-skip n zero rest p a z c pos ep h = absurd (omega arith)
-coming-skip n (suc k) rest p a z c pos ep h =
-    let small : n < 10 ^ suc k = rw ep at h in
-    let e = pow-succ' 10 (suc k) in
-    let back : suc k - 1 ≡ k = omega arith in
-    rw back
-    record
-      { few = let f = c .few in omega arith
-      ; left = c .left ∙ mod-eq-of-lt (omega arith) ∙ sym (mod-eq-of-lt small)
-      ; come = ap (λ (l : List ℕ). puts l a) (sym (below k n small)) ∙ c .come
-      }
-
-pub coming-show : (n k rest p d r : ℕ) (a b z : Sink) → Coming n k rest a z → 0 < k → p ≡ 10 ^ k → p ≤ n → (d ≡ rest / p) × (r ≡ rest % p)
-    → b ≡ put (48 + d) a → Coming n (k - 1) r b z
-unfolding puts
-coming-show n zero rest p d r a b z c pos ep h q eb = absurd (omega arith)
-coming-show n (suc k) rest p d r a b z c pos ep h q eb =
+pub coming-turn : (n k rest p r : ℕ) (a b z : Sink) → Coming n k rest a z → 0 < k → p ≡ 10 ^ k
+    → (b ≡ puts (cond (leb p n) ((48 + rest / p) ∷ []) []) a) × (r ≡ rest % p) → Coming n (k - 1) r b z
+coming-turn n zero rest p r a b z c pos ep q = absurd (omega arith)
+coming-turn n (suc k) rest p r a b z c pos ep q =
     let e : rest ≡ n % (10 * 10 ^ suc k) = c .left ∙ ap (λ x. n % x) (pow-succ' 10 (suc k)) in
     let back : suc k - 1 ≡ k = omega arith in
     rw back
@@ -165,17 +159,15 @@ coming-show n (suc k) rest p d r a b z c pos ep h q eb =
       { few = let f = c .few in omega arith
       ; left = q .1 ∙ ap (λ x. rest % x) ep ∙ under n (10 ^ suc k) rest (power-pos (suc k)) e
       ; come =
-          rw (eb, q .0, ep, over n (10 ^ suc k) rest (power-pos (suc k)) e)
-          (ap (λ (l : List ℕ). puts l a) (sym (from k n (rw ep at h))) ∙ c .come)
+          rw (q .0, ep, over n (10 ^ suc k) rest (power-pos (suc k)) e, ← (puts-append (front (10 ^ suc k) n) (digits k n) a), ← (peel k n))
+          (c .come)
       }
 
--- what the search for a digit asks
-pub coming-less : (n k rest p : ℕ) (a z : Sink) → Coming n k rest a z → p ≡ 10 ^ k → (rest < 10 * p) × (p ≤ 1000000000)
+-- what printing a digit asks
+pub coming-less : (n k rest p : ℕ) (a z : Sink) → Coming n k rest a z → p ≡ 10 ^ k → (rest ≤ n) × (rest < 10 * p) × (p ≤ 1000000000)
 coming-less n k rest p a z c ep =
-    rw (ep, c .left, pow-succ' 10 k) (mod-lt n (let h = power-pos k in omega arith), pow-le-pow-right {n = 10} (omega arith) (c .few))
-
-pub coming-digit : (n k rest p d : ℕ) (a z : Sink) → Coming n k rest a z → p ≡ 10 ^ k → d ≡ rest / p → d < 10
-coming-digit n k rest p d a z c ep ed = rw ed (div-lt-iff-lt-mul {k = p} (rw ep (power-pos k)) .1 (coming-less n k rest p a z c ep .0))
+    rw (ep, c .left, pow-succ' 10 k)
+    (mod-le n (10 * 10 ^ k), mod-lt n (let h = power-pos k in omega arith), pow-le-pow-right {n = 10} (omega arith) (c .few))
 
 -- past the last power
 pub coming-last : (n k rest : ℕ) (a z : Sink) → Coming n k rest a z → k ≤ 0 → rest < 10

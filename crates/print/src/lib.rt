@@ -2,7 +2,9 @@
 // wrote.
 ghost use mathlib.Core.Path.{_≡_};
 ghost use Prim.Native.Nat.{_+_, _*_, _^_, _<_, _≤_, _/_, _%_};
-ghost use mathlib.Core.List.{_∷_};
+ghost use mathlib.Core.Bool.{cond};
+ghost use mathlib.Core.List.{[], _∷_};
+ghost use lib.Dec.{leb};
 ghost use Rattle.print.specs.Sink.{sink, put as Sink·put, puts as Sink·puts};
 ghost use Rattle.print.specs.Lines.{replied, serverList, clientList, unknown as Lines·unknown};
 ghost use Rattle.print.specs.Decimal.{listed, decimal as Decimal·decimal};
@@ -85,7 +87,26 @@ fn digit_at(n: u32, p: u32) -> Part
     take(d, p, 1)
 }
 
-// A number in decimal. Powers of ten above it have no digit.
+// The place of the next byte, and what is left of the number.
+struct Next {
+    at: usize,
+    rest: u32,
+}
+
+// The digit at the power p of a number n, of which the rest is left. Where n is below p there is none.
+fn put_digit(out: &mut [u8], at: usize, n: u32, rest: u32, p: u32) -> Next
+    requires { ⌜ (rest ≤ n) × (rest < 10 * p) × (p ≤ 1000000000) ⌝ }
+    ensures { λ r. ⌜ (sink (now (out .exit)) (r .at) ≡ Sink·puts (cond (leb p n) ((48 + rest / p) ∷ []) []) (sink (now (out .entry)) at)) × (r .rest ≡ rest % p) ⌝ }
+{
+    if n < p {
+        return Next { at, rest };
+    }
+    let d = digit_at(rest, p);
+    let to = put(out, at, 48 + d.digit);
+    Next { at: to, rest: d.rest }
+}
+
+// A number in decimal, from the highest power of ten down.
 fn decimal(out: &mut [u8], at: usize, n: u32) -> usize
     ensures { λ r. ⌜ sink (now (out .exit)) r ≡ Sink·puts (Decimal·decimal n) (sink (now (out .entry)) at) ⌝ }
 {
@@ -93,14 +114,10 @@ fn decimal(out: &mut [u8], at: usize, n: u32) -> usize
     let mut rest = n;
     let mut k = 9;
     while 0 < k {
-        let p = power(k);
+        let next = put_digit(out, to, n, rest, power(k));
+        to = next.at;
+        rest = next.rest;
         k -= 1;
-        if n < p {
-            continue;
-        }
-        let d = digit_at(rest, p);
-        to = put(out, to, 48 + d.digit);
-        rest = d.rest;
     }
     put(out, to, 48 + rest as u8)
 }

@@ -4,7 +4,7 @@ use borrow.Author.Needs.{needs}
 use lib.ListN.{length}
 use Rattle.print.specs.Sink.{sink, puts}
 use Rattle.print.specs.Decimal.{decimal}
-use Rattle.print.proofs.Numbers.{Coming, coming-all, coming-skip, coming-show, coming-less, coming-digit, coming-last, coming-end}
+use Rattle.print.proofs.Numbers.{Coming, coming-all, coming-turn, coming-less, coming-last, coming-end}
 use Rattle.print.proofs.decimal.Statement.{statement}
 use Rattle.print.proofs.decimal.Tie as tie
 
@@ -18,46 +18,34 @@ loop-holds : tie.Need-loop-holds Inv-loop μ-loop
 loop-holds c = (refl, coming-all _ _ (search needs))
 
 power-requires : tie.Need-power-requires Inv-loop μ-loop
-power-requires c κs = let f = c .before .loop .inv .1 .few in omega arith
+power-requires c κs = let f = c .before .before .loop .inv .1 .few in omega arith
+
+put-digit-requires : tie.Need-put-digit-requires Inv-loop μ-loop
+put-digit-requires c κs = coming-less _ _ _ _ _ _ (c .before .before .before .loop .inv .1) (c .power .ensures)
 
 sub-k : tie.Need-sub-k Inv-loop μ-loop
-sub-k c = search needs
+sub-k c = c .before .before .before .before .before .loop-test .taken
 
 loop-less : tie.Need-loop-less Inv-loop μ-loop
-loop-less c = let h = c .before .before .loop-test .taken in omega arith
+loop-less c = let h = c .before .before .before .before .before .loop-test .taken in omega arith
 
 loop-again : tie.Need-loop-again Inv-loop μ-loop
-loop-again c = (c .before .before .before .loop .inv .0, coming-skip _ _ _ _ _ _ (c .before .before .before .loop .inv .1) (c .before .before .loop-test .taken) (c .before .power .ensures) (c .if1 .taken))
-
-digit-at-requires : tie.Need-digit-at-requires Inv-loop μ-loop
-digit-at-requires c κs = coming-less _ _ _ _ _ _ (c .before .before .before .loop .inv .1) (c .before .power .ensures)
-
-add-put : tie.Need-add-put Inv-loop μ-loop
-add-put c = let h = coming-digit _ _ _ _ _ _ _ (c .before .before .before .before .before .before .loop .inv .1) (c .before .before .before .before .power .ensures) (c .before .before .digit-at .ensures .0) in omega arith
-
-put-requires : tie.Need-put-requires Inv-loop μ-loop
-put-requires c κs = tt
-
-loop-less-2 : tie.Need-loop-less-2 Inv-loop μ-loop
-loop-less-2 c = let h = c .before .before .before .before .before .before .before .before .loop-test .taken in omega arith
-
-loop-again-2 : tie.Need-loop-again-2 Inv-loop μ-loop
-loop-again-2 c = (c .before .before .put .kept .0 ∙ c .before .before .before .before .before .before .before .before .before .loop .inv .0, coming-show _ _ _ _ _ _ _ _ _ (c .before .before .before .before .before .before .before .before .before .loop .inv .1) (c .before .before .before .before .before .before .before .before .loop-test .taken) (c .before .before .before .before .before .before .before .power .ensures) (c .before .before .before .before .before .before .if1 .left) (c .before .before .before .before .before .digit-at .ensures) (c .before .before .put .ensures))
+loop-again c = (c .before .before .put-digit .kept .0 ∙ c .before .before .before .before .before .before .loop .inv .0, coming-turn _ _ _ _ _ _ _ _ (c .before .before .before .before .before .before .loop .inv .1) (c .before .before .before .before .before .loop-test .taken) (c .before .before .before .power .ensures) (c .before .before .put-digit .ensures))
 
 cast-put : tie.Need-cast-put Inv-loop μ-loop
 cast-put c = let h = coming-last _ _ _ _ _ (c .before .before .loop .inv .1) (c .before .loop-test .left) in omega arith
 
-add-put-2 : tie.Need-add-put-2 Inv-loop μ-loop
-add-put-2 c = let h = coming-last _ _ _ _ _ (c .before .before .loop .inv .1) (c .before .loop-test .left) in omega arith
+add-put : tie.Need-add-put Inv-loop μ-loop
+add-put c = let h = coming-last _ _ _ _ _ (c .before .before .loop .inv .1) (c .before .loop-test .left) in omega arith
 
-put-requires-2 : tie.Need-put-requires-2 Inv-loop μ-loop
-put-requires-2 c κs = tt
+put-requires : tie.Need-put-requires Inv-loop μ-loop
+put-requires c κs = tt
 
 same-length : tie.Need-same-length Inv-loop μ-loop
-same-length c = c .before .before .put2 .kept .0 ∙ c .before .before .before .before .before .loop .inv .0
+same-length c = c .before .before .put .kept .0 ∙ c .before .before .before .before .before .loop .inv .0
 
 returns : tie.Need-returns Inv-loop μ-loop
-returns c = coming-end _ _ _ _ _ _ (c .before .before .before .before .before .loop .inv .1) (c .before .before .before .before .loop-test .left) (c .before .before .put2 .ensures)
+returns c = coming-end _ _ _ _ _ _ (c .before .before .before .before .before .loop .inv .1) (c .before .before .before .before .loop-test .left) (c .before .before .put .ensures)
 
 pub decimal-spec : {M : Type 1} → statement M
 decimal-spec =
@@ -67,16 +55,12 @@ decimal-spec =
     μ-loop
     loop-holds
     power-requires
+    put-digit-requires
     sub-k
     loop-less
     loop-again
-    digit-at-requires
+    cast-put
     add-put
     put-requires
-    loop-less-2
-    loop-again-2
-    cast-put
-    add-put-2
-    put-requires-2
     same-length
     returns)
