@@ -129,10 +129,6 @@ pub record Coming (n k rest : ℕ) (a z : Sink) : Type 0 where
   pub left : rest ≡ n % 10 ^ suc k
   pub come : puts (digits k n) a ≡ z
 
-pub coming-all : (n : ℕ) (a : Sink) → n < tooWide → Coming n 9 n a (puts (decimal n) a)
-unfolding decimal
-coming-all n a h = record { few = omega arith; left = sym (mod-eq-of-lt (omega arith)); come = refl }
-
 -- what is left, over a power of ten and below it
 module _ (n p rest : ℕ) (pos : 0 < p) (e : rest ≡ n % (10 * p)) where
   parts : rest ≡ n / p % 10 * p + n % p
@@ -169,15 +165,25 @@ coming-less n k rest p a z c ep =
     rw (ep, c .left, pow-succ' 10 k)
     (mod-le n (10 * 10 ^ k), mod-lt n (let h = power-pos k in omega arith), pow-le-pow-right {n = 10} (omega arith) (c .few))
 
--- past the last power
-pub coming-last : (n k rest : ℕ) (a z : Sink) → Coming n k rest a z → k ≤ 0 → rest < 10
-coming-last n zero rest a z c h = rw (c .left) (mod-lt n (omega arith))
-coming-last n (suc k) rest a z c h = absurd (omega arith)
+pub coming-at : (n k rest to : ℕ) (a z : Sink) → Coming n k rest a z → to ≤ k → k ≤ to → (puts (digits to n) a ≡ z) × (rest ≡ n % 10 ^ suc to)
+coming-at n k rest to a z c h h′ = let e : to ≡ k = omega arith in rw e (c .come, c .left)
 
-pub coming-end : (n k rest : ℕ) (a b z : Sink) → Coming n k rest a z → k ≤ 0 → b ≡ put (48 + rest) a → b ≡ z
+-- the last digit
+pub last-put : (n rest : ℕ) (a b z : Sink) → rest ≡ n % 10 → b ≡ put (48 + rest) a → puts (digits 0 n) a ≡ z → b ≡ z
 unfolding digits puts
-coming-end n zero rest a b z c h eb = rw (eb, c .left) (c .come)
-coming-end n (suc k) rest a b z c h eb = absurd (omega arith)
+last-put n rest a b z e eb ez = rw (eb, e) ez
+
+-- A number below a power of ten has no digit there or above.
+above : (j k n : ℕ) → n < 10 ^ suc k → digits (j + k) n ≡ digits k n
+above zero k n h = rw (zero-add k)
+above (suc j) k n h =
+    let more : 10 ^ suc k ≤ 10 ^ suc (j + k) = pow-le-pow-right {n = 10} (omega arith) (omega arith) in
+    let e : suc j + k ≡ suc (j + k) = omega arith in
+    ap (λ i. digits i n) e ∙ peel (j + k) n ∙ rw (lt-leb (10 ^ suc (j + k)) n (omega arith)) (above j k n h)
+
+pub short-front : (n : ℕ) (a : Sink) → n < 1000 → (puts (digits 2 n) a ≡ puts (decimal n) a) × (n ≡ n % 1000)
+unfolding decimal
+short-front n a h = (ap (λ (l : List ℕ). puts l a) (sym (above 7 2 n h)), sym (mod-eq-of-lt h))
 
 -- a number below ten is its one digit
 short : (k n : ℕ) → n < 10 → digits k n ≡ (48 + n) ∷ []

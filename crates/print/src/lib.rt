@@ -1,13 +1,13 @@
 // What the run program prints, as bytes, into a lent buffer. Each function takes the place of the next byte and answers the place after what it
 // wrote.
 ghost use mathlib.Core.Path.{_≡_};
-ghost use Prim.Native.Nat.{_+_, _*_, _^_, _<_, _≤_, _/_, _%_};
+ghost use Prim.Native.Nat.{suc, _+_, _*_, _^_, _<_, _≤_, _/_, _%_};
 ghost use mathlib.Core.Bool.{cond};
 ghost use mathlib.Core.List.{[], _∷_};
 ghost use lib.Dec.{leb};
 ghost use Rattle.print.specs.Sink.{sink, put as Sink·put, puts as Sink·puts};
 ghost use Rattle.print.specs.Lines.{replied, serverList, clientList, unknown as Lines·unknown};
-ghost use Rattle.print.specs.Decimal.{listed, decimal as Decimal·decimal};
+ghost use Rattle.print.specs.Decimal.{listed, digits, decimal as Decimal·decimal};
 ghost use Rattle.print.specs.Part.{taken};
 
 // One byte. Where the buffer is full it is dropped.
@@ -106,20 +106,40 @@ fn put_digit(out: &mut [u8], at: usize, n: u32, rest: u32, p: u32) -> Next
     Next { at: to, rest: d.rest }
 }
 
+// The digits of n at the powers of ten from `from` down to the one above `to`: with those from `to` on they are those from `from` on.
+fn put_digits(out: &mut [u8], at: usize, n: u32, rest: u32, from: usize, to: usize) -> Next
+    requires { ⌜ (rest ≡ n % 10 ^ suc from) × (to ≤ from) × (from ≤ 9) ⌝ }
+    ensures { λ r. ⌜ (Sink·puts (digits to n) (sink (now (out .exit)) (r .at)) ≡ Sink·puts (digits from n) (sink (now (out .entry)) at)) × (r .rest ≡ n % 10 ^ suc to) ⌝ }
+{
+    let mut next = at;
+    let mut left = rest;
+    let mut k = from;
+    while to < k {
+        let d = put_digit(out, next, n, left, power(k));
+        next = d.at;
+        left = d.rest;
+        k -= 1;
+    }
+    Next { at: next, rest: left }
+}
+
+// The digits in front of the last three. Short numbers have none, and pass in one comparison.
+fn put_front(out: &mut [u8], at: usize, n: u32) -> Next
+    ensures { λ r. ⌜ (Sink·puts (digits 2 n) (sink (now (out .exit)) (r .at)) ≡ Sink·puts (Decimal·decimal n) (sink (now (out .entry)) at)) × (r .rest ≡ n % 1000) ⌝ }
+{
+    if n < 1_000 {
+        return Next { at, rest: n };
+    }
+    put_digits(out, at, n, n, 9, 2)
+}
+
 // A number in decimal, from the highest power of ten down.
 fn decimal(out: &mut [u8], at: usize, n: u32) -> usize
     ensures { λ r. ⌜ sink (now (out .exit)) r ≡ Sink·puts (Decimal·decimal n) (sink (now (out .entry)) at) ⌝ }
 {
-    let mut to = at;
-    let mut rest = n;
-    let mut k = 9;
-    while 0 < k {
-        let next = put_digit(out, to, n, rest, power(k));
-        to = next.at;
-        rest = next.rest;
-        k -= 1;
-    }
-    put(out, to, 48 + rest as u8)
+    let front = put_front(out, at, n);
+    let last = put_digits(out, front.at, n, front.rest, 2, 0);
+    put(out, last.at, 48 + last.rest as u8)
 }
 
 // A list of items: a space before each, and the end of the line.

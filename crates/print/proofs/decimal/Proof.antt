@@ -1,66 +1,37 @@
-use mathlib.Core.Path.{_≡_, refl, _∙_}
-use native.Mathlib.Omega.{arith}
+use mathlib.Core.Path.{_∙_}
 use borrow.Author.Needs.{needs}
-use lib.ListN.{length}
-use Rattle.print.specs.Sink.{sink, puts}
-use Rattle.print.specs.Decimal.{decimal}
-use Rattle.print.proofs.Numbers.{Coming, coming-all, coming-turn, coming-less, coming-last, coming-end}
+use Rattle.print.proofs.Numbers.{last-put}
 use Rattle.print.proofs.decimal.Statement.{statement}
 use Rattle.print.proofs.decimal.Tie as tie
 
-abbrev Inv-loop : tie.InvT-loop
-Inv-loop out₀ at n to₀ rest₀ k₀ out to rest k = (length out ≡ length out₀) × Coming n k rest (sink out to) (puts (decimal n) (sink out₀ at))
+-- after the front, and after the last three but one
+abbrev front : tie.After-put-digits → tie.After-put-front
+front c = c .before .before .before .before
 
-abbrev μ-loop : tie.MeasureT-loop
-μ-loop out₀ at n to₀ rest₀ k₀ out to rest k = k
+abbrev last : tie.After-slice-known4 → tie.After-put-digits
+last c = c .before .before .before .before .before .before .before
 
-loop-holds : tie.Need-loop-holds Inv-loop μ-loop
-loop-holds c = (refl, coming-all _ _ (search needs))
+put-front-requires : tie.Need-put-front-requires
+put-front-requires c κs = search needs
 
-power-requires : tie.Need-power-requires Inv-loop μ-loop
-power-requires c κs = let f = c .before .before .loop .inv .1 .few in omega arith
+put-digits-requires : tie.Need-put-digits-requires
+put-digits-requires c κs = search needs
 
-put-digit-requires : tie.Need-put-digit-requires Inv-loop μ-loop
-put-digit-requires c κs = coming-less _ _ _ _ _ _ (c .before .before .before .loop .inv .1) (c .power .ensures)
+cast-put : tie.Need-cast-put
+cast-put c = search needs
 
-sub-k : tie.Need-sub-k Inv-loop μ-loop
-sub-k c = c .before .before .before .before .before .loop-test .taken
+add-put : tie.Need-add-put
+add-put c = search needs
 
-loop-less : tie.Need-loop-less Inv-loop μ-loop
-loop-less c = let h = c .before .before .before .before .before .loop-test .taken in omega arith
+put-requires : tie.Need-put-requires
+put-requires c κs = search needs
 
-loop-again : tie.Need-loop-again Inv-loop μ-loop
-loop-again c = (c .before .before .put-digit .kept .0 ∙ c .before .before .before .before .before .before .loop .inv .0, coming-turn _ _ _ _ _ _ _ _ (c .before .before .before .before .before .before .loop .inv .1) (c .before .before .before .before .before .loop-test .taken) (c .before .before .before .power .ensures) (c .before .before .put-digit .ensures))
+same-length : tie.Need-same-length
+same-length c = search needs
 
-cast-put : tie.Need-cast-put Inv-loop μ-loop
-cast-put c = let h = coming-last _ _ _ _ _ (c .before .before .loop .inv .1) (c .before .loop-test .left) in omega arith
-
-add-put : tie.Need-add-put Inv-loop μ-loop
-add-put c = let h = coming-last _ _ _ _ _ (c .before .before .loop .inv .1) (c .before .loop-test .left) in omega arith
-
-put-requires : tie.Need-put-requires Inv-loop μ-loop
-put-requires c κs = tt
-
-same-length : tie.Need-same-length Inv-loop μ-loop
-same-length c = c .before .before .put .kept .0 ∙ c .before .before .before .before .before .loop .inv .0
-
-returns : tie.Need-returns Inv-loop μ-loop
-returns c = coming-end _ _ _ _ _ _ (c .before .before .before .before .before .loop .inv .1) (c .before .before .before .before .loop-test .left) (c .before .before .put .ensures)
+returns : tie.Need-returns
+returns c = last-put _ _ _ _ _ (last c .put-digits .ensures .1) (c .before .before .put .ensures) (last c .put-digits .ensures .0 ∙ front (last c) .put-front .ensures .0)
 
 pub decimal-spec : {M : Type 1} → statement M
 decimal-spec =
-    tie.close
-    (tie.spec
-    Inv-loop
-    μ-loop
-    loop-holds
-    power-requires
-    put-digit-requires
-    sub-k
-    loop-less
-    loop-again
-    cast-put
-    add-put
-    put-requires
-    same-length
-    returns)
+    tie.close (tie.spec put-front-requires put-digits-requires cast-put add-put put-requires same-length returns)
