@@ -1,4 +1,4 @@
 pub mod Sink
 pub mod Decimal
-pub mod Part
+pub mod Parts
 pub mod Lines

@@ -1,14 +1,12 @@
 // What the run program prints, as bytes, into a lent buffer. Each function takes the place of the next byte and answers the place after what it
 // wrote.
 ghost use mathlib.Core.Path.{_≡_};
-ghost use Prim.Native.Nat.{suc, _+_, _*_, _^_, _<_, _≤_, _/_, _%_};
-ghost use mathlib.Core.Bool.{cond};
-ghost use mathlib.Core.List.{[], _∷_};
-ghost use lib.Dec.{leb};
+ghost use Prim.Native.Nat.{_+_, _*_, _^_, _<_, _≤_};
+ghost use mathlib.Core.List.{_∷_};
 ghost use Rattle.print.specs.Sink.{sink, put as Sink·put, puts as Sink·puts};
 ghost use Rattle.print.specs.Lines.{replied, serverList, clientList, unknown as Lines·unknown};
-ghost use Rattle.print.specs.Decimal.{listed, digits, decimal as Decimal·decimal};
-ghost use Rattle.print.specs.Part.{taken};
+ghost use Rattle.print.specs.Decimal.{digits, listed, decimal as Decimal·decimal};
+ghost use Rattle.print.specs.Parts.{taken, split, lower, digitFrom};
 
 // One byte. Where the buffer is full it is dropped.
 fn put(out: &mut [u8], at: usize, b: u8) -> usize
@@ -60,9 +58,9 @@ struct Part {
     rest: u32,
 }
 
-// Takes `times` times p off what is left, where it holds that much, and counts it in the digit.
+// Takes p off what is left, `times` times at once, where it holds that much, and counts it in the digit.
 fn take(a: Part, p: u32, times: u8) -> Part
-    requires { ⌜ (a .digit < 10) × (times * p < 4294967296) × (times < 10) ⌝ }
+    requires { ⌜ (a .digit < 10) × (times < 10) × (times * p < 4294967296) ⌝ }
     ensures { λ r. ⌜ r ≡ taken a p times ⌝ }
 {
     let m = times as u32 * p;
@@ -75,10 +73,10 @@ fn take(a: Part, p: u32, times: u8) -> Part
     a
 }
 
-// The digit of n at the power p, and the rest. Each is one comparison, and 4, 3, 1 and 1 make up every digit.
+// The digit of n at the power p, and the rest. 4, 3, 1 and 1 make up every digit, and 4 times the highest power still has 32 bits.
 fn digit_at(n: u32, p: u32) -> Part
     requires { ⌜ (n < 10 * p) × (p ≤ 1000000000) ⌝ }
-    ensures { λ r. ⌜ (r .digit ≡ n / p) × (r .rest ≡ n % p) ⌝ }
+    ensures { λ r. ⌜ r ≡ split n p ⌝ }
 {
     let a = Part { digit: 0, rest: n };
     let b = take(a, p, 4);
@@ -93,23 +91,26 @@ struct Next {
     rest: u32,
 }
 
-// The digit at the power p of a number n, of which the rest is left. Where n is below p there is none.
+// The digit at the power p of a number n, of which the rest is left. Where n is below p it has none.
 fn put_digit(out: &mut [u8], at: usize, n: u32, rest: u32, p: u32) -> Next
     requires { ⌜ (rest ≤ n) × (rest < 10 * p) × (p ≤ 1000000000) ⌝ }
-    ensures { λ r. ⌜ (sink (now (out .exit)) (r .at) ≡ Sink·puts (cond (leb p n) ((48 + rest / p) ∷ []) []) (sink (now (out .entry)) at)) × (r .rest ≡ rest % p) ⌝ }
+    ensures { λ r. ⌜ (sink (now (out .exit)) (r .at) ≡ Sink·puts (digitFrom p n rest) (sink (now (out .entry)) at)) × (r .rest ≡ split rest p .rest) ⌝ }
 {
     if n < p {
         return Next { at, rest };
     }
     let d = digit_at(rest, p);
     let to = put(out, at, 48 + d.digit);
-    Next { at: to, rest: d.rest }
+    Next {
+        at: to,
+        rest: d.rest,
+    }
 }
 
-// The digits of n at the powers of ten from `from` down to the one above `to`: with those from `to` on they are those from `from` on.
+// The digits of n at the powers of ten from `from` down, those from `to` on left out: with these they are the digits from `from` on.
 fn put_digits(out: &mut [u8], at: usize, n: u32, rest: u32, from: usize, to: usize) -> Next
-    requires { ⌜ (rest ≡ n % 10 ^ suc from) × (to ≤ from) × (from ≤ 9) ⌝ }
-    ensures { λ r. ⌜ (Sink·puts (digits to n) (sink (now (out .exit)) (r .at)) ≡ Sink·puts (digits from n) (sink (now (out .entry)) at)) × (r .rest ≡ n % 10 ^ suc to) ⌝ }
+    requires { ⌜ (rest ≡ lower from n) × (to ≤ from) × (from ≤ 9) ⌝ }
+    ensures { λ r. ⌜ (Sink·puts (digits to n) (sink (now (out .exit)) (r .at)) ≡ Sink·puts (digits from n) (sink (now (out .entry)) at)) × (r .rest ≡ lower to n) ⌝ }
 {
     let mut next = at;
     let mut left = rest;
@@ -120,12 +121,15 @@ fn put_digits(out: &mut [u8], at: usize, n: u32, rest: u32, from: usize, to: usi
         left = d.rest;
         k -= 1;
     }
-    Next { at: next, rest: left }
+    Next {
+        at: next,
+        rest: left,
+    }
 }
 
-// The digits in front of the last three. Short numbers have none, and pass in one comparison.
+// The digits in front of the last three. A short number has none, and one comparison tells.
 fn put_front(out: &mut [u8], at: usize, n: u32) -> Next
-    ensures { λ r. ⌜ (Sink·puts (digits 2 n) (sink (now (out .exit)) (r .at)) ≡ Sink·puts (Decimal·decimal n) (sink (now (out .entry)) at)) × (r .rest ≡ n % 1000) ⌝ }
+    ensures { λ r. ⌜ (Sink·puts (digits 2 n) (sink (now (out .exit)) (r .at)) ≡ Sink·puts (Decimal·decimal n) (sink (now (out .entry)) at)) × (r .rest ≡ lower 2 n) ⌝ }
 {
     if n < 1_000 {
         return Next { at, rest: n };
@@ -133,7 +137,7 @@ fn put_front(out: &mut [u8], at: usize, n: u32) -> Next
     put_digits(out, at, n, n, 9, 2)
 }
 
-// A number in decimal, from the highest power of ten down.
+// A number in decimal, from its highest power of ten down.
 fn decimal(out: &mut [u8], at: usize, n: u32) -> usize
     ensures { λ r. ⌜ sink (now (out .exit)) r ≡ Sink·puts (Decimal·decimal n) (sink (now (out .entry)) at) ⌝ }
 {

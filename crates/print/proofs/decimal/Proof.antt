@@ -1,6 +1,6 @@
 use mathlib.Core.Path.{_∙_}
 use borrow.Author.Needs.{needs}
-use Rattle.print.proofs.Numbers.{last-put}
+use Rattle.print.proofs.Places.{last-put}
 use Rattle.print.proofs.decimal.Statement.{statement}
 use Rattle.print.proofs.decimal.Tie as tie
 

@@ -1,37 +1,43 @@
-use Prim.Native.Nat.{_*_}
+use Prim.Native.Nat.{ℕ, _*_, _<_}
 use native.Mathlib.Omega.{arith}
-use mathlib.Core.Path.{refl}
-use Rattle.print.proofs.Numbers.{Left, left-take, left-digit, left-end}
+use Rattle.print.specs.declared.Part.{Part}
+use Rattle.print.proofs.Places.{Left, left-take, left-digit, left-end}
 use Rattle.print.proofs.digit_at.Statement.{statement}
 use Rattle.print.proofs.digit_at.Tie as tie
 
--- what is left is below 10, 6, 3, 2 and then 1 times the power
-left : (c : tie.Start) → Left (c .args .n) (c .args .p) (10 * c .args .p) (record { digit = 0; rest = c .args .n })
-left c = record { sum = omega arith; less = c .pre .0 }
+-- what is left is below k times the power: 10, 6, 3, 2 and at last 1 times
+abbrev Below : tie.Start → ℕ → Part → Type 0
+Below s k a = Left (s .args .n) (s .args .p) (k * s .args .p) a
 
-left-2 : (c : tie.After-take) → Left (c .before .args .n) (c .before .args .p) (6 * c .before .args .p) (c .take .result)
-left-2 c = left-take _ _ _ _ 4 _ (left (c .before)) (omega arith) (omega arith) (c .take .ensures)
+below-10 : (c : tie.Start) → Below c 10 (record { digit = 0; rest = c .args .n })
+below-10 c = record { sum = omega arith; less = c .pre .0 }
 
-left-3 : (c : tie.After-take2) → Left (c .before .before .args .n) (c .before .before .args .p) (3 * c .before .before .args .p) (c .take2 .result)
-left-3 c = left-take _ _ _ _ 3 _ (left-2 (c .before)) (omega arith) (omega arith) (c .take2 .ensures)
+below-6 : (c : tie.After-take) → Below (c .before) 6 (c .take .result)
+below-6 c = left-take _ _ _ _ _ _ (c .take .ensures) (below-10 (c .before)) (omega arith) (omega arith)
 
-left-4 : (c : tie.After-take3) → Left (c .before .before .before .args .n) (c .before .before .before .args .p) (2 * c .before .before .before .args .p) (c .take3 .result)
-left-4 c = left-take _ _ _ _ 1 _ (left-3 (c .before)) (omega arith) (omega arith) (c .take3 .ensures)
+below-3 : (c : tie.After-take2) → Below (c .before .before) 3 (c .take2 .result)
+below-3 c = left-take _ _ _ _ _ _ (c .take2 .ensures) (below-6 (c .before)) (omega arith) (omega arith)
+
+below-2 : (c : tie.After-take3) → Below (c .before .before .before) 2 (c .take3 .result)
+below-2 c = left-take _ _ _ _ _ _ (c .take3 .ensures) (below-3 (c .before)) (omega arith) (omega arith)
+
+digit-small : (s : tie.Start) (k : ℕ) (a : Part) → Below s k a → a .digit < 10
+digit-small s k a l = left-digit _ _ _ a l (s .pre .0)
 
 take-requires : tie.Need-take-requires
-take-requires c κs = (omega arith, let h = c .pre .1 in omega arith, omega arith)
+take-requires c κs = (omega arith, omega arith, let h = c .pre .1 in omega arith)
 
 take-requires-2 : tie.Need-take-requires-2
-take-requires-2 c κs = (left-digit _ _ _ _ (left-2 c) (c .before .pre .0), let h = c .before .pre .1 in omega arith, omega arith)
+take-requires-2 c κs = (digit-small (c .before) 6 _ (below-6 c), omega arith, let h = c .before .pre .1 in omega arith)
 
 take-requires-3 : tie.Need-take-requires-3
-take-requires-3 c κs = (left-digit _ _ _ _ (left-3 c) (c .before .before .pre .0), let h = c .before .before .pre .1 in omega arith, omega arith)
+take-requires-3 c κs = (digit-small (c .before .before) 3 _ (below-3 c), omega arith, let h = c .before .before .pre .1 in omega arith)
 
 take-requires-4 : tie.Need-take-requires-4
-take-requires-4 c κs = (left-digit _ _ _ _ (left-4 c) (c .before .before .before .pre .0), let h = c .before .before .before .pre .1 in omega arith, omega arith)
+take-requires-4 c κs = (digit-small (c .before .before .before) 2 _ (below-2 c), omega arith, let h = c .before .before .before .pre .1 in omega arith)
 
 returns : tie.Need-returns
-returns c = left-end _ _ _ (left-take _ _ _ _ 1 _ (left-4 (c .before)) (omega arith) (omega arith) (c .take4 .ensures))
+returns c = left-end _ _ _ (left-take _ _ _ _ _ _ (c .take4 .ensures) (below-2 (c .before)) (omega arith) (omega arith))
 
 pub digit-at-spec : {M : Type 1} → statement M
 digit-at-spec =

@@ -1,5 +1,5 @@
 use borrow.Author.Needs.{needs}
-use Rattle.print.proofs.Numbers.{power-at}
+use Rattle.print.proofs.Places.{power-at}
 use Rattle.print.proofs.power.Statement.{statement}
 use Rattle.print.proofs.power.Tie as tie
 

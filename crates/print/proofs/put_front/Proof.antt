@@ -1,6 +1,6 @@
 use borrow.Author.Needs.{needs}
 use Rattle.print.specs.Decimal.{decimal}
-use Rattle.print.proofs.Numbers.{short-front}
+use Rattle.print.proofs.Places.{short-front}
 use Rattle.print.proofs.put_front.Statement.{statement}
 use Rattle.print.proofs.put_front.Tie as tie
 
