@@ -1,79 +1,66 @@
--- A number's digits read back as the number.
-use Prim.Native.Nat.{ℕ, _+_, _*_, _/_, _%_, _<_}
+-- A number's digits read back as the number, and only 0 begins with a zero.
+use Prim.Native.Nat.{ℕ, zero, suc, _+_, _*_, _^_, _/_, _%_, _<_}
 use mathlib.Core.Path.{_≡_, refl, ap, _∙_}
-use mathlib.Core.Bool.{Bool, true, false, _&&_, _||_, cond}
+use mathlib.Core.Bool.{Bool, true, false, cond}
 use mathlib.Core.List.{List, [], _∷_, _++_}
-use native.Mathlib.Nat.{mod-lt, div-add-mod', mod-eq-of-lt, le-mul-of-pos-right}
+use native.Mathlib.Nat.{mod-lt, mod-eq-of-lt}
 use native.Mathlib.Omega.{arith}
-use borrow.Author.Tests.{eqb-true, leb-false, le-leb}
-use lib.Dec.{leb, eqb}
-use lib.ListN.{length, length-append}
-use Rattle.print.specs.Decimal.{powers, digitsAt, decimal, tooWide, withDigit, numberFrom, ReadsBack}
-use Rattle.print.proofs.Sinks.{and-left, and-right}
-use Rattle.print.proofs.Numbers.{digit-lt, number-some}
-
--- powers that fall by ten, from below b to ten
-abbrev falling : ℕ → List ℕ → Bool
-falling b [] = eqb b 10
-falling b (p ∷ ps) = eqb b (10 * p) && falling p ps
+use borrow.Author.Tests.{leb-true, leb-false, le-leb}
+use lib.Dec.{leb}
+use lib.ListN.{length, getD, length-append}
+use Rattle.print.specs.Decimal.{digits, decimal, tooWide, withDigit, numberFrom, ReadsBack, NoLeadingZero, Zero}
+use Rattle.print.proofs.Numbers.{number-some}
 
 digit-read : (n d : ℕ) → d < 10 → n * 10 + d < tooWide → withDigit n (48 + d) ≡ n * 10 + d
 digit-read n d h small = rw (le-leb 48 (48 + d) (omega arith), le-leb (48 + d) 57 (omega arith)) (omega arith)
 
--- the first digit of n below 10 * p, and what is left, after the number m
-module _ (m n p : ℕ) (h : n < 10 * p) (small : m * (10 * p) + n < tooWide) where
-  split : n / p * p + n % p ≡ n
-  split = div-add-mod' n p
+one-more : (m : ℕ) (a : List ℕ) (b : ℕ) → numberFrom m (a ++ (b ∷ [])) ≡ withDigit (numberFrom m a) b
+unfolding numberFrom
+one-more m [] b = refl
+one-more m (x ∷ a) b = one-more (withDigit m x) a b
 
-  rest-small : n % p < p
-  rest-small = mod-lt n (omega arith)
+last-read : (m n : ℕ) → n < tooWide → m ≡ n / 10 → withDigit m (48 + n % 10) ≡ n
+last-read m n small e = digit-read m (n % 10) (omega arith) (omega arith) ∙ omega arith
 
-  same-sum : (m * 10 + n / p) * p + n % p ≡ m * (10 * p) + n
-  same-sum = let e = split in omega arith
+-- the digits of a number that has no more than one after k
+read : (k n : ℕ) → n < 10 ^ suc k → n < tooWide → numberFrom 0 (digits k n) ≡ n
+unfolding digits numberFrom
+read zero n h small = last-read 0 n small (omega arith)
+read (suc k) n h small = go (leb 10 n) refl (read k (n / 10) (omega arith) (omega arith))
+  where
+    go : (t : Bool) → leb 10 n ≡ t → numberFrom 0 (digits k (n / 10)) ≡ n / 10 → numberFrom 0 (cond t (digits k (n / 10)) [] ++ ((48 + n % 10) ∷ [])) ≡ n
+    go true e ih = one-more 0 (digits k (n / 10)) (48 + n % 10) ∙ last-read (numberFrom 0 (digits k (n / 10))) n small ih
+    go false e ih = let l = leb-false 10 n e in last-read 0 n small (omega arith)
 
-  first-small : m * 10 + n / p < tooWide
-  first-small = let e = same-sum in let k = le-mul-of-pos-right {m = p} (m * 10 + n / p) (omega arith) in omega arith
-
-  first-read : withDigit m (48 + n / p) ≡ m * 10 + n / p
-  first-read = digit-read m (n / p) (digit-lt n p h) first-small
-
--- the digits of n at powers below b, after the number m
-read-on : (ps : List ℕ) (b m n : ℕ) → falling b ps ≡ true → n < b → m * b + n < tooWide → numberFrom m (digitsAt ps true n) ≡ m * b + n
-unfolding digitsAt numberFrom
-read-on [] b m n f h small =
-    let e = eqb-true b 10 f in
-    let k = ap (λ x. m * x) e in
-    rw (digit-read m n (omega arith) (omega arith)) (omega arith)
-read-on (p ∷ ps) b m n f h small =
-    let e = eqb-true b (10 * p) (and-left (eqb b (10 * p)) (falling p ps) f) in
-    let k = ap (λ x. m * x) e in
-    let h′ : n < 10 * p = omega arith in
-    let small′ : m * (10 * p) + n < tooWide = omega arith in
-    let sum = same-sum m n p h′ small′ in
-    rw (first-read m n p h′ small′)
-    (read-on ps p (m * 10 + n / p) (n % p) (and-right (eqb b (10 * p)) (falling p ps) f) (rest-small m n p h′ small′) (omega arith) ∙ (omega arith))
-
--- zeros in front are left out
-first-at : (t : Bool) (p : ℕ) (ps : List ℕ) (n : ℕ) → leb p n ≡ t → numberFrom 0 (digitsAt (p ∷ ps) true n) ≡ n
-    → (n < p → numberFrom 0 (digitsAt ps false n) ≡ n) → numberFrom 0 (cond t ((48 + n / p) ∷ []) [] ++ digitsAt ps t (n % p)) ≡ n
-unfolding digitsAt
-first-at true p ps n e shown hidden = shown
-first-at false p ps n e shown hidden = rw (mod-eq-of-lt (leb-false p n e)) (hidden (leb-false p n e))
-
-read-first : (ps : List ℕ) (b n : ℕ) → falling b ps ≡ true → n < b → n < tooWide → numberFrom 0 (digitsAt ps false n) ≡ n
-unfolding digitsAt
-read-first [] b n f h small = read-on [] b 0 n f h (omega arith) ∙ omega arith
-read-first (p ∷ ps) b n f h small =
-    first-at (leb p n) p ps n refl (read-on (p ∷ ps) b 0 n f h (omega arith) ∙ omega arith)
-    (λ below. read-first ps p n (and-right (eqb b (10 * p)) (falling p ps) f) below small)
-
-some-digit : (ps : List ℕ) (started : Bool) (n : ℕ) → length (digitsAt ps started n) ≡ 0 → ⊥
-unfolding digitsAt
-some-digit [] started n e = omega arith
-some-digit (p ∷ ps) started n e =
-    some-digit ps (started || leb p n) (n % p)
-    (let l = length-append (cond (started || leb p n) ((48 + n / p) ∷ []) []) (digitsAt ps (started || leb p n) (n % p)) in omega arith)
+some-digit : (k n : ℕ) → length (digits k n) ≡ 0 → ⊥
+unfolding digits
+some-digit zero n e = omega arith
+some-digit (suc k) n e = let l = length-append (cond (leb 10 n) (digits k (n / 10)) []) ((48 + n % 10) ∷ []) in omega arith
 
 pub reads-back : ReadsBack
 unfolding decimal
-reads-back n h = number-some (decimal n) (some-digit powers false n) ∙ read-first powers 10000000000 n refl (omega arith) h
+reads-back n h = number-some (decimal n) (some-digit 9 n) ∙ read 9 n (omega arith) h
+
+-- what stands in front of a list that is not empty
+front-of : (a b : List ℕ) (d : ℕ) → (getD a 0 d ≡ d → ⊥) → getD (a ++ b) 0 d ≡ d → ⊥
+front-of [] b d h e = h refl
+front-of (x ∷ a) b d h e = h e
+
+no-zero : (k n : ℕ) → n < 10 ^ suc k → 0 < n → getD (digits k n) 0 48 ≡ 48 → ⊥
+unfolding digits
+no-zero zero n h pos e = omega arith
+no-zero (suc k) n h pos e = go (leb 10 n) refl (λ big. no-zero k (n / 10) (omega arith) (omega arith)) e
+  where
+    go : (t : Bool) → leb 10 n ≡ t → (9 < n → getD (digits k (n / 10)) 0 48 ≡ 48 → ⊥)
+        → getD (cond t (digits k (n / 10)) [] ++ ((48 + n % 10) ∷ [])) 0 48 ≡ 48 → ⊥
+    go true q ih = front-of (digits k (n / 10)) ((48 + n % 10) ∷ []) 48 (ih (let l = leb-true 10 n q in omega arith))
+    go false q ih = λ first. let l = leb-false 10 n q in omega arith
+
+pub no-leading-zero : NoLeadingZero
+unfolding decimal
+no-leading-zero zero h e = refl
+no-leading-zero (suc n) h e = absurd (no-zero 9 (suc n) (omega arith) (omega arith) e)
+
+pub zero-digit : Zero
+unfolding decimal digits
+zero-digit = refl

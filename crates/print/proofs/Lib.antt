@@ -1,3 +1,4 @@
 pub mod Sinks
 pub mod Numbers
+pub mod Places
 pub mod Digits

@@ -1,26 +1,19 @@
 -- Numbers as text: the decimal digits of a 32-bit number, and the number that a word reads as (01: "Run program").
-use Prim.Native.Nat.{ℕ, _+_, _-_, _*_, _/_, _%_, _<_, min}
+use Prim.Native.Nat.{ℕ, zero, suc, _+_, _-_, _*_, _/_, _%_, _<_, min}
 use mathlib.Core.Path.{_≡_}
-use mathlib.Core.Bool.{Bool, false, _&&_, _||_, cond}
+use mathlib.Core.Bool.{_&&_, cond}
 use mathlib.Core.List.{List, [], _∷_, _++_}
 use lib.Dec.{leb}
+use lib.ListN.{getD}
 
--- the powers of ten that a 32-bit number can hold, down to ten
-abbrev pub powers : List ℕ
-powers = 1000000000 ∷ 100000000 ∷ 10000000 ∷ 1000000 ∷ 100000 ∷ 10000 ∷ 1000 ∷ 100 ∷ 10 ∷ []
+-- The digits of n, at most k of them before the last: the last is n % 10, and those of n / 10 stand before it.
+unfoldable pub digits : ℕ → ℕ → List ℕ
+digits zero n = (48 + n % 10) ∷ []
+digits (suc k) n = cond (leb 10 n) (digits k (n / 10)) [] ++ ((48 + n % 10) ∷ [])
 
--- The digit of n at the power p. A zero in front of the first digit is left out.
-abbrev pub digit : Bool → ℕ → ℕ → List ℕ
-digit started p n = cond (started || leb p n) ((48 + n / p) ∷ []) []
-
--- the digits of n at some powers, and its last one
-unfoldable pub digitsAt : List ℕ → Bool → ℕ → List ℕ
-digitsAt [] started n = (48 + n) ∷ []
-digitsAt (p ∷ ps) started n = digit started p n ++ digitsAt ps (started || leb p n) (n % p)
-
--- without leading zeros; 0 is `0`
+-- a number of 32 bits has at most nine before its last
 unfoldable pub decimal : ℕ → List ℕ
-decimal n = digitsAt powers false n
+decimal n = digits 9 n
 
 -- a list of numbers to the end of a line: a space before each
 unfoldable pub listed : List ℕ → List ℕ
@@ -47,3 +40,11 @@ numberOf (b ∷ bs) = numberFrom 0 (b ∷ bs)
 -- What was printed reads back as the number.
 abbrev pub ReadsBack : Type 0
 ReadsBack = (n : ℕ) → n < tooWide → numberOf (decimal n) ≡ n
+
+-- Only 0 begins with a zero.
+abbrev pub NoLeadingZero : Type 0
+NoLeadingZero = (n : ℕ) → n < tooWide → getD (decimal n) 0 48 ≡ 48 → n ≡ 0
+
+-- 0 is `0`.
+abbrev pub Zero : Type 0
+Zero = decimal 0 ≡ 48 ∷ []

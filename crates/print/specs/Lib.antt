@@ -1,3 +1,4 @@
 pub mod Sink
 pub mod Decimal
+pub mod Parts
 pub mod Lines

@@ -1,13 +1,12 @@
 // What the run program prints, as bytes, into a lent buffer. Each function takes the place of the next byte and answers the place after what it
 // wrote.
 ghost use mathlib.Core.Path.{_≡_};
-ghost use Prim.Native.Nat.{_+_, _*_, _<_, _/_, _%_};
-ghost use mathlib.Core.Bool.{cond};
-ghost use mathlib.Core.List.{[], _∷_};
-ghost use lib.ListN.{getD};
+ghost use Prim.Native.Nat.{_+_, _*_, _^_, _<_, _≤_};
+ghost use mathlib.Core.List.{_∷_};
 ghost use Rattle.print.specs.Sink.{sink, put as Sink·put, puts as Sink·puts};
 ghost use Rattle.print.specs.Lines.{replied, serverList, clientList, unknown as Lines·unknown};
-ghost use Rattle.print.specs.Decimal.{powers, listed, decimal as Decimal·decimal};
+ghost use Rattle.print.specs.Decimal.{digits, listed, decimal as Decimal·decimal};
+ghost use Rattle.print.specs.Parts.{taken, split, lower, digitFrom};
 
 // One byte. Where the buffer is full it is dropped.
 fn put(out: &mut [u8], at: usize, b: u8) -> usize
@@ -33,73 +32,118 @@ pub fn puts(out: &mut [u8], at: usize, s: &[u8]) -> usize
     to
 }
 
-const POWERS: [u32; 9] = [
-    1_000_000_000,
-    100_000_000,
-    10_000_000,
-    1_000_000,
-    100_000,
-    10_000,
-    1_000,
-    100,
+const POWERS: [u32; 10] = [
+    1,
     10,
+    100,
+    1_000,
+    10_000,
+    100_000,
+    1_000_000,
+    10_000_000,
+    100_000_000,
+    1_000_000_000,
 ];
 
 fn power(k: usize) -> u32
-    requires { ⌜ k < 9 ⌝ }
-    ensures { λ r. ⌜ r ≡ getD powers k 0 ⌝ }
+    requires { ⌜ k < 10 ⌝ }
+    ensures { λ r. ⌜ r ≡ 10 ^ k ⌝ }
 {
     POWERS[k]
 }
 
-// A digit, and what is left.
-struct Quotient {
+// A digit so far, and what is left of the number.
+struct Part {
     digit: u8,
     rest: u32,
 }
 
-// How often p goes into n, found by subtracting, and the rest.
-fn divide(n: u32, p: u32) -> Quotient
-    requires { ⌜ n < 10 * p ⌝ }
-    ensures { λ r. ⌜ (r .digit ≡ n / p) × (r .rest ≡ n % p) ⌝ }
+// Takes p off what is left, `times` times at once, where it holds that much, and counts it in the digit.
+fn take(a: Part, p: u32, times: u8) -> Part
+    requires { ⌜ (a .digit < 10) × (times < 10) × (times * p < 4294967296) ⌝ }
+    ensures { λ r. ⌜ r ≡ taken a p times ⌝ }
 {
-    let mut digit: u8 = 0;
-    let mut rest = n;
-    while p <= rest {
-        rest -= p;
-        digit += 1;
+    let m = times as u32 * p;
+    if m <= a.rest {
+        return Part {
+            digit: a.digit + times,
+            rest: a.rest - m,
+        };
     }
-    Quotient { digit, rest }
+    a
 }
 
-// A digit, unless it is a zero in front of the first.
-fn place(out: &mut [u8], at: usize, shown: bool, d: u8) -> usize
-    requires { ⌜ d < 10 ⌝ }
-    ensures { λ r. ⌜ sink (now (out .exit)) r ≡ Sink·puts (cond shown ((48 + d) ∷ []) []) (sink (now (out .entry)) at) ⌝ }
+// The digit of n at the power p, and the rest. 4, 3, 1 and 1 make up every digit, and 4 times the highest power still has 32 bits.
+fn digit_at(n: u32, p: u32) -> Part
+    requires { ⌜ (n < 10 * p) × (p ≤ 1000000000) ⌝ }
+    ensures { λ r. ⌜ r ≡ split n p ⌝ }
 {
-    if shown {
-        return put(out, at, 48 + d);
-    }
-    at
+    let a = Part { digit: 0, rest: n };
+    let b = take(a, p, 4);
+    let c = take(b, p, 3);
+    let d = take(c, p, 1);
+    take(d, p, 1)
 }
 
-// A number in decimal, without leading zeros.
+// The place of the next byte, and what is left of the number.
+struct Next {
+    at: usize,
+    rest: u32,
+}
+
+// The digit at the power p of a number n, of which the rest is left. Where n is below p it has none.
+fn put_digit(out: &mut [u8], at: usize, n: u32, rest: u32, p: u32) -> Next
+    requires { ⌜ (rest ≤ n) × (rest < 10 * p) × (p ≤ 1000000000) ⌝ }
+    ensures { λ r. ⌜ (sink (now (out .exit)) (r .at) ≡ Sink·puts (digitFrom p n rest) (sink (now (out .entry)) at)) × (r .rest ≡ split rest p .rest) ⌝ }
+{
+    if n < p {
+        return Next { at, rest };
+    }
+    let d = digit_at(rest, p);
+    let to = put(out, at, 48 + d.digit);
+    Next {
+        at: to,
+        rest: d.rest,
+    }
+}
+
+// The digits of n at the powers of ten from `from` down, those from `to` on left out: with these they are the digits from `from` on.
+fn put_digits(out: &mut [u8], at: usize, n: u32, rest: u32, from: usize, to: usize) -> Next
+    requires { ⌜ (rest ≡ lower from n) × (to ≤ from) × (from ≤ 9) ⌝ }
+    ensures { λ r. ⌜ (Sink·puts (digits to n) (sink (now (out .exit)) (r .at)) ≡ Sink·puts (digits from n) (sink (now (out .entry)) at)) × (r .rest ≡ lower to n) ⌝ }
+{
+    let mut next = at;
+    let mut left = rest;
+    let mut k = from;
+    while to < k {
+        let d = put_digit(out, next, n, left, power(k));
+        next = d.at;
+        left = d.rest;
+        k -= 1;
+    }
+    Next {
+        at: next,
+        rest: left,
+    }
+}
+
+// The digits in front of the last three. A short number has none, and one comparison tells.
+fn put_front(out: &mut [u8], at: usize, n: u32) -> Next
+    ensures { λ r. ⌜ (Sink·puts (digits 2 n) (sink (now (out .exit)) (r .at)) ≡ Sink·puts (Decimal·decimal n) (sink (now (out .entry)) at)) × (r .rest ≡ lower 2 n) ⌝ }
+{
+    if n < 1_000 {
+        return Next { at, rest: n };
+    }
+    put_digits(out, at, n, n, 9, 2)
+}
+
+// A number in decimal, from its highest power of ten down.
 fn decimal(out: &mut [u8], at: usize, n: u32) -> usize
     ensures { λ r. ⌜ sink (now (out .exit)) r ≡ Sink·puts (Decimal·decimal n) (sink (now (out .entry)) at) ⌝ }
 {
-    let mut to = at;
-    let mut rest = n;
-    let mut started = false;
-    let mut k = 0;
-    while k < 9 {
-        let p = power(k);
-        let s = divide(rest, p);
-        started = started | (p <= rest);
-        to = place(out, to, started, s.digit);
-        rest = s.rest;
-        k += 1;
-    }
-    put(out, to, 48 + rest as u8)
+    let front = put_front(out, at, n);
+    let last = put_digits(out, front.at, n, front.rest, 2, 0);
+    put(out, last.at, 48 + last.rest as u8)
 }
 
 // A list of items: a space before each, and the end of the line.

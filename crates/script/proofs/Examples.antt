@@ -3,7 +3,7 @@ use mathlib.Core.Path.{_≡_, refl}
 use mathlib.Core.List.{[], _∷_}
 use Rattle.model.proofs.Computing.{computing}
 use Rattle.text.specs.Text.{before, parts, same}
-use Rattle.print.specs.Decimal.{digitsAt, decimal, listed, numberFrom, numberOf}
+use Rattle.print.specs.Decimal.{digits, decimal, listed, numberFrom, numberOf}
 use Rattle.text.specs.Command.{commandOf}
 use Rattle.opening.specs.Opening.{openingOf}
 use Rattle.bench.specs.Bench.{step}
@@ -11,7 +11,7 @@ use Rattle.script.specs.Output.{clientLists, understood, ran, output}
 
 -- opens every definition on the way
 unfoldable whole : Unit {0}
-unfolding computing before parts same digitsAt decimal listed numberFrom numberOf commandOf openingOf step clientLists understood ran output
+unfolding computing before parts same digits decimal listed numberFrom numberOf commandOf openingOf step clientLists understood ran output
 whole = tt
 
 -- 01's marked case P11, with a byte 10 after the last line and without

@@ -23,7 +23,7 @@ use Rattle.text.specs.Command as command
 use Rattle.ot.specs.declared.Edit.{Edit}
 use Rattle.ot.specs.declared.Edit.the-variants.{Nothing, Delete, Insert}
 use Rattle.text.specs.Text.{joined, parts, linesOf}
-use Rattle.print.specs.Decimal.{powers, digitsAt, decimal, listed}
+use Rattle.print.specs.Decimal.{digits, decimal, listed}
 use Rattle.text.specs.Command.{commandOf}
 use Rattle.opening.specs.Opening.{Opening, none, sheet, openingOf}
 use Rattle.bench.specs.Bench.{Bench, Step, SoundBench, clientOf, onClient, onServer, delivered, room, step, openBench}
@@ -33,22 +33,17 @@ use Rattle.print.proofs.Sinks.{both, and-left, and-right}
 use Rattle.bench.proofs.Benches.{step-sound, opened, open-sound}
 
 -- A number has at most ten digits, a list eleven bytes an item.
-digit-length : (t : Bool) (d : ℕ) → length (cond t (d ∷ []) []) ≤ 1
-digit-length true d = omega arith
-digit-length false d = omega arith
-
-digits-length : (ps : List ℕ) (started : Bool) (n : ℕ) → length (digitsAt ps started n) ≤ length ps + 1
-unfolding digitsAt
-digits-length [] started n = omega arith
-digits-length (p ∷ ps) started n =
-    let l = length-append (cond (started || leb p n) ((48 + n / p) ∷ []) []) (digitsAt ps (started || leb p n) (n % p)) in
-    let a = digit-length (started || leb p n) (48 + n / p) in
-    let h = digits-length ps (started || leb p n) (n % p) in
+digits-length : (k n : ℕ) → length (digits k n) ≤ k + 1
+unfolding digits
+digits-length zero n = omega arith
+digits-length (suc k) n =
+    let l = length-append (cond (leb 10 n) (digits k (n / 10)) []) ((48 + n % 10) ∷ []) in
+    let h = both (λ (x : List ℕ). length x ≤ k + 1) (leb 10 n) (digits k (n / 10)) [] (digits-length k (n / 10)) (omega arith) in
     omega arith
 
 decimal-length : (n : ℕ) → length (decimal n) ≤ 10
 unfolding decimal
-decimal-length n = digits-length powers false n
+decimal-length n = digits-length 9 n
 
 listed-length : (xs : List ℕ) → length (listed xs) ≤ 11 * length xs + 1
 unfolding listed
@@ -77,7 +72,7 @@ below-at (suc k) P r h lt = go (eqb r k) refl (λ less. below-at k P r (and-righ
     go false e ih = ih (let d = eqb-false r k e in omega arith)
 
 reply-length : (r : ℕ) → r ≤ 14 → length (replied r) ≤ 3
-unfolding below decimal digitsAt
+unfolding below decimal digits
 reply-length r h =
     let l = length-append (decimal r) (10 ∷ []) in
     let s = leb-true (length (decimal r)) 2 (below-at 15 small r refl (omega arith)) in

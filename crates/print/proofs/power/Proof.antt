@@ -1,5 +1,5 @@
-use mathlib.Core.Path.{refl}
 use borrow.Author.Needs.{needs}
+use Rattle.print.proofs.Places.{power-at}
 use Rattle.print.proofs.power.Statement.{statement}
 use Rattle.print.proofs.power.Tie as tie
 
@@ -10,7 +10,7 @@ array-read-result : tie.Need-array-read-result
 array-read-result c = search needs
 
 returns : tie.Need-returns
-returns c = refl
+returns c = power-at (c .args .k) (c .pre)
 
 pub power-spec : {M : Type 1} → statement M
 power-spec = tie.close (tie.spec mul-result array-read-result returns)

@@ -1,4 +1,4 @@
-use Rattle.print.proofs.Numbers.{one-put}
+use Rattle.print.proofs.Places.{one-put}
 use Rattle.print.proofs.Sinks.{then-byte}
 use borrow.Author.Needs.{needs}
 use Rattle.print.proofs.reply.Statement.{statement}
