@@ -3,6 +3,8 @@
 pub const NOTHING: u8 = 0;
 pub const DELETE: u8 = 1;
 pub const INSERT: u8 = 2;
+/// Of a slot that holds no edit.
+pub const NONE: u8 = 3;
 
 /// An edit: from the top, kind (8 bits), position (16), priority (8), item (32). What a kind does not use is zero, so that an unused place is the
 /// word 0. Position and priority stand side by side: one comparison of 24 bits decides who moves.
@@ -45,23 +47,18 @@ impl Edit {
         self.0 as u32
     }
 
-    /// The edit whose place (position * 256 + priority) and item stand in a slot. What no edit has there becomes a word that question 2 refuses
-    /// and that `place` and `item` give back; of the place's top byte only 0 to 2 are told apart.
+    /// The edit whose place (position * 256 + priority) and item stand in a slot. What no edit has there becomes an insert without a position
+    /// or priority, or of kind `NONE`, which question 2 refuses.
+    #[inline]
     pub fn of_slot(place: u32, item: u32) -> Edit {
-        let (top, position, priority) = ((place >> 24) as u8, (place >> 8) as u16, place as u8);
-        let mut edit = Edit::insert(position, item, priority);
-        if priority == 0 && item == 0 {
-            edit = if position == 0 { Edit::NOTHING } else { Edit::delete(position) };
-        }
-        if top != 0 {
-            edit = Edit(Edit::insert(position, item, priority).0 + ((top as u64) << 56));
-        }
-        edit
-    }
-
-    /// Position * 256 + priority, and above them what `of_slot` found there.
-    pub fn place(self) -> u32 {
-        (self.kind().max(INSERT) - INSERT) as u32 * (1 << 24) + self.key()
+        let kind = if place >> 24 != 0 {
+            NONE
+        } else if place & 255 != 0 || item != 0 {
+            INSERT
+        } else {
+            (place != 0) as u8 * DELETE
+        };
+        Edit((kind as u64) << 56 | (place as u64 & 0xFF_FFFF) << 32 | item as u64)
     }
 
     /// Zero exactly for an unused place.
@@ -76,9 +73,9 @@ impl Edit {
         Edit(self.0 & !(0xFFFF << STEP) | (position as u64) << STEP)
     }
 
-    /// Position and priority in one number.
+    /// Position * 256 + priority.
     #[inline]
-    fn key(self) -> u32 {
+    pub fn key(self) -> u32 {
         (self.0 >> 32) as u32 & 0xFF_FFFF
     }
 

@@ -1,7 +1,7 @@
 //! One line of an end: its counts and its pending edits. A client has one, the server eight.
 
 use super::codec::{self, Message};
-use super::edit::{Edit, DELETE, INSERT, NOTHING};
+use super::edit::{Edit, DELETE, INSERT, NONE, NOTHING};
 use super::slip::{Rules, Slip};
 use super::{Answer, Sent};
 use crate::limits::*;
@@ -49,7 +49,7 @@ impl Line {
             let outside = edit.position().wrapping_sub(1) >= ITEMS as u16;
             bad |= (edit.kind() != NOTHING) & outside & !R::slips(Slip::SoundPosition);
             bad |= (edit.kind() == INSERT) & !allowed(edit.priority()) & !R::slips(Slip::SoundPriority);
-            bad |= edit.kind() > INSERT;
+            bad |= edit.kind() == NONE;
         }
         let rest = unused.iter().fold(0, |all, edit| all | edit.word());
         !bad && (rest == 0 || R::slips(Slip::SoundPendingZero))
@@ -153,7 +153,8 @@ fn put<R: Rules>(message: &Message, out: &mut [u8]) -> Sent {
             let fits = out.len();
             out.copy_from_slice(&bytes[..fits]);
         }
-        return Sent { refusal: 14, length: if R::slips(Slip::LengthAtRefusal) { length as u8 } else { 0 } };
+        let refusal = if R::slips(Slip::ShortOut18) { 18 } else { 14 };
+        return Sent { refusal, length: if R::slips(Slip::LengthAtRefusal) { length as u8 } else { 0 } };
     }
     out[..length].copy_from_slice(&bytes[..length]);
     if R::slips(Slip::BytesPast) {
