@@ -17,11 +17,18 @@ struct Line {
 }
 
 /// An end as a dump shows it.
-struct View<'a>(u8, &'a [u8]);
+struct View {
+    end: u8,
+    words: Vec<u64>,
+}
 
-impl View<'_> {
+impl View {
+    fn new(end: u8, dump: &[u8]) -> View {
+        View { end, words: dump.chunks_exact(4).map(|word| word.iter().rev().fold(0, |all, &byte| all << 8 | byte as u64)).collect() }
+    }
+
     fn number(&self, line: u8, field: Field) -> u64 {
-        layout::read(self.1, layout::word(self.0, line, field).unwrap()) as u64
+        self.words[layout::word(self.end, line, field).unwrap() as usize]
     }
 
     fn line(&self, line: u8) -> Line {
@@ -61,7 +68,7 @@ fn sound_pending(line: &Line, priority_allowed: impl Fn(u64) -> bool) -> bool {
 }
 
 fn sound_client(dump: &[u8]) -> bool {
-    let view = View(1, dump);
+    let view = View::new(1, dump);
     let [n, line, length] = [Field::N, Field::Line, Field::Length].map(|field| view.number(1, field));
     let (own, items) = (view.line(1), view.items());
     (1..=8).contains(&n)
@@ -76,7 +83,7 @@ fn sound_client(dump: &[u8]) -> bool {
 }
 
 fn sound_server(dump: &[u8]) -> bool {
-    let view = View(0, dump);
+    let view = View::new(0, dump);
     let [n, initial, length] = [Field::N, Field::Initial, Field::Length].map(|field| view.number(0, field));
     let (lines, items): (Vec<Line>, _) = ((1..=LINES as u8).map(|line| view.line(line)).collect(), view.items());
     if !(1..=8).contains(&n) || initial > 128 || length > 512 {
@@ -154,14 +161,19 @@ fn seen(known: &mut Known, call: &Call, now: &[u8]) -> Result<(), String> {
         *known = Known::default();
         return Ok(());
     }
-    let is_sound = sound(call.end, now);
-    if let Some((before, was_sound)) = &known.end {
-        if let Some(at) = before.iter().zip(now).position(|(before, now)| before != now).filter(|_| !known.changed) {
+    let before = known.end.take();
+    let is_sound = match &before {
+        Some((bytes, was_sound)) if bytes == now => *was_sound,
+        _ => sound(call.end, now),
+    };
+    if let Some((before, was_sound)) = before {
+        let differs = before.iter().zip(now).position(|(before, now)| before != now);
+        if let Some(at) = differs.filter(|_| !known.changed) {
             let word = at as u16 / 4;
-            let [before, now] = [before, now].map(|bytes| layout::read(bytes, word));
+            let [before, now] = [&before, now].map(|bytes| layout::read(bytes, word));
             return Err(format!("{} (word {word}): expected {before}; came {now}", layout::name(call.end, word)));
         }
-        if *was_sound && !is_sound {
+        if was_sound && !is_sound {
             return Err("end: expected a sound one after an accepted call; came an unsound one".to_string());
         }
     }
