@@ -53,7 +53,8 @@ fn sort(word: &str) -> Result<Sort, String> {
 }
 
 fn number(option: &str, word: &str) -> Result<u64, String> {
-    word.parse().map_err(|_| format!("{option} needs a number, not {word:?}"))
+    const MOST: u64 = 1_000_000_000_000_000;
+    word.parse().ok().filter(|&number| number <= MOST).ok_or(format!("{option} needs a number up to {MOST}, not {word:?}"))
 }
 
 /// The options behind a command, each at most once and with its word.
@@ -61,6 +62,9 @@ fn options(mut command: Command, name: &str, words: &[String]) -> Result<(Comman
     let mut chosen = None;
     for (at, pair) in words.chunks(2).enumerate() {
         let option = pair[0].as_str();
+        if !option.starts_with("--") {
+            return Err(format!("{name} does not take {option:?}"));
+        }
         let word = pair.get(1).ok_or(format!("{option:?} has nothing behind it"))?;
         if words.iter().step_by(2).take(at).any(|earlier| earlier == option) {
             return Err(format!("{option} stands twice"));

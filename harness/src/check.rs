@@ -227,7 +227,10 @@ fn seeds(first: u64, turns: &[Sort], mut fine: bool, going: impl Fn(&Tally) -> b
         fine = seed(sort, now, subjects, &mut tally);
         now += 1;
     }
-    println!("seeds {first} to {}", now.saturating_sub(1));
+    match now - first {
+        0 => println!("no seed"),
+        _ => println!("seeds {first} to {}", now - 1),
+    }
     tally.print();
     println!("{}", if fine { "no difference" } else { "DIFFERENT" });
     fine

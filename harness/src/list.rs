@@ -205,7 +205,7 @@ pub fn difference(call: &Call, one: &[u8], other: &[u8]) -> Option<(String, [Str
         return Some(("answer".to_string(), both(&|bytes| in_words(bytes))));
     }
     if byte < ANSWER {
-        return Some(("bytes that had to stay".to_string(), both(&|bytes| format!("{:#b} changed", bytes[ANSWER - 1]))));
+        return Some(("changed that had to stay".to_string(), both(&|bytes| had_to_stay(bytes[ANSWER - 1]))));
     }
     let at = byte - ANSWER;
     if call.op == SHOW {
@@ -215,6 +215,24 @@ pub fn difference(call: &Call, one: &[u8], other: &[u8]) -> Option<(String, [Str
     let word = (at / 4) as u16;
     let value = |bytes: &[u8]| layout::read(&bytes[ANSWER..], word).to_string();
     Some((format!("{} (word {word})", layout::name(call.end, word)), both(&value)))
+}
+
+/// Bytes that a call changed and that had to stay, in an answer's last byte: the end's, by a refused call or by a sending.
+pub const END: u8 = 1;
+/// Those around the layout, lent or not.
+pub const AROUND: u8 = 2;
+/// The slot's: those past a message that was written, else any.
+pub const OUT: u8 = 4;
+
+/// They, in words.
+pub fn had_to_stay(bits: u8) -> String {
+    let names = [(END, "bytes of the end"), (AROUND, "bytes around the end"), (OUT, "bytes of the slot")];
+    let there: Vec<&str> = names.iter().filter(|(bit, _)| bits & bit != 0).map(|(_, name)| *name).collect();
+    if there.is_empty() {
+        "no byte".to_string()
+    } else {
+        there.join(" and ")
+    }
 }
 
 /// The answer of an exported call.

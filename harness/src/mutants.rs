@@ -83,7 +83,7 @@ fn in_lists(sorts: &[Sort], by: &'static str, noticed: &dyn Fn(&List) -> bool) -
             for list in sort.lists(seed) {
                 calls += list.calls.len();
                 if noticed(&list) {
-                    let short = shrink::shrink(&list, Duration::from_secs(5), noticed);
+                    let short = shrink::shrink(&list, Duration::from_secs(3), noticed);
                     return Some(Notice { by, input: format!("{sort:?} {seed}"), calls, shortest: short.calls.len() });
                 }
             }
@@ -100,7 +100,7 @@ fn in_script() -> Option<Notice> {
         let script = scripts::random(seed, 60);
         let wrong = |script: &[u8]| calls::printed(&Slipping, script, RUN_OUT).map_or(true, |printed| printed != scripts::expected(script));
         if wrong(&script) {
-            let short = shrink::shrink_script(&script, Duration::from_secs(5), &wrong);
+            let short = shrink::shrink_script(&script, Duration::from_secs(3), &wrong);
             let lines = |script: &[u8]| script.split(|&byte| byte == 10).count();
             return Some(Notice { by: "script", input: format!("Script {seed}"), calls: lines(&script), shortest: lines(&short) });
         }

@@ -3,6 +3,7 @@
 use crate::calls::Calls;
 use crate::check::{judge, judge_script, same, Tally};
 use crate::list::List;
+use crate::plain::slip;
 use crate::shrink;
 use std::time::Duration;
 
@@ -13,11 +14,11 @@ pub fn heading(place: &str, text: &str) {
     println!("FAILURE: {place}: {text}");
 }
 
-/// The command that does the same again, with the same subjects.
+/// The command that does the same again, with the same program and the same slip.
 pub fn again(command: &str) {
-    let features = if cfg!(feature = "proved") { " --features proved" } else { "" };
-    let slip = crate::plain::slip::now().map_or(String::new(), |slip| format!(" --slip {slip:?}"));
-    println!("again: cargo run --release --offline{features} -- {command}{slip}");
+    let program = std::env::args().next().unwrap_or("harness".to_string());
+    let slip = slip::now().map_or(String::new(), |slip| format!(" --slip {slip:?}"));
+    println!("again: {program} {command}{slip}");
 }
 
 fn written(file: &str, bytes: &[u8]) {

@@ -184,7 +184,7 @@ fn seen(known: &mut Known, call: &Call, now: &[u8]) -> Result<(), String> {
 fn called(known: &mut Known, call: &Call, initial: &[u32], bytes: &[u8]) -> Result<(), String> {
     let (refusal, rest) = (answer(bytes) as u8, answer(bytes) >> 8);
     if bytes[ANSWER - 1] != 0 {
-        return Err(format!("bytes that had to stay (1 the end's, 2 around it, 4 the slot's): expected 0; came {}", bytes[ANSWER - 1]));
+        return Err(format!("changed that had to stay: expected no byte; came {}", had_to_stay(bytes[ANSWER - 1])));
     }
     if refusal != 0 && rest != 0 || rest > 65_535 {
         return Err(format!("count at refusal {refusal}: expected {}; came {rest}", if refusal != 0 { "0" } else { "16 bits" }));

@@ -5,13 +5,6 @@ use crate::layout::{self, Field};
 use crate::limits::*;
 use crate::list::*;
 
-/// What a call changed that had to stay: bytes of the end, by a refused call or by a sending.
-pub const END: u8 = 1;
-/// Bytes around the layout, lent or not.
-pub const AROUND: u8 = 2;
-/// Bytes of the slot: those past a message that was written, else any.
-pub const OUT: u8 = 4;
-
 /// The bytes of an end, with some before and behind it.
 struct Place {
     end: u8,

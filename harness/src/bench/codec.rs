@@ -16,11 +16,11 @@ fn time<E: End>() -> [f64; 2] {
     [false, true].map(|writes| {
         let start = clock();
         for _ in 0..TIMES {
-            let end = E::read::<Plain>(black_box(&words));
+            let mut end = E::ZERO;
+            assert!(end.read::<Plain>(black_box(&words)));
+            black_box(&end);
             if writes {
-                black_box(end).unwrap().write(black_box(&mut words));
-            } else {
-                black_box(end);
+                end.write(black_box(&mut words));
             }
         }
         (clock() - start) / TIMES as f64

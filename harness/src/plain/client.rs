@@ -44,7 +44,7 @@ impl Client {
             && (own.made <= EDITS || R::slips(Slip::SoundMade))
             && (own.taken <= OTHERS || R::slips(Slip::SoundTaken))
             && (own.inserts <= own.made || R::slips(Slip::SoundInsertsMade))
-            && own.sound::<R>(|priority| priority == self.line)
+            && own.sound::<R>(|priority| priority == self.line as u32)
             && (rest_is_zero(&self.items, self.length) || R::slips(Slip::SoundItemsZero))
     }
 

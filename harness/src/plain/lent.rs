@@ -2,15 +2,13 @@
 //! the call was refused.
 
 use super::client::Client;
-use super::edit::Edit;
-use super::line::Line;
+use super::line::Pending;
 use super::script;
 use super::server::Server;
 use super::slip::{Rules, Slip};
 use super::{Answer, Sent};
 use crate::calls::Calls;
 use crate::limits::*;
-use std::array::from_fn;
 
 type Word = [u8; 4];
 
@@ -22,8 +20,10 @@ fn number(word: Word) -> u32 {
 /// An end that can lie in bytes.
 pub trait End: Sized {
     const WORDS: usize;
-    /// None if a number does not fit its field: no sound end has such bytes.
-    fn read<R: Rules>(words: &[Word]) -> Option<Self>;
+    /// What it is read into.
+    const ZERO: Self;
+    /// False if a number does not fit its field: no sound end has such bytes.
+    fn read<R: Rules>(&mut self, words: &[Word]) -> bool;
     fn write(&self, words: &mut [Word]);
     /// For the slip that repeats an earlier list: how often the end changed, and its list.
     fn shown(&mut self) -> (u16, &mut u16, &mut [u32; ITEMS]);
@@ -37,60 +37,53 @@ fn is_wide<R: Rules>(small: u32, others: &[Word]) -> bool {
 }
 
 #[inline]
-fn pending<R: Rules>(places: &[Word; PENDING], items: &[Word; PENDING]) -> [Edit; PENDING] {
-    from_fn(|at| {
-        let place = number(places[at]);
-        Edit::of_slot(if R::slips(Slip::WidePlace) { place & 0xFF_FFFF } else { place }, number(items[at]))
-    })
+fn read_all(numbers: &mut [u32], words: &[Word]) {
+    for (number, word) in numbers.iter_mut().zip(words) {
+        *number = u32::from_le_bytes(*word);
+    }
 }
 
 #[inline]
-fn put_pending(edits: &[Edit; PENDING], places: &mut [Word; PENDING], items: &mut [Word; PENDING]) {
-    for (at, edit) in edits.iter().enumerate() {
-        places[at] = edit.key().to_le_bytes();
-        items[at] = edit.item().to_le_bytes();
+fn write_all(words: &mut [Word], numbers: &[u32]) {
+    for (word, number) in words.iter_mut().zip(numbers) {
+        *word = number.to_le_bytes();
+    }
+}
+
+#[inline]
+fn read_pending<R: Rules>(pending: &mut Pending, places: &[Word], items: &[Word]) {
+    read_all(&mut pending.places, places);
+    read_all(&mut pending.items, items);
+    if R::slips(Slip::WidePlace) {
+        pending.places.iter_mut().for_each(|place| *place &= 0xFF_FFFF);
     }
 }
 
 impl End for Client {
     const WORDS: usize = 647;
+    const ZERO: Client = Client::ZERO;
 
     #[inline]
-    fn read<R: Rules>(words: &[Word]) -> Option<Client> {
-        let words: &[Word; Self::WORDS] = words.try_into().unwrap();
-        if is_wide::<R>(number(words[0]) | number(words[1]), &words[2..7]) {
-            return None;
-        }
+    fn read<R: Rules>(&mut self, words: &[Word]) -> bool {
         let small = |at: usize| number(words[at]) as u16;
-        let (places, items) = words[519..].split_first_chunk().unwrap();
-        Some(Client {
-            n: small(0) as u8,
-            line: small(1) as u8,
-            length: small(2),
-            own: Line {
-                made: small(3),
-                taken: small(4),
-                acked: small(5),
-                inserts: small(6),
-                pending: pending::<R>(places, items.try_into().unwrap()),
-            },
-            items: from_fn(|at| number(words[7 + at])),
-        })
+        self.n = small(0) as u8;
+        self.line = small(1) as u8;
+        self.length = small(2);
+        let own = &mut self.own;
+        (own.made, own.taken, own.acked, own.inserts) = (small(3), small(4), small(5), small(6));
+        read_all(&mut self.items, &words[7..519]);
+        read_pending::<R>(&mut own.pending, &words[519..583], &words[583..647]);
+        !is_wide::<R>(number(words[0]) | number(words[1]), &words[2..7])
     }
 
     #[inline]
     fn write(&self, words: &mut [Word]) {
-        let words: &mut [Word; Self::WORDS] = words.try_into().unwrap();
         let own = &self.own;
         let numbers = [self.n as u16, self.line as u16, self.length, own.made, own.taken, own.acked, own.inserts];
-        for (word, number) in words[..7].iter_mut().zip(numbers) {
-            *word = (number as u32).to_le_bytes();
-        }
-        for (word, item) in words[7..519].iter_mut().zip(&self.items) {
-            *word = item.to_le_bytes();
-        }
-        let (places, items) = words[519..].split_first_chunk_mut().unwrap();
-        put_pending(&own.pending, places, items.try_into().unwrap());
+        write_all(&mut words[..7], &numbers.map(u32::from));
+        write_all(&mut words[7..519], &self.items);
+        write_all(&mut words[519..583], &own.pending.places);
+        write_all(&mut words[583..647], &own.pending.items);
     }
 
     fn shown(&mut self) -> (u16, &mut u16, &mut [u32; ITEMS]) {
@@ -100,52 +93,34 @@ impl End for Client {
 
 impl End for Server {
     const WORDS: usize = 1571;
+    const ZERO: Server = Server::ZERO;
 
     #[inline]
-    fn read<R: Rules>(words: &[Word]) -> Option<Server> {
-        let words: &[Word; Self::WORDS] = words.try_into().unwrap();
-        if is_wide::<R>(number(words[0]), &words[1..35]) {
-            return None;
-        }
+    fn read<R: Rules>(&mut self, words: &[Word]) -> bool {
         let small = |at: usize| number(words[at]) as u16;
-        let (places, _) = words[547..1059].as_chunks();
-        let (brought, _) = words[1059..].as_chunks();
-        Some(Server {
-            n: small(0) as u8,
-            initial: small(1),
-            length: small(2),
-            lines: from_fn(|line| Line {
-                made: small(3 + line),
-                taken: small(11 + line),
-                acked: small(19 + line),
-                inserts: small(27 + line),
-                pending: pending::<R>(&places[line], &brought[line]),
-            }),
-            items: from_fn(|at| number(words[35 + at])),
-        })
+        self.n = small(0) as u8;
+        self.initial = small(1);
+        self.length = small(2);
+        for (at, line) in self.lines.iter_mut().enumerate() {
+            (line.made, line.taken, line.acked, line.inserts) = (small(3 + at), small(11 + at), small(19 + at), small(27 + at));
+            let (place, item) = (547 + PENDING * at, 1059 + PENDING * at);
+            read_pending::<R>(&mut line.pending, &words[place..place + PENDING], &words[item..item + PENDING]);
+        }
+        read_all(&mut self.items, &words[35..547]);
+        !is_wide::<R>(number(words[0]), &words[1..35])
     }
 
     #[inline]
     fn write(&self, words: &mut [Word]) {
-        let words: &mut [Word; Self::WORDS] = words.try_into().unwrap();
-        let mut put = |at: usize, number: u16| words[at] = (number as u32).to_le_bytes();
-        put(0, self.n as u16);
-        put(1, self.initial);
-        put(2, self.length);
+        write_all(&mut words[..3], &[self.n as u32, self.initial as u32, self.length as u32]);
         for (at, line) in self.lines.iter().enumerate() {
-            put(3 + at, line.made);
-            put(11 + at, line.taken);
-            put(19 + at, line.acked);
-            put(27 + at, line.inserts);
+            for (row, count) in [line.made, line.taken, line.acked, line.inserts].into_iter().enumerate() {
+                words[3 + LINES * row + at] = (count as u32).to_le_bytes();
+            }
+            write_all(&mut words[547 + PENDING * at..][..PENDING], &line.pending.places);
+            write_all(&mut words[1059 + PENDING * at..][..PENDING], &line.pending.items);
         }
-        for (word, item) in words[35..547].iter_mut().zip(&self.items) {
-            *word = item.to_le_bytes();
-        }
-        let (places, brought) = words[547..].split_at_mut(LINES * PENDING);
-        let lines = places.as_chunks_mut().0.iter_mut().zip(brought.as_chunks_mut().0);
-        for (line, (places, brought)) in self.lines.iter().zip(lines) {
-            put_pending(&line.pending, places, brought);
-        }
+        write_all(&mut words[35..547], &self.items);
     }
 
     fn shown(&mut self) -> (u16, &mut u16, &mut [u32; ITEMS]) {
@@ -171,9 +146,10 @@ fn change<R: Rules, E: End>(end: &mut [u8], call: impl FnOnce(&mut E) -> Answer)
     let Some(words) = words_mut::<E>(end).filter(|_| is_long_enough::<R, E>(lent)) else {
         return short::<R>(end, 4 * E::WORDS, |padded| change::<R, E>(padded, call));
     };
-    let Some(mut changed) = E::read::<R>(words) else {
-        return 2;
-    };
+    let mut changed = E::ZERO;
+    if !changed.read::<R>(words) {
+        return packed::<R>(2, 0);
+    }
     let before = R::slips(Slip::ListRepeated).then(|| changed.shown()).map(|(_, length, items)| (*length, *items));
     let answer = call(&mut changed);
     if let (Some(before), (counts, length, items)) = (before, changed.shown()) {
@@ -198,10 +174,11 @@ fn look<R: Rules, E: End>(end: &[u8], call: impl FnOnce(&E) -> Sent) -> u64 {
     let Some(words) = words::<E>(end).filter(|_| is_long_enough::<R, E>(end.len())) else {
         return short::<R>(&mut end.to_vec(), 4 * E::WORDS, |padded| look::<R, E>(padded, call));
     };
-    let Some(end) = E::read::<R>(words) else {
-        return 2;
-    };
-    let sent = call(&end);
+    let mut looked = E::ZERO;
+    if !looked.read::<R>(words) {
+        return packed::<R>(2, 0);
+    }
+    let sent = call(&looked);
     packed::<R>(sent.refusal, sent.length as u16)
 }
 

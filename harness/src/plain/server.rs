@@ -52,7 +52,7 @@ impl Server {
                 (line.taken <= EDITS || R::slips(Slip::SoundTaken))
                     && (line.made as u32 == taken - line.taken as u32 || R::slips(Slip::SoundSum))
                     && (line.inserts <= line.taken || R::slips(Slip::SoundInsertsMade))
-                    && line.sound::<R>(|priority| (priority.wrapping_sub(1) < self.n) & (priority != l as u8 + 1))
+                    && line.sound::<R>(|priority| (priority.wrapping_sub(1) < self.n as u32) & (priority != l as u32 + 1))
             })
             && (unused.iter().all(|line| *line == Line::ZERO) || R::slips(Slip::SoundPastN))
             && (rest_is_zero(&self.items, self.length) || R::slips(Slip::SoundItemsZero))
