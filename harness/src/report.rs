@@ -52,7 +52,10 @@ pub fn list(list: &List, index: usize, delivers: bool, subjects: &[&dyn Calls]) 
     if let Err((_, text)) = judged(&short) {
         println!("  {text}");
     }
-    written(FAILED_CALLS, &short.bytes());
+    // that everything is delivered is not asked of a list from a file
+    if judge(&short, subjects, false, &mut Tally::default()).is_err() {
+        written(FAILED_CALLS, &short.bytes());
+    }
 }
 
 /// The same of a script.

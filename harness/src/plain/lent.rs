@@ -184,7 +184,7 @@ fn look<R: Rules, E: End>(end: &[u8], call: impl FnOnce(&E) -> Sent) -> u64 {
 
 /// Questions 18 and 1 of an opening, and the end it gives.
 #[inline]
-fn open<R: Rules, E: End>(end: &mut [u8], items: &[u8], call: impl FnOnce(&[u32]) -> (u8, E)) -> u64 {
+fn open<R: Rules, E: End>(end: &mut [u8], items: &[u8], call: impl FnOnce(&mut E, &[u32]) -> u8) -> u64 {
     let lent = end.len();
     let Some(words) = words_mut::<E>(end).filter(|_| is_long_enough::<R, E>(lent)) else {
         return short::<R>(end, 4 * E::WORDS, |padded| open::<R, E>(padded, items, call));
@@ -199,8 +199,8 @@ fn open<R: Rules, E: End>(end: &mut [u8], items: &[u8], call: impl FnOnce(&[u32]
         *item = if R::slips(Slip::ItemsLowFirst) { u32::from_le_bytes(four) } else { u32::from_be_bytes(four) };
     }
     let whole = cut.is_empty() || R::slips(Slip::CutItem);
-    let (refusal, opened) = call(&list[..fours.len().min(INITIAL + 1)]);
-    if refusal == 0 && whole {
+    let mut opened = E::ZERO;
+    if whole && call(&mut opened, &list[..fours.len().min(INITIAL + 1)]) == 0 {
         let before = R::slips(Slip::OpenLeaves).then(|| words.to_vec());
         opened.write(words);
         for (word, old) in words.iter_mut().zip(before.unwrap_or_default()).skip(7) {
@@ -261,7 +261,7 @@ impl<R: Rules + Sync> Calls for R {
     }
 
     fn client_open(&self, end: &mut [u8], n: u8, line: u8, items: &[u8]) -> u64 {
-        open::<R, _>(end, items, |items| Client::open::<R>(n, line, items))
+        open::<R, Client>(end, items, |client, items| client.open::<R>(n, line, items))
     }
 
     fn client_insert(&self, end: &mut [u8], position: u16, item: u32) -> u64 {
@@ -285,7 +285,7 @@ impl<R: Rules + Sync> Calls for R {
     }
 
     fn server_open(&self, end: &mut [u8], n: u8, items: &[u8]) -> u64 {
-        open::<R, _>(end, items, |items| Server::open::<R>(n, items))
+        open::<R, Server>(end, items, |server, items| server.open::<R>(n, items))
     }
 
     fn server_send(&self, end: &[u8], line: u8, number: u16, out: &mut [u8]) -> u64 {
