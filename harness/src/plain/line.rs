@@ -76,7 +76,7 @@ impl Line {
             let foreign = if priority == 0 { item != 0 } else { !allowed(priority) } & !R::slips(Slip::SoundPriority);
             bad |= (place | item != 0) & (outside | foreign | (place >> 24 != 0));
         }
-        let rest = unused_places.iter().chain(unused_items).fold(0, |all, word| all | word);
+        let rest = unused_places.iter().zip(unused_items).fold(0, |all, (place, item)| all | place | item);
         !bad && (rest == 0 || R::slips(Slip::SoundPendingZero))
     }
 
