@@ -38,7 +38,7 @@ impl Sort {
             Bytes => damage::bytes(seed),
             Noise => vec![damage::noise(seed)],
             Ends => [crafted::crafted(), ends::ends(seed)].concat(),
-            Words => vec![ends::words(seed)],
+            Words => ends::words(seed),
         }
     }
 

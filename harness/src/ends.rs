@@ -195,24 +195,20 @@ fn together_at_server() -> Vec<Vec<Call>> {
 }
 
 /// One end of a random run, every word of it damaged in turn by a bit and put back: each byte of the layout is looked at, or the end is another
-/// sound one. Neighbouring seeds take different ends, parts and bits.
-pub fn words(seed: u64) -> List {
+/// sound one. Neighbouring seeds take different ends and bits.
+pub fn words(seed: u64) -> Vec<List> {
     let mut run = Run::open(seed);
     for _ in 0..60 {
         run.action();
     }
     let mut rng = Rng::new(!seed);
     let end = if rng.once_in(2) { 0 } else { rng.between(1, run.n) as u8 };
-    let (bit, parts) = (rng.below(32), if end == 0 { 8 } else { 3 });
-    let part = rng.below(parts);
-    for word in (0..layout::words(end)).filter(|word| word % parts == part) {
-        let word = word as u16;
+    let mut damaged = |word: u16| {
         let value = layout::read(run.world.end(end), word);
-        run.call(Call::set(end, word, value ^ 1 << ((bit + word as usize / parts) % 32)));
-        run.call(Call::dump(end));
-        run.call(Call::acknowledge(end, end.max(1), 0, SLOT as u8));
-        run.call(Call::set(end, word, value));
-    }
-    run.call(Call::dump(end));
-    run.list
+        let (bit, asks) = (1 << rng.below(32), Call::acknowledge(end, end.max(1), 0, SLOT as u8));
+        [Call::set(end, word, value ^ bit), Call::dump(end), asks, Call::set(end, word, value), Call::dump(end)]
+    };
+    let words: Vec<u16> = (0..layout::words(end) as u16).collect();
+    let parts: Vec<Vec<Call>> = words.chunks(200).map(|part| part.iter().flat_map(|&word| damaged(word)).collect()).collect();
+    parts.iter().map(|part| List { initial: run.list.initial.clone(), calls: [&run.list.calls[..], part].concat() }).collect()
 }

@@ -74,7 +74,7 @@ fn in_lists(sorts: &[Sort], by: &'static str, noticed: &dyn Fn(&List) -> bool) -
             // the sorts with many lists come round less often
             let often = match sort {
                 Sort::Openings => seed == 0,
-                Sort::Bytes | Sort::Ends | Sort::Limits => seed % 4 == 3,
+                Sort::Bytes | Sort::Ends | Sort::Words | Sort::Limits => seed % 4 == 3,
                 _ => true,
             };
             if !often {
