@@ -1,10 +1,11 @@
 //! The checks: what is run, in which order, and what a failure prints.
 
 use crate::calls::{self, Calls, RUN_OUT};
+use crate::describe::difference;
 use crate::list::*;
 use crate::oracle::{self, Report, Wrong};
 use crate::report;
-use crate::{cases, clock, crafted, damage, edges, ends, generate, openings, scripts, steady};
+use crate::{cases, clock, crafted, damage, edges, ends, generate, hostile, openings, scripts, steady};
 use std::time::{Duration, Instant};
 
 /// The sorts of input; all but the first two are made from a seed.
@@ -34,7 +35,7 @@ impl Sort {
             Openings => openings::all(),
             Honest => vec![generate::honest(seed)],
             Limits => vec![edges::limits(seed)],
-            Hostile => vec![generate::hostile(seed)],
+            Hostile => vec![hostile::hostile(seed)],
             Bytes => damage::bytes(seed),
             Noise => vec![damage::noise(seed)],
             Ends => [crafted::crafted(), ends::ends(seed)].concat(),

@@ -24,7 +24,7 @@ pub fn run(only: Option<Slip>) -> bool {
     std::panic::set_hook(Box::new(|_| {}));
     let start = Instant::now();
     let (mut noticed, mut tried) = (0, 0);
-    println!("{:22} {:12} {:>16} {:>9} {:>9}  {}", "slip", "noticed by", "input", "calls", "shortest", "what it does");
+    println!("{:22} {:12} {:>16} {:>9} {:>9}  what it does", "slip", "noticed by", "input", "calls", "shortest");
     for &(slip, seen, text) in slip::ALL {
         if only.is_some_and(|only| only != slip) {
             continue;

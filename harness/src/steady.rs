@@ -1,6 +1,7 @@
 //! What can be said of every run, hostile ones too, from its own dumps: question 2 read literally, clause by clause, what an opening leaves,
 //! when 18 is given, and that a refusal changes nothing.
 
+use crate::describe::had_to_stay;
 use crate::layout::{self, Field};
 use crate::limits::*;
 use crate::list::*;

@@ -3,9 +3,9 @@
 use super::{middle, unit, TURNS};
 use crate::clock::thread as clock;
 use crate::plain::client::Client;
-use crate::plain::lent::End;
 use crate::plain::server::Server;
 use crate::plain::slip::Plain;
+use crate::plain::words::End;
 use std::hint::black_box;
 
 const TIMES: u32 = 8_000;

@@ -8,6 +8,7 @@ mod calls;
 mod views;
 
 use crate::cjupiter::CJupiter;
+use crate::describe::difference;
 use crate::edit::Edit;
 use crate::form::{History, Set};
 use crate::layout;

@@ -9,6 +9,7 @@ pub mod line;
 pub mod script;
 pub mod server;
 pub mod slip;
+pub mod words;
 
 /// The answer of editing and taking: the number of the first no, or 0, and how many pending edits were passed.
 #[derive(Clone, Copy, PartialEq, Eq, Debug)]
