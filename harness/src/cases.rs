@@ -4,6 +4,7 @@ use crate::calls::{self, Calls, RUN_OUT};
 use crate::layout::{self, Field};
 use crate::list::*;
 use crate::report;
+use crate::scripts;
 use std::fmt::Debug;
 
 const P11: (&str, &str) = (
@@ -104,29 +105,36 @@ fn far(subject: &dyn Calls, end: u8) -> (u64, u32, bool) {
     (answer, item, bytes[layout::bytes(end)..].iter().all(|&byte| byte == FRESH))
 }
 
-/// Whether a case came out as expected; what did not is printed.
-fn holds(name: &str, subject: &dyn Calls, expected: impl Debug, came: impl Debug) -> bool {
+/// What was expected, and what came.
+fn equal(expected: impl Debug, came: impl Debug) -> Result<(), String> {
     let (expected, came) = (format!("{expected:?}"), format!("{came:?}"));
-    if expected != came {
-        report::heading(&format!("case {name}"), &format!("expected {expected}; came {came} ({})", subject.name()));
+    if expected == came {
+        Ok(())
+    } else {
+        Err(format!("expected {expected}; came {came}"))
     }
-    expected == came
 }
 
 fn on(subject: &dyn Calls) -> bool {
-    let owned = [("inserts", inserts()), ("pending", pending())];
-    let mut scripts = vec![("P11", P11.0, P11.1), ("P12", P12.0, P12.1)];
-    scripts.extend(owned.iter().map(|(name, (input, output))| (*name, input.as_str(), output.as_str())));
-    let mut fine = true;
-    for (name, input, output) in scripts {
-        let printed = calls::printed(subject, input.as_bytes(), RUN_OUT).map(|bytes| String::from_utf8_lossy(&bytes).into_owned());
-        fine &= holds(name, subject, Ok::<&str, String>(output), printed);
+    let script = |input: &str, output: &str| scripts::compare(output.as_bytes(), &calls::printed(subject, input.as_bytes(), RUN_OUT)?);
+    let (inserts, pending) = (inserts(), pending());
+    let verdicts = [
+        ("P9", p9(subject).and_then(|came| equal(P9, came))),
+        ("P10", p10(subject).and_then(|came| equal(P10, came))),
+        ("P11", script(P11.0, P11.1)),
+        ("P12", script(P12.0, P12.1)),
+        ("inserts", script(&inserts.0, &inserts.1)),
+        ("pending", script(&pending.0, &pending.1)),
+        ("the layouts' lengths", equal((2588, 6284), (subject.client_bytes(), subject.server_bytes()))),
+        ("a client in far more bytes", equal((0, 7, true), far(subject, 1))),
+        ("a server in far more bytes", equal((0, 7, true), far(subject, 0))),
+    ];
+    for (name, verdict) in &verdicts {
+        if let Err(text) = verdict {
+            report::heading(&format!("case {name}"), &format!("{text} ({})", subject.name()));
+        }
     }
-    fine &= holds("P9", subject, Ok::<_, String>(P9), p9(subject));
-    fine &= holds("P10", subject, Ok::<_, String>(P10), p10(subject));
-    fine &= holds("the layouts' lengths", subject, (2588, 6284), (subject.client_bytes(), subject.server_bytes()));
-    fine &= holds("a client in far more bytes", subject, (0, 7, true), far(subject, 1));
-    fine & holds("a server in far more bytes", subject, (0, 7, true), far(subject, 0))
+    verdicts.iter().all(|(_, verdict)| verdict.is_ok())
 }
 
 /// Runs all of them on every subject.

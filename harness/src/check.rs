@@ -145,13 +145,7 @@ pub fn judge_script(script: &[u8], subjects: &[&dyn Calls]) -> Result<(), String
         for lent in [RUN_OUT, expected.len() / 2] {
             let expected = &expected[..expected.len().min(lent)];
             let printed = calls::printed(*subject, script, lent)?;
-            if printed != expected {
-                let (mut wanted, mut came) = (expected.split(|&b| b == 10), printed.split(|&b| b == 10));
-                let (line, wanted, came) =
-                    (1..).map(|line| (line, wanted.next(), came.next())).find(|(_, wanted, came)| wanted != came).unwrap();
-                let text = |line: Option<&[u8]>| line.map_or("nothing".to_string(), |line| format!("{:?}", String::from_utf8_lossy(line)));
-                return Err(format!("printed line {line}: expected {}; came {} ({})", text(wanted), text(came), subject.name()));
-            }
+            scripts::compare(expected, &printed).map_err(|text| format!("{text} ({})", subject.name()))?;
         }
     }
     Ok(())

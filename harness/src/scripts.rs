@@ -41,6 +41,22 @@ pub fn expected(input: &[u8]) -> Vec<u8> {
     printed.into_bytes()
 }
 
+/// The first line that differs from what has to be printed.
+pub fn compare(expected: &[u8], printed: &[u8]) -> Result<(), String> {
+    let (mut wanted, mut came) = (expected.split(|&byte| byte == 10), printed.split(|&byte| byte == 10));
+    for line in 1.. {
+        let (wanted, came) = (wanted.next(), came.next());
+        if wanted != came {
+            let text = |line: Option<&[u8]>| line.map_or("nothing".to_string(), |line| format!("{:?}", String::from_utf8_lossy(line)));
+            return Err(format!("printed line {line}: expected {}; came {}", text(wanted), text(came)));
+        }
+        if wanted.is_none() {
+            break;
+        }
+    }
+    Ok(())
+}
+
 fn listed(name: String, items: &[u32]) -> String {
     let mut words = vec![name];
     words.extend(items.iter().map(u32::to_string));
