@@ -1,7 +1,11 @@
 //! The rule book's marked cases and edges, on every subject.
 
-use crate::protocol::*;
-use crate::subject::Subject;
+use crate::calls::{self, Calls, RUN_OUT};
+use crate::layout::{self, Field};
+use crate::list::*;
+use crate::report;
+use crate::scripts;
+use std::fmt::Debug;
 
 const P11: (&str, &str) = (
     "lines 2 items 10 20\n1 ins 1 30\n2 del 2\n1 up 1\n2 up 1\n1 down 1\n2 down 1\n",
@@ -14,8 +18,8 @@ const P12: (&str, &str) = (
     "0\n0\n0\n0\n0\n0\n0\n0\n0\n0\nserver 40 50 20 30\nclient 1 40 50 20 30\nclient 2 40 50 20 30\n",
 );
 
-/// Insert 48 is taken and 49 gives 10; edit 400, then 401 gives 11; 64 pending, then 65 gives 12.
-fn limits() -> (String, String) {
+/// Insert 48 is taken and 49 gives 10, also when items were deleted since.
+fn inserts() -> (String, String) {
     let (mut input, mut output) = ("lines 1 items\n".to_string(), "0\n".to_string());
     let mut add = |line: String, refusal: u8| {
         input += &(line + "\n");
@@ -50,6 +54,7 @@ fn limits() -> (String, String) {
     (input, output)
 }
 
+/// 64 pending, then 65 gives 12.
 fn pending() -> (String, String) {
     let items: String = (0..128).map(|item| format!(" {item}")).collect();
     let mut input = format!("lines 1 items{items}\n");
@@ -63,82 +68,80 @@ fn pending() -> (String, String) {
     (input, output)
 }
 
-fn wire(subject: &dyn Subject) -> bool {
+/// The first bytes of the slot that a list's last call shows: its length, and what stands in it.
+fn shown(subject: &dyn Calls, mut list: List, slot: u8, bytes: usize) -> Result<Vec<u8>, String> {
+    list.calls.push(Call::show(slot));
+    let out = calls::output(subject, &list)?;
+    Ok(out[out.len() - 1 - SLOT..][..bytes].to_vec())
+}
+
+/// P9: the first edit of client 1. The bytes past the message stay.
+fn p9(subject: &dyn Calls) -> Result<Vec<u8>, String> {
     let mut list = List::opened(2, vec![]);
-    list.calls.extend([Call::insert(1, 1, 30), Call::send(1, 1, 1, 0, 20), Call::show(0)]);
-    let at = list.output_length() - SHOWN;
-    let Ok(out) = subject.output(&list) else {
-        return false;
-    };
-    let p9 = [14, 1, 1, 0, 0, 1, 0, 0, 0, 1, 0, 0, 0, 0x1E, 1, FRESH, FRESH];
-    // P10: three edits of client 2 reach the server, which acknowledges them
-    let mut list = List::opened(2, vec![1, 2, 3]);
-    for k in 1..=3 {
-        list.calls.extend([Call::delete(2, 1), Call::send(2, 2, k, 0, 14), Call::take(0, 0)]);
-    }
-    list.calls.extend([Call::tell(0, 2, 1, 5), Call::show(1)]);
-    let end = list.output_length() - SHOWN;
-    let Ok(acked) = subject.output(&list) else {
-        return false;
-    };
-    let holds = |out: &[u8], at: usize, bytes: &[u8]| out.get(at..).is_some_and(|rest| rest.starts_with(bytes));
-    holds(&out, at, &p9) && holds(&acked, end, &[5, 4, 2, 1, 0, 3, FRESH])
+    list.calls.extend([Call::insert(1, 1, 30), Call::send(1, 1, 1, 0, 20)]);
+    shown(subject, list, 0, P9.len())
 }
 
-/// The frame around the calls: headers that are none, a rest of a call, an output that is too short.
-fn frame(subject: &dyn Subject) -> bool {
+const P9: [u8; 17] = [14, 1, 1, 0, 0, 1, 0, 0, 0, 1, 0, 0, 0, 0x1E, 1, FRESH, FRESH];
+
+/// P10: three edits of client 2 reach the server, which acknowledges them.
+fn p10(subject: &dyn Calls) -> Result<Vec<u8>, String> {
     let mut list = List::opened(2, vec![1, 2, 3]);
-    list.calls.extend([Call::dump(1), Call::insert(1, 1, 9), Call::show(3), Call::dump(0)]);
-    let (bytes, whole) = (list.bytes(), list.output_length());
-    let mut out = vec![0; whole];
-    let answers = subject.run(&bytes, &mut out);
-    let mut fine = answers == whole;
-    let mut wide = (HEADER_ITEMS as u16 + 1).to_be_bytes().to_vec();
-    wide.resize(2 + 4 * (HEADER_ITEMS + 1) + CALL, 0);
-    for none in [&bytes[..0], &bytes[..1], &bytes[..13], &wide] {
-        fine &= subject.run(none, &mut [0; 64]) == 0;
+    for number in 1..=3 {
+        list.calls.extend([Call::delete(2, 1), Call::send(2, 2, number, 0, 14), Call::take(0, 0)]);
     }
-    // a rest of a call is passed over
-    let mut cut = vec![0; whole];
-    fine &= subject.run(&bytes[..bytes.len() - 1], &mut cut) == whole - ANSWER - SERVER_DUMP;
-    // and a call whose answer has no room is not begun; the bytes there stay
-    for short in 0..whole {
-        if short % 97 > 3 && short < whole - 5 {
-            continue;
-        }
-        let mut room = vec![7; short];
-        let written = subject.run(&bytes, &mut room);
-        let expected = list.calls.iter().map(Call::answer_length).scan(0, |sum, length| {
-            *sum += length;
-            Some(*sum)
-        });
-        let expected = expected.take_while(|&sum| sum <= short).last().unwrap_or(0);
-        fine &= written == expected && room[..written] == out[..written] && room[written..].iter().all(|&byte| byte == 7);
-    }
-    fine
+    list.calls.push(Call::acknowledge(0, 2, 1, 5));
+    shown(subject, list, 1, P10.len())
 }
 
-/// Runs all of them; what fails is printed.
-pub fn all(subjects: &[&dyn Subject]) -> bool {
-    let owned = [limits(), pending()];
-    let mut scripts = vec![("P11", P11.0, P11.1), ("P12", P12.0, P12.1)];
-    scripts.extend([("inserts", owned[0].0.as_str(), owned[0].1.as_str()), ("pending", &owned[1].0, &owned[1].1)]);
-    let mut fine = true;
-    for subject in subjects {
-        for (name, input, output) in &scripts {
-            if subject.script_output(input.as_bytes()).as_deref() != Ok(output.as_bytes()) {
-                println!("FAILURE: case {name} on {}", subject.name());
-                fine = false;
-            }
+const P10: [u8; 7] = [5, 4, 2, 1, 0, 3, FRESH];
+
+/// An end opened with item 7 in 65,536 bytes more than the layout has: the answer, the item, and whether the rest stayed.
+fn far(subject: &dyn Calls, end: u8) -> (u64, u32, bool) {
+    let mut bytes = vec![FRESH; layout::bytes(end) + 65_536];
+    let items = [0, 0, 0, 7];
+    let answer = if end == 0 { subject.server_open(&mut bytes, 3, &items) } else { subject.client_open(&mut bytes, 3, 2, &items) };
+    let item = layout::read(&bytes, layout::word(end, 1, Field::Item(0)).unwrap());
+    (answer, item, bytes[layout::bytes(end)..].iter().all(|&byte| byte == FRESH))
+}
+
+/// What was expected, and what came.
+fn equal(expected: impl Debug, came: impl Debug) -> Result<(), String> {
+    let (expected, came) = (format!("{expected:?}"), format!("{came:?}"));
+    if expected == came {
+        Ok(())
+    } else {
+        Err(format!("expected {expected}; came {came}"))
+    }
+}
+
+fn on(subject: &dyn Calls) -> bool {
+    let script = |input: &str, output: &str| scripts::compare(output.as_bytes(), &calls::printed(subject, input.as_bytes(), RUN_OUT)?);
+    let (inserts, pending) = (inserts(), pending());
+    let verdicts = [
+        ("P9", p9(subject).and_then(|came| equal(P9, came))),
+        ("P10", p10(subject).and_then(|came| equal(P10, came))),
+        ("P11", script(P11.0, P11.1)),
+        ("P12", script(P12.0, P12.1)),
+        ("inserts", script(&inserts.0, &inserts.1)),
+        ("pending", script(&pending.0, &pending.1)),
+        ("the layouts' lengths", equal((2588, 6284), (subject.client_bytes(), subject.server_bytes()))),
+        ("a client in far more bytes", equal((0, 7, true), far(subject, 1))),
+        ("a server in far more bytes", equal((0, 7, true), far(subject, 0))),
+    ];
+    for (name, verdict) in &verdicts {
+        if let Err(text) = verdict {
+            report::heading(&format!("case {name}"), &format!("{text} ({})", subject.name()));
         }
-        if !frame(*subject) {
-            println!("FAILURE: the frame around the calls on {}", subject.name());
-            fine = false;
-        }
-        if !wire(*subject) {
-            println!("FAILURE: P9 or P10 on {}", subject.name());
-            fine = false;
-        }
+    }
+    verdicts.iter().all(|(_, verdict)| verdict.is_ok())
+}
+
+/// Runs all of them on every subject.
+pub fn all(subjects: &[&dyn Calls]) -> bool {
+    let fine = subjects.iter().all(|subject| on(*subject));
+    if !fine {
+        report::again("one Cases");
     }
     fine
 }

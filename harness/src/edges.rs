@@ -3,8 +3,7 @@
 
 use crate::generate::Run;
 use crate::limits::*;
-use crate::protocol::Call;
-use crate::protocol::List;
+use crate::list::{Call, List};
 use crate::rng::Rng;
 
 pub fn limits(seed: u64) -> List {
@@ -23,9 +22,9 @@ pub fn limits(seed: u64) -> List {
 fn full_list(mut rng: Rng) -> Run {
     let n = if rng.below(3) > 0 { LINES } else { rng.between(1, LINES) };
     let mut run = Run::sized(rng, n, INITIAL);
-    while (1..=n).any(|l| run.world.clients[l - 1].own.inserts < INSERTS) {
+    while (1..=n).any(|l| run.world.client(l).inserts < INSERTS as u32) {
         for l in 1..=n {
-            let position = run.rng.between(1, run.world.clients[l - 1].length as usize + 1) as u16;
+            let position = run.rng.between(1, run.world.length(l) as usize + 1) as u16;
             run.call_and_look(Call::insert(l as u8, position, l as u32));
             if run.rng.once_in(2) {
                 exchange(&mut run, l);
@@ -65,8 +64,8 @@ fn all_edits(mut rng: Rng) -> Run {
 /// One round from one list: an edit at every client, up to the server, and down to all. In a round of deletes all delete one item, for
 /// else the items would not last for 400 edits of each client; now and then they differ.
 pub fn round(run: &mut Run) {
-    let (length, inserts) = (run.world.server.length as usize, run.world.clients[0].own.inserts);
-    let insert = inserts < INSERTS && (length < 60 || run.rng.once_in(7));
+    let (length, inserts) = (run.world.length(0) as usize, run.world.client(1).inserts);
+    let insert = inserts < INSERTS as u32 && (length < 60 || run.rng.once_in(7));
     let (place, differ) = (run.rng.between(1, length.clamp(1, 50)), run.rng.once_in(60));
     for l in 1..=run.n {
         let position = if insert || differ { run.rng.between(1, length.clamp(1, 50)) } else { place } as u16;
@@ -74,8 +73,8 @@ pub fn round(run: &mut Run) {
         run.call(if insert { Call::insert(l as u8, position, item) } else { Call::delete(l as u8, position) });
     }
     for l in 1..=run.n {
-        while run.world.server.lines[l - 1].taken < run.world.clients[l - 1].own.made {
-            run.hand_over(l, l, run.world.server.lines[l - 1].taken + 1);
+        while run.world.server(l).taken < run.world.client(l).made {
+            run.hand_over(l, l, run.world.server(l).taken + 1);
         }
     }
     for l in 1..=run.n {
@@ -85,9 +84,8 @@ pub fn round(run: &mut Run) {
 
 /// An insert while the client has some left and the list is short, else a delete at the front, where others delete as well.
 fn any_edit(run: &mut Run, l: usize) -> Call {
-    let client = &run.world.clients[l - 1];
-    let (length, inserts) = (client.length as usize, client.own.inserts);
-    if inserts < INSERTS && (length < 200 || run.rng.once_in(3)) {
+    let (length, inserts) = (run.world.length(l) as usize, run.world.client(l).inserts);
+    if inserts < INSERTS as u32 && (length < 200 || run.rng.once_in(3)) {
         let position = run.rng.between(1, length.min(50) + 1) as u16;
         Call::insert(l as u8, position, run.rng.next() as u32)
     } else {
@@ -109,7 +107,7 @@ fn silent_line(rng: Rng) -> Run {
             exchange(&mut run, l);
         } else if run.rng.once_in(4) {
             // the silent line sends up and acknowledges nothing new: 12 is asked of the other lines only
-            run.hand_over(l, l, run.world.server.lines[l - 1].taken + 1);
+            run.hand_over(l, l, run.world.server(l).taken + 1);
         }
     }
     ask_edges(&mut run);
@@ -137,17 +135,17 @@ fn full_buffers(mut rng: Rng) -> Run {
 
 /// Everything that a line still owes in both directions, as far as it is taken, and both acknowledgements.
 fn exchange(run: &mut Run, l: usize) {
-    while run.world.server.lines[l - 1].taken < run.world.clients[l - 1].own.made {
-        if !run.hand_over(l, l, run.world.server.lines[l - 1].taken + 1) {
+    while run.world.server(l).taken < run.world.client(l).made {
+        if !run.hand_over(l, l, run.world.server(l).taken + 1) {
             break;
         }
     }
-    while run.world.clients[l - 1].own.taken < run.world.server.lines[l - 1].made {
-        run.hand_over(0, l, run.world.clients[l - 1].own.taken + 1);
+    while run.world.client(l).taken < run.world.server(l).made {
+        run.hand_over(0, l, run.world.client(l).taken + 1);
     }
-    run.call(Call::tell(l as u8, l as u8, 0, 14));
+    run.call(Call::acknowledge(l as u8, l as u8, 0, 14));
     run.call(Call::take(0, 0));
-    run.call(Call::tell(0, l as u8, 1, 14));
+    run.call(Call::acknowledge(0, l as u8, 1, 14));
     run.call(Call::take(l as u8, 1));
 }
 
@@ -155,7 +153,7 @@ fn exchange(run: &mut Run, l: usize) {
 fn ask_edges(run: &mut Run) {
     for l in 1..=run.n as u8 {
         for choice in 0..5 {
-            let length = run.world.clients[l as usize - 1].length;
+            let length = run.world.length(l as usize) as u16;
             let position = [0, 1, length, length + 1, length + 2][choice];
             run.call_and_look(Call::insert(l, position, 9));
             run.call_and_look(Call::delete(l, position));

@@ -1,10 +1,11 @@
 //! Random lists of calls. A right world runs along, so that most calls are ones that matter.
 
-use crate::driver::World;
+use crate::layout;
 use crate::limits::*;
-use crate::plain::slip::Right;
-use crate::protocol::*;
+use crate::list::*;
+use crate::plain::slip::Plain;
 use crate::rng::Rng;
+use crate::world::World;
 
 /// What a run is like: of a hundred actions, how many are of which sort.
 #[derive(Clone, Copy, Debug)]
@@ -21,12 +22,14 @@ struct Mood {
     /// Dump the end after every so many calls.
     dump_every: usize,
     /// Edits stand at this position at most, so that many meet.
-    hot_positions: u16,
+    hot_positions: u32,
+    /// Bytes past the layout that the calls lend.
+    spare: i16,
 }
 
 pub struct Run {
     pub list: List,
-    pub world: World<Right>,
+    pub world: World<'static, Plain>,
     pub rng: Rng,
     pub n: usize,
     mood: Mood,
@@ -42,23 +45,6 @@ pub fn honest(seed: u64) -> List {
         run.action();
     }
     run.deliver_all();
-    run.list
-}
-
-/// A run that then leaves the third demand: ends overwritten, messages that nobody wrote.
-pub fn hostile(seed: u64) -> List {
-    let mut run = Run::open(seed);
-    let target = run.list.calls.len() + run.rng.between(0, 150);
-    while run.list.calls.len() < target {
-        run.action();
-    }
-    for _ in 0..run.rng.between(1, 40) {
-        match run.rng.below(4) {
-            0 => run.overwrite(),
-            1 => run.forge(),
-            _ => run.action(),
-        }
-    }
     run.list
 }
 
@@ -85,12 +71,13 @@ impl Run {
             odd: rng.pick(&[0, 3, 10]),
             dump_every: rng.pick(&[1, 1, 4]),
             hot_positions: rng.pick(&[2, 4, 600]),
+            spare: rng.pick(&[0, 0, 1, 7, SPARE as i16]),
         };
         let opened = List::opened(n as u8, initial.clone());
         let list = List { initial, calls: Vec::new() };
-        let mut run = Run { list, world: World::new(), rng, n, mood, since_dump: 0, scratch: vec![0; ANSWER + SERVER_DUMP] };
+        let mut run = Run { list, world: World::unwatched(&Plain), rng, n, mood, since_dump: 0, scratch: Vec::new() };
         for call in opened.calls {
-            run.call(call);
+            run.call(Call { lent: mood.spare, ..call });
         }
         run
     }
@@ -98,18 +85,19 @@ impl Run {
     /// Adds a call to the list and lets the world perform it; its refusal.
     pub fn call(&mut self, call: Call) -> u8 {
         self.list.calls.push(call);
-        let out = &mut self.scratch[..call.answer_length()];
-        self.world.perform(&call, &self.list.initial, out);
-        out[0]
+        self.scratch.clear();
+        self.world.perform(&call, &self.list.initial, &mut self.scratch);
+        self.scratch[0]
     }
 
-    /// The same, and a dump of the end every so often.
+    /// The same with the run's lent bytes, now and then fewer than the layout's, and a dump of the end every so often.
     pub fn call_and_look(&mut self, call: Call) -> u8 {
-        let refusal = self.call(call);
+        let lent = if self.odd() && self.rng.once_in(3) { self.too_few(call.end) } else { self.mood.spare };
+        let refusal = self.call(Call { lent, ..call });
         self.since_dump += 1;
         if self.since_dump >= self.mood.dump_every {
             self.since_dump = 0;
-            if matches!(call.op, SEND | TELL) && self.rng.once_in(2) {
+            if matches!(call.op, SEND | ACKNOWLEDGE) && self.rng.once_in(2) {
                 self.call(Call::show(call.slot));
             }
             self.call(Call::dump(call.end));
@@ -117,7 +105,7 @@ impl Run {
         refusal
     }
 
-    fn line(&mut self) -> usize {
+    pub fn line(&mut self) -> usize {
         self.rng.between(1, self.n)
     }
 
@@ -129,7 +117,14 @@ impl Run {
         self.rng.below(SLOTS) as u8
     }
 
-    fn lent(&mut self) -> u8 {
+    /// Too few bytes for an end: by a little, or none at all.
+    fn too_few(&mut self, end: u8) -> i16 {
+        let all = layout::bytes(end.min(LINES as u8)) as i16;
+        let some = self.rng.between(1, all as usize) as i16;
+        -self.rng.pick(&[1, 2, 3, 4, 5, some, all])
+    }
+
+    fn room(&mut self) -> u8 {
         if self.odd() {
             self.rng.below(SLOT + 1) as u8
         } else {
@@ -156,13 +151,13 @@ impl Run {
 
     fn edit(&mut self) {
         let l = self.line();
-        let length = self.world.clients[l - 1].length;
+        let length = self.world.length(l);
         let insert = self.rng.below(100) >= self.mood.deletes || length == 0;
         let position = if self.odd() {
-            let edges = [0, 1, length, length + 1, length + 2, 512, 513, 65_535];
-            self.rng.pick(&edges)
+            let edges = [0, 1, length, length.wrapping_add(1), length.wrapping_add(2), 512, 513, 65_535];
+            self.rng.pick(&edges) as u16
         } else {
-            let most = (length + insert as u16).min(self.mood.hot_positions);
+            let most = length.saturating_add(insert as u32).min(self.mood.hot_positions);
             self.rng.between(1, most as usize) as u16
         };
         let item = if self.rng.once_in(2) { self.rng.below(9) as u32 } else { self.rng.next() as u32 };
@@ -173,28 +168,28 @@ impl Run {
     /// Sends the next edit that the other end lacks, or another pending one, and often has it taken at once.
     fn exchange(&mut self) {
         let (l, up) = (self.line(), self.rng.once_in(2));
-        let (client, server) = (&self.world.clients[l - 1].own, &self.world.server.lines[l - 1]);
+        let (client, server) = (self.world.client(l), self.world.server(l));
         let (from, to) = if up { (client, server) } else { (server, client) };
-        let (next, acked, made) = (to.taken + 1, from.acked, from.made);
+        let (next, acked, made) = (to.taken.wrapping_add(1), from.acked, from.made);
         let k = if self.odd() {
-            let edges = [0, acked, acked + 1, made, made + 1, 400, 65_535];
+            let edges = [0, acked, acked.wrapping_add(1), made, made.wrapping_add(1), 400, 65_535];
             self.rng.pick(&edges)
         } else if self.rng.once_in(8) && made > acked {
-            self.rng.between(acked as usize + 1, made as usize) as u16
+            self.rng.between(acked as usize + 1, made as usize) as u32
         } else {
             next
-        };
-        let (slot, lent) = (self.slot(), self.lent());
+        } as u16;
+        let (slot, room) = (self.slot(), self.room());
         let sender = if up { l as u8 } else { 0 };
-        self.call_and_look(Call::send(sender, l as u8, k, slot, lent));
+        self.call_and_look(Call::send(sender, l as u8, k, slot, room));
         if self.rng.below(3) > 0 {
             self.call_and_look(Call::take(if up { 0 } else { l as u8 }, slot));
         }
     }
 
     fn acknowledge(&mut self) {
-        let (l, up, slot, lent) = (self.line() as u8, self.rng.once_in(2), self.slot(), self.lent());
-        self.call_and_look(Call::tell(if up { l } else { 0 }, l, slot, lent));
+        let (l, up, slot, room) = (self.line() as u8, self.rng.once_in(2), self.slot(), self.room());
+        self.call_and_look(Call::acknowledge(if up { l } else { 0 }, l, slot, room));
         if self.rng.once_in(2) {
             self.call_and_look(Call::take(if up { 0 } else { l }, slot));
         }
@@ -203,27 +198,29 @@ impl Run {
     /// Takes what lies in a slot, mostly at the end that it was written for.
     fn stray(&mut self) {
         let slot = self.slot();
-        let bytes = &self.world.slots[slot as usize];
+        let bytes = self.world.slot(slot);
         let meant = if bytes[2] == 0 { 0 } else { bytes[1] };
         let end = if self.rng.once_in(4) || meant as usize > LINES { self.rng.below(self.n + 1) as u8 } else { meant };
         self.call_and_look(Call::take(end, slot));
     }
 
-    /// Calls at ends that were not opened, on wrong lines, of damaged bytes, and what is no call at all.
+    /// Calls at ends that were not opened, on wrong lines, of damaged bytes, openings that are refused, and what is no call at all.
     fn nonsense(&mut self) {
         let (end, slot) = (self.rng.below(LINES + 1) as u8, self.slot());
         let line = self.rng.below(LINES + 2) as u8;
-        let call = match self.rng.below(8) {
+        let call = match self.rng.below(10) {
             0 => Call::insert(end.max(1), 1, 5),
             1 => Call::send(end, line, 1, slot, 20),
-            2 => Call::tell(end, line, slot, 20),
-            3 => Call { op: self.rng.between(10, 255) as u8, ..Call::dump(end) },
+            2 => Call::acknowledge(end, line, slot, 20),
+            3 => Call { op: self.rng.between(COPY as usize + 1, 255) as u8, ..Call::dump(end) },
             4 => Call::insert(0, 1, 5),
             5 => Call::take(end, slot | 64),
-            6 => Call::tell(end, line, slot, 21),
+            6 => Call::acknowledge(end, line, slot, SLOT as u8 + 1),
+            7 => Call { number: self.rng.pick(&[1, 2, 255, 256]), ..Call::take(end, slot) },
+            8 => self.refused_opening(end),
             _ => {
                 // a byte changed so that the slot most likely holds no message
-                let (at, length) = (self.rng.below(3) as u16, self.world.lengths[slot as usize]);
+                let (at, length) = (self.rng.below(3) as u16, self.world.message(slot).len() as u8);
                 let byte = self.rng.pick(&[0, 9, 77, 255]);
                 self.call(Call::poke(slot, at, byte, length));
                 let end = self.rng.below(self.n + 1) as u8;
@@ -236,22 +233,32 @@ impl Run {
         }
     }
 
+    /// An opening that question 1 refuses, or with a cut item, at an end that may be open.
+    fn refused_opening(&mut self, end: u8) -> Call {
+        let (n, count) = (self.n as u8, self.list.initial.len() as u16);
+        match self.rng.below(3) {
+            0 => Call::open(end, self.rng.pick(&[0, 9, 255]), end, count),
+            1 => Call { slot: self.rng.between(1, 3) as u8, ..Call::open(end, n, end, self.rng.below(count as usize + 1) as u16) },
+            _ => Call::open(end.max(1), n, self.rng.pick(&[0, n + 1, 255]), count),
+        }
+    }
+
     /// Sends and takes until no end lacks anything.
     pub fn deliver_all(&mut self) {
         loop {
             let mut progress = false;
             for l in 1..=self.n {
-                while self.world.clients[l - 1].own.taken < self.world.server.lines[l - 1].made {
-                    progress |= self.hand_over(0, l, self.world.clients[l - 1].own.taken + 1);
+                while self.world.client(l).taken < self.world.server(l).made {
+                    progress |= self.hand_over(0, l, self.world.client(l).taken + 1);
                 }
-                if self.world.server.lines[l - 1].acked < self.world.clients[l - 1].own.taken {
-                    self.call(Call::tell(l as u8, l as u8, 0, 20));
+                if self.world.server(l).acked < self.world.client(l).taken {
+                    self.call(Call::acknowledge(l as u8, l as u8, 0, 20));
                     self.call(Call::take(0, 0));
                 }
             }
             for l in 1..=self.n {
-                if self.world.server.lines[l - 1].taken < self.world.clients[l - 1].own.made {
-                    progress |= self.hand_over(l, l, self.world.server.lines[l - 1].taken + 1);
+                if self.world.server(l).taken < self.world.client(l).made {
+                    progress |= self.hand_over(l, l, self.world.server(l).taken + 1);
                 }
             }
             if !progress {
@@ -263,61 +270,10 @@ impl Run {
         }
     }
 
-    pub fn hand_over(&mut self, from: usize, l: usize, k: u16) -> bool {
+    pub fn hand_over(&mut self, from: usize, l: usize, k: u32) -> bool {
         let slot = self.slot();
-        self.call(Call::send(from as u8, l as u8, k, slot, 14));
+        self.call(Call::send(from as u8, l as u8, k as u16, slot, 14));
         self.call(Call::take(if from == 0 { l as u8 } else { 0 }, slot)) == 0
-    }
-
-    /// Overwrites a field of an end, mostly near its limit.
-    pub fn overwrite(&mut self) {
-        let (end, line) = (self.rng.below(self.n + 1) as u8, self.rng.between(1, LINES) as u8);
-        let choice = self.rng.below(10) as u8;
-        let value = match choice {
-            field::N | field::LINE => self.rng.below(10),
-            field::INITIAL => self.rng.pick(&[0, 127, 128, 129, 255]),
-            field::INSERTS => self.rng.pick(&[0, 47, 48, 49, 255]),
-            field::ITEM => self.rng.below(2),
-            _ => self.rng.pick(&[0, 1, 63, 64, 65, 399, 400, 401, 511, 512, 513, 2799, 2800, 2801, 65_535]),
-        };
-        let index = if self.rng.once_in(2) { self.rng.below(520) } else { self.rng.below(65) };
-        let position = self.rng.pick(&[0, 1, 2, 511, 512, 513, 65_535]);
-        let (top, priority) = (self.rng.pick(&[0, 0, 0, 0, 1, 2, 3]), self.rng.below(10) as u8);
-        let call = Call { position, size: top, priority, ..Call::set(end, line, choice, index as u16, value as u32) };
-        self.call(call);
-        self.call(Call::dump(end));
-    }
-
-    /// Writes a readable message that no end wrote, near what an end would take, and has it taken.
-    fn forge(&mut self) {
-        let (l, up) = (self.line(), self.rng.once_in(2));
-        let (client, server) = (&self.world.clients[l - 1].own, &self.world.server.lines[l - 1]);
-        let end = if up { server } else { client };
-        let (next, acked, made) = (end.taken + 1, end.acked, end.made);
-        let number = next + if self.rng.once_in(5) { self.rng.below(3) as u16 } else { 0 };
-        let wanted = self.rng.between(acked as usize, made.max(acked) as usize) as i32
-            + if self.rng.once_in(4) { self.rng.below(3) as i32 - 1 } else { 0 };
-        let seen = wanted.max(0) as u16;
-        let position =
-            if self.rng.once_in(2) { self.rng.between(1, 20) } else { self.rng.pick(&[0, 1, 448, 449, 500, 511, 512, 513]) } as u16;
-        let priority = if up && self.rng.below(4) > 0 { l } else { self.rng.between(1, LINES) } as u8;
-        let kind = self.rng.between(1, 4) as u8;
-        let mut bytes = vec![kind, l as u8, !up as u8];
-        if kind < 4 {
-            bytes.extend_from_slice(&number.to_be_bytes());
-        }
-        bytes.extend_from_slice(&seen.to_be_bytes());
-        if kind < 3 {
-            bytes.extend_from_slice(&position.to_be_bytes());
-        }
-        if kind == 1 {
-            bytes.extend_from_slice(&[0, 0, 0, 5, priority]);
-        }
-        self.give(1, &bytes);
-        let end = if up { 0 } else { l as u8 };
-        self.call(Call::dump(end));
-        self.call(Call::take(end, 1));
-        self.call(Call::dump(end));
     }
 
     /// Puts bytes into a slot.

@@ -84,7 +84,7 @@ pub fn read(bytes: &[u8]) -> Option<Message> {
 #[cfg(test)]
 mod tests {
     use super::*;
-    use crate::plain::{codec, slip::Right};
+    use crate::plain::{codec, slip::Plain};
     use crate::rng::Rng;
 
     #[test]
@@ -111,7 +111,7 @@ mod tests {
                 *first = kind;
             }
             let ours = read(&bytes);
-            let plain = codec::read::<Right>(&bytes);
+            let plain = codec::read::<Plain>(&bytes);
             assert_eq!(ours.is_some(), plain.is_some(), "{bytes:?}");
             if let (Some(ours), Some(plain)) = (ours, plain) {
                 readable += 1;

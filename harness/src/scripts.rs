@@ -1,11 +1,11 @@
 //! Random scripts for the run program, malformed lines included, and a second reading of them: lines are split and parsed as text, and every
 //! order becomes calls of a call list.
 
-use crate::driver::World;
 use crate::limits::*;
-use crate::plain::slip::Right;
-use crate::protocol::*;
+use crate::list::*;
+use crate::plain::slip::Plain;
 use crate::rng::Rng;
+use crate::world::World;
 
 /// What the program has to print.
 pub fn expected(input: &[u8]) -> Vec<u8> {
@@ -22,9 +22,10 @@ pub fn expected(input: &[u8]) -> Vec<u8> {
     if !(1..=8).contains(&n) || items.len() > 128 {
         return b"1\n".to_vec();
     }
-    let mut sheet = World::<Right>::new();
-    for call in List::opened(n as u8, items.clone()).calls {
-        sheet.perform(&call, &items, &mut [0; ANSWER]);
+    let mut sheet = World::unwatched(&Plain);
+    let opened = List::opened(n as u8, items);
+    for call in &opened.calls {
+        sheet.perform(call, &opened.initial, &mut Vec::new());
     }
     let mut printed = "0\n".to_string();
     for line in &lines[1..] {
@@ -33,11 +34,27 @@ pub fn expected(input: &[u8]) -> Vec<u8> {
             None => "?\n".to_string(),
         };
     }
-    printed += &listed("server".to_string(), &sheet.server.items[..sheet.server.length as usize]);
-    for client in &sheet.clients[..n as usize] {
-        printed += &listed(format!("client {}", client.line), &client.items[..client.length as usize]);
+    printed += &listed("server".to_string(), &sheet.items(0));
+    for l in 1..=n as usize {
+        printed += &listed(format!("client {l}"), &sheet.items(l));
     }
     printed.into_bytes()
+}
+
+/// The first line that differs from what has to be printed.
+pub fn compare(expected: &[u8], printed: &[u8]) -> Result<(), String> {
+    let (mut wanted, mut came) = (expected.split(|&byte| byte == 10), printed.split(|&byte| byte == 10));
+    for line in 1.. {
+        let (wanted, came) = (wanted.next(), came.next());
+        if wanted != came {
+            let text = |line: Option<&[u8]>| line.map_or("nothing".to_string(), |line| format!("{:?}", String::from_utf8_lossy(line)));
+            return Err(format!("printed line {line}: expected {}; came {}", text(wanted), text(came)));
+        }
+        if wanted.is_none() {
+            break;
+        }
+    }
+    Ok(())
 }
 
 fn listed(name: String, items: &[u32]) -> String {
@@ -47,15 +64,16 @@ fn listed(name: String, items: &[u32]) -> String {
 }
 
 /// The first refusal, or 0.
-fn perform(sheet: &mut World<Right>, calls: &[Call]) -> u8 {
+fn perform(sheet: &mut World<Plain>, calls: &[Call]) -> u8 {
+    let mut answer = Vec::with_capacity(ANSWER);
     for call in calls {
-        let mut answer = [0; ANSWER];
+        answer.clear();
         sheet.perform(call, &[], &mut answer);
         if answer[0] != 0 {
-            return answer[0];
+            break;
         }
     }
-    0
+    answer[0]
 }
 
 fn number(word: &str, bits: u32) -> Option<u64> {
@@ -87,8 +105,8 @@ fn calls_of(line: &[u8], n: u64) -> Option<Vec<Call>> {
         ["del", position] => vec![Call::delete(bay, small(position)?)],
         ["up", k] => vec![Call::send(bay, bay, small(k)?, 0, 14), Call::take(0, 0)],
         ["down", k] => vec![Call::send(0, bay, small(k)?, 0, 14), Call::take(bay, 0)],
-        ["ack"] => vec![Call::tell(bay, bay, 0, 14), Call::take(0, 0)],
-        ["told"] => vec![Call::tell(0, bay, 0, 14), Call::take(bay, 0)],
+        ["ack"] => vec![Call::acknowledge(bay, bay, 0, 14), Call::take(0, 0)],
+        ["told"] => vec![Call::acknowledge(0, bay, 0, 14), Call::take(bay, 0)],
         _ => return None,
     })
 }

@@ -1,12 +1,12 @@
 //! Shorter lists of calls that still fail.
 
-use crate::protocol::{Call, List, DELETE, DUMP, INSERT, OPEN, SEND, SHOW, TELL};
+use crate::list::{Call, List, ACKNOWLEDGE, DELETE, DUMP, INSERT, SEND, SHOW};
 use std::time::{Duration, Instant};
 
 /// The shortest list found within the time that still fails; the openings at the front stay.
 pub fn shrink(list: &List, budget: Duration, fails: &dyn Fn(&List) -> bool) -> List {
     let end = Instant::now() + budget;
-    let opened = list.calls.iter().take_while(|call| call.op == OPEN).count();
+    let opened = list.lines().map_or(0, |n| n + 1);
     let mut best = list.clone();
     let mut bare = list.clone();
     let last = list.calls.len() - 1;
@@ -41,10 +41,10 @@ pub fn shrink(list: &List, budget: Duration, fails: &dyn Fn(&List) -> bool) -> L
 
 /// Tries smaller sheets, whose last client does nothing.
 fn fewer_lines(mut best: List, end: Instant, fails: &dyn Fn(&List) -> bool) -> List {
-    while let Some(n) = best.calls.first().map(|call| call.size).filter(|&n| n > 1) {
+    while let Some(n) = best.lines().filter(|&n| n > 1) {
         let mut candidate = best.clone();
-        candidate.calls.retain(|call| !(call.op == OPEN && call.end == n));
-        candidate.calls.iter_mut().filter(|call| call.op == OPEN).for_each(|call| call.size = n - 1);
+        candidate.calls.remove(n);
+        candidate.calls[..n].iter_mut().for_each(|call| call.size = n as u8 - 1);
         if Instant::now() >= end || !fails(&candidate) {
             break;
         }
@@ -53,33 +53,31 @@ fn fewer_lines(mut best: List, end: Instant, fails: &dyn Fn(&List) -> bool) -> L
     best
 }
 
-/// Tries small positions, items and buffers in the place of random ones.
+/// Tries exactly the layout's bytes lent, and small positions, items and buffers in the place of random ones.
 fn plainer(mut best: List, end: Instant, fails: &dyn Fn(&List) -> bool) -> List {
     for index in 0..best.calls.len() {
-        let call = best.calls[index];
-        let positions = [1, 2, 3, 4].map(|position| Call { position, ..call });
-        let tries: Vec<Call> = match call.op {
-            INSERT | DELETE => positions.to_vec(),
-            SEND | TELL => vec![Call { size: 14, ..call }],
-            _ => continue,
+        let mut attempt = |change: &dyn Fn(&mut Call)| {
+            let mut candidate = best.clone();
+            change(&mut candidate.calls[index]);
+            let shorter = candidate != best && Instant::now() < end && fails(&candidate);
+            if shorter {
+                best = candidate;
+            }
+            shorter
         };
-        let simpler = |call: &&Call| call.position <= best.calls[index].position && **call != best.calls[index];
-        for attempt in tries.iter().filter(simpler).copied().collect::<Vec<_>>() {
-            let mut candidate = best.clone();
-            candidate.calls[index] = attempt;
-            if Instant::now() < end && fails(&candidate) {
-                best = candidate;
-                break;
-            }
-        }
-        let item = Call { value: index as u32, ..best.calls[index] };
-        if call.op == INSERT && call.value > 1000 {
-            let mut candidate = best.clone();
-            candidate.calls[index] = item;
-            if Instant::now() < end && fails(&candidate) {
-                best = candidate;
-            }
-        }
+        attempt(&|call| call.lent = 0);
+        attempt(&|call| match call.op {
+            SEND | ACKNOWLEDGE => call.size = 14,
+            INSERT if call.value > 1000 => call.value = index as u32,
+            _ => {}
+        });
+        let _ = (1..=4).any(|position| {
+            attempt(&|call| {
+                if matches!(call.op, INSERT | DELETE) {
+                    call.position = call.position.min(position);
+                }
+            })
+        });
     }
     best
 }
@@ -90,8 +88,8 @@ fn fewer_items(mut best: List, end: Instant, fails: &dyn Fn(&List) -> bool) -> L
     while count < best.initial.len() && Instant::now() < end {
         let mut candidate = best.clone();
         candidate.initial.truncate(count);
-        let opened = candidate.calls.iter_mut().take_while(|call| call.op == OPEN);
-        opened.for_each(|call| call.number = call.number.min(count as u16));
+        let opened = best.lines().map_or(0, |n| n + 1);
+        candidate.calls[..opened].iter_mut().for_each(|call| call.number = call.number.min(count as u16));
         if fails(&candidate) {
             best = candidate;
             break;

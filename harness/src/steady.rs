@@ -1,9 +1,11 @@
-//! What can be said of every run, hostile ones too, from its own dumps: question 2 read literally, clause by clause,
-//! and that a refusal changes nothing.
+//! What can be said of every run, hostile ones too, from its own dumps: question 2 read literally, clause by clause, what an opening leaves,
+//! when 18 is given, and that a refusal changes nothing.
 
+use crate::describe::had_to_stay;
+use crate::layout::{self, Field};
 use crate::limits::*;
-use crate::oracle::Wrong;
-use crate::protocol::*;
+use crate::list::*;
+use crate::oracle::{opening_is_refused, Wrong};
 
 /// A line as a dump shows it.
 struct Line {
@@ -15,39 +17,37 @@ struct Line {
     pending: Vec<(u64, u64, u64, u64)>,
 }
 
-struct Reader<'a>(&'a [u8]);
+/// An end as a dump shows it.
+struct View {
+    end: u8,
+    words: Vec<u64>,
+}
 
-impl Reader<'_> {
-    fn number(&mut self, width: usize) -> u64 {
-        let (now, rest) = self.0.split_at(width);
-        self.0 = rest;
-        now.iter().fold(0, |all, &byte| all << 8 | byte as u64)
+impl View {
+    fn new(end: u8, dump: &[u8]) -> View {
+        View { end, words: dump.chunks_exact(4).map(|word| word.iter().rev().fold(0, |all, &byte| all << 8 | byte as u64)).collect() }
     }
 
-    fn numbers(&mut self, width: usize, count: usize) -> Vec<u64> {
-        (0..count).map(|_| self.number(width)).collect()
+    fn number(&self, line: u8, field: Field) -> u64 {
+        self.words[layout::word(self.end, line, field).unwrap() as usize]
     }
 
-    /// The lines, whose counts and slots stand side by side.
-    fn lines(&mut self, count: usize) -> Vec<Line> {
-        let [made, taken, acked, inserts] = [(); 4].map(|_| self.numbers(2, count));
-        let places = self.numbers(4, count * PENDING);
-        let items = self.numbers(4, count * PENDING);
-        let slots: Vec<(u64, u64, u64, u64)> =
-            places.iter().zip(items).map(|(&place, item)| (place >> 24, place >> 8 & 65_535, place & 255, item)).collect();
-        (0..count)
-            .map(|line| Line {
-                made: made[line],
-                taken: taken[line],
-                acked: acked[line],
-                inserts: inserts[line],
-                pending: slots[line * PENDING..][..PENDING].to_vec(),
-            })
-            .collect()
+    fn line(&self, line: u8) -> Line {
+        let edit = |index: u16| {
+            let (place, item) = (self.number(line, Field::Place(index)), self.number(line, Field::Brought(index)));
+            (place >> 24, place >> 8 & 65_535, place & 255, item)
+        };
+        Line {
+            made: self.number(line, Field::Made),
+            taken: self.number(line, Field::Taken),
+            acked: self.number(line, Field::Acked),
+            inserts: self.number(line, Field::Inserts),
+            pending: (0..PENDING as u16).map(edit).collect(),
+        }
     }
 
-    fn items(&mut self) -> Vec<u64> {
-        self.numbers(4, ITEMS)
+    fn items(&self) -> Vec<u64> {
+        (0..ITEMS as u16).map(|index| self.number(0, Field::Item(index))).collect()
     }
 }
 
@@ -69,10 +69,9 @@ fn sound_pending(line: &Line, priority_allowed: impl Fn(u64) -> bool) -> bool {
 }
 
 fn sound_client(dump: &[u8]) -> bool {
-    let mut reader = Reader(dump);
-    let (n, line, length) = (reader.number(1), reader.number(1), reader.number(2));
-    let own = reader.lines(1).remove(0);
-    let items = reader.items();
+    let view = View::new(1, dump);
+    let [n, line, length] = [Field::N, Field::Line, Field::Length].map(|field| view.number(1, field));
+    let (own, items) = (view.line(1), view.items());
     (1..=8).contains(&n)
         && (1..=n).contains(&line)
         && length <= 512
@@ -85,10 +84,9 @@ fn sound_client(dump: &[u8]) -> bool {
 }
 
 fn sound_server(dump: &[u8]) -> bool {
-    let mut reader = Reader(dump);
-    let (n, _, length, initial) = (reader.number(1), reader.number(1), reader.number(2), reader.number(2));
-    let lines = reader.lines(LINES);
-    let items = reader.items();
+    let view = View::new(0, dump);
+    let [n, initial, length] = [Field::N, Field::Initial, Field::Length].map(|field| view.number(0, field));
+    let (lines, items): (Vec<Line>, _) = ((1..=LINES as u8).map(|line| view.line(line)).collect(), view.items());
     if !(1..=8).contains(&n) || initial > 128 || length > 512 {
         return false;
     }
@@ -117,59 +115,104 @@ pub fn sound(end: u8, dump: &[u8]) -> bool {
     }
 }
 
-/// What is known of an end since its last dump.
-#[derive(Clone, Default)]
+/// The end that an opening gives.
+fn opened(call: &Call, initial: &[u32]) -> Vec<u8> {
+    let items = &initial[..initial.len().min(call.number as usize)];
+    let mut words = vec![0; layout::words(call.end)];
+    words[0] = call.size as u32;
+    words[1] = if call.end == 0 { items.len() as u32 } else { call.line as u32 };
+    words[2] = items.len() as u32;
+    let first = layout::word(call.end, 1, Field::Item(0)).unwrap() as usize;
+    words[first..first + items.len()].copy_from_slice(items);
+    words.iter().flat_map(|word| word.to_le_bytes()).collect()
+}
+
+/// What is known of an end.
+#[derive(Default)]
 struct Known {
-    dump: Option<(Vec<u8>, bool)>,
+    /// Its bytes, and whether they are sound.
+    end: Option<(Vec<u8>, bool)>,
     /// A call was accepted since: the list and counts may have changed, but the end has to be sound if it was.
     changed: bool,
 }
 
-/// Checks a whole run: 2 exactly at unsound ends, refusals change nothing and have no count or length, accepted calls keep ends sound.
+/// Checks a whole run: 18 exactly with too few lent bytes, 1 exactly by question 1, 2 exactly at unsound ends, openings give their end, refusals
+/// change nothing and have no count or length, accepted calls keep ends sound.
 pub fn check(list: &List, out: &[u8]) -> Result<(), Wrong> {
-    let mut ends = vec![Known::default(); LINES + 1];
+    let fresh = |end: u8| Known { end: Some((vec![FRESH; layout::bytes(end)], false)), changed: false };
+    let mut ends: Vec<Known> = (0..=LINES as u8).map(fresh).collect();
     let mut at = 0;
     for (index, call) in list.calls.iter().enumerate() {
         let Some(answer) = out.get(at..at + call.answer_length()) else {
             return Err((index, "the output ends here".to_string()));
         };
         at += answer.len();
-        if call.is_one() && !matches!(call.op, POKE | SHOW) {
-            step(&mut ends[call.end as usize], call, answer).map_err(|text| (index, text))?;
+        if call.is_one() && call.has_end() {
+            let known = &mut ends[call.end as usize];
+            let fine = if call.exported() { called(known, call, &list.initial, answer) } else { seen(known, call, &answer[ANSWER..]) };
+            fine.map_err(|text| (index, text))?;
         }
     }
     Ok(())
 }
 
-fn step(known: &mut Known, call: &Call, answer: &[u8]) -> Result<(), String> {
-    let refusal = answer[0];
-    match call.op {
-        OPEN => *known = Known::default(),
-        SET if refusal == 0 => *known = Known::default(),
-        SET => {}
-        DUMP => {
-            let (now, is_sound) = (answer[ANSWER..].to_vec(), sound(call.end, &answer[ANSWER..]));
-            if let Some((before, was_sound)) = &known.dump {
-                if !known.changed && *before != now {
-                    return Err("an end changed though no call was accepted".to_string());
-                }
-                if *was_sound && !is_sound {
-                    return Err("an accepted call left an unsound end".to_string());
-                }
-            }
-            *known = Known { dump: Some((now, is_sound)), changed: false };
+/// A dump, or an end overwritten.
+fn seen(known: &mut Known, call: &Call, now: &[u8]) -> Result<(), String> {
+    if call.op != DUMP {
+        *known = Known::default();
+        return Ok(());
+    }
+    let before = known.end.take();
+    let is_sound = match &before {
+        Some((bytes, was_sound)) if bytes == now => *was_sound,
+        _ => sound(call.end, now),
+    };
+    if let Some((before, was_sound)) = before {
+        let differs = before.iter().zip(now).position(|(before, now)| before != now);
+        if let Some(at) = differs.filter(|_| !known.changed) {
+            let word = at as u16 / 4;
+            let [before, now] = [&before, now].map(|bytes| layout::read(bytes, word));
+            return Err(format!("{} (word {word}): expected {before}; came {now}", layout::name(call.end, word)));
         }
-        _ => {
-            if refusal != 0 && answer[1..ANSWER] != [0, 0, 0] {
-                return Err(format!("refusal {refusal} with a length or a count"));
-            }
-            if let Some((_, was_sound)) = &known.dump {
-                if *was_sound == (refusal == 2) {
-                    return Err(format!("refusal {refusal}, and the end is {}", if *was_sound { "sound" } else { "unsound" }));
-                }
-            }
-            known.changed |= refusal == 0 && matches!(call.op, INSERT | DELETE | TAKE);
+        if was_sound && !is_sound {
+            return Err("end: expected a sound one after an accepted call; came an unsound one".to_string());
         }
     }
+    *known = Known { end: Some((now.to_vec(), is_sound)), changed: false };
+    Ok(())
+}
+
+fn called(known: &mut Known, call: &Call, initial: &[u32], bytes: &[u8]) -> Result<(), String> {
+    let (refusal, rest) = (answer(bytes) as u8, answer(bytes) >> 8);
+    if bytes[ANSWER - 1] != 0 {
+        return Err(format!("changed that had to stay: expected no byte; came {}", had_to_stay(bytes[ANSWER - 1])));
+    }
+    if refusal != 0 && rest != 0 || rest > 65_535 {
+        return Err(format!("count at refusal {refusal}: expected {}; came {rest}", if refusal != 0 { "0" } else { "16 bits" }));
+    }
+    let unsound = known.end.as_ref().map(|end| !end.1);
+    let one = if call.op == OPEN { opening_is_refused(call, initial.len()) } else { false };
+    let wanted = match refusal {
+        _ if call.lent < 0 => refusal == 18,
+        _ if one => refusal == 1,
+        _ if call.op == OPEN => refusal == 0,
+        1 | 18 => false,
+        _ => unsound.is_none_or(|unsound| unsound == (refusal == 2)),
+    };
+    if !wanted {
+        let state = unsound.map_or("unknown", |unsound| if unsound { "unsound" } else { "sound" });
+        let expected = match () {
+            _ if call.lent < 0 => "18",
+            _ if one => "1",
+            _ if call.op == OPEN => "0",
+            _ if unsound == Some(true) => "2",
+            _ => "none of 1, 2, 18",
+        };
+        return Err(format!("refusal: expected {expected}; came {refusal} (the end is {state})"));
+    }
+    if refusal == 0 && call.op == OPEN {
+        *known = Known { end: Some((opened(call, initial), true)), changed: false };
+    }
+    known.changed |= refusal == 0 && matches!(call.op, INSERT | DELETE | TAKE);
     Ok(())
 }

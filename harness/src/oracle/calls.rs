@@ -3,8 +3,8 @@
 use super::{answer, Expected, Oracle};
 use crate::edit::{apply, fits, Edit};
 use crate::limits::*;
+use crate::list::*;
 use crate::literal::{self, Message};
-use crate::protocol::*;
 
 impl Oracle {
     pub(super) fn edit(&mut self, l: usize, edit: Edit) -> Result<Expected, String> {
@@ -29,45 +29,47 @@ impl Oracle {
             0
         };
         self.same_lists(l)?;
-        Ok(answer(refusal, 0, 0))
+        Ok(answer(refusal, 0))
     }
 
     pub(super) fn send(&mut self, call: &Call) -> Expected {
         let (end, l) = (call.end as usize, call.line as usize);
         if (end != 0 && l != end) || !(1..=self.n).contains(&l) {
-            return answer(4, 0, 0);
+            return answer(4, 0);
         }
         let line = &self.lines[l - 1];
         let (counts, direction) = if end == 0 { (line.server, 1) } else { (line.client, 0) };
-        let numbered = if call.op == TELL {
+        let numbered = if call.op == ACKNOWLEDGE {
             None
         } else if counts.acked < call.number && call.number <= counts.made {
             Some((call.number, self.pending(end, l, call.number)))
         } else {
-            return answer(13, 0, 0);
+            return answer(13, 0);
         };
         let message = Message { line: call.line, direction, numbered, seen: counts.taken };
         let bytes = literal::write(&message);
         if (call.size as usize) < bytes.len() {
-            return answer(14, 0, 0);
+            return answer(14, 0);
         }
         let slot = &mut self.slots[call.slot as usize];
         slot.bytes[..bytes.len()].copy_from_slice(&bytes);
         slot.length = bytes.len() as u8;
         let length = slot.length;
         self.written.insert(bytes);
-        answer(0, length, 0)
+        answer(0, length as u16)
     }
 
-    pub(super) fn take(&mut self, end: usize, slot: usize) -> Result<Expected, String> {
-        let bytes = self.slots[slot].bytes[..self.slots[slot].length as usize].to_vec();
+    pub(super) fn take(&mut self, end: usize, call: &Call) -> Result<Expected, String> {
+        let slot = &self.slots[call.slot as usize];
+        let mut bytes = slot.bytes[..slot.length as usize].to_vec();
+        bytes.resize(bytes.len() + TAIL * call.number as usize, 0);
         let Some(message) = literal::read(&bytes) else {
-            return Ok(answer(3, 0, 0));
+            return Ok(answer(3, 0));
         };
         let l = message.line as usize;
         let refusal = self.turn(end, &message);
         if refusal != 0 {
-            return Ok(answer(refusal, 0, 0));
+            return Ok(answer(refusal, 0));
         }
         if !self.written.contains(&bytes) {
             return Ok(Expected::Silence);
@@ -76,11 +78,11 @@ impl Oracle {
         let counts = if end == 0 { &mut line.server } else { &mut line.client };
         let Some((number, _)) = message.numbered else {
             counts.acked = message.seen;
-            return Ok(answer(0, 0, 0));
+            return Ok(answer(0, 0));
         };
         let passed = counts.made - message.seen;
         if end == 0 && self.full(l) {
-            return Ok(answer(12, 0, 0));
+            return Ok(answer(12, 0));
         }
         if end == 0 {
             self.serve(l, number, message.seen)?;
@@ -88,7 +90,7 @@ impl Oracle {
             self.deliver(l, message.seen)?;
         }
         self.same_lists(end)?;
-        Ok(answer(0, 0, passed))
+        Ok(answer(0, passed))
     }
 
     /// Questions 4 to 8 of a message at an end.

@@ -8,10 +8,12 @@ mod calls;
 mod views;
 
 use crate::cjupiter::CJupiter;
+use crate::describe::difference;
 use crate::edit::Edit;
 use crate::form::{History, Set};
+use crate::layout;
 use crate::limits::*;
-use crate::protocol::*;
+use crate::list::*;
 use std::collections::HashSet;
 
 /// What is counted on one side of a line, at the client or at the server.
@@ -62,7 +64,7 @@ struct Slot {
 
 pub struct Oracle {
     n: usize,
-    initial: u16,
+    initial: usize,
     history: History,
     graph: CJupiter,
     lines: Vec<Line>,
@@ -94,20 +96,20 @@ enum Expected {
 /// Holds the answers of a run to the rule book.
 pub fn check(list: &List, out: &[u8]) -> Result<Report, Wrong> {
     let mut report = Report::default();
-    let Some((mut oracle, openings)) = Oracle::start(list) else {
+    let Some(n) = list.lines() else {
         return Ok(report);
     };
+    let mut oracle = Oracle::start(n, &list.initial);
     let mut at = 0;
     for (index, call) in list.calls.iter().enumerate() {
-        let answer = out.get(at..at + call.answer_length()).ok_or_else(|| (index, "the output ends here".to_string()))?;
-        at += answer.len();
-        let expected =
-            if index < openings { Expected::Bytes(vec![0; ANSWER]) } else { oracle.expect(call).map_err(|text| (index, text))? };
+        let came = out.get(at..at + call.answer_length()).ok_or_else(|| (index, "the output ends here".to_string()))?;
+        at += came.len();
+        let expected = if index <= n { answer(0, 0) } else { oracle.expect(call).map_err(|text| (index, text))? };
         let Expected::Bytes(expected) = expected else {
             return Ok(report);
         };
-        if expected != answer {
-            return Err((index, differing(call, &expected, answer)));
+        if let Some((name, [expected, came])) = difference(call, &expected, came) {
+            return Err((index, format!("{name}: expected {expected}; came {came}")));
         }
         report.followed = index + 1;
     }
@@ -116,65 +118,69 @@ pub fn check(list: &List, out: &[u8]) -> Result<Report, Wrong> {
     Ok(report)
 }
 
-fn differing(call: &Call, expected: &[u8], answer: &[u8]) -> String {
-    let at = expected.iter().zip(answer).position(|(e, a)| e != a).unwrap_or(0);
-    format!("{}: expected {}, got {}", place(call, at), expected[at], answer[at])
-}
-
 impl Oracle {
-    /// The oracle after the openings, and how many calls these are; none if the list does not begin with a whole sheet's openings.
-    fn start(list: &List) -> Option<(Oracle, usize)> {
-        let n = list.calls.first()?.size as usize;
-        let opened = List::opened(n as u8, list.initial.clone());
-        if !(1..=LINES).contains(&n) || list.initial.len() > INITIAL || !list.calls.starts_with(&opened.calls) {
-            return None;
-        }
-        let line = || Line { first: vec![[0; LINES]], shown: list.initial.clone(), ..Line::default() };
-        let oracle = Oracle {
+    /// The oracle after the openings of a sheet of n lines.
+    fn start(n: usize, initial: &[u32]) -> Oracle {
+        let line = || Line { first: vec![[0; LINES]], shown: initial.to_vec(), ..Line::default() };
+        Oracle {
             n,
-            initial: list.initial.len() as u16,
+            initial: initial.len(),
             history: History::default(),
-            graph: CJupiter::new(n, &list.initial),
+            graph: CJupiter::new(n, initial),
             lines: (0..n).map(|_| line()).collect(),
-            shown: list.initial.clone(),
+            shown: initial.to_vec(),
             applied: [0; LINES],
             numbers: Vec::new(),
             slots: [Slot { bytes: [FRESH; SLOT], length: 0 }; SLOTS],
             written: HashSet::new(),
-        };
-        Some((oracle, n + 1))
+        }
     }
 
     fn expect(&mut self, call: &Call) -> Result<Expected, String> {
         if !call.is_one() {
-            return Ok(answer(NO_CALL, 0, 0));
+            return Ok(answer(NO_CALL, 0));
         }
         let end = call.end as usize;
-        let unopened = end > self.n && !matches!(call.op, POKE | SHOW);
+        let unopened = end > self.n && call.has_end();
         match call.op {
-            OPEN | SET => Ok(Expected::Silence),
-            DUMP if unopened => Ok(Expected::Bytes(vec![0; call.answer_length()])),
-            _ if unopened => Ok(answer(2, 0, 0)),
+            _ if call.exported() && call.lent < 0 => Ok(answer(18, 0)),
+            OPEN if opening_is_refused(call, self.initial) => Ok(answer(1, 0)),
+            OPEN | SET | FILL | COPY => Ok(Expected::Silence),
+            DUMP if unopened => Ok(dumped(vec![FRESH; layout::bytes(call.end)])),
+            _ if unopened => Ok(answer(2, 0)),
             INSERT => self.edit(end, Edit::Insert(call.position, call.value, call.end)),
             DELETE => self.edit(end, Edit::Delete(call.position)),
-            SEND | TELL => Ok(self.send(call)),
-            TAKE => self.take(end, call.slot as usize),
+            SEND | ACKNOWLEDGE => Ok(self.send(call)),
+            TAKE => self.take(end, call),
             POKE => {
                 let slot = &mut self.slots[call.slot as usize];
                 slot.bytes[call.number as usize] = call.value as u8;
                 slot.length = call.size;
-                Ok(answer(0, 0, 0))
+                Ok(answer(0, 0))
             }
             DUMP => self.dump(end),
             _ => {
                 let slot = &self.slots[call.slot as usize];
-                Ok(Expected::Bytes([&[0, 0, 0, 0, slot.length][..], &slot.bytes].concat()))
+                Ok(dumped([&[slot.length][..], &slot.bytes].concat()))
             }
         }
     }
 }
 
-fn answer(refusal: u8, length: u8, passed: u16) -> Expected {
-    let [high, low] = passed.to_be_bytes();
-    Expected::Bytes(vec![refusal, length, high, low])
+/// Question 1 and the cut item, of an opening that has so many items to choose from.
+pub fn opening_is_refused(call: &Call, initial: usize) -> bool {
+    let (n, items) = (call.size as usize, initial.min(call.number as usize));
+    let line = call.end == 0 || (1 <= call.line && call.line <= call.size);
+    call.slot != 0 || !(1..=LINES).contains(&n) || !line || items > INITIAL
+}
+
+/// The answer of a call; no byte changed that had to stay.
+fn answer(refusal: u8, count: u16) -> Expected {
+    let number = refusal as u64 | (count as u64) << 8;
+    Expected::Bytes([&number.to_le_bytes()[..], &[0]].concat())
+}
+
+/// The answer of a dump or a show, and the bytes after it.
+fn dumped(bytes: Vec<u8>) -> Expected {
+    Expected::Bytes([&[0; ANSWER][..], &bytes].concat())
 }

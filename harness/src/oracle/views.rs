@@ -1,9 +1,8 @@
 //! What an end has to look like, and that the lists meet: everything is asked of the definition.
 
-use super::{Asked, Expected, Line, Oracle};
+use super::{dumped, Asked, Expected, Line, Oracle};
 use crate::edit::{apply, fits, Edit};
-use crate::limits::*;
-use std::ops::RangeInclusive;
+use crate::layout::{self, Field};
 
 impl Oracle {
     /// The form that a pending edit is owed, asked for once.
@@ -39,46 +38,44 @@ impl Oracle {
         }
     }
 
-    /// The whole end as the rule book has it.
+    /// The whole end as the rule book has it, in the layout's words.
     pub(super) fn dump(&mut self, end: usize) -> Result<Expected, String> {
-        let (n, items) = (self.n as u8, if end == 0 { self.shown.clone() } else { self.lines[end - 1].shown.clone() });
-        let mut bytes = vec![0, 0, 0, 0, n, end as u8];
-        bytes.extend_from_slice(&(items.len() as u16).to_be_bytes());
-        if end == 0 {
-            bytes.extend_from_slice(&self.initial.to_be_bytes());
-            self.dump_lines(0, 1..=self.n, LINES, &mut bytes);
-        } else {
-            self.dump_lines(end, end..=end, 1, &mut bytes);
-            self.meeting(end)?;
+        let mut words = vec![0; layout::words(end as u8)];
+        let mut put = |line: usize, field: Field, value: u32| {
+            let word = layout::word(end as u8, line as u8, field).unwrap();
+            words[word as usize] = value;
+        };
+        let items = if end == 0 { &self.shown } else { &self.lines[end - 1].shown };
+        put(0, Field::N, self.n as u32);
+        put(0, Field::Length, items.len() as u32);
+        for (index, &item) in items.iter().enumerate() {
+            put(0, Field::Item(index as u16), item);
         }
-        let length = bytes.len() + 4 * ITEMS;
-        bytes.extend(items.iter().flat_map(|item| item.to_be_bytes()));
-        bytes.resize(length, 0);
-        Ok(Expected::Bytes(bytes))
-    }
-
-    /// The lines that are in use, in an end that has room for so many: each count of all of them, then the places and the items of their
-    /// pending edits.
-    pub(super) fn dump_lines(&mut self, end: usize, used: RangeInclusive<usize>, room: usize, bytes: &mut Vec<u8>) {
-        let counts: Vec<_> = used.clone().map(|l| if end == 0 { self.lines[l - 1].server } else { self.lines[l - 1].client }).collect();
-        let mut numbers = [(); 4].map(|_| vec![0u16; room]);
-        let mut places = vec![0u32; room * PENDING];
-        let mut items = vec![0u32; room * PENDING];
-        for (at, (l, counts)) in used.zip(counts).enumerate() {
-            for (row, count) in numbers.iter_mut().zip([counts.made, counts.taken, counts.acked, counts.inserts]) {
-                row[at] = count;
-            }
+        if end == 0 {
+            put(0, Field::Initial, self.initial as u32);
+        } else {
+            put(0, Field::Line, end as u32);
+        }
+        for l in if end == 0 { 1..=self.n } else { end..=end } {
+            let counts = if end == 0 { self.lines[l - 1].server } else { self.lines[l - 1].client };
+            put(l, Field::Made, counts.made as u32);
+            put(l, Field::Taken, counts.taken as u32);
+            put(l, Field::Acked, counts.acked as u32);
+            put(l, Field::Inserts, counts.inserts as u32);
             for (index, number) in (counts.acked + 1..=counts.made).enumerate() {
-                let slot = at * PENDING + index;
-                (places[slot], items[slot]) = match self.pending(end, l, number) {
+                let (place, item) = match self.pending(end, l, number) {
                     Edit::Nothing => (0, 0),
                     Edit::Delete(position) => (position as u32 * 256, 0),
                     Edit::Insert(position, item, priority) => (position as u32 * 256 + priority as u32, item),
                 };
+                put(l, Field::Place(index as u16), place);
+                put(l, Field::Brought(index as u16), item);
             }
         }
-        bytes.extend(numbers.iter().flatten().flat_map(|number| number.to_be_bytes()));
-        bytes.extend(places.iter().chain(&items).flat_map(|number| number.to_be_bytes()));
+        if end != 0 {
+            self.meeting(end)?;
+        }
+        Ok(dumped(words.iter().flat_map(|word| word.to_le_bytes()).collect()))
     }
 
     /// The lists meet: the client's with the missing edits carried past the unaccepted, the server's with the unaccepted carried past the missing.

@@ -20,18 +20,18 @@ pub struct Client {
 impl Client {
     pub const ZERO: Client = Client { n: 0, line: 0, length: 0, own: Line::ZERO, items: [0; ITEMS] };
 
-    /// Question 1. Refused, the end is all zeros.
-    pub fn open<R: Rules>(n: u8, line: u8, items: &[u32]) -> (u8, Client) {
-        let mut client = Client::ZERO;
+    /// Question 1, of an end that is all zeros. Refused, it stays so.
+    #[inline]
+    pub fn open<R: Rules>(&mut self, n: u8, line: u8, items: &[u32]) -> u8 {
         let least = if R::slips(Slip::OpenLineZero) { 0 } else { 1 };
         if !(1 <= n && n as usize <= LINES && least <= line && line <= n && items.len() <= INITIAL) {
-            return (1, client);
+            return 1;
         }
-        client.n = n;
-        client.line = line;
-        client.length = items.len() as u16;
-        client.items[..items.len()].copy_from_slice(items);
-        (0, client)
+        self.n = n;
+        self.line = line;
+        self.length = items.len() as u16;
+        self.items[..items.len()].copy_from_slice(items);
+        0
     }
 
     /// Question 2.
@@ -44,7 +44,7 @@ impl Client {
             && (own.made <= EDITS || R::slips(Slip::SoundMade))
             && (own.taken <= OTHERS || R::slips(Slip::SoundTaken))
             && (own.inserts <= own.made || R::slips(Slip::SoundInsertsMade))
-            && own.sound::<R>(|priority| priority == self.line)
+            && own.sound::<R>(|priority| priority == self.line as u32)
             && (rest_is_zero(&self.items, self.length) || R::slips(Slip::SoundItemsZero))
     }
 

@@ -4,8 +4,8 @@ pub const NOTHING: u8 = 0;
 pub const DELETE: u8 = 1;
 pub const INSERT: u8 = 2;
 
-/// An edit: from the top, kind (8 bits), position (16), priority (8), item (32). What a kind does not use is zero, so that an unused place is the
-/// word 0. Position and priority stand side by side: one comparison of 24 bits decides who moves.
+/// An edit: from the top, kind (8 bits), position (16), priority (8), item (32). What a kind does not use is zero. Position and priority stand
+/// side by side: one comparison of 24 bits decides who moves.
 #[derive(Clone, Copy, PartialEq, Eq, Default)]
 #[repr(transparent)]
 pub struct Edit(u64);
@@ -45,29 +45,11 @@ impl Edit {
         self.0 as u32
     }
 
-    /// The edit whose place (position * 256 + priority) and item stand in a slot. What no edit has there becomes a word that question 2 refuses
-    /// and that `place` and `item` give back; of the place's top byte only 0 to 2 are told apart.
-    pub fn of_slot(place: u32, item: u32) -> Edit {
-        let (top, position, priority) = ((place >> 24) as u8, (place >> 8) as u16, place as u8);
-        let mut edit = Edit::insert(position, item, priority);
-        if priority == 0 && item == 0 {
-            edit = if position == 0 { Edit::NOTHING } else { Edit::delete(position) };
-        }
-        if top != 0 {
-            edit = Edit(Edit::insert(position, item, priority).0 + ((top as u64) << 56));
-        }
-        edit
-    }
-
-    /// Position * 256 + priority, and above them what `of_slot` found there.
-    pub fn place(self) -> u32 {
-        (self.kind().max(INSERT) - INSERT) as u32 * (1 << 24) + self.key()
-    }
-
-    /// Zero exactly for an unused place.
+    /// The pending edit of that place (position * 256 + priority) and item: an insert has a priority, a delete a position.
     #[inline]
-    pub fn word(self) -> u64 {
-        self.0
+    pub fn pending(place: u32, item: u32) -> Edit {
+        let kind = if place & 255 != 0 { INSERT } else { (place != 0) as u8 * DELETE };
+        Edit((kind as u64) << 56 | (place as u64) << 32 | item as u64)
     }
 
     /// The same edit at another position.
@@ -76,9 +58,9 @@ impl Edit {
         Edit(self.0 & !(0xFFFF << STEP) | (position as u64) << STEP)
     }
 
-    /// Position and priority in one number.
+    /// Position * 256 + priority.
     #[inline]
-    fn key(self) -> u32 {
+    pub fn place(self) -> u32 {
         (self.0 >> 32) as u32 & 0xFF_FFFF
     }
 
@@ -88,9 +70,9 @@ impl Edit {
     #[inline]
     pub fn past(self, other: Edit) -> Edit {
         let (kind, other_kind) = (self.kind(), other.kind());
-        let key = self.key() | if kind == INSERT { 0 } else { 255 };
+        let key = self.place() | if kind == INSERT { 0 } else { 255 };
         let there = kind != NOTHING;
-        let up = there & (other_kind == INSERT) & (key > other.key());
+        let up = there & (other_kind == INSERT) & (key > other.place());
         let later = self.position() > other.position();
         let down = there & (other_kind == DELETE) & later;
         let gone = (kind == DELETE) & (other_kind == DELETE) & (self.position() == other.position());

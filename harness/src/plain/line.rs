@@ -1,10 +1,11 @@
 //! One line of an end: its counts and its pending edits. A client has one, the server eight.
 
 use super::codec::{self, Message};
-use super::edit::{Edit, DELETE, INSERT, NOTHING};
+use super::edit::{Edit, DELETE, INSERT};
 use super::slip::{Rules, Slip};
 use super::{Answer, Sent};
 use crate::limits::*;
+use std::ops::Range;
 
 #[derive(Clone, PartialEq, Eq, Debug)]
 #[repr(C)]
@@ -14,7 +15,30 @@ pub struct Line {
     pub acked: u16,
     pub inserts: u16,
     /// Numbers acked + 1 to made, in their present form; the rest is unused.
-    pub pending: [Edit; PENDING],
+    pub pending: Pending,
+}
+
+/// Pending edits side by side: position * 256 + priority, and the item.
+#[derive(Clone, PartialEq, Eq, Debug)]
+#[repr(C)]
+pub struct Pending {
+    pub places: [u32; PENDING],
+    pub items: [u32; PENDING],
+}
+
+impl Pending {
+    const ZERO: Pending = Pending { places: [0; PENDING], items: [0; PENDING] };
+
+    #[inline]
+    fn get(&self, at: usize) -> Edit {
+        Edit::pending(self.places[at], self.items[at])
+    }
+
+    #[inline]
+    fn put(&mut self, at: usize, edit: Edit) {
+        self.places[at] = edit.place();
+        self.items[at] = edit.item();
+    }
 }
 
 /// What an arriving edit does to a line, computed before anything is written: a refusal then has nothing to undo.
@@ -22,11 +46,11 @@ pub struct Crossed {
     pub edit: Edit,
     pub passed: u16,
     pub within: bool,
-    pending: [Edit; PENDING],
+    pending: Pending,
 }
 
 impl Line {
-    pub const ZERO: Line = Line { made: 0, taken: 0, acked: 0, inserts: 0, pending: [Edit::NOTHING; PENDING] };
+    pub const ZERO: Line = Line { made: 0, taken: 0, acked: 0, inserts: 0, pending: Pending::ZERO };
 
     #[inline]
     pub fn kept(&self) -> u16 {
@@ -35,7 +59,7 @@ impl Line {
 
     /// The part of question 2 that both kinds of end ask of their lines; `allowed` says which priorities a pending insert may have.
     #[inline]
-    pub fn sound<R: Rules>(&self, allowed: impl Fn(u8) -> bool) -> bool {
+    pub fn sound<R: Rules>(&self, allowed: impl Fn(u32) -> bool) -> bool {
         let kept = self.kept() as usize;
         let counts = (self.acked <= self.made || R::slips(Slip::SoundAcked))
             && (kept <= PENDING || R::slips(Slip::SoundPending))
@@ -43,15 +67,16 @@ impl Line {
         if !counts {
             return false;
         }
-        let (used, unused) = self.pending.split_at(kept.min(PENDING));
+        let (places, unused_places) = self.pending.places.split_at(kept.min(PENDING));
+        let (items, unused_items) = self.pending.items.split_at(kept.min(PENDING));
         let mut bad = false;
-        for edit in used {
-            let outside = edit.position().wrapping_sub(1) >= ITEMS as u16;
-            bad |= (edit.kind() != NOTHING) & outside & !R::slips(Slip::SoundPosition);
-            bad |= (edit.kind() == INSERT) & !allowed(edit.priority()) & !R::slips(Slip::SoundPriority);
-            bad |= edit.kind() > INSERT;
+        for (&place, &item) in places.iter().zip(items) {
+            let (position, priority) = (place >> 8 & 65_535, place & 255);
+            let outside = (position.wrapping_sub(1) >= ITEMS as u32) & !R::slips(Slip::SoundPosition);
+            let foreign = if priority == 0 { item != 0 } else { !allowed(priority) } & !R::slips(Slip::SoundPriority);
+            bad |= (place | item != 0) & (outside | foreign | (place >> 24 != 0));
         }
-        let rest = unused.iter().fold(0, |all, edit| all | edit.word());
+        let rest = unused_places.iter().zip(unused_items).fold(0, |all, (place, item)| all | place | item);
         !bad && (rest == 0 || R::slips(Slip::SoundPendingZero))
     }
 
@@ -78,9 +103,11 @@ impl Line {
         let (drop, kept) = ((seen - self.acked) as usize, self.kept() as usize);
         let passed = if R::slips(Slip::AckCounted) { self.made - seen } else { 0 };
         if !R::slips(Slip::AckIgnored) {
-            self.pending.copy_within(drop..kept, 0);
-            if !R::slips(Slip::PendingTailLeft) {
-                self.pending[kept - drop..kept].fill(Edit::NOTHING);
+            for words in [&mut self.pending.places, &mut self.pending.items] {
+                words.copy_within(drop..kept, 0);
+                if !R::slips(Slip::PendingTailLeft) {
+                    words[kept - drop..kept].fill(0);
+                }
             }
             self.acked = seen;
         }
@@ -94,29 +121,48 @@ impl Line {
         let seen = seen.clamp(self.acked, self.made);
         let seen = if R::slips(Slip::SeenIgnored) { self.acked } else { seen };
         let (from, to) = ((seen - self.acked) as usize, self.kept() as usize);
-        let mut crossed = Crossed { edit: arriving, passed: (to - from) as u16, within: true, pending: [Edit::NOTHING; PENDING] };
+        let mut crossed = Crossed { edit: arriving, passed: (to - from) as u16, within: true, pending: Pending::ZERO };
         if R::slips(Slip::PendingTailLeft) {
             crossed.pending = self.pending.clone();
         }
         let mut highest = 0;
-        for (new, &old) in crossed.pending.iter_mut().zip(&self.pending[from..to]) {
+        for at in from..to.min(PENDING) {
+            let old = self.pending.get(at);
             let form = carried::<R>(old, crossed.edit);
             crossed.edit = carried::<R>(crossed.edit, old);
             highest = highest.max(form.position());
-            *new = form;
+            crossed.pending.put(at - from, form);
         }
         crossed.within = highest <= ITEMS as u16 || R::slips(Slip::PendingPast512);
-        slip_of_crossing::<R>(&mut crossed, &self.pending[from..to], arriving);
+        self.slip_of_crossing::<R>(&mut crossed, from..to, arriving);
         if R::slips(Slip::CountMadeUp) {
             crossed.passed = self.kept();
         }
         crossed
     }
 
+    /// The slips that spoil what crossing computed.
+    #[inline(always)]
+    fn slip_of_crossing<R: Rules>(&self, crossed: &mut Crossed, passed: Range<usize>, arriving: Edit) {
+        let left = |crossed: &mut Crossed, first: usize| {
+            passed.clone().enumerate().skip(first).for_each(|(new, old)| crossed.pending.put(new, self.pending.get(old)))
+        };
+        if R::slips(Slip::PendingLeft) {
+            left(crossed, 0);
+        }
+        if R::slips(Slip::FirstOnly) && !passed.is_empty() {
+            crossed.edit = arriving.past(self.pending.get(passed.start));
+            left(crossed, 1);
+        }
+        if R::slips(Slip::CountZero) {
+            crossed.passed = 0;
+        }
+    }
+
     /// Writes what `cross` computed; the edit counts as taken.
     #[inline]
     pub fn store<R: Rules>(&mut self, crossed: &Crossed, seen: u16) {
-        self.pending = crossed.pending;
+        self.pending = crossed.pending.clone();
         if !R::slips(Slip::SeenIgnored) {
             self.acked = seen.clamp(self.acked, self.made);
         }
@@ -126,7 +172,7 @@ impl Line {
     /// Keeps an edit as the next number. The caller has asked question 12.
     #[inline]
     pub fn keep(&mut self, edit: Edit) {
-        self.pending[self.kept() as usize] = edit;
+        self.pending.put(self.kept() as usize, edit);
         self.made += 1;
     }
 
@@ -135,7 +181,7 @@ impl Line {
         if !(self.acked < k && k <= self.made) {
             return Sent::refused(13);
         }
-        let edit = self.pending[(k - self.acked - 1) as usize];
+        let edit = self.pending.get((k - self.acked - 1) as usize);
         let seen = if R::slips(Slip::SeenOfAcked) { self.acked } else { self.taken };
         put::<R>(&Message { line, direction, number: k, seen, edit }, out)
     }
@@ -153,7 +199,8 @@ fn put<R: Rules>(message: &Message, out: &mut [u8]) -> Sent {
             let fits = out.len();
             out.copy_from_slice(&bytes[..fits]);
         }
-        return Sent { refusal: 14, length: if R::slips(Slip::LengthAtRefusal) { length as u8 } else { 0 } };
+        let refusal = if R::slips(Slip::ShortOut18) { 18 } else { 14 };
+        return Sent { refusal, length: if R::slips(Slip::LengthAtRefusal) { length as u8 } else { 0 } };
     }
     out[..length].copy_from_slice(&bytes[..length]);
     if R::slips(Slip::BytesPast) {
@@ -175,19 +222,4 @@ fn carried<R: Rules>(edit: Edit, other: Edit) -> Edit {
         _ => return edit.past(other),
     };
     edit.at(slip)
-}
-
-/// The slips that spoil what crossing computed.
-#[inline(always)]
-fn slip_of_crossing<R: Rules>(crossed: &mut Crossed, old: &[Edit], arriving: Edit) {
-    if R::slips(Slip::PendingLeft) {
-        crossed.pending[..old.len()].copy_from_slice(old);
-    }
-    if R::slips(Slip::FirstOnly) && !old.is_empty() {
-        crossed.edit = arriving.past(old[0]);
-        crossed.pending[1..old.len()].copy_from_slice(&old[1..]);
-    }
-    if R::slips(Slip::CountZero) {
-        crossed.passed = 0;
-    }
 }

@@ -1,13 +1,15 @@
-//! An independent implementation of the rule book in plain Rust: both ends, the messages, the run program.
+//! An independent implementation of the rule book in plain Rust: both ends, the messages, the calls over lent bytes, the run program.
 //! An end changes in place and only once every question has been answered with yes.
 
 pub mod client;
 pub mod codec;
 pub mod edit;
+pub mod lent;
 pub mod line;
 pub mod script;
 pub mod server;
 pub mod slip;
+pub mod words;
 
 /// The answer of editing and taking: the number of the first no, or 0, and how many pending edits were passed.
 #[derive(Clone, Copy, PartialEq, Eq, Debug)]

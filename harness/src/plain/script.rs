@@ -145,9 +145,12 @@ fn order<R: Rules>(line: &[u8], n: u8) -> Option<(u8, Order)> {
 
 impl Sheet {
     fn open<R: Rules>(n: u8, items: &[u32]) -> Option<Sheet> {
-        let (refusal, server) = Server::open::<R>(n, items);
-        let clients = std::array::from_fn(|l| Client::open::<R>(n, l as u8 + 1, items).1);
-        (refusal == 0).then_some(Sheet { n, server, clients })
+        let mut sheet = Sheet { n, server: Server::ZERO, clients: [Client::ZERO; LINES] };
+        let refusal = sheet.server.open::<R>(n, items);
+        for (line, client) in (1..=n).zip(&mut sheet.clients) {
+            client.open::<R>(n, line, items);
+        }
+        (refusal == 0).then_some(sheet)
     }
 
     fn perform<R: Rules>(&mut self, bay: u8, order: Order) -> u8 {

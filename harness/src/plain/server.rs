@@ -20,19 +20,19 @@ pub struct Server {
 impl Server {
     pub const ZERO: Server = Server { n: 0, length: 0, initial: 0, lines: [Line::ZERO; LINES], items: [0; ITEMS] };
 
-    /// Question 1. Refused, the end is all zeros.
-    pub fn open<R: Rules>(n: u8, items: &[u32]) -> (u8, Server) {
-        let mut server = Server::ZERO;
+    /// Question 1, of an end that is all zeros. Refused, it stays so.
+    #[inline]
+    pub fn open<R: Rules>(&mut self, n: u8, items: &[u32]) -> u8 {
         let most_items = if R::slips(Slip::Open129) { INITIAL + 1 } else { INITIAL };
         let most_lines = if R::slips(Slip::OpenNine) { LINES + 1 } else { LINES };
         if !(1 <= n && n as usize <= most_lines && items.len() <= most_items) {
-            return (1, server);
+            return 1;
         }
-        server.n = n;
-        server.length = items.len() as u16;
-        server.initial = server.length;
-        server.items[..items.len()].copy_from_slice(items);
-        (0, server)
+        self.n = n;
+        self.length = items.len() as u16;
+        self.initial = self.length;
+        self.items[..items.len()].copy_from_slice(items);
+        0
     }
 
     /// Question 2.
@@ -52,7 +52,7 @@ impl Server {
                 (line.taken <= EDITS || R::slips(Slip::SoundTaken))
                     && (line.made as u32 == taken - line.taken as u32 || R::slips(Slip::SoundSum))
                     && (line.inserts <= line.taken || R::slips(Slip::SoundInsertsMade))
-                    && line.sound::<R>(|priority| (priority.wrapping_sub(1) < self.n) & (priority != l as u8 + 1))
+                    && line.sound::<R>(|priority| (priority.wrapping_sub(1) < self.n as u32) & (priority != l as u32 + 1))
             })
             && (unused.iter().all(|line| *line == Line::ZERO) || R::slips(Slip::SoundPastN))
             && (rest_is_zero(&self.items, self.length) || R::slips(Slip::SoundItemsZero))

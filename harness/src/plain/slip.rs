@@ -1,22 +1,25 @@
 //! Mistakes that can be switched on, one at a time, to show that the harness notices each of them.
-//! `Right` never slips and costs nothing: the compiler removes every question it is asked. `Wrong` slips as `set` says.
+//! `Plain` never slips and costs nothing: the compiler removes every question it is asked. `Slipping` slips as `set` says.
 
 use std::sync::atomic::{AtomicUsize, Ordering};
 
 pub trait Rules {
+    const NAME: &'static str;
     fn slips(slip: Slip) -> bool;
 }
 
-pub struct Right;
+pub struct Plain;
 
-impl Rules for Right {
+impl Rules for Plain {
+    const NAME: &'static str = "plain";
+
     #[inline(always)]
     fn slips(_: Slip) -> bool {
         false
     }
 }
 
-pub struct Wrong;
+pub struct Slipping;
 
 static NOW: AtomicUsize = AtomicUsize::new(usize::MAX);
 
@@ -24,12 +27,19 @@ pub fn set(slip: Slip) {
     NOW.store(slip as usize, Ordering::Relaxed);
 }
 
+/// The slip that is switched on.
+pub fn now() -> Option<Slip> {
+    ALL.get(NOW.load(Ordering::Relaxed)).map(|row| row.0)
+}
+
 /// The slip of that name.
 pub fn named(name: &str) -> Option<Slip> {
     ALL.iter().map(|row| row.0).find(|slip| format!("{slip:?}").eq_ignore_ascii_case(name))
 }
 
-impl Rules for Wrong {
+impl Rules for Slipping {
+    const NAME: &'static str = "slipping";
+
     #[inline]
     fn slips(slip: Slip) -> bool {
         NOW.load(Ordering::Relaxed) == slip as usize
@@ -138,6 +148,24 @@ slips! {
     Open129 Comparison "129 items open",
     OpenNine Comparison "n = 9 opens a server",
     OpenLineZero Comparison "line 0 opens a client",
+    ItemsCounted8 Comparison "opening items are counted in 8 bits: 256 are none",
+    ItemsLowFirst History "opening items are read low byte first",
+    CutItem History "a cut opening item is passed over",
+    OpenZeros History "a refused opening writes zeros",
+    OpenLeaves History "opening leaves the bytes of unused places as they were",
+    // lent bytes
+    ShortLate History "18 is asked last",
+    ShortByThree History "three bytes too few are let through",
+    LongRefused History "more bytes than the layout's give 18",
+    RestCleared History "the bytes past the layout become zero",
+    ShortOut18 History "too short a buffer for a message gives 18",
+    RefusedByte History "a refused edit or taking changes a byte of the end",
+    AnswerHigh History "an answer has a bit past its count",
+    Length8 Comparison "the message's length is read in 8 bits: 261 bytes are 5",
+    // bytes of the layout that nobody looks at
+    WideN Comparison "the upper bytes of n and line are not looked at",
+    WideCount Comparison "the upper bytes of the counts are not looked at",
+    WidePlace Comparison "the top byte of a pending place is not looked at",
     // the run program
     ScriptWide Script "a number too wide for its field loses its high bits",
     ScriptSpaces Script "two spaces are read as one",

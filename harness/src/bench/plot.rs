@@ -1,6 +1,6 @@
 //! The growth plot, as SVG: two panels with logarithmic axes.
 
-use crate::bench::Growth;
+use super::growth::Growth;
 use std::fmt::Write;
 
 const WIDTH: f64 = 420.0;

@@ -1,0 +1,73 @@
+//! Calls and answers in words, for a failure's report.
+
+use crate::layout;
+use crate::list::*;
+
+impl Call {
+    /// The call in words.
+    pub fn words(&self) -> String {
+        let end = |end: u8| if end == 0 { "server".to_string() } else { format!("client {end}") };
+        let who = end(self.end);
+        let text = match self.op {
+            OPEN if self.slot == 0 => format!("{who} opens with n {}, line {}, {} items", self.size, self.line, self.number),
+            OPEN => {
+                format!("{who} opens with n {}, line {}, {} items and {} bytes of one", self.size, self.line, self.number, self.slot)
+            }
+            INSERT => format!("{who} inserts {} at {}", self.value, self.position),
+            DELETE => format!("{who} deletes at {}", self.position),
+            SEND => format!("{who} sends number {} of line {} into {} bytes of slot {}", self.number, self.line, self.size, self.slot),
+            ACKNOWLEDGE => format!("{who} acknowledges line {} into {} bytes of slot {}", self.line, self.size, self.slot),
+            TAKE if self.number == 0 => format!("{who} takes slot {}", self.slot),
+            TAKE => format!("{who} takes slot {} and {} bytes after it", self.slot, TAIL * self.number as usize),
+            POKE => format!("slot {} byte {} becomes {}, length {}", self.slot, self.number, self.value & 255, self.size),
+            SET => format!("{who}'s {} (word {}) becomes {}", layout::name(self.end, self.number), self.number, self.value),
+            DUMP => format!("{who} is dumped"),
+            SHOW => format!("slot {} is shown", self.slot),
+            FILL => format!("{who}'s bytes all become {}", self.value & 255),
+            COPY => format!("{who} becomes a copy of {}", end(self.line)),
+            op => format!("op {op}"),
+        };
+        match self.lent {
+            lent if lent < 0 && self.exported() => format!("{text}, {} bytes too few lent", -(lent as i32)),
+            lent if lent > 0 && self.exported() => format!("{text}, {lent} bytes more lent"),
+            _ => text,
+        }
+    }
+}
+
+/// What stands where two answers differ, for a failure's report: the name, and what each has there.
+pub fn difference(call: &Call, one: &[u8], other: &[u8]) -> Option<(String, [String; 2])> {
+    let byte = one.iter().zip(other).position(|(a, b)| a != b)?;
+    let both = |value: &dyn Fn(&[u8]) -> String| [value(one), value(other)];
+    if byte < ANSWER - 1 {
+        return Some(("answer".to_string(), both(&|bytes| in_words(bytes))));
+    }
+    if byte < ANSWER {
+        return Some(("changed that had to stay".to_string(), both(&|bytes| had_to_stay(bytes[ANSWER - 1]))));
+    }
+    let at = byte - ANSWER;
+    if call.op == SHOW {
+        let name = if at == 0 { "the slot's length".to_string() } else { format!("the slot's byte {}", at - 1) };
+        return Some((name, both(&|bytes| bytes[byte].to_string())));
+    }
+    let word = (at / 4) as u16;
+    let value = |bytes: &[u8]| layout::read(&bytes[ANSWER..], word).to_string();
+    Some((format!("{} (word {word})", layout::name(call.end, word)), both(&value)))
+}
+
+/// The bytes that had to stay, in words.
+pub fn had_to_stay(bits: u8) -> String {
+    let names = [(END, "bytes of the end"), (AROUND, "bytes around the end"), (OUT, "bytes of the slot")];
+    let there: Vec<&str> = names.iter().filter(|(bit, _)| bits & bit != 0).map(|(_, name)| *name).collect();
+    if there.is_empty() {
+        "no byte".to_string()
+    } else {
+        there.join(" and ")
+    }
+}
+
+fn in_words(bytes: &[u8]) -> String {
+    let answer = answer(bytes);
+    let rest = if answer >> 24 == 0 { String::new() } else { format!(", and {:#x} past the count", answer >> 24) };
+    format!("refusal {}, count {}{rest}", answer & 255, answer >> 8 & 65_535)
+}

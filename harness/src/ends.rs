@@ -1,0 +1,214 @@
+//! Damaged ends: fields at their edges and past their width, and every byte of the layout.
+
+use crate::damage::furnished;
+use crate::generate::Run;
+use crate::layout::{self, Field, NUMBERS};
+use crate::list::*;
+use crate::rng::Rng;
+
+/// The edge values of a number.
+fn edge_values(field: Field) -> &'static [u32] {
+    match field {
+        Field::N | Field::Line => &[0, 1, 2, 3, 4, 7, 8, 9, 255],
+        Field::Length => &[0, 1, 19, 20, 21, 22, 128, 511, 512, 513, 65_535],
+        Field::Initial => &[0, 17, 18, 19, 127, 128, 129, 255],
+        Field::Made => &[0, 1, 2, 3, 63, 64, 65, 66, 399, 400, 401, 2799, 2800, 2801, 65_535],
+        Field::Taken => &[0, 1, 2, 399, 400, 401, 2799, 2800, 2801, 65_535],
+        Field::Acked => &[0, 1, 2, 3, 64, 65, 400, 401, 2800, 65_535],
+        Field::Inserts => &[0, 1, 2, 47, 48, 49, 255],
+        _ => &[0, 1, u32::MAX],
+    }
+}
+
+/// Values that would be in range if their upper bytes were not looked at, and others of more than 16 bits.
+const WIDE: [u32; 8] = [256 + 3, 65_536, 65_536 + 1, 65_536 + 3, 65_536 + 20, 70_000, (1 << 24) + 3, u32::MAX];
+
+/// A pending edit's place and item.
+pub fn pending(end: u8, line: u8, index: u16, place: u32, item: u32) -> [Call; 2] {
+    [Call::field(end, line, Field::Place(index), place), Call::field(end, line, Field::Brought(index), item)]
+}
+
+/// The calls that ask question 2, at one end, with dumps around each.
+fn probes(end: u8, list: &mut List) {
+    let slots: &[u8] = if end == 0 { &[0, 6, 9, 60] } else { &[1, 2, 3, 7, 8, 60] };
+    let mut calls =
+        vec![Call::send(end, end.max(1), 1, 20, 14), Call::send(end, end.max(1), 2, 20, 14), Call::acknowledge(end, end.max(1), 21, 14)];
+    calls.extend(slots.iter().map(|&slot| Call::take(end, slot)));
+    if end != 0 {
+        calls.extend([Call::insert(end, 1, 5), Call::delete(end, 1), Call::delete(end, 20)]);
+    }
+    for call in calls {
+        list.calls.push(Call::dump(end));
+        list.calls.push(call);
+    }
+    list.calls.push(Call::dump(end));
+}
+
+/// Every field of both kinds of end set to each of its edge values and to wider ones; then every kind of call.
+pub fn ends(seed: u64) -> Vec<List> {
+    let (prefix, _) = furnished(seed);
+    let mut lists = Vec::new();
+    let mut add = |sets: &[Call], end: u8| {
+        let mut list = prefix.clone();
+        list.calls.extend_from_slice(sets);
+        probes(end, &mut list);
+        lists.push(list);
+    };
+    for end in [0, 1, 2] {
+        for field in NUMBERS {
+            for &value in edge_values(field).iter().chain(&WIDE) {
+                for line in if end == 0 { 1..=4 } else { 1..=1 } {
+                    if let Some(word) = layout::word(end, line, field) {
+                        add(&[Call::set(end, word, value)], end);
+                    }
+                }
+            }
+        }
+        for index in [0, 17, 18, 19, 20, 21, 127, 128, 300, 511] {
+            for &value in edge_values(Field::Item(index)) {
+                add(&[Call::field(end, 0, Field::Item(index), value)], end);
+            }
+        }
+        for line in if end == 0 { 1..=8 } else { 1..=1 } {
+            for sets in pending_sets(end, line) {
+                add(&sets, end);
+            }
+        }
+        for sets in together(end) {
+            add(&sets, end);
+        }
+        for byte in [0, 1, 255] {
+            add(&[Call::fill(end, byte)], end);
+        }
+    }
+    lists
+}
+
+/// Pending places, used and unused, with edits whose positions and priorities are at their edges.
+fn pending_sets(end: u8, line: u8) -> Vec<Vec<Call>> {
+    let mut all = Vec::new();
+    for index in [0, 1, 2, 3, 62, 63] {
+        for (top, position, priority, item) in [
+            (0, 0, 0, 0),
+            (0, 0, 0, 5),
+            (0, 0, 1, 0),
+            (0, 0, 1, 5),
+            (0, 1, 0, 0),
+            (0, 1, 0, 5),
+            (0, 512, 0, 0),
+            (0, 513, 0, 0),
+            (0, 65_535, 0, 0),
+            (1, 0, 0, 0),
+            (1, 1, 0, 0),
+            (2, 1, 2, 5),
+            (254, 1, 2, 5),
+            (255, 1, 0, 0),
+            (0, 1, 1, 0),
+            (0, 512, 1, 5),
+            (0, 512, 2, 5),
+            (0, 513, 2, 5),
+            (0, 1, 2, 5),
+            (0, 1, 3, 5),
+            (0, 1, 4, 5),
+            (0, 1, 8, 5),
+            (0, 1, 9, 5),
+            (0, 1, 17, 5),
+            (0, 1, 255, 5),
+        ] {
+            all.push(pending(end, line, index, top << 24 | position << 8 | priority, item).to_vec());
+        }
+    }
+    all
+}
+
+/// Several fields at once, so that one conjunct alone is false or a limit is reached with all others kept.
+fn together(end: u8) -> Vec<Vec<Call>> {
+    if end == 0 {
+        together_at_server()
+    } else {
+        together_at_client(end)
+    }
+}
+
+fn together_at_client(end: u8) -> Vec<Vec<Call>> {
+    let set = |field: Field, value: u32| Call::field(end, 1, field, value);
+    let edits = |indices: std::ops::Range<u16>, position: u32, priority: u32| -> Vec<Call> {
+        indices.flat_map(|index| pending(end, 1, index, position << 8 | priority, 9 * (priority != 0) as u32)).collect()
+    };
+    let all_pending = |made: u32, acked: u32| [vec![set(Field::Made, made), set(Field::Acked, acked)], edits(0..64, 1, 0)].concat();
+    vec![
+        all_pending(64, 0),
+        all_pending(65, 0),
+        all_pending(65, 1),
+        all_pending(400, 336),
+        all_pending(401, 337),
+        [all_pending(400, 336), vec![set(Field::Inserts, 48)]].concat(),
+        [all_pending(400, 336), vec![set(Field::Inserts, 49)]].concat(),
+        all_pending(0, 1),
+        all_pending(0, 65_472),
+        all_pending(0, u32::MAX - 63),
+        vec![set(Field::Taken, 2800)],
+        vec![set(Field::Taken, 2801)],
+        vec![set(Field::N, 9), set(Field::Line, 9)],
+        vec![set(Field::N, 0), set(Field::Line, 0)],
+        vec![set(Field::N, 256 + 3), set(Field::Line, 256 + end as u32)],
+        vec![set(Field::Made, 65_536), set(Field::Acked, 65_536)],
+        vec![set(Field::Length, 512)],
+        [all_pending(64, 0), edits(0..64, 512, 1)].concat(),
+        [all_pending(10, 0), edits(0..10, 512, 1), edits(10..64, 0, 0)].concat(),
+    ]
+}
+
+fn together_at_server() -> Vec<Vec<Call>> {
+    let set = |line: u8, field: Field, value: u32| Call::field(0, line, field, value);
+    // three lines: taken (a, b, c), made the sums of the others, nothing pending
+    let counts = |a: u32, b: u32, c: u32| {
+        let mut sets = Vec::new();
+        for (line, taken, made) in [(1, a, b + c), (2, b, a + c), (3, c, a + b)] {
+            sets.extend([set(line, Field::Taken, taken), set(line, Field::Made, made), set(line, Field::Acked, made)]);
+            sets.extend((0..4).flat_map(|index| pending(0, line, index, 0, 0)));
+        }
+        sets
+    };
+    let with = |sets: Vec<Call>, more: &[Call]| [&sets[..], more].concat();
+    vec![
+        counts(400, 400, 400),
+        counts(401, 400, 400),
+        counts(1, 401, 0),
+        counts(65_536, 0, 0),
+        with(counts(100, 100, 100), &[set(1, Field::Inserts, 48), set(2, Field::Inserts, 48), set(3, Field::Inserts, 48)]),
+        with(counts(100, 100, 100), &[set(1, Field::Inserts, 49)]),
+        with(
+            counts(100, 100, 100),
+            &[set(2, Field::Inserts, 48), set(2, Field::Taken, 47), set(1, Field::Made, 147), set(3, Field::Made, 147)],
+        ),
+        with(counts(64, 0, 0), &[set(2, Field::Acked, 0), set(3, Field::Acked, 0)]),
+        with(counts(65, 0, 0), &[set(2, Field::Acked, 0), set(3, Field::Acked, 0)]),
+        with(counts(63, 0, 0), &[set(2, Field::Acked, 0), set(3, Field::Acked, 63)]),
+        with(counts(64, 0, 0), &[set(1, Field::Inserts, 0), set(3, Field::Inserts, 0), set(0, Field::Initial, 18)]),
+        with(counts(64, 0, 0), &[set(0, Field::Initial, 17)]),
+        vec![set(4, Field::Acked, 1)],
+        vec![set(4, Field::Inserts, 1)],
+        vec![set(0, Field::N, 4)],
+        vec![set(0, Field::N, 2)],
+    ]
+}
+
+/// One end of a random run, every word of it damaged in turn by a bit and put back: each byte of the layout is looked at, or the end is another
+/// sound one. Neighbouring seeds take different ends and bits.
+pub fn words(seed: u64) -> Vec<List> {
+    let mut run = Run::open(seed);
+    for _ in 0..60 {
+        run.action();
+    }
+    let mut rng = Rng::new(!seed);
+    let end = if rng.once_in(2) { 0 } else { rng.between(1, run.n) as u8 };
+    let mut damaged = |word: u16| {
+        let value = layout::read(run.world.end(end), word);
+        let (bit, asks) = (1 << rng.below(32), Call::acknowledge(end, end.max(1), 0, SLOT as u8));
+        [Call::set(end, word, value ^ bit), Call::dump(end), asks, Call::set(end, word, value), Call::dump(end)]
+    };
+    let words: Vec<u16> = (0..layout::words(end) as u16).collect();
+    let parts: Vec<Vec<Call>> = words.chunks(200).map(|part| part.iter().flat_map(|&word| damaged(word)).collect()).collect();
+    parts.iter().map(|part| List { initial: run.list.initial.clone(), calls: [&run.list.calls[..], part].concat() }).collect()
+}

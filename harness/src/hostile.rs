@@ -1,0 +1,94 @@
+//! Runs that leave the third demand: ends overwritten, messages that nobody wrote.
+
+use crate::generate::Run;
+use crate::layout::{self, Field};
+use crate::limits::*;
+use crate::list::*;
+
+/// A run that is honest for a while.
+pub fn hostile(seed: u64) -> List {
+    let mut run = Run::open(seed);
+    let target = run.list.calls.len() + run.rng.between(0, 150);
+    while run.list.calls.len() < target {
+        run.action();
+    }
+    for _ in 0..run.rng.between(1, 40) {
+        match run.rng.below(4) {
+            0 => run.overwrite(),
+            1 => run.forge(),
+            _ => run.action(),
+        }
+    }
+    run.list
+}
+
+impl Run {
+    /// Overwrites a field of an end, mostly near its limit, or a byte of it, or all of them.
+    fn overwrite(&mut self) {
+        let (end, line) = (self.rng.below(self.n + 1) as u8, self.rng.between(1, LINES) as u8);
+        let index = if self.rng.once_in(2) { self.rng.below(520) } else { self.rng.below(65) } as u16;
+        let count = self.rng.pick(&[0, 1, 63, 64, 65, 399, 400, 401, 511, 512, 513, 2799, 2800, 2801, 65_535]);
+        let place = self.rng.pick(&[0, 1, 2, 511, 512, 513, 65_535]) << 8 | self.rng.below(10) as u32;
+        let (field, value) = match self.rng.below(12) {
+            0 => (Field::N, self.rng.below(10) as u32),
+            1 => (Field::Line, self.rng.below(10) as u32),
+            2 => (Field::Length, count),
+            3 => (Field::Initial, self.rng.pick(&[0, 127, 128, 129, 255])),
+            4 => (Field::Made, count),
+            5 => (Field::Taken, count),
+            6 => (Field::Acked, count),
+            7 => (Field::Inserts, self.rng.pick(&[0, 47, 48, 49, 255])),
+            8 => (Field::Item(index), self.rng.below(2) as u32),
+            9 => (Field::Place(index), place | self.rng.pick(&[0, 0, 0, 1, 2, 255]) << 24),
+            10 => (Field::Brought(index), self.rng.below(2) as u32),
+            _ => return self.overwrite_all(end),
+        };
+        let value = if self.rng.once_in(6) { value | 1 << self.rng.between(8, 31) } else { value };
+        if let Some(word) = layout::word(end, line, field) {
+            self.call(Call::set(end, word, value));
+            self.call(Call::dump(end));
+        }
+    }
+
+    /// An end filled with one byte, or older bytes put back, or those of another client.
+    fn overwrite_all(&mut self, end: u8) {
+        let call = match self.rng.below(3) {
+            choice if choice == 0 || end == 0 => Call::fill(end, self.rng.pick(&[0, 1, 255])),
+            1 => Call::copy(end, self.rng.between(1, LINES) as u8),
+            _ => Call::copy(self.rng.between(1, LINES) as u8, end),
+        };
+        self.call(call);
+        self.call(Call::dump(call.end));
+    }
+
+    /// Writes a readable message that no end wrote, near what an end would take, and has it taken.
+    fn forge(&mut self) {
+        let (l, up) = (self.line(), self.rng.once_in(2));
+        let end = if up { self.world.server(l) } else { self.world.client(l) };
+        let (next, acked, made) = (end.taken.wrapping_add(1) as u16, end.acked, end.made);
+        let number = next.wrapping_add(if self.rng.once_in(5) { self.rng.below(3) as u16 } else { 0 });
+        let wanted = self.rng.between(acked as usize, made.max(acked) as usize) as i64
+            + if self.rng.once_in(4) { self.rng.below(3) as i64 - 1 } else { 0 };
+        let seen = wanted.max(0) as u16;
+        let position =
+            if self.rng.once_in(2) { self.rng.between(1, 20) } else { self.rng.pick(&[0, 1, 448, 449, 500, 511, 512, 513]) } as u16;
+        let priority = if up && self.rng.below(4) > 0 { l } else { self.rng.between(1, LINES) } as u8;
+        let kind = self.rng.between(1, 4) as u8;
+        let mut bytes = vec![kind, l as u8, !up as u8];
+        if kind < 4 {
+            bytes.extend_from_slice(&number.to_be_bytes());
+        }
+        bytes.extend_from_slice(&seen.to_be_bytes());
+        if kind < 3 {
+            bytes.extend_from_slice(&position.to_be_bytes());
+        }
+        if kind == 1 {
+            bytes.extend_from_slice(&[0, 0, 0, 5, priority]);
+        }
+        self.give(1, &bytes);
+        let end = if up { 0 } else { l as u8 };
+        self.call(Call::dump(end));
+        self.call(Call::take(end, 1));
+        self.call(Call::dump(end));
+    }
+}

@@ -1,0 +1,230 @@
+//! Lists of calls, and the file that holds one (README.md).
+
+use crate::layout;
+use crate::limits::*;
+
+pub const SLOTS: usize = 64;
+/// Bytes of a slot: an odd number, so that messages stand at every alignment.
+pub const SLOT: usize = 21;
+/// What a byte is before anything is written to it.
+pub const FRESH: u8 = 170;
+/// Bytes past the layout that a call may lend.
+pub const SPARE: usize = 40;
+/// A message with a tail has this many bytes more, times the call's number.
+pub const TAIL: usize = 256;
+const CALL: usize = 16;
+const MAGIC: &[u8; 8] = b"calls 1\n";
+
+/// An answer: the 8 bytes of the exported call's number, and one that says which bytes it changed that had to stay.
+pub const ANSWER: usize = 9;
+const SHOWN: usize = 1 + SLOT;
+/// The refusal of what is no call.
+pub const NO_CALL: u8 = 255;
+
+pub const OPEN: u8 = 0;
+pub const INSERT: u8 = 1;
+pub const DELETE: u8 = 2;
+pub const SEND: u8 = 3;
+pub const ACKNOWLEDGE: u8 = 4;
+pub const TAKE: u8 = 5;
+pub const POKE: u8 = 6;
+pub const SET: u8 = 7;
+pub const DUMP: u8 = 8;
+pub const SHOW: u8 = 9;
+pub const FILL: u8 = 10;
+pub const COPY: u8 = 11;
+
+#[derive(Clone, Copy, PartialEq, Eq, Debug, Default)]
+pub struct Call {
+    pub op: u8,
+    pub end: u8,
+    pub line: u8,
+    pub slot: u8,
+    pub number: u16,
+    pub position: u16,
+    pub value: u32,
+    pub size: u8,
+    /// How many bytes of the end are lent, less the layout's.
+    pub lent: i16,
+}
+
+impl Call {
+    pub fn open(end: u8, n: u8, line: u8, count: u16) -> Call {
+        Call { op: OPEN, end, line, number: count, size: n, ..Call::default() }
+    }
+
+    pub fn insert(end: u8, position: u16, item: u32) -> Call {
+        Call { op: INSERT, end, position, value: item, ..Call::default() }
+    }
+
+    pub fn delete(end: u8, position: u16) -> Call {
+        Call { op: DELETE, end, position, ..Call::default() }
+    }
+
+    pub fn send(end: u8, line: u8, number: u16, slot: u8, size: u8) -> Call {
+        Call { op: SEND, end, line, slot, number, size, ..Call::default() }
+    }
+
+    pub fn acknowledge(end: u8, line: u8, slot: u8, size: u8) -> Call {
+        Call { op: ACKNOWLEDGE, end, line, slot, size, ..Call::default() }
+    }
+
+    pub fn take(end: u8, slot: u8) -> Call {
+        Call { op: TAKE, end, slot, ..Call::default() }
+    }
+
+    pub fn poke(slot: u8, index: u16, byte: u8, length: u8) -> Call {
+        Call { op: POKE, slot, number: index, value: byte as u32, size: length, ..Call::default() }
+    }
+
+    pub fn set(end: u8, word: u16, value: u32) -> Call {
+        Call { op: SET, end, number: word, value, ..Call::default() }
+    }
+
+    /// Sets a field that the end has.
+    pub fn field(end: u8, line: u8, field: layout::Field, value: u32) -> Call {
+        Call::set(end, layout::word(end, line, field).unwrap(), value)
+    }
+
+    pub fn dump(end: u8) -> Call {
+        Call { op: DUMP, end, ..Call::default() }
+    }
+
+    pub fn show(slot: u8) -> Call {
+        Call { op: SHOW, slot, ..Call::default() }
+    }
+
+    pub fn fill(end: u8, byte: u8) -> Call {
+        Call { op: FILL, end, value: byte as u32, ..Call::default() }
+    }
+
+    pub fn copy(end: u8, from: u8) -> Call {
+        Call { op: COPY, end, line: from, ..Call::default() }
+    }
+
+    fn read(bytes: &[u8; CALL]) -> Call {
+        Call {
+            op: bytes[0],
+            end: bytes[1],
+            line: bytes[2],
+            slot: bytes[3],
+            number: u16::from_be_bytes([bytes[4], bytes[5]]),
+            position: u16::from_be_bytes([bytes[6], bytes[7]]),
+            value: u32::from_be_bytes([bytes[8], bytes[9], bytes[10], bytes[11]]),
+            size: bytes[12],
+            lent: i16::from_be_bytes([bytes[13], bytes[14]]),
+        }
+    }
+
+    fn write(&self, out: &mut Vec<u8>) {
+        out.extend_from_slice(&[self.op, self.end, self.line, self.slot]);
+        out.extend_from_slice(&self.number.to_be_bytes());
+        out.extend_from_slice(&self.position.to_be_bytes());
+        out.extend_from_slice(&self.value.to_be_bytes());
+        out.push(self.size);
+        out.extend_from_slice(&self.lent.to_be_bytes());
+        out.push(0);
+    }
+
+    /// Whether this is one of the exported calls.
+    pub fn exported(&self) -> bool {
+        matches!(self.op, OPEN | INSERT | DELETE | SEND | ACKNOWLEDGE | TAKE)
+    }
+
+    /// Whether the call names an end.
+    pub fn has_end(&self) -> bool {
+        !matches!(self.op, POKE | SHOW)
+    }
+
+    /// Whether everything that the call names is there.
+    pub fn is_one(&self) -> bool {
+        let of_slot = matches!(self.op, SEND | ACKNOWLEDGE | TAKE | POKE | SHOW);
+        let sized = matches!(self.op, SEND | ACKNOWLEDGE | POKE);
+        self.op <= COPY
+            && (!self.has_end() || self.end as usize <= LINES)
+            && !(matches!(self.op, INSERT | DELETE) && self.end == 0)
+            && !(of_slot && self.slot as usize >= SLOTS)
+            && !(sized && self.size as usize > SLOT)
+            && match self.op {
+                OPEN => self.slot < 4,
+                TAKE => self.number as usize <= TAIL,
+                POKE => (self.number as usize) < SLOT,
+                SET => (self.number as usize) < layout::words(self.end),
+                COPY => self.line as usize <= LINES && (self.line == 0) == (self.end == 0),
+                _ => true,
+            }
+            && (!self.exported() || (-(layout::bytes(self.end) as i32)..=SPARE as i32).contains(&(self.lent as i32)))
+    }
+
+    /// How many bytes the call's answer has.
+    pub fn answer_length(&self) -> usize {
+        match self.op {
+            _ if !self.is_one() => ANSWER,
+            DUMP => ANSWER + layout::bytes(self.end),
+            SHOW => ANSWER + SHOWN,
+            _ => ANSWER,
+        }
+    }
+}
+
+/// Bytes that a call changed and that had to stay, in an answer's last byte: the end's, by a refused call or by a sending.
+pub const END: u8 = 1;
+/// Those around the layout, lent or not.
+pub const AROUND: u8 = 2;
+/// The slot's: those past a message that was written, else any.
+pub const OUT: u8 = 4;
+
+/// The answer of an exported call.
+pub fn answer(bytes: &[u8]) -> u64 {
+    u64::from_le_bytes(bytes[..8].try_into().unwrap())
+}
+
+/// A list of calls, and the items that its openings have.
+#[derive(Clone, PartialEq, Eq, Debug, Default)]
+pub struct List {
+    pub initial: Vec<u32>,
+    pub calls: Vec<Call>,
+}
+
+impl List {
+    pub fn bytes(&self) -> Vec<u8> {
+        let mut bytes = MAGIC.to_vec();
+        bytes.extend_from_slice(&(self.initial.len() as u16).to_be_bytes());
+        for item in &self.initial {
+            bytes.extend_from_slice(&item.to_be_bytes());
+        }
+        for call in &self.calls {
+            call.write(&mut bytes);
+        }
+        bytes
+    }
+
+    /// The list in a file; none if the bytes are no such file.
+    pub fn of(bytes: &[u8]) -> Option<List> {
+        let (count, rest) = bytes.strip_prefix(MAGIC)?.split_first_chunk::<2>()?;
+        let (items, calls) = rest.split_at_checked(4 * u16::from_be_bytes(*count) as usize)?;
+        let initial = items.chunks_exact(4).map(|four| u32::from_be_bytes(four.try_into().unwrap())).collect();
+        let (calls, cut) = calls.as_chunks::<CALL>();
+        cut.is_empty().then(|| List { initial, calls: calls.iter().map(Call::read).collect() })
+    }
+
+    pub fn output_length(&self) -> usize {
+        self.calls.iter().map(Call::answer_length).sum()
+    }
+
+    /// The openings that a sheet of n lines starts with.
+    pub fn opened(n: u8, initial: Vec<u32>) -> List {
+        let count = initial.len() as u16;
+        let calls = (0..=n).map(|end| Call::open(end, n, end, count)).collect();
+        List { initial, calls }
+    }
+
+    /// How many lines the sheet has, if the list begins with the openings of a whole one.
+    pub fn lines(&self) -> Option<usize> {
+        let n = self.calls.first()?.size;
+        let opened = List::opened(n, self.initial.clone());
+        let same = |(one, other): (&Call, &Call)| *one == Call { lent: 0, ..*other } && other.lent >= 0;
+        let whole = self.calls.len() >= opened.calls.len() && opened.calls.iter().zip(&self.calls).all(same);
+        (whole && (1..=LINES).contains(&(n as usize)) && self.initial.len() <= INITIAL).then_some(n as usize)
+    }
+}

@@ -1,0 +1,200 @@
+//! The exported calls over lent bytes. The bytes are read into an end, the end does the call, and what it became is written back unless
+//! the call was refused.
+
+use super::client::Client;
+use super::script;
+use super::server::Server;
+use super::slip::{Rules, Slip};
+use super::words::{End, Word};
+use super::{Answer, Sent};
+use crate::calls::Calls;
+use crate::limits::*;
+
+/// The layout's words of lent bytes; question 18.
+#[inline]
+fn words<E: End>(end: &[u8]) -> Option<&[Word]> {
+    end.as_chunks().0.get(..E::WORDS)
+}
+
+#[inline]
+fn words_mut<E: End>(end: &mut [u8]) -> Option<&mut [Word]> {
+    end.as_chunks_mut().0.get_mut(..E::WORDS)
+}
+
+/// A call that may change the end.
+#[inline]
+fn change<R: Rules, E: End>(end: &mut [u8], call: impl FnOnce(&mut E) -> Answer) -> u64 {
+    let lent = end.len();
+    let Some(words) = words_mut::<E>(end).filter(|_| is_long_enough::<R, E>(lent)) else {
+        return short::<R>(end, 4 * E::WORDS, |padded| change::<R, E>(padded, call));
+    };
+    let mut changed = E::ZERO;
+    if !changed.read::<R>(words) {
+        return packed::<R>(2, 0);
+    }
+    let before = R::slips(Slip::ListRepeated).then(|| changed.shown()).map(|(_, length, items)| (*length, *items));
+    let answer = call(&mut changed);
+    if let (Some(before), (counts, length, items)) = (before, changed.shown()) {
+        if answer.refusal == 0 && counts % 3 == 2 {
+            (*length, *items) = before;
+        }
+    }
+    if answer.refusal == 0 || R::slips(Slip::RefusedSeen) {
+        changed.write(words);
+    } else if R::slips(Slip::RefusedByte) {
+        words[E::WORDS - 1][0] ^= 1;
+    }
+    if R::slips(Slip::RestCleared) {
+        end[4 * E::WORDS..].fill(0);
+    }
+    packed::<R>(answer.refusal, answer.passed)
+}
+
+/// A sending.
+#[inline]
+fn look<R: Rules, E: End>(end: &[u8], call: impl FnOnce(&E) -> Sent) -> u64 {
+    let Some(words) = words::<E>(end).filter(|_| is_long_enough::<R, E>(end.len())) else {
+        return short::<R>(&mut end.to_vec(), 4 * E::WORDS, |padded| look::<R, E>(padded, call));
+    };
+    let mut looked = E::ZERO;
+    if !looked.read::<R>(words) {
+        return packed::<R>(2, 0);
+    }
+    let sent = call(&looked);
+    packed::<R>(sent.refusal, sent.length as u16)
+}
+
+/// Questions 18 and 1 of an opening, and the end it gives.
+#[inline]
+fn open<R: Rules, E: End>(end: &mut [u8], items: &[u8], call: impl FnOnce(&mut E, &[u32]) -> u8) -> u64 {
+    let lent = end.len();
+    let Some(words) = words_mut::<E>(end).filter(|_| is_long_enough::<R, E>(lent)) else {
+        return short::<R>(end, 4 * E::WORDS, |padded| open::<R, E>(padded, items, call));
+    };
+    let (mut fours, cut) = items.as_chunks();
+    if R::slips(Slip::ItemsCounted8) {
+        fours = &fours[..fours.len() % 256];
+    }
+    // one item more than may be is enough to be refused
+    let mut list = [0; INITIAL + 1];
+    for (item, &four) in list.iter_mut().zip(fours) {
+        *item = if R::slips(Slip::ItemsLowFirst) { u32::from_le_bytes(four) } else { u32::from_be_bytes(four) };
+    }
+    let whole = cut.is_empty() || R::slips(Slip::CutItem);
+    let mut opened = E::ZERO;
+    if whole && call(&mut opened, &list[..fours.len().min(INITIAL + 1)]) == 0 {
+        let before = R::slips(Slip::OpenLeaves).then(|| words.to_vec());
+        opened.write(words);
+        for (word, old) in words.iter_mut().zip(before.unwrap_or_default()).skip(7) {
+            *word = if *word == [0; 4] { old } else { *word };
+        }
+        return packed::<R>(0, 0);
+    }
+    if R::slips(Slip::OpenZeros) {
+        words.fill([0; 4]);
+    }
+    packed::<R>(1, 0)
+}
+
+#[inline]
+fn is_long_enough<R: Rules, E: End>(lent: usize) -> bool {
+    lent == 4 * E::WORDS || !R::slips(Slip::LongRefused)
+}
+
+/// 18, but for the slips that go on with zeros for the bytes that are not there.
+#[cold]
+fn short<R: Rules>(end: &mut [u8], bytes: usize, call: impl FnOnce(&mut [u8]) -> u64) -> u64 {
+    let late = R::slips(Slip::ShortLate);
+    let let_through = R::slips(Slip::ShortByThree) && end.len() + 3 >= bytes;
+    if end.len() >= bytes || !(late || let_through) {
+        return packed::<R>(18, 0);
+    }
+    let mut padded = end.to_vec();
+    padded.resize(bytes, 0);
+    let answer = call(&mut padded);
+    if let_through {
+        end.copy_from_slice(&padded[..end.len()]);
+    }
+    if let_through || answer as u8 != 0 {
+        answer
+    } else {
+        packed::<R>(18, 0)
+    }
+}
+
+#[inline]
+fn packed<R: Rules>(refusal: u8, count: u16) -> u64 {
+    refusal as u64 | (count as u64) << 8 | (R::slips(Slip::AnswerHigh) as u64) << 24
+}
+
+/// The message that is taken.
+#[inline]
+fn lent_message<R: Rules>(message: &[u8]) -> &[u8] {
+    if R::slips(Slip::Length8) {
+        &message[..message.len() % 256]
+    } else {
+        message
+    }
+}
+
+impl<R: Rules + Sync> Calls for R {
+    fn name(&self) -> &'static str {
+        R::NAME
+    }
+
+    fn client_open(&self, end: &mut [u8], n: u8, line: u8, items: &[u8]) -> u64 {
+        open::<R, Client>(end, items, |client, items| client.open::<R>(n, line, items))
+    }
+
+    fn client_insert(&self, end: &mut [u8], position: u16, item: u32) -> u64 {
+        change::<R, Client>(end, |client| client.insert::<R>(position, item))
+    }
+
+    fn client_delete(&self, end: &mut [u8], position: u16) -> u64 {
+        change::<R, Client>(end, |client| client.delete::<R>(position))
+    }
+
+    fn client_send(&self, end: &[u8], line: u8, number: u16, out: &mut [u8]) -> u64 {
+        look::<R, Client>(end, |client| client.send::<R>(line, number, out))
+    }
+
+    fn client_acknowledge(&self, end: &[u8], line: u8, out: &mut [u8]) -> u64 {
+        look::<R, Client>(end, |client| client.tell::<R>(line, out))
+    }
+
+    fn client_take(&self, end: &mut [u8], message: &[u8]) -> u64 {
+        change::<R, Client>(end, |client| client.take::<R>(lent_message::<R>(message)))
+    }
+
+    fn server_open(&self, end: &mut [u8], n: u8, items: &[u8]) -> u64 {
+        open::<R, Server>(end, items, |server, items| server.open::<R>(n, items))
+    }
+
+    fn server_send(&self, end: &[u8], line: u8, number: u16, out: &mut [u8]) -> u64 {
+        look::<R, Server>(end, |server| server.send::<R>(line, number, out))
+    }
+
+    fn server_acknowledge(&self, end: &[u8], line: u8, out: &mut [u8]) -> u64 {
+        look::<R, Server>(end, |server| server.tell::<R>(line, out))
+    }
+
+    fn server_take(&self, end: &mut [u8], message: &[u8]) -> u64 {
+        change::<R, Server>(end, |server| server.take::<R>(lent_message::<R>(message)))
+    }
+
+    fn client_bytes(&self) -> u64 {
+        4 * Client::WORDS as u64
+    }
+
+    fn server_bytes(&self) -> u64 {
+        4 * Server::WORDS as u64
+    }
+
+    fn run(&self, input: &[u8], out: &mut [u8]) -> u64 {
+        let mut printed = Vec::with_capacity(out.len());
+        script::run::<R>(input, &mut printed);
+        let fits = printed.len().min(out.len());
+        out[..fits].copy_from_slice(&printed[..fits]);
+        fits as u64
+    }
+}

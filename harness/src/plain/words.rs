@@ -1,0 +1,125 @@
+//! An end as words of 4 bytes, low byte first: reading it from them and writing it back.
+
+use super::client::Client;
+use super::line::Pending;
+use super::server::Server;
+use super::slip::{Rules, Slip};
+use crate::limits::*;
+
+pub type Word = [u8; 4];
+
+#[inline]
+fn number(word: Word) -> u32 {
+    u32::from_le_bytes(word)
+}
+
+/// An end that can lie in bytes.
+pub trait End: Sized {
+    const WORDS: usize;
+    /// What it is read into.
+    const ZERO: Self;
+    /// False if a number does not fit its field: no sound end has such bytes.
+    fn read<R: Rules>(&mut self, words: &[Word]) -> bool;
+    fn write(&self, words: &mut [Word]);
+    /// For the slip that repeats an earlier list: how often the end changed, and its list.
+    fn shown(&mut self) -> (u16, &mut u16, &mut [u32; ITEMS]);
+}
+
+/// Whether a number of the first word is above 8 bits, or one of the others above 16.
+#[inline]
+fn is_wide<R: Rules>(small: u32, others: &[Word]) -> bool {
+    let all = others.iter().fold(0, |all, &word| all | number(word));
+    (small >> 8 != 0 && !R::slips(Slip::WideN)) | (all >> 16 != 0 && !R::slips(Slip::WideCount))
+}
+
+#[inline]
+fn read_all(numbers: &mut [u32], words: &[Word]) {
+    for (number, word) in numbers.iter_mut().zip(words) {
+        *number = u32::from_le_bytes(*word);
+    }
+}
+
+#[inline]
+fn write_all(words: &mut [Word], numbers: &[u32]) {
+    for (word, number) in words.iter_mut().zip(numbers) {
+        *word = number.to_le_bytes();
+    }
+}
+
+#[inline]
+fn read_pending<R: Rules>(pending: &mut Pending, places: &[Word], items: &[Word]) {
+    read_all(&mut pending.places, places);
+    read_all(&mut pending.items, items);
+    if R::slips(Slip::WidePlace) {
+        pending.places.iter_mut().for_each(|place| *place &= 0xFF_FFFF);
+    }
+}
+
+impl End for Client {
+    const WORDS: usize = 647;
+    const ZERO: Client = Client::ZERO;
+
+    #[inline]
+    fn read<R: Rules>(&mut self, words: &[Word]) -> bool {
+        let small = |at: usize| number(words[at]) as u16;
+        self.n = small(0) as u8;
+        self.line = small(1) as u8;
+        self.length = small(2);
+        let own = &mut self.own;
+        (own.made, own.taken, own.acked, own.inserts) = (small(3), small(4), small(5), small(6));
+        read_all(&mut self.items, &words[7..519]);
+        read_pending::<R>(&mut own.pending, &words[519..583], &words[583..647]);
+        !is_wide::<R>(number(words[0]) | number(words[1]), &words[2..7])
+    }
+
+    #[inline]
+    fn write(&self, words: &mut [Word]) {
+        let own = &self.own;
+        let numbers = [self.n as u16, self.line as u16, self.length, own.made, own.taken, own.acked, own.inserts];
+        write_all(&mut words[..7], &numbers.map(u32::from));
+        write_all(&mut words[7..519], &self.items);
+        write_all(&mut words[519..583], &own.pending.places);
+        write_all(&mut words[583..647], &own.pending.items);
+    }
+
+    fn shown(&mut self) -> (u16, &mut u16, &mut [u32; ITEMS]) {
+        (self.own.made, &mut self.length, &mut self.items)
+    }
+}
+
+impl End for Server {
+    const WORDS: usize = 1571;
+    const ZERO: Server = Server::ZERO;
+
+    #[inline]
+    fn read<R: Rules>(&mut self, words: &[Word]) -> bool {
+        let small = |at: usize| number(words[at]) as u16;
+        self.n = small(0) as u8;
+        self.initial = small(1);
+        self.length = small(2);
+        for (at, line) in self.lines.iter_mut().enumerate() {
+            (line.made, line.taken, line.acked, line.inserts) = (small(3 + at), small(11 + at), small(19 + at), small(27 + at));
+            let (place, item) = (547 + PENDING * at, 1059 + PENDING * at);
+            read_pending::<R>(&mut line.pending, &words[place..place + PENDING], &words[item..item + PENDING]);
+        }
+        read_all(&mut self.items, &words[35..547]);
+        !is_wide::<R>(number(words[0]), &words[1..35])
+    }
+
+    #[inline]
+    fn write(&self, words: &mut [Word]) {
+        write_all(&mut words[..3], &[self.n as u32, self.initial as u32, self.length as u32]);
+        for (at, line) in self.lines.iter().enumerate() {
+            for (row, count) in [line.made, line.taken, line.acked, line.inserts].into_iter().enumerate() {
+                words[3 + LINES * row + at] = (count as u32).to_le_bytes();
+            }
+            write_all(&mut words[547 + PENDING * at..][..PENDING], &line.pending.places);
+            write_all(&mut words[1059 + PENDING * at..][..PENDING], &line.pending.items);
+        }
+        write_all(&mut words[35..547], &self.items);
+    }
+
+    fn shown(&mut self) -> (u16, &mut u16, &mut [u32; ITEMS]) {
+        (self.lines[0].taken, &mut self.length, &mut self.items)
+    }
+}
