@@ -27,7 +27,7 @@ answer-requires c κs = search needs
 returns : tie.Need-returns
 returns c =
     let s = c .before .before .before .before in
-    too-short (now (s .args .end)) (now (s .args .out)) (sending (sentAck (endIn (now (s .args .end))) (s .args .line) (now (s .args .out)))) (c .answer .result) (c .before .if1 .taken) (c .answer .ensures)
+    too-short (now (s .args .end)) (now (s .args .out)) (sending (sentAck (endIn (now (s .args .end))) (s .args .line) (now (s .args .out)))) (c .answer .result) (omega (arith, c .before .if1 .taken)) (c .answer .ensures)
 
 slice-aggregate-read : tie.Need-slice-aggregate-read
 slice-aggregate-read c = search needs
@@ -56,8 +56,7 @@ tell-lent-requires c κs = search needs
 cast-answer : tie.Need-cast-answer
 cast-answer c =
     let d = c .before .before .before in
-    let s = long (got d) .before .before .before in
-    omega (arith, ack-fits (whole (got d)) (s .args .line) (now (s .args .out)) (d .tell-lent .result) (d .tell-lent .last .1 .1 .1 .1 .1 .0) (d .tell-lent .ensures))
+    omega (arith, ack-fits _ _ _ (d .tell-lent .result) _ (d .tell-lent .ensures))
 
 answer-requires-2 : tie.Need-answer-requires-2
 answer-requires-2 c κs = search needs
@@ -70,7 +69,7 @@ returns-2 c =
     let d = c .before .before .before .before in
     let r = got d in
     let s = long r .before .before .before in
-    call-sent (now (s .args .end)) (long r .if1 .left) (whole r) (r .read .ensures) (λ m. tellClient m (s .args .line) (now (s .args .out))) (d .tell-lent .result) (c .answer2 .result) (now (s .args .out)) (d .tell-lent .last .1 .1 .1 .1 .1 .0) (d .tell-lent .ensures) (c .answer2 .ensures)
+    call-sent (now (s .args .end)) (omega (arith, long r .if1 .left)) (whole r) (r .read .ensures) (λ m. tellClient m (s .args .line) (now (s .args .out))) (d .tell-lent .result) (c .answer2 .result) (now (s .args .out)) (d .tell-lent .last .1 .1 .1 .1 .1 .0) (d .tell-lent .ensures) (c .answer2 .ensures)
 
 pub acknowledge-spec : {M : Type 1} → statement M
 acknowledge-spec =
