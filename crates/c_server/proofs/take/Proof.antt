@@ -88,7 +88,17 @@ part-write-end : tie.Need-part-write-end
 part-write-end c = whole (done (c .before .before .before))
 
 write-requires : tie.Need-write-requires
-write-requires c κs = (sizes (c .before .before .before .before), length-take-le 6284 (bytes (done (c .before .before .before .before))) (whole (done (c .before .before .before .before))))
+write-requires c κs =
+    let t = c .before .before .before .before in
+    let z = sizes t in
+    let e = z .sized in (
+      record {
+        list = omega arith;
+        sized =
+            record { made = omega arith; taken = omega arith; acked = omega arith; inserts = omega arith; places = omega arith; items = omega arith };
+      },
+      length-take-le 6284 (bytes (done t)) (whole (done t)),
+    )
 
 answer-requires-2 : tie.Need-answer-requires-2
 answer-requires-2 c κs = omega arith
