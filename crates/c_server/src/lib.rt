@@ -26,9 +26,9 @@ pub fn open(end: &mut [u8], n: u8, items: &[u8]) -> u64
     }
     let mut words = [0u32; Server::INITIAL];
     c_layout::decode_items(items, &mut words[0..count]);
-    let a = Server::open(n, &words[0..count]);
-    if a.refusal == 0 {
-        let s = a.server;
+    let opened = Server::open(n, &words[0..count]);
+    if opened.refusal == 0 {
+        let s = opened.server;
         layout::write(
             s.counts(),
             &s.items,
@@ -36,9 +36,9 @@ pub fn open(end: &mut [u8], n: u8, items: &[u8]) -> u64
             &s.pending_items,
             &mut end[0..SIZE],
         );
-        return answer(0, a.passed);
+        return answer(0, opened.passed);
     }
-    answer(a.refusal, a.passed)
+    answer(opened.refusal, opened.passed)
 }
 
 // Writes number `number` of the pending edits of a line. Refusals: 18 2 4 13 14.

@@ -1,8 +1,23 @@
 use native.Mathlib.Omega.{arith}
-use Rattle.server.specs.View.{serverOf}
+use Prim.Native.Nat.{_≤_}
+use lib.ListN.{length}
+use Rattle.c_server.specs.Layout.{size}
 use Rattle.c_server.proofs.Answering.{acknowledge-short, acknowledge-few, acknowledge-is}
 use Rattle.c_server.proofs.acknowledge.Statement.{statement}
 use Rattle.c_server.proofs.acknowledge.Tie as tie
+
+-- ---- the end was read, and the message written
+
+abbrev start : tie.After-tell-lent → tie.Start
+start c = c .before .before .before .before .before .before .before .before .before .before .before .before .before .before .before .before
+
+abbrev read : tie.After-tell-lent → tie.After-read
+read c = c .before .before .before .before .before .before .before .before
+
+whole : (c : tie.After-tell-lent) → size ≤ length (start c .args .end .now)
+whole c = c .before .before .before .before .before .before .before .before .before .before .before .before .before .if1 .left
+
+-- ---- the needs
 
 answer-requires : tie.Need-answer-requires
 answer-requires c κs = omega arith
@@ -45,10 +60,10 @@ tell-lent-requires : tie.Need-tell-lent-requires
 tell-lent-requires c κs = omega arith
 
 cast-answer : tie.Need-cast-answer
-cast-answer c = let l = c .before .before .before .tell-lent in
-    let s = c .before .before .before .before .before .before .before .before .before .before .before .before .before .before .before .before .before .before .before in
-    let r = c .before .before .before .before .before .before .before .before .before .before .before .read in
-    record { fits = acknowledge-few (serverOf (r .result) (r .last .1 .0) (r .last .1 .1 .0) (r .last .1 .1 .1 .0)) (s .args .line) (s .args .out .now) (l .last .1 .1 .1 .1 .1 .0) (l .result) (l .ensures) }
+cast-answer c =
+    let d = c .before .before .before in
+    let l = d .tell-lent in
+    record { fits = acknowledge-few _ (start d .args .line) (start d .args .out .now) (l .last .1 .1 .1 .1 .1 .0) (l .result) (l .ensures) }
 
 answer-requires-2 : tie.Need-answer-requires-2
 answer-requires-2 c κs = omega arith
@@ -57,10 +72,12 @@ same-length : tie.Need-same-length
 same-length c = omega arith
 
 returns-2 : tie.Need-returns-2
-returns-2 c = let l = c .before .before .before .before .tell-lent in
-    let s = c .before .before .before .before .before .before .before .before .before .before .before .before .before .before .before .before .before .before .before .before in
-    let r = c .before .before .before .before .before .before .before .before .before .before .before .before .read in
-    acknowledge-is (s .args .end .now) (c .before .before .before .before .before .before .before .before .before .before .before .before .before .before .before .before .before .if1 .left) (r .result) (r .last .1 .0) (r .last .1 .1 .0) (r .last .1 .1 .1 .0) (r .ensures) (s .args .line) (s .args .out .now) (l .last .1 .1 .1 .1 .1 .0) (l .result) (c .answer2 .result) (l .ensures) (c .answer2 .ensures)
+returns-2 c =
+    let d = c .before .before .before .before in
+    let l = d .tell-lent in
+    let r = read d .read in
+    acknowledge-is (start d .args .end .now) (whole d) (r .result) (r .last .1 .0) (r .last .1 .1 .0) (r .last .1 .1 .1 .0) (r .ensures)
+    (start d .args .line) (start d .args .out .now) (l .last .1 .1 .1 .1 .1 .0) (l .result) (c .answer2 .result) (l .ensures) (c .answer2 .ensures)
 
 pub acknowledge-spec : {M : Type 1} → statement M
 acknowledge-spec =

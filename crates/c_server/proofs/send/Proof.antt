@@ -1,8 +1,23 @@
 use native.Mathlib.Omega.{arith}
-use Rattle.server.specs.View.{serverOf}
+use Prim.Native.Nat.{_≤_}
+use lib.ListN.{length}
+use Rattle.c_server.specs.Layout.{size}
 use Rattle.c_server.proofs.Answering.{send-short, send-few, send-is}
 use Rattle.c_server.proofs.send.Statement.{statement}
 use Rattle.c_server.proofs.send.Tie as tie
+
+-- ---- the end was read, and the message written
+
+abbrev start : tie.After-send-lent → tie.Start
+start c = c .before .before .before .before .before .before .before .before .before .before .before .before .before .before .before .before
+
+abbrev read : tie.After-send-lent → tie.After-read
+read c = c .before .before .before .before .before .before .before .before
+
+whole : (c : tie.After-send-lent) → size ≤ length (start c .args .end .now)
+whole c = c .before .before .before .before .before .before .before .before .before .before .before .before .before .if1 .left
+
+-- ---- the needs
 
 answer-requires : tie.Need-answer-requires
 answer-requires c κs = omega arith
@@ -45,10 +60,10 @@ send-lent-requires : tie.Need-send-lent-requires
 send-lent-requires c κs = omega arith
 
 cast-answer : tie.Need-cast-answer
-cast-answer c = let l = c .before .before .before .send-lent in
-    let s = c .before .before .before .before .before .before .before .before .before .before .before .before .before .before .before .before .before .before .before in
-    let r = c .before .before .before .before .before .before .before .before .before .before .before .read in
-    record { fits = send-few (serverOf (r .result) (r .last .1 .0) (r .last .1 .1 .0) (r .last .1 .1 .1 .0)) (s .args .line) (s .args .out .now) (l .last .1 .1 .1 .1 .1 .1 .0) (l .result) (s .args .number) (l .ensures) }
+cast-answer c =
+    let d = c .before .before .before in
+    let l = d .send-lent in
+    record { fits = send-few _ (start d .args .line) (start d .args .out .now) (l .last .1 .1 .1 .1 .1 .1 .0) (l .result) (start d .args .number) (l .ensures) }
 
 answer-requires-2 : tie.Need-answer-requires-2
 answer-requires-2 c κs = omega arith
@@ -57,10 +72,12 @@ same-length : tie.Need-same-length
 same-length c = omega arith
 
 returns-2 : tie.Need-returns-2
-returns-2 c = let l = c .before .before .before .before .send-lent in
-    let s = c .before .before .before .before .before .before .before .before .before .before .before .before .before .before .before .before .before .before .before .before in
-    let r = c .before .before .before .before .before .before .before .before .before .before .before .before .read in
-    send-is (s .args .end .now) (c .before .before .before .before .before .before .before .before .before .before .before .before .before .before .before .before .before .if1 .left) (r .result) (r .last .1 .0) (r .last .1 .1 .0) (r .last .1 .1 .1 .0) (r .ensures) (s .args .line) (s .args .number) (s .args .out .now) (l .last .1 .1 .1 .1 .1 .1 .0) (l .result) (c .answer2 .result) (l .ensures) (c .answer2 .ensures)
+returns-2 c =
+    let d = c .before .before .before .before in
+    let l = d .send-lent in
+    let r = read d .read in
+    send-is (start d .args .end .now) (whole d) (r .result) (r .last .1 .0) (r .last .1 .1 .0) (r .last .1 .1 .1 .0) (r .ensures)
+    (start d .args .line) (start d .args .number) (start d .args .out .now) (l .last .1 .1 .1 .1 .1 .1 .0) (l .result) (c .answer2 .result) (l .ensures) (c .answer2 .ensures)
 
 pub send-spec : {M : Type 1} → statement M
 send-spec =

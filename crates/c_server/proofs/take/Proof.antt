@@ -1,6 +1,5 @@
 use native.Mathlib.Omega.{arith}
 use Prim.Native.Nat.{ℕ, _≤_}
-use mathlib.Core.Path.{sym}
 use mathlib.Core.List.{List}
 use lib.ListN.{length}
 use lib.Seq.{length-take-le}
@@ -70,13 +69,13 @@ take-lent-requires : tie.Need-take-lent-requires
 take-lent-requires c κs = omega arith
 
 slice-aggregate-write : tie.Need-slice-aggregate-write
-slice-aggregate-write c = sym (sizes (c .before) .list)
+slice-aggregate-write c = let z = sizes (c .before) in omega (arith, z .list, z .sized .places, z .sized .items)
 
 slice-aggregate-write-2 : tie.Need-slice-aggregate-write-2
-slice-aggregate-write-2 c = sym (sizes (c .before .before) .sized .places)
+slice-aggregate-write-2 c = let z = sizes (c .before .before) in omega (arith, z .list, z .sized .places, z .sized .items)
 
 slice-aggregate-write-3 : tie.Need-slice-aggregate-write-3
-slice-aggregate-write-3 c = sym (sizes (c .before .before .before) .sized .items)
+slice-aggregate-write-3 c = let z = sizes (c .before .before .before) in omega (arith, z .list, z .sized .places, z .sized .items)
 
 sub-write : tie.Need-sub-write
 sub-write c = omega arith
@@ -88,7 +87,17 @@ part-write-end : tie.Need-part-write-end
 part-write-end c = whole (done (c .before .before .before))
 
 write-requires : tie.Need-write-requires
-write-requires c κs = (sizes (c .before .before .before .before), length-take-le 6284 (bytes (done (c .before .before .before .before))) (whole (done (c .before .before .before .before))))
+write-requires c κs =
+    let t = c .before .before .before .before in
+    let z = sizes t in
+    let e = z .sized in (
+      record {
+        list = omega arith;
+        sized =
+            record { made = omega arith; taken = omega arith; acked = omega arith; inserts = omega arith; places = omega arith; items = omega arith };
+      },
+      length-take-le 6284 (bytes (done t)) (whole (done t)),
+    )
 
 answer-requires-2 : tie.Need-answer-requires-2
 answer-requires-2 c κs = omega arith
