@@ -58,7 +58,7 @@ struct Part {
     rest: u32,
 }
 
-// Takes p off what is left, `times` times at once, where it holds that much, and counts it in the digit.
+// Subtracts `times` times p at once, if what is left holds that much, and adds `times` to the digit.
 fn take(a: Part, p: u32, times: u8) -> Part
     requires { ⌜ (a .digit < 10) × (times < 10) × (times * p < 4294967296) ⌝ }
     ensures { λ r. ⌜ r ≡ taken a p times ⌝ }
@@ -73,7 +73,7 @@ fn take(a: Part, p: u32, times: u8) -> Part
     a
 }
 
-// The digit of n at the power p, and the rest. 4, 3, 1 and 1 make up every digit, and 4 times the highest power still has 32 bits.
+// The digit of n at the power p, and the rest, in four comparisons: every digit is a sum of some of 4, 3, 1 and 1. 4 times the highest power still has 32 bits.
 fn digit_at(n: u32, p: u32) -> Part
     requires { ⌜ (n < 10 * p) × (p ≤ 1000000000) ⌝ }
     ensures { λ r. ⌜ r ≡ split n p ⌝ }
@@ -91,7 +91,7 @@ struct Next {
     rest: u32,
 }
 
-// The digit at the power p of a number n, of which the rest is left. Where n is below p it has none.
+// The digit of n at the power p, where `rest` is what its higher digits leave. Where n is below p it has none.
 fn put_digit(out: &mut [u8], at: usize, n: u32, rest: u32, p: u32) -> Next
     requires { ⌜ (rest ≤ n) × (rest < 10 * p) × (p ≤ 1000000000) ⌝ }
     ensures { λ r. ⌜ (sink (now (out .exit)) (r .at) ≡ Sink·puts (digitFrom p n rest) (sink (now (out .entry)) at)) × (r .rest ≡ split rest p .rest) ⌝ }
@@ -107,7 +107,7 @@ fn put_digit(out: &mut [u8], at: usize, n: u32, rest: u32, p: u32) -> Next
     }
 }
 
-// The digits of n at the powers of ten from `from` down, those from `to` on left out: with these they are the digits from `from` on.
+// The digits of n at the powers 10^from to 10^(to + 1). Those from 10^to on are left to be printed.
 fn put_digits(out: &mut [u8], at: usize, n: u32, rest: u32, from: usize, to: usize) -> Next
     requires { ⌜ (rest ≡ lower from n) × (to ≤ from) × (from ≤ 9) ⌝ }
     ensures { λ r. ⌜ (Sink·puts (digits to n) (sink (now (out .exit)) (r .at)) ≡ Sink·puts (digits from n) (sink (now (out .entry)) at)) × (r .rest ≡ lower to n) ⌝ }
@@ -127,7 +127,7 @@ fn put_digits(out: &mut [u8], at: usize, n: u32, rest: u32, from: usize, to: usi
     }
 }
 
-// The digits in front of the last three. A short number has none, and one comparison tells.
+// The digits in front of the last three. A short number has none, which one comparison tells.
 fn put_front(out: &mut [u8], at: usize, n: u32) -> Next
     ensures { λ r. ⌜ (Sink·puts (digits 2 n) (sink (now (out .exit)) (r .at)) ≡ Sink·puts (Decimal·decimal n) (sink (now (out .entry)) at)) × (r .rest ≡ lower 2 n) ⌝ }
 {
