@@ -41,8 +41,8 @@ use Rattle.model.specs.Sheet.{Call, insert, delete, send, tell, receive,
 use Rattle.model.specs.Log as logs
 use Rattle.model.specs.Log.{Log, letterMessage, letterBytes, takenAt, editLetter, ackLetter, hears, writes, took, tookUp, tookDown, logged, refusedLog, log}
 use Rattle.model.specs.Run.{State, answered, written, handed, call, callable, unreadable, areBytes}
-use Rattle.model.specs.Ours.{End, client, server, answerAs, insertAt, deleteAt, sendAt, tellAt, takeAt, ours}
-use Rattle.model.proofs.Tests.{and-left, and-right, yes-all, between-true}
+use Rattle.model.specs.Ours.{End, client, server, answerAs, ours}
+use Rattle.model.proofs.Tests.{never, and-left, and-right, yes-all, between-true}
 use Rattle.model.proofs.SoundClient.{ClientFacts, client-facts}
 use Rattle.model.proofs.SoundServer.{ServerFacts, server-facts, LineFacts, line-fact, made-most, takenSum}
 use Rattle.model.proofs.Sound.{three, edits-sound, client-takes-edit, client-takes-ack, server-takes-edit, server-takes-ack}
@@ -52,9 +52,6 @@ use Rattle.model.proofs.Outcome.{Outcome, outcome, Posted, posted}
 use Rattle.model.proofs.Ranges.{fits-range, placed-get, priority-get, up-range, down-range, up-ack-range, down-ack-range}
 use Rattle.model.proofs.Sim.{clientFrom, serverFrom, lineFrom, line-from, LetterOk, Sim}
 use Rattle.model.proofs.Follow.{refused, edits-on, takes-down, takes-up, acks-down, acks-up, writes-on}
-
-never : {A : Type 0} → false ≡ true → A
-never e = absurd (let z : _≡_ {A = ℕ} 0 1 = cc in omega arith)
 
 -- the log of a refused call, and of one that was not
 log-no : (w : Log) (c : Call) (r : ℕ) → (r ≡ 0 → ⊥) → log w c r ≡ refusedLog w c
@@ -166,7 +163,7 @@ module _ (n : ℕ) (items : List ℕ) (s : State ours) (sim : Sim n items s) whe
         (small-range hd (m .edit) range) ok)
 
     -- an acknowledgement
-    take-ack : (c : Call) (k direction seen : ℕ) → (direction ≡ 1 → seen ≤ E .lines k .taken) → (direction ≡ 1 → logged w c ≡ hears w (w .heard)) → refusedLog w c ≡ hears w (w .heard)
+    take-ack : (c : Call) (k direction seen : ℕ) → (direction ≡ 1 → seen ≤ E .lines k .taken) → (direction ≡ 1 → logged w c ≡ cond (eqb l k) (hears w (logs.hearing w k k seen)) (hears w (w .heard))) → refusedLog w c ≡ hears w (w .heard)
         → (a : Answer Client) → Outcome (asks (clientAckQuestions C k direction seen)) C (clientAcked C seen) 0 a → soundClient (a .end) ≡ true
         → Sim n items (answered ours s l c (answerAs client a))
     unfolding log
@@ -175,11 +172,12 @@ module _ (n : ℕ) (items : List ℕ) (s : State ours) (sim : Sim n items s) whe
         let y = yes-all (clientAckQuestions C k direction seen) (omega arith) r in
         let down-way : direction ≡ 1 = eqb-true direction 1 (and-left (eqb direction 1) (eqb k l) (y .1 .0)) in
         let mine-way : k ≡ l = eqb-true k l (and-right (eqb direction 1) (eqb k l) (y .1 .0)) in
-        subst (λ (z : Log). Sim n items (record { ends = at l (client (clientAcked C seen)) (s .ends); messages = s .messages; passed = s .passed ++ (0 ∷ []); recorded = z })) (sym (made down-way))
+        subst (λ (z : Log). Sim n items (record { ends = at l (client (clientAcked C seen)) (s .ends); messages = s .messages; passed = s .passed ++ (0 ∷ []); recorded = z }))
+        (sym (made down-way ∙ ap (λ (i : ℕ). cond (eqb l i) (hears w (logs.hearing w i i seen)) (hears w (w .heard))) mine-way ∙ rw (eq-eqb l l refl)))
         (acks-down n items s sim l lo hi seen (leb-true (E .clients l .acked) seen (y .1 .1 .0)) (subst (λ (i : ℕ). seen ≤ E .lines i .taken) mine-way (fine down-way)) ok)
 
     -- a message that some sending wrote
-    take-letter : (c : Call) (x : Letter edits) → LetterOk items E h x → logged w c ≡ took w l (some x) → refusedLog w c ≡ hears w (w .heard)
+    take-letter : (c : Call) (x : Letter edits) → LetterOk n items E h x → logged w c ≡ took w l (some x) → refusedLog w c ≡ hears w (w .heard)
         → Sim n items (answered ours s l c (answerAs client (clientTakes C (letterMessage x))))
     unfolding took clientTakesEdit clientTakesAck
     take-letter c (up k m) ok made quiet =
@@ -238,7 +236,7 @@ module _ (n : ℕ) (items : List ℕ) (s : State ours) (sim : Sim n items s) whe
       (sym (made up-way))
       (takes-up n items s sim k (there .0) (there .1) m (fine up-way) number low (small-range hd (m .edit) range) ok))
 
-  serve-ack : (c : Call) (k direction seen : ℕ) → (direction ≡ 0 → seen ≤ E .clients k .taken) → (direction ≡ 0 → logged w c ≡ hears w (at k seen (w .heard))) → refusedLog w c ≡ hears w (w .heard)
+  serve-ack : (c : Call) (k direction seen : ℕ) → (direction ≡ 0 → seen ≤ E .clients k .taken) → (direction ≡ 0 → logged w c ≡ hears w (logs.hearing w 0 k seen)) → refusedLog w c ≡ hears w (w .heard)
       → (a : Answer Server) → Outcome (asks (serverAckQuestions S k direction seen)) S (serverAcked S k seen) 0 a → soundServer (a .end) ≡ true
       → Sim n items (answered ours s 0 c (answerAs server a))
   unfolding log
@@ -251,7 +249,7 @@ module _ (n : ℕ) (items : List ℕ) (s : State ours) (sim : Sim n items s) whe
       subst (λ (z : Log). Sim n items (record { ends = at 0 (server (serverAcked S k seen)) (s .ends); messages = s .messages; passed = s .passed ++ (0 ∷ []); recorded = z })) (sym (made up-way))
       (acks-up n items s sim k (there .0) (there .1) seen low (fine up-way) ok)
 
-  serve-letter : (c : Call) (x : Letter edits) → LetterOk items E h x → logged w c ≡ took w 0 (some x) → refusedLog w c ≡ hears w (w .heard)
+  serve-letter : (c : Call) (x : Letter edits) → LetterOk n items E h x → logged w c ≡ took w 0 (some x) → refusedLog w c ≡ hears w (w .heard)
       → Sim n items (answered ours s 0 c (answerAs server (serverTakes S (letterMessage x))))
   unfolding took serverTakesEdit serverTakesAck
   serve-letter c (up k m) ok made quiet =
@@ -279,7 +277,7 @@ module _ (n : ℕ) (items : List ℕ) (s : State ours) (sim : Sim n items s) whe
   -- ---- sending
 
   -- a sending writes the letter of the definitions, or nothing
-  post : (c : Call) (r : ℕ) (bytes lent : List ℕ) (x : Letter edits) → logged w c ≡ writes w x → refusedLog w c ≡ w → (r ≡ 0 → LetterOk items E h x × (bytes ≡ letterBytes x))
+  post : (c : Call) (r : ℕ) (bytes lent : List ℕ) (x : Letter edits) → logged w c ≡ writes w x → refusedLog w c ≡ w → (r ≡ 0 → LetterOk n items E h x × (bytes ≡ letterBytes x))
       → (a : Sent) → Posted r bytes lent a → Sim n items (written ours s c a)
   unfolding log
   post c r bytes lent x made quiet ok a (outcomes.Posted.no d) =
@@ -310,7 +308,7 @@ module _ (n : ℕ) (items : List ℕ) (s : State ours) (sim : Sim n items s) whe
       up-bytes =
           ap (λ (i : ℕ). bytesOf (messageOf (record { line = l; direction = 0; number = k; seen = E .clients l .taken }) (getD (E .clients l .pending) (k - i) Nothing))) (add-one (E .clients l .acked))
 
-      pub up-ok : LetterOk items E h (up l (ends.message k (E .clients l)))
+      pub up-ok : LetterOk n items E h (up l (ends.message k (E .clients l)))
       up-ok =
           let place : k - suc (E .clients l .acked) < length (E .clients l .pending) = omega (arith, F .count) in (
             up-message items E h (sim .inv) l k low high,
@@ -320,6 +318,7 @@ module _ (n : ℕ) (items : List ℕ) (s : State ours) (sim : Sim n items s) whe
                 (priority-get (eqb l) (E .clients l .pending) (k - suc (E .clients l .acked)) place (F .priorities))
                 (λ r e. let z : l ≡ r = eqb-true l r e in (omega arith, omega (arith, F .lines .1)))
                 (all-get Small (E .clients l .pending) (k - suc (E .clients l .acked)) Nothing place (sim .client-small l)),
+            (lo, hi, priority-get (eqb l) (E .clients l .pending) (k - suc (E .clients l .acked)) place (F .priorities)),
           )
 
     client-sends : (line k : ℕ) (lent : List ℕ) → Sim n items (written ours s (send l line k lent) (sendClient (clientFrom n l (E .clients l) (E .docs l) (sim .ci l)) line k lent))
@@ -331,7 +330,7 @@ module _ (n : ℕ) (items : List ℕ) (s : State ours) (sim : Sim n items s) whe
         let y = yes-all (sendClientQuestions C line k lent) (omega arith) z in
         let q13 = between-true (E .clients l .acked + 1) (E .clients l .made) k (y .1 .1 .0) in
         let low : E .clients l .acked < k = omega arith in
-        (subst (LetterOk items E h) (sym (up-is k low (q13 .1) line)) (up-ok k low (q13 .1)), up-bytes k low (q13 .1) ∙ ap letterBytes (sym (up-is k low (q13 .1) line))))
+        (subst (LetterOk n items E h) (sym (up-is k low (q13 .1) line)) (up-ok k low (q13 .1)), up-bytes k low (q13 .1) ∙ ap letterBytes (sym (up-is k low (q13 .1) line))))
         (sendClient C line k lent) (posted (asks (sendClientQuestions C line k lent)) (bytesOf (clientMessage C k)) lent)
 
     client-tells : (line : ℕ) (lent : List ℕ) → Sim n items (written ours s (tell l line lent) (tellClient (clientFrom n l (E .clients l) (E .docs l) (sim .ci l)) line lent))
@@ -341,7 +340,7 @@ module _ (n : ℕ) (items : List ℕ) (s : State ours) (sim : Sim n items s) whe
         let is = client-ack-letter h l line (E .clients l .taken) lo (sim .taken l) in
         post (tell l line lent) (asks (tellClientQuestions C line lent)) (bytesOf (message.Ack l 0 (E .clients l .taken))) lent (ackLetter h l line) refl refl
         (λ z. (
-          subst (LetterOk items E h) (sym is) (le-refl (E .clients l .taken), up-ack-range l (E .clients l .taken) lo (omega (arith, F .lines .1)) (F .taken)),
+          subst (LetterOk n items E h) (sym is) (le-refl (E .clients l .taken), up-ack-range l (E .clients l .taken) lo (omega (arith, F .lines .1)) (F .taken), (lo, hi)),
           ap letterBytes (sym is),
         ))
         (tellClient C line lent) (posted (asks (tellClientQuestions C line lent)) (bytesOf (message.Ack l 0 (E .clients l .taken))) lent)
@@ -367,7 +366,7 @@ module _ (n : ℕ) (items : List ℕ) (s : State ours) (sim : Sim n items s) whe
           ap (λ (v : Line). bytesOf (messageOf (record { line = l; direction = 1; number = k; seen = v .taken }) (pendingAt (v .acked) (v .pending) k))) (line-of l lo hi)
           ∙ ap (λ (i : ℕ). bytesOf (messageOf (record { line = l; direction = 1; number = k; seen = E .lines l .taken }) (getD (E .lines l .pending) (k - i) Nothing))) (add-one (E .lines l .acked))
 
-      pub down-ok : LetterOk items E h (down l (ends.message k (E .lines l)))
+      pub down-ok : LetterOk n items E h (down l (ends.message k (E .lines l)))
       down-ok =
           let place : k - suc (E .lines l .acked) < length (E .lines l .pending) = omega (arith, K .count) in (
             down-message items E h (sim .inv) l k low high,
@@ -377,20 +376,21 @@ module _ (n : ℕ) (items : List ℕ) (s : State ours) (sim : Sim n items s) whe
                 (priority-get (other n l) (E .lines l .pending) (k - suc (E .lines l .acked)) place (K .priorities))
                 (λ r e. let z = between-true 1 n r (and-left (between 1 n r) (not (eqb r l)) e) in (z .0, omega (arith, G .n .1)))
                 (all-get Small (E .lines l .pending) (k - suc (E .lines l .acked)) Nothing place (sim .server-small l)),
+            (lo, hi, priority-get (other n l) (E .lines l .pending) (k - suc (E .lines l .acked)) place (K .priorities)),
           )
 
-    server-sends : (k : ℕ) (lent : List ℕ) → asks (sendServerQuestions S l k lent) ≡ 0 → LetterOk items E h (editLetter h 0 l k) × (bytesOf (serverMessage S l k) ≡ letterBytes (editLetter h 0 l k))
+    server-sends : (k : ℕ) (lent : List ℕ) → asks (sendServerQuestions S l k lent) ≡ 0 → LetterOk n items E h (editLetter h 0 l k) × (bytesOf (serverMessage S l k) ≡ letterBytes (editLetter h 0 l k))
     server-sends k lent z =
         let y = yes-all (sendServerQuestions S l k lent) (omega arith) z in
         let q13 = between-true (lineOf S l .acked + 1) (lineOf S l .made) k (y .1 .1 .0) in
         let low : E .lines l .acked < k = subst (λ (v : Line). v .acked < k) (line-of l lo hi) (omega arith) in
         let high : k ≤ E .lines l .made = subst (λ (v : Line). k ≤ v .made) (line-of l lo hi) (q13 .1) in
-        (subst (LetterOk items E h) (sym (down-is k low high)) (down-ok k low high), down-bytes k low high ∙ ap letterBytes (sym (down-is k low high)))
+        (subst (LetterOk n items E h) (sym (down-is k low high)) (down-ok k low high), down-bytes k low high ∙ ap letterBytes (sym (down-is k low high)))
 
-    server-tells : LetterOk items E h (ackLetter h 0 l) × (bytesOf (message.Ack l 1 (lineOf S l .taken)) ≡ letterBytes (ackLetter h 0 l))
+    server-tells : LetterOk n items E h (ackLetter h 0 l) × (bytesOf (message.Ack l 1 (lineOf S l .taken)) ≡ letterBytes (ackLetter h 0 l))
     server-tells =
         let is = server-ack-letter h l (E .lines l .taken) (sym (sim .inv .lines l .v-count)) in (
-          subst (LetterOk items E h) (sym is) (le-refl (E .lines l .taken), down-ack-range l (E .lines l .taken) lo (omega (arith, G .n .1)) (K .taken)),
+          subst (LetterOk n items E h) (sym is) (le-refl (E .lines l .taken), down-ack-range l (E .lines l .taken) lo (omega (arith, G .n .1)) (K .taken), (lo, hi)),
           ap (λ (v : Line). bytesOf (message.Ack l 1 (v .taken))) (line-of l lo hi) ∙ ap letterBytes (sym is),
         )
 
@@ -424,55 +424,55 @@ lettered [] i b e P a = absurd (let z : _≡_ {A = ℕ} 0 1 = cc in omega arith)
 lettered (x ∷ xs) zero b e P a = (x, refl, some-eq b (letterBytes x) (sym e), a .0)
 lettered (x ∷ xs) (suc i) b e P a = lettered xs i b e P (a .1)
 
+pub unread : (r : Read) → unreadable r ≡ true → r ≡ read.Refused
+unread read.Refused e = refl
+unread (read.Message m) e = never e
+
 module _ (n : ℕ) (items : List ℕ) (s : State ours) (sim : Sim n items s) where
   -- a message taken at end a
-  takes-at : (a i : ℕ) → a ≤ n → (b : List ℕ) → getElem? (s .messages) i ≡ some b → Sim n items (answered ours s a (receive a i) (takeAt (s .ends a) b))
+  takes-at : (a i : ℕ) → a ≤ n → (b : List ℕ) → getElem? (s .messages) i ≡ some b → Sim n items (answered ours s a (receive a i) (ours .take (s .ends a) b))
   unfolding takeClient takeServer logged refusedLog
   takes-at a i hi b e =
-      let m = lettered (s .recorded .letters) i b (ap (λ (ms : List (List ℕ)). getElem? ms i) (sym (sim .messages)) ∙ e) (LetterOk items (sim .E) (s .recorded .history)) (sim .letters) in
+      let m = lettered (s .recorded .letters) i b (ap (λ (ms : List (List ℕ)). getElem? ms i) (sym (sim .messages)) ∙ e) (LetterOk n items (sim .E) (s .recorded .history)) (sim .letters) in
       go a hi (m .0) (m .1) (m .2) (m .3)
     where
-      go : (a : ℕ) → a ≤ n → (x : Letter edits) → getElem? (s .recorded .letters) i ≡ some x → b ≡ letterBytes x → LetterOk items (sim .E) (s .recorded .history) x
-          → Sim n items (answered ours s a (receive a i) (takeAt (s .ends a) b))
+      go : (a : ℕ) → a ≤ n → (x : Letter edits) → getElem? (s .recorded .letters) i ≡ some x → b ≡ letterBytes x → LetterOk n items (sim .E) (s .recorded .history) x
+          → Sim n items (answered ours s a (receive a i) (ours .take (s .ends a) b))
       go zero hi x is same ok =
           let S = serverFrom n (length items) (sim .E .doc) (sim .E .lines) (sim .si) in
-          subst (λ (e : End). Sim n items (answered ours s 0 (receive 0 i) (takeAt e b))) (sym (sim .server-is))
+          subst (λ (e : End). Sim n items (answered ours s 0 (receive 0 i) (ours .take e b))) (sym (sim .server-is))
           (subst (λ (r : Read). Sim n items (answered ours s 0 (receive 0 i) (answerAs server (serverReads S r)))) (sym (ap parsed same ∙ codec .written-read (letterMessage x) (ok .1)))
           (serve-letter n items s sim (receive 0 i) x ok (ap (took (s .recorded) 0) is) refl))
       go (suc a) hi x is same ok =
           let C = clientFrom n (suc a) (sim .E .clients (suc a)) (sim .E .docs (suc a)) (sim .ci (suc a)) in
-          subst (λ (e : End). Sim n items (answered ours s (suc a) (receive (suc a) i) (takeAt e b))) (sym (sim .client-is (suc a) (omega arith) hi))
+          subst (λ (e : End). Sim n items (answered ours s (suc a) (receive (suc a) i) (ours .take e b))) (sym (sim .client-is (suc a) (omega arith) hi))
           (subst (λ (r : Read). Sim n items (answered ours s (suc a) (receive (suc a) i) (answerAs client (clientReads C r)))) (sym (ap parsed same ∙ codec .written-read (letterMessage x) (ok .1)))
           (take-letter n items s sim (suc a) (omega arith) hi (receive (suc a) i) x ok (ap (took (s .recorded) (suc a)) is) refl))
 
-  unread : (r : Read) → unreadable r ≡ true → r ≡ read.Refused
-  unread read.Refused e = refl
-  unread (read.Message m) e = never e
-
-  junks-at : (a : ℕ) (bytes : List ℕ) → a ≤ n → parsed bytes ≡ read.Refused → Sim n items (answered ours s a (junk a bytes) (takeAt (s .ends a) bytes))
+  junks-at : (a : ℕ) (bytes : List ℕ) → a ≤ n → parsed bytes ≡ read.Refused → Sim n items (answered ours s a (junk a bytes) (ours .take (s .ends a) bytes))
   unfolding takeClient takeServer refusedLog
   junks-at zero bytes hi e =
       let S = serverFrom n (length items) (sim .E .doc) (sim .E .lines) (sim .si) in
-      subst (λ (d : End). Sim n items (answered ours s 0 (junk 0 bytes) (takeAt d bytes))) (sym (sim .server-is))
+      subst (λ (d : End). Sim n items (answered ours s 0 (junk 0 bytes) (ours .take d bytes))) (sym (sim .server-is))
       (subst (λ (r : Read). Sim n items (answered ours s 0 (junk 0 bytes) (answerAs server (serverReads S r)))) (sym e)
       (serve-junk n items s sim (junk 0 bytes) (answer (asks (ask 2 (soundServer S) ∷ ask 3 false ∷ [])) S S 0) (outcome (asks (ask 2 (soundServer S) ∷ ask 3 false ∷ [])) S S 0) refl))
   junks-at (suc a) bytes hi e =
       let C = clientFrom n (suc a) (sim .E .clients (suc a)) (sim .E .docs (suc a)) (sim .ci (suc a)) in
-      subst (λ (d : End). Sim n items (answered ours s (suc a) (junk (suc a) bytes) (takeAt d bytes))) (sym (sim .client-is (suc a) (omega arith) hi))
+      subst (λ (d : End). Sim n items (answered ours s (suc a) (junk (suc a) bytes) (ours .take d bytes))) (sym (sim .client-is (suc a) (omega arith) hi))
       (subst (λ (r : Read). Sim n items (answered ours s (suc a) (junk (suc a) bytes) (answerAs client (clientReads C r)))) (sym e)
       (take-junk n items s sim (suc a) (omega arith) hi (junk (suc a) bytes) (answer (asks (ask 2 (soundClient C) ∷ ask 3 false ∷ [])) C C 0)
       (outcome (asks (ask 2 (soundClient C) ∷ ask 3 false ∷ [])) C C 0) refl))
 
-  sends-at : (a l k : ℕ) (lent : List ℕ) → a ≤ n → Sim n items (written ours s (send a l k lent) (sendAt (s .ends a) l k lent))
-  sends-at zero l k lent hi = subst (λ (e : End). Sim n items (written ours s (send 0 l k lent) (sendAt e l k lent))) (sym (sim .server-is)) (server-posts n items s sim l k lent)
+  sends-at : (a l k : ℕ) (lent : List ℕ) → a ≤ n → Sim n items (written ours s (send a l k lent) (ours .send (s .ends a) l k lent))
+  sends-at zero l k lent hi = subst (λ (e : End). Sim n items (written ours s (send 0 l k lent) (ours .send e l k lent))) (sym (sim .server-is)) (server-posts n items s sim l k lent)
   sends-at (suc a) l k lent hi =
-      subst (λ (e : End). Sim n items (written ours s (send (suc a) l k lent) (sendAt e l k lent))) (sym (sim .client-is (suc a) (omega arith) hi))
+      subst (λ (e : End). Sim n items (written ours s (send (suc a) l k lent) (ours .send e l k lent))) (sym (sim .client-is (suc a) (omega arith) hi))
       (client-sends n items s sim (suc a) (omega arith) hi l k lent)
 
-  tells-at : (a l : ℕ) (lent : List ℕ) → a ≤ n → Sim n items (written ours s (tell a l lent) (tellAt (s .ends a) l lent))
-  tells-at zero l lent hi = subst (λ (e : End). Sim n items (written ours s (tell 0 l lent) (tellAt e l lent))) (sym (sim .server-is)) (server-acks n items s sim l lent)
+  tells-at : (a l : ℕ) (lent : List ℕ) → a ≤ n → Sim n items (written ours s (tell a l lent) (ours .tell (s .ends a) l lent))
+  tells-at zero l lent hi = subst (λ (e : End). Sim n items (written ours s (tell 0 l lent) (ours .tell e l lent))) (sym (sim .server-is)) (server-acks n items s sim l lent)
   tells-at (suc a) l lent hi =
-      subst (λ (e : End). Sim n items (written ours s (tell (suc a) l lent) (tellAt e l lent))) (sym (sim .client-is (suc a) (omega arith) hi))
+      subst (λ (e : End). Sim n items (written ours s (tell (suc a) l lent) (ours .tell e l lent))) (sym (sim .client-is (suc a) (omega arith) hi))
       (client-tells n items s sim (suc a) (omega arith) hi l lent)
 
   edits-at : (c : Call) (l : ℕ) (e : Edit) → 1 ≤ l → l ≤ n → priority (eqb l) e ≡ true → Small e → logged (s .recorded) c ≡ logs.edited (s .recorded) l e
@@ -488,11 +488,11 @@ module _ (n : ℕ) (items : List ℕ) (s : State ours) (sim : Sim n items s) whe
   called (insert l p x) ok =
       let t = three (between 1 n l) (ltb p 65536) (ltb x 4294967296) ok in
       let at-l = between-true 1 n l (t .0) in
-      subst (λ (e : End). Sim n items (answered ours s l (insert l p x) (insertAt e p x))) (sym (sim .client-is l (at-l .0) (at-l .1)))
+      subst (λ (e : End). Sim n items (answered ours s l (insert l p x) (ours .insert e p x))) (sym (sim .client-is l (at-l .0) (at-l .1)))
       (edits-at (insert l p x) l (Insert p x l) (at-l .0) (at-l .1) (eq-eqb l l refl) (le-leb x 4294967295 (omega (arith, ltb-true x 4294967296 (t .2)))) refl refl)
   called (delete l p) ok =
       let at-l = between-true 1 n l (and-left (between 1 n l) (ltb p 65536) ok) in
-      subst (λ (e : End). Sim n items (answered ours s l (delete l p) (deleteAt e p))) (sym (sim .client-is l (at-l .0) (at-l .1)))
+      subst (λ (e : End). Sim n items (answered ours s l (delete l p) (ours .delete e p))) (sym (sim .client-is l (at-l .0) (at-l .1)))
       (edits-at (delete l p) l (Delete p) (at-l .0) (at-l .1) refl refl refl refl)
   called (send a l k lent) ok =
       sends-at a l k lent (leb-true a n (three (leb a n) (ltb l 256) (ltb k 65536) (and-left (leb a n && ltb l 256 && ltb k 65536) (areBytes lent) ok) .0))

@@ -84,11 +84,18 @@ small-taken : (x : Message edits) (v : ends.End edits) → All Small (v .pending
 small-taken x v a =
     subst (All Small) (over-same (x .edit) (drop (x .seen - v .acked) (v .pending))) (small-over (x .edit) (drop (x .seen - v .acked) (v .pending)) (all-drop Small (x .seen - v .acked) (v .pending) a))
 
+-- what was heard, at the line where it was and at another end
+at-here : (l k : ℕ) (f : ℕ → ℕ) → at l k f l ≡ k
+at-here l k f = rw (eq-eqb l l refl)
+
+unheard : (a : ℕ) (f : ℕ → ℕ) (g : ℕ → ℕ → ℕ) (j i : ℕ) → (a ≡ j → ⊥) → at a f g j i ≡ g j i
+unheard a f g j i h = ap (λ (k : ℕ → ℕ). k i) (at-other a f g j h)
+
 -- every message stays one that can be taken
-letters-later : (items : List ℕ) (E E′ : Ends edits) (h h′ : History edits) → Inv items E h → Later E h E′ h′ → (xs : List (Letter edits))
-    → All (LetterOk items E h) xs → All (LetterOk items E′ h′) xs
-letters-later items E E′ h h′ inv f xs ok =
-    all-map (LetterOk items E h) (LetterOk items E′ h′) xs (λ x o. (fine-later items E h E′ h′ inv f x (o .0), o .1)) ok
+letters-later : (n : ℕ) (items : List ℕ) (E E′ : Ends edits) (h h′ : History edits) → Inv items E h → Later E h E′ h′ → (xs : List (Letter edits))
+    → All (LetterOk n items E h) xs → All (LetterOk n items E′ h′) xs
+letters-later n items E E′ h h′ inv f xs ok =
+    all-map (LetterOk n items E h) (LetterOk n items E′ h′) xs (λ x o. (fine-later items E h E′ h′ inv f x (o .0), o .1, o .2)) ok
 
 module _ (n : ℕ) (items : List ℕ) (s : State ours) (sim : Sim n items s) where
   abbrev w : Log
@@ -113,7 +120,8 @@ module _ (n : ℕ) (items : List ℕ) (s : State ours) (sim : Sim n items s) whe
         client-sound = sim .client-sound;
         server-shown = sim .server-shown;
         client-shown = sim .client-shown;
-        heard = sim .heard;
+        server-heard = sim .server-heard;
+        client-heard = sim .client-heard;
         messages = sim .messages;
         letters = sim .letters;
         passed = ap (λ (ks : List ℕ). ks ++ (0 ∷ [])) (sim .passed);
@@ -174,9 +182,12 @@ module _ (n : ℕ) (items : List ℕ) (s : State ours) (sim : Sim n items s) whe
                 at-line (λ i x d (y : Unit {0}) (z : Unit {0}). x ≡ d) l (applied (form o (setOf h l)) (w .shown l)) (applied e (E .docs l)) tt tt
                 (w .shown) (E .docs) (λ i. tt) (λ i. tt) j
                 (ap₂ applied (client-set h l o e lo made-form) (sim .client-shown l lo hi)) (sim .client-shown j a b);
-            heard = sim .heard;
+            server-heard = sim .server-heard;
+            client-heard = λ j a.
+                at-line (λ i v (x : Unit {0}) (y : Unit {0}) (z : Unit {0}). w .heard i i ≡ v .acked) l (keeps e (E .clients l)) tt tt tt
+                (E .clients) (λ i. tt) (λ i. tt) (λ i. tt) j (sim .client-heard l lo) (sim .client-heard j a);
             messages = sim .messages;
-            letters = letters-later items E (editing l e E) h (afterEdit l e h) (sim .inv) (step .later) (w .letters) (sim .letters);
+            letters = letters-later n items E (editing l e E) h (afterEdit l e h) (sim .inv) (step .later) (w .letters) (sim .letters);
             passed = ap (λ (ks : List ℕ). ks ++ (0 ∷ [])) (sim .passed);
             taken = λ j.
                 at-line (λ i xs v (y : Unit {0}) (z : Unit {0}). length (others i xs) ≡ v .taken) l (h .applied l ++ (o ∷ [])) (keeps e (E .clients l)) tt tt
@@ -248,9 +259,12 @@ module _ (n : ℕ) (items : List ℕ) (s : State ours) (sim : Sim n items s) whe
                 (applied (arrived x (E .clients l)) (E .docs l)) tt tt (w .shown) (E .docs) (λ i. tt) (λ i. tt) j
                 (ap₂ applied (ap (λ (es : List (Made edits)). form (logs.first es) (setOf h l)) missing-first ∙ client-set h l g (arrived x (E .clients l)) lo down-form) (sim .client-shown l lo hi))
                 (sim .client-shown j a b);
-            heard = sim .heard;
+            server-heard = λ j. unheard l (at l (x .seen) (w .heard l)) (w .heard) 0 j (λ z. omega arith) ∙ sim .server-heard j;
+            client-heard = λ j a.
+                at-line (λ i f v (y : Unit {0}) (z : Unit {0}). f i ≡ v .acked) l (at l (x .seen) (w .heard l)) (takes x (E .clients l)) tt tt
+                (w .heard) (E .clients) (λ i. tt) (λ i. tt) j (at-here l (x .seen) (w .heard l)) (sim .client-heard j a);
             messages = sim .messages;
-            letters = letters-later items E (takingDown l x E) h (afterDown l h) (sim .inv) (down-step .later) (w .letters) (sim .letters);
+            letters = letters-later n items E (takingDown l x E) h (afterDown l h) (sim .inv) (down-step .later) (w .letters) (sim .letters);
             passed = ap₂ (λ (ks : List ℕ) (k : ℕ). ks ++ ((k - x .seen) ∷ [])) (sim .passed) (client-count h l (E .clients l .made) lo (line .c-made ∙ ap length (mine-served l (h .served) (h .untaken l) (sim .inv .lines l .untaken-own)) ∙ length-append (mine l (h .served)) (h .untaken l)));
             taken = λ j.
                 subst (λ (es : List (Made edits)). length (others j (applies l es h .applied j)) ≡ at l (takes x (E .clients l)) (E .clients) j .taken) (sym missing-first)
@@ -319,7 +333,7 @@ module _ (n : ℕ) (items : List ℕ) (s : State ours) (sim : Sim n items s) whe
           recorded = record {
             history = serves l (o ∷ us) h;
             shown = logs.shows w 0 (logs.first (o ∷ us));
-            heard = at l (x .seen) (w .heard);
+            heard = logs.hearing w 0 l (x .seen);
             letters = w .letters;
             passed = w .passed ++ ((madeAt h 0 l - x .seen) ∷ []);
           };
@@ -337,11 +351,12 @@ module _ (n : ℕ) (items : List ℕ) (s : State ours) (sim : Sim n items s) whe
               client-sound = sim .client-sound;
               server-shown = ap₂ applied (sym (arrives items edit-laws E h (sim .inv) l x ok next cur o us split)) (sim .server-shown);
               client-shown = λ j b c. at-other 0 (applied (form o (h .served)) (w .shown 0)) (w .shown) j (λ z. omega arith) ∙ sim .client-shown j b c;
-              heard = λ j.
-                  at-line (λ i k v (y : Unit {0}) (z : Unit {0}). k ≡ v .acked) l (x .seen) (takes x (E .lines l)) tt tt (w .heard) (λ k. keeps a (E .lines k)) (λ i. tt) (λ i. tt) j
-                  refl (sim .heard j);
+              client-heard = λ j b. unheard 0 (at l (x .seen) (w .heard 0)) (w .heard) j j (λ z. omega arith) ∙ sim .client-heard j b;
+              server-heard = λ j.
+                  at-line (λ i k v (y : Unit {0}) (z : Unit {0}). k ≡ v .acked) l (x .seen) (takes x (E .lines l)) tt tt (w .heard 0) (λ k. keeps a (E .lines k)) (λ i. tt) (λ i. tt) j
+                  refl (sim .server-heard j);
               messages = sim .messages;
-              letters = letters-later items E (takingUp l x E) h (serves l (o ∷ us) h) (sim .inv) (up-step .later) (w .letters) (sim .letters);
+              letters = letters-later n items E (takingUp l x E) h (serves l (o ∷ us) h) (sim .inv) (up-step .later) (w .letters) (sim .letters);
               passed =
                   ap₂ (λ (ks : List ℕ) (k : ℕ). ks ++ ((k - x .seen) ∷ [])) (sim .passed)
                   (up-line .v-made ∙ ap length (others-served l (h .served) (h .untaken l) (sim .inv .lines l .untaken-own)));
@@ -390,7 +405,7 @@ module _ (n : ℕ) (items : List ℕ) (s : State ours) (sim : Sim n items s) whe
             recorded = record {
               history = serves l r h;
               shown = logs.shows w 0 (logs.first r);
-              heard = at l (x .seen) (w .heard);
+              heard = logs.hearing w 0 l (x .seen);
               letters = w .letters;
               passed = w .passed ++ ((madeAt h 0 l - x .seen) ∷ []);
             };
@@ -407,7 +422,7 @@ module _ (n : ℕ) (items : List ℕ) (s : State ours) (sim : Sim n items s) whe
         ends = at l (client (clientAcked C seen)) (s .ends);
         messages = s .messages;
         passed = s .passed ++ (0 ∷ []);
-        recorded = hears w (w .heard);
+        recorded = hears w (logs.hearing w l l seen);
       })
       acks-down =
           record {
@@ -425,9 +440,12 @@ module _ (n : ℕ) (items : List ℕ) (s : State ours) (sim : Sim n items s) whe
                 (E .clients) (λ i. tt) (λ i. tt) (λ i. tt) j sound (sim .client-sound j b c);
             server-shown = sim .server-shown;
             client-shown = sim .client-shown;
-            heard = sim .heard;
+            server-heard = λ j. unheard l (at l seen (w .heard l)) (w .heard) 0 j (λ z. omega arith) ∙ sim .server-heard j;
+            client-heard = λ j a.
+                at-line (λ i f v (y : Unit {0}) (z : Unit {0}). f i ≡ v .acked) l (at l seen (w .heard l)) (acks seen (E .clients l)) tt tt
+                (w .heard) (E .clients) (λ i. tt) (λ i. tt) j (at-here l seen (w .heard l)) (sim .client-heard j a);
             messages = sim .messages;
-            letters = letters-later items E (ackingDown l seen E) h h (sim .inv) (acked-down .later) (w .letters) (sim .letters);
+            letters = letters-later n items E (ackingDown l seen E) h h (sim .inv) (acked-down .later) (w .letters) (sim .letters);
             passed = ap (λ (ks : List ℕ). ks ++ (0 ∷ [])) (sim .passed);
             taken = λ j.
                 at-line (λ i v (y : Unit {0}) (d : Unit {0}) (k : Unit {0}). length (others i (h .applied i)) ≡ v .taken) l (acks seen (E .clients l)) tt tt tt
@@ -449,7 +467,7 @@ module _ (n : ℕ) (items : List ℕ) (s : State ours) (sim : Sim n items s) whe
         ends = at 0 (server (serverAcked S l seen)) (s .ends);
         messages = s .messages;
         passed = s .passed ++ (0 ∷ []);
-        recorded = hears w (at l seen (w .heard));
+        recorded = hears w (logs.hearing w 0 l seen);
       })
       acks-up =
           record {
@@ -463,10 +481,11 @@ module _ (n : ℕ) (items : List ℕ) (s : State ours) (sim : Sim n items s) whe
             client-sound = sim .client-sound;
             server-shown = sim .server-shown;
             client-shown = sim .client-shown;
-            heard = λ j.
-                at-line (λ i k v (y : Unit {0}) (z : Unit {0}). k ≡ v .acked) l seen (acks seen (E .lines l)) tt tt (w .heard) (E .lines) (λ i. tt) (λ i. tt) j refl (sim .heard j);
+            client-heard = λ j b. unheard 0 (at l seen (w .heard 0)) (w .heard) j j (λ z. omega arith) ∙ sim .client-heard j b;
+            server-heard = λ j.
+                at-line (λ i k v (y : Unit {0}) (z : Unit {0}). k ≡ v .acked) l seen (acks seen (E .lines l)) tt tt (w .heard 0) (E .lines) (λ i. tt) (λ i. tt) j refl (sim .server-heard j);
             messages = sim .messages;
-            letters = letters-later items E (ackingUp l seen E) h h (sim .inv) (acked-up .later) (w .letters) (sim .letters);
+            letters = letters-later n items E (ackingUp l seen E) h h (sim .inv) (acked-up .later) (w .letters) (sim .letters);
             passed = ap (λ (ks : List ℕ). ks ++ (0 ∷ [])) (sim .passed);
             taken = sim .taken;
             served-lines = sim .served-lines;
@@ -479,7 +498,7 @@ module _ (n : ℕ) (items : List ℕ) (s : State ours) (sim : Sim n items s) whe
           }
 
   -- ---- a message is written
-  pub writes-on : (x : Letter edits) → LetterOk items (sim .E) h x
+  pub writes-on : (x : Letter edits) → LetterOk n items (sim .E) h x
       → Sim n items (record { ends = s .ends; messages = s .messages ++ (letterBytes x ∷ []); passed = s .passed; recorded = writes w x })
   writes-on x ok =
       record {
@@ -493,9 +512,10 @@ module _ (n : ℕ) (items : List ℕ) (s : State ours) (sim : Sim n items s) whe
         client-sound = sim .client-sound;
         server-shown = sim .server-shown;
         client-shown = sim .client-shown;
-        heard = sim .heard;
+        server-heard = sim .server-heard;
+        client-heard = sim .client-heard;
         messages = ap (λ (ms : List (List ℕ)). ms ++ (letterBytes x ∷ [])) (sim .messages) ∙ sym (map-append letterBytes (w .letters) (x ∷ []));
-        letters = all-append (LetterOk items (sim .E) h) (w .letters) (x ∷ []) (sim .letters) (ok, tt);
+        letters = all-append (LetterOk n items (sim .E) h) (w .letters) (x ∷ []) (sim .letters) (ok, tt);
         passed = sim .passed;
         taken = sim .taken;
         served-lines = sim .served-lines;

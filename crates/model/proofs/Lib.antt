@@ -10,10 +10,14 @@ pub mod Small
 pub mod Sim
 pub mod Follow
 pub mod Outcome
+pub mod Hands
 pub mod Ranges
 pub mod Calls
+pub mod Counts
+pub mod Rooms
 pub mod Bounds
 pub mod Next
+pub mod Numbers
 pub mod Converges
 pub mod Refusals
 pub mod Wrong

@@ -33,7 +33,7 @@ use Rattle.model.specs.Cross.{past, over, allPlaced, priority, insertsOf
 use Rattle.model.specs.Client.{Client, clientMessage, sendClientQuestions, sendClient, other, unacked, clientTaken, clientEditQuestions, clientTakesEdit, clientReads, takeClient}
 use Rattle.model.specs.Server.{Line, Server, lineOf, serverMessage, sendServerQuestions, sendServer, unackedOf, carried, serverTaken, othersRoomy, serverEditQuestions, serverTakesEdit, serverReads, takeServer}
 use Rattle.model.specs.Edits.{edits}
-use Rattle.model.specs.Log.{letterMessage}
+use Rattle.model.specs.Log.{letterMessage, letterBytes, editLetter}
 use Rattle.model.specs.Run.{State}
 use Rattle.model.specs.Ours.{End, client, server, ours}
 use Rattle.model.specs.Claim.{Delivered}
@@ -43,10 +43,10 @@ use Rattle.model.proofs.SoundServer.{server-facts, LineFacts, line-fact
 use Rattle.model.proofs.Sound.{new-end}
 use Rattle.model.proofs.Table.{table-roomy}
 use Rattle.model.proofs.Instance.{edit-laws, from-T, past-same, over-same}
-use Rattle.model.proofs.Ranges.{priority-get, short}
+use Rattle.model.proofs.Ranges.{priority-get}
 use Rattle.model.proofs.Sim.{clientFrom, serverFrom, lineFrom, line-from, carried-from, server-taken-from, Sim}
 use Rattle.model.proofs.Follow.{first-inserts, inserts-cons}
-use Rattle.model.proofs.Calls.{client-message, server-message, up-bytes, up-ok, down-bytes, down-ok}
+use Rattle.model.proofs.Calls.{client-message, server-message, up-is, up-bytes, up-ok, down-is, down-bytes, down-ok}
 use Rattle.model.proofs.Bounds.{inserts-most, client-most, client-more, doc-most, client-placed, server-placed}
 
 -- a sending that no question refused
@@ -113,7 +113,7 @@ module _ (n : ℕ) (items : List ℕ) (s : State ours) (sim : Sim n items s) (fe
         (subst (λ (d : List ℕ). length d ≤ maxItems) (sym (after .c-doc)) (doc-most items (order h l) room l (length (mine l (order h l))) (suc (c .taken))))))
 
   -- ---- the next edit going down
-  module _ (more : c .taken < v .made) (lent : List ℕ) (long : 14 ≤ length lent) where
+  module _ (more : c .taken < v .made) (lent : List ℕ) (long : length (letterBytes (editLetter h 0 l (suc (c .taken)))) ≤ length lent) where
     abbrev k : ℕ
     k = suc (c .taken)
 
@@ -129,6 +129,10 @@ module _ (n : ℕ) (items : List ℕ) (s : State ours) (sim : Sim n items s) (fe
     ok : DownMessage items E h l x
     ok = down-message items E h (sim .inv) l k low more
 
+    -- it is what the definitions give
+    down-written : bytesOf (serverMessage S l k) ≡ letterBytes (editLetter h 0 l k)
+    down-written = down-bytes n items s sim l lo hi k low more ∙ ap letterBytes (sym (down-is n items s sim l lo hi k low more))
+
     down-sent : sendServer S l k lent
         ≡ record { refusal = 0; written = length (bytesOf (serverMessage S l k)); buffer = bytesOf (serverMessage S l k) ++ drop (length (bytesOf (serverMessage S l k))) lent }
     unfolding sendServer
@@ -140,7 +144,7 @@ module _ (n : ℕ) (items : List ℕ) (s : State ours) (sim : Sim n items s) (fe
             true-between 1 n l lo hi,
             (
               subst (λ (u : Line). between (u .acked + 1) (u .made) k ≡ true) (sym same-line) (true-between (v .acked + 1) (v .made) k (omega (arith, line .v-acked)) more),
-              (le-leb (length (bytesOf (serverMessage S l k))) (length lent) (omega (arith, short (serverMessage S l k))), tt),
+              (le-leb (length (bytesOf (serverMessage S l k))) (length lent) (subst (λ (b : List ℕ). length b ≤ length lent) (sym down-written) long), tt),
             ),
           ),
         ))
@@ -240,7 +244,8 @@ module _ (n : ℕ) (items : List ℕ) (s : State ours) (sim : Sim n items s) (fe
     up-10 = on-line (λ u. leb (u .inserts + insertsOf (y .edit)) maxInserts ≡ true) (le-leb (sim .si l + insertsOf (y .edit)) maxInserts up-inserts)
 
   -- ---- the next edit going up
-  module _ (more : v .taken < c .made) (roomy-others : (j : ℕ) → 1 ≤ j → j ≤ n → (j ≡ l → ⊥) → E .lines j .made - E .lines j .acked < maxPending) (lent : List ℕ) (long : 14 ≤ length lent) where
+  module _ (more : v .taken < c .made) (roomy-others : (j : ℕ) → 1 ≤ j → j ≤ n → (j ≡ l → ⊥) → E .lines j .made - E .lines j .acked < maxPending) (lent : List ℕ)
+      (long : length (letterBytes (editLetter h l l (suc (v .taken)))) ≤ length lent) where
     abbrev up-k : ℕ
     up-k = suc (v .taken)
 
@@ -259,6 +264,9 @@ module _ (n : ℕ) (items : List ℕ) (s : State ours) (sim : Sim n items s) (fe
     okay : UpMessage items E h l y
     okay = up-message items E h (sim .inv) l up-k up-low more
 
+    up-written : bytesOf (clientMessage C up-k) ≡ letterBytes (editLetter h l l up-k)
+    up-written = up-bytes n items s sim l lo hi up-k up-low more ∙ ap letterBytes (sym (up-is n items s sim l lo hi up-k up-low more l))
+
     up-sent : sendClient C l up-k lent
         ≡ record { refusal = 0; written = length (bytesOf (clientMessage C up-k)); buffer = bytesOf (clientMessage C up-k) ++ drop (length (bytesOf (clientMessage C up-k))) lent }
     unfolding sendClient
@@ -270,7 +278,7 @@ module _ (n : ℕ) (items : List ℕ) (s : State ours) (sim : Sim n items s) (fe
             eq-eqb l l refl,
             (
               true-between (c .acked + 1) (c .made) up-k (omega (arith, line .c-acked)) more,
-              (le-leb (length (bytesOf (clientMessage C up-k))) (length lent) (omega (arith, short (clientMessage C up-k))), tt),
+              (le-leb (length (bytesOf (clientMessage C up-k))) (length lent) (subst (λ (b : List ℕ). length b ≤ length lent) (sym up-written) long), tt),
             ),
           ),
         ))

@@ -128,7 +128,7 @@ module _ (n : ℕ) (items : List ℕ) (s : State ours) (sim : Sim n items s) (fe
           ),
         )
 
-    letter-refusals : (x : Letter edits) → LetterOk items E h x → Allowed (clientTakes C (letterMessage x) .refusal)
+    letter-refusals : (x : Letter edits) → LetterOk n items E h x → Allowed (clientTakes C (letterMessage x) .refusal)
     unfolding clientTakesEdit clientTakesAck
     letter-refusals (up k m) ok =
         let hd : Header = record { line = k; direction = 0; number = m .number; seen = m .seen } in
@@ -203,7 +203,7 @@ module _ (n : ℕ) (items : List ℕ) (s : State ours) (sim : Sim n items s) (fe
         ),
       )
 
-  serve-letter-refusals : (x : Letter edits) → LetterOk items E h x → Allowed (serverTakes S (letterMessage x) .refusal)
+  serve-letter-refusals : (x : Letter edits) → LetterOk n items E h x → Allowed (serverTakes S (letterMessage x) .refusal)
   unfolding serverTakesEdit serverTakesAck
   serve-letter-refusals (up k m) ok =
       let hd : Header = record { line = k; direction = 0; number = m .number; seen = m .seen } in
@@ -217,7 +217,7 @@ module _ (n : ℕ) (items : List ℕ) (s : State ours) (sim : Sim n items s) (fe
   serve-letter-refusals (downAck k seen) ok = subst Allowed (sym (refusal-is (asks (serverAckQuestions S k 1 seen)) S (serverAcked S k seen) 0)) (serve-ack-refusals k 1 seen (λ e. absurd (omega arith)))
 
   -- ---- at any end
-  at-any : (a : ℕ) → a ≤ n → (x : Letter edits) → LetterOk items E h x → (b : List ℕ) → b ≡ letterBytes x → Allowed (ours .take (s .ends a) b .refusal)
+  at-any : (a : ℕ) → a ≤ n → (x : Letter edits) → LetterOk n items E h x → (b : List ℕ) → b ≡ letterBytes x → Allowed (ours .take (s .ends a) b .refusal)
   unfolding takeClient takeServer
   at-any zero hi x ok b e =
       subst (λ (d : End). Allowed (ours .take d b .refusal)) (sym (sim .server-is))
@@ -229,7 +229,7 @@ module _ (n : ℕ) (items : List ℕ) (s : State ours) (sim : Sim n items s) (fe
 
   pub any-message : (a i : ℕ) (b : List ℕ) → a ≤ n → getElem? (s .messages) i ≡ some b → Allowed (ours .take (s .ends a) b .refusal)
   any-message a i b hi e =
-      let m = lettered (s .recorded .letters) i b (ap (λ (ms : List (List ℕ)). getElem? ms i) (sym (sim .messages)) ∙ e) (LetterOk items E h) (sim .letters) in
+      let m = lettered (s .recorded .letters) i b (ap (λ (ms : List (List ℕ)). getElem? ms i) (sym (sim .messages)) ∙ e) (LetterOk n items E h) (sim .letters) in
       at-any a hi (m .0) (m .3) b (m .2)
 
   pub no-message : (a : ℕ) (b : List ℕ) → a ≤ n → parsed b ≡ read.Refused → ours .take (s .ends a) b .refusal ≡ 3

@@ -15,13 +15,13 @@ use Rattle.jupiter.specs.Made.{Made, mine, others}
 use Rattle.jupiter.specs.History.{History, at, order}
 use Rattle.jupiter.specs.Ends as ends
 use Rattle.jupiter.specs.Ends.{Ends, Message, keeps, acks, takes, arrived}
-use Rattle.jupiter.specs.Run.{Letter}
+use Rattle.jupiter.specs.Run.{Letter, up, down, upAck, downAck}
 use Rattle.jupiter.specs.Claims.{inserts}
 use Rattle.jupiter.proofs.Lists.{All}
 use Rattle.jupiter.proofs.World.{Inv}
 use Rattle.jupiter.proofs.Runs.{Fine}
-use Rattle.model.specs.Cross.{past, insertsOf}
-use Rattle.model.specs.Client.{Client, soundClient, edited, clientTaken, clientAcked}
+use Rattle.model.specs.Cross.{past, priority, insertsOf}
+use Rattle.model.specs.Client.{Client, soundClient, other, edited, clientTaken, clientAcked}
 use Rattle.model.specs.Server.{Line, Server, noLine, lineOf, soundServer, unackedOf, carried, lineTaken, lineKeeps, lineAcked, atPlace, serverTaken, serverAcked}
 use Rattle.model.specs.Edits.{edits}
 use Rattle.model.specs.Log.{letterMessage, letterBytes}
@@ -42,9 +42,16 @@ lineFrom v i = record { made = v .made; taken = v .taken; acked = v .acked; inse
 abbrev pub serverFrom : ℕ → ℕ → List ℕ → (ℕ → ends.End edits) → (ℕ → ℕ) → Server
 serverFrom n initial items vs is = record { n = n; initial = initial; items = items; lines = table (λ j. lineFrom (vs j) (is j)) 1 n }
 
+-- it goes on a line that there is, and an insert has a priority that question 4 lets through at the end it goes to
+abbrev pub Lined : ℕ → Letter edits → Type 0
+Lined n (up l m) = (1 ≤ l) × (l ≤ n) × (priority (eqb l) (m .edit) ≡ true)
+Lined n (down l m) = (1 ≤ l) × (l ≤ n) × (priority (other n l) (m .edit) ≡ true)
+Lined n (upAck l seen) = (1 ≤ l) × (l ≤ n)
+Lined n (downAck l seen) = (1 ≤ l) × (l ≤ n)
+
 -- a message that was written: it can be taken at any time, and its fields are in range
-abbrev pub LetterOk : List ℕ → Ends edits → History edits → Letter edits → Type 0
-LetterOk items E h x = Fine items E h x × (inRange (letterMessage x) ≡ true)
+abbrev pub LetterOk : ℕ → List ℕ → Ends edits → History edits → Letter edits → Type 0
+LetterOk n items E h x = Fine items E h x × (inRange (letterMessage x) ≡ true) × Lined n x
 
 abbrev pub OfLines : ℕ → Made edits → Type 0
 OfLines n e = (1 ≤ e .name .line) × (e .name .line ≤ n)
@@ -61,9 +68,10 @@ pub record Sim (n : ℕ) (items : List ℕ) (s : State ours) : Type 0 where
   pub client-sound : (l : ℕ) → 1 ≤ l → l ≤ n → soundClient (clientFrom n l (E .clients l) (E .docs l) (ci l)) ≡ true
   pub server-shown : s .recorded .shown 0 ≡ E .doc
   pub client-shown : (l : ℕ) → 1 ≤ l → l ≤ n → s .recorded .shown l ≡ E .docs l
-  pub heard : (l : ℕ) → s .recorded .heard l ≡ E .lines l .acked
+  pub server-heard : (l : ℕ) → s .recorded .heard 0 l ≡ E .lines l .acked
+  pub client-heard : (l : ℕ) → 1 ≤ l → s .recorded .heard l l ≡ E .clients l .acked
   pub messages : s .messages ≡ map letterBytes (s .recorded .letters)
-  pub letters : All (LetterOk items E (s .recorded .history)) (s .recorded .letters)
+  pub letters : All (LetterOk n items E (s .recorded .history)) (s .recorded .letters)
   pub passed : s .passed ≡ s .recorded .passed
   pub taken : (l : ℕ) → length (others l (s .recorded .history .applied l)) ≡ E .clients l .taken
   pub served-lines : All (OfLines n) (s .recorded .history .served)

@@ -5,7 +5,9 @@ pub mod Client
 pub mod Server
 pub mod Edits
 pub mod Sheet
+pub mod SheetOf
 pub mod Log
+pub mod Numbers
 pub mod Run
 pub mod Claim
 pub mod Ours

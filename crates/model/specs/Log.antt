@@ -36,14 +36,14 @@ pub record Log : Type 0 where
   pub history : History edits
   -- the list of each end: the initial list with each edit applied in its form at what the end had applied (0: the server's)
   pub shown : ℕ → List ℕ
-  -- the last seen that the server took on each line, 0 before any
-  pub heard : ℕ → ℕ
+  -- the last seen that end a took on line l, 0 before any
+  pub heard : ℕ → ℕ → ℕ
   -- the messages written, and the count of pending edits passed that each editing and taking owes
   pub letters : List (Letter edits)
   pub passed : List ℕ
 
 abbrev pub noLog : List ℕ → Log
-noLog initial = record { history = noHistory; shown = λ a. initial; heard = λ l. 0; letters = []; passed = [] }
+noLog initial = record { history = noHistory; shown = λ a. initial; heard = λ a l. 0; letters = []; passed = [] }
 
 -- the edits that end a has applied, in the order of the definition
 unfoldable pub setOf : History edits → ℕ → List (Made edits)
@@ -81,8 +81,12 @@ abbrev pub writes : Log → Letter edits → Log
 writes w m =
     record { history = w .history; shown = w .shown; heard = w .heard; letters = w .letters ++ (m ∷ []); passed = w .passed }
 
+-- end a took a message with this seen on line l
+abbrev pub hearing : Log → ℕ → ℕ → ℕ → ℕ → ℕ → ℕ
+hearing w a l seen = at a (at l seen (w .heard a)) (w .heard)
+
 -- an editing or taking that changes nothing, or only what was heard
-abbrev pub hears : Log → (ℕ → ℕ) → Log
+abbrev pub hears : Log → (ℕ → ℕ → ℕ) → Log
 hears w heard =
     record { history = w .history; shown = w .shown; heard = heard; letters = w .letters; passed = w .passed ++ (0 ∷ []) }
 
@@ -106,7 +110,7 @@ tookUp w l seen =
     record {
       history = afterUp l (w .history);
       shown = shows w 0 (first (w .history .untaken l));
-      heard = at l seen (w .heard);
+      heard = hearing w 0 l seen;
       letters = w .letters;
       passed = w .passed ++ ((madeAt (w .history) 0 l - seen) ∷ []);
     }
@@ -116,7 +120,7 @@ tookDown w l seen =
     record {
       history = afterDown l (w .history);
       shown = shows w l (first (missing (w .history) l));
-      heard = w .heard;
+      heard = hearing w l l seen;
       letters = w .letters;
       passed = w .passed ++ ((madeAt (w .history) l l - seen) ∷ []);
     }
@@ -127,8 +131,8 @@ unfoldable pub took : Log → ℕ → Option (Letter edits) → Log
 took w a none = hears w (w .heard)
 took w a (some (up l m)) = cond (eqb a 0) (tookUp w l (m .seen)) (hears w (w .heard))
 took w a (some (down l m)) = cond (eqb a l) (tookDown w l (m .seen)) (hears w (w .heard))
-took w a (some (upAck l seen)) = cond (eqb a 0) (hears w (at l seen (w .heard))) (hears w (w .heard))
-took w a (some (downAck l seen)) = hears w (w .heard)
+took w a (some (upAck l seen)) = cond (eqb a 0) (hears w (hearing w 0 l seen)) (hears w (w .heard))
+took w a (some (downAck l seen)) = cond (eqb a l) (hears w (hearing w l l seen)) (hears w (w .heard))
 
 -- a call that was not refused
 unfoldable pub logged : Log → Call → Log
