@@ -50,7 +50,7 @@ use Rattle.model.proofs.Small.{Small, all-get}
 use Rattle.model.proofs.Outcome as outcomes
 use Rattle.model.proofs.Outcome.{Outcome, outcome, Posted, posted}
 use Rattle.model.proofs.Ranges.{fits-range, placed-get, priority-get, up-range, down-range, up-ack-range, down-ack-range}
-use Rattle.model.proofs.Sim.{clientFrom, serverFrom, lineFrom, line-from, LetterOk, Sim}
+use Rattle.model.proofs.Sim.{clientFrom, serverFrom, lineFrom, line-from, LetterOk, Moment, Sim}
 use Rattle.model.proofs.Follow.{refused, edits-on, takes-down, takes-up, acks-down, acks-up, writes-on}
 
 -- the log of a refused call, and of one that was not
@@ -101,7 +101,7 @@ server-ack-letter : (h : History edits) (line t : ℕ) → length (mine line (h 
 unfolding ackLetter takenAt
 server-ack-letter h line t e = ap (downAck line) e
 
-module _ (n : ℕ) (items : List ℕ) (s : State ours) (sim : Sim n items s) where
+module _ (n : ℕ) (items : List ℕ) {from : Moment} (s : State ours) (sim : Sim n items from s) where
   abbrev w : Log
   w = s .recorded
 
@@ -113,12 +113,12 @@ module _ (n : ℕ) (items : List ℕ) (s : State ours) (sim : Sim n items s) whe
 
   -- the end comes back as it was handed in
   turned-down : (a : ℕ) (c : Call) (r : ℕ) (e : End) → (r ≡ 0 → ⊥) → s .ends a ≡ e → refusedLog w c ≡ hears w (w .heard)
-      → Sim n items (answered ours s a c (record { refusal = r; end = e; passed = 0 }))
+      → Sim n items from (answered ours s a c (record { refusal = r; end = e; passed = 0 }))
   turned-down a c r e d same quiet =
       subst
-      (λ (z : Log). Sim n items (record { ends = at a e (s .ends); messages = s .messages; passed = s .passed ++ (0 ∷ []); recorded = z }))
+      (λ (z : Log). Sim n items from (record { ends = at a e (s .ends); messages = s .messages; passed = s .passed ++ (0 ∷ []); recorded = z }))
       (sym (log-no w c r d ∙ quiet))
-      (subst (λ (y : End). Sim n items (record { ends = at a y (s .ends); messages = s .messages; passed = s .passed ++ (0 ∷ []); recorded = hears w (w .heard) })) same
+      (subst (λ (y : End). Sim n items from (record { ends = at a y (s .ends); messages = s .messages; passed = s .passed ++ (0 ∷ []); recorded = hears w (w .heard) })) same
       (refused n items s sim a))
 
   -- ---- at client l
@@ -131,13 +131,13 @@ module _ (n : ℕ) (items : List ℕ) (s : State ours) (sim : Sim n items s) whe
 
     edit-call : (c : Call) (e : Edit) → priority (eqb l) e ≡ true → Small e → logged w c ≡ logs.edited w l e → refusedLog w c ≡ hears w (w .heard)
         → (a : Answer Client) → Outcome (asks (editQuestions C e)) C (edited C e) 0 a → soundClient (a .end) ≡ true
-        → Sim n items (answered ours s l c (answerAs client a))
+        → Sim n items from (answered ours s l c (answerAs client a))
     unfolding log
     edit-call c e pr sm made quiet a (outcomes.Outcome.no r) ok = turned-down l c (asks (editQuestions C e)) (client C) r (sim .client-is l lo hi) quiet
     edit-call c e pr sm made quiet a (outcomes.Outcome.yes r) ok =
         let y = yes-all (editQuestions C e) (omega arith) r in
         let q9 = and-left (fits e (length (E .docs l))) (leb (length (applied e (E .docs l))) maxItems) (y .1 .0) in
-        subst (λ (z : Log). Sim n items (record { ends = at l (client (edited C e)) (s .ends); messages = s .messages; passed = s .passed ++ (0 ∷ []); recorded = z })) (sym made)
+        subst (λ (z : Log). Sim n items from (record { ends = at l (client (edited C e)) (s .ends); messages = s .messages; passed = s .passed ++ (0 ∷ []); recorded = z })) (sym made)
         (edits-on n items s sim l lo hi e pr sm q9 ok)
 
     -- an edit message
@@ -146,7 +146,7 @@ module _ (n : ℕ) (items : List ℕ) (s : State ours) (sim : Sim n items s) whe
         → refusedLog w c ≡ hears w (w .heard)
         → (a : Answer Client)
         → Outcome (asks (clientEditQuestions C (record { line = k; direction = direction; number = m .number; seen = m .seen }) (m .edit))) C (clientTaken C (m .seen) (m .edit)) (E .clients l .made - m .seen) a
-        → soundClient (a .end) ≡ true → Sim n items (answered ours s l c (answerAs client a))
+        → soundClient (a .end) ≡ true → Sim n items from (answered ours s l c (answerAs client a))
     unfolding log
     take-edit c m k direction range fine made quiet a (outcomes.Outcome.no r) ok =
         turned-down l c (asks (clientEditQuestions C (record { line = k; direction = direction; number = m .number; seen = m .seen }) (m .edit))) (client C) r (sim .client-is l lo hi) quiet
@@ -157,7 +157,7 @@ module _ (n : ℕ) (items : List ℕ) (s : State ours) (sim : Sim n items s) whe
         let down-way : direction ≡ 1 = eqb-true direction 1 (q4 .0) in
         let mine-way : k ≡ l = eqb-true k l (q4 .1) in
         let number : m .number ≡ suc (E .clients l .taken) = eqb-true (m .number) (E .clients l .taken + 1) (y .1 .1 .1 .0) ∙ add-one (E .clients l .taken) in
-        subst (λ (z : Log). Sim n items (record { ends = at l (client (clientTaken C (m .seen) (m .edit))) (s .ends); messages = s .messages; passed = s .passed ++ ((E .clients l .made - m .seen) ∷ []); recorded = z }))
+        subst (λ (z : Log). Sim n items from (record { ends = at l (client (clientTaken C (m .seen) (m .edit))) (s .ends); messages = s .messages; passed = s .passed ++ ((E .clients l .made - m .seen) ∷ []); recorded = z }))
         (sym (made down-way ∙ ap (λ (i : ℕ). cond (eqb l i) (tookDown w i (m .seen)) (hears w (w .heard))) mine-way ∙ rw (eq-eqb l l refl)))
         (takes-down n items s sim l lo hi m (subst (λ (i : ℕ). DownMessage items E h i m) mine-way (fine down-way)) number (leb-true (E .clients l .acked) (m .seen) (y .1 .1 .1 .1 .0))
         (small-range hd (m .edit) range) ok)
@@ -165,30 +165,30 @@ module _ (n : ℕ) (items : List ℕ) (s : State ours) (sim : Sim n items s) whe
     -- an acknowledgement
     take-ack : (c : Call) (k direction seen : ℕ) → (direction ≡ 1 → seen ≤ E .lines k .taken) → (direction ≡ 1 → logged w c ≡ cond (eqb l k) (hears w (logs.hearing w k k seen)) (hears w (w .heard))) → refusedLog w c ≡ hears w (w .heard)
         → (a : Answer Client) → Outcome (asks (clientAckQuestions C k direction seen)) C (clientAcked C seen) 0 a → soundClient (a .end) ≡ true
-        → Sim n items (answered ours s l c (answerAs client a))
+        → Sim n items from (answered ours s l c (answerAs client a))
     unfolding log
     take-ack c k direction seen fine made quiet a (outcomes.Outcome.no r) ok = turned-down l c (asks (clientAckQuestions C k direction seen)) (client C) r (sim .client-is l lo hi) quiet
     take-ack c k direction seen fine made quiet a (outcomes.Outcome.yes r) ok =
         let y = yes-all (clientAckQuestions C k direction seen) (omega arith) r in
         let down-way : direction ≡ 1 = eqb-true direction 1 (and-left (eqb direction 1) (eqb k l) (y .1 .0)) in
         let mine-way : k ≡ l = eqb-true k l (and-right (eqb direction 1) (eqb k l) (y .1 .0)) in
-        subst (λ (z : Log). Sim n items (record { ends = at l (client (clientAcked C seen)) (s .ends); messages = s .messages; passed = s .passed ++ (0 ∷ []); recorded = z }))
+        subst (λ (z : Log). Sim n items from (record { ends = at l (client (clientAcked C seen)) (s .ends); messages = s .messages; passed = s .passed ++ (0 ∷ []); recorded = z }))
         (sym (made down-way ∙ ap (λ (i : ℕ). cond (eqb l i) (hears w (logs.hearing w i i seen)) (hears w (w .heard))) mine-way ∙ rw (eq-eqb l l refl)))
         (acks-down n items s sim l lo hi seen (leb-true (E .clients l .acked) seen (y .1 .1 .0)) (subst (λ (i : ℕ). seen ≤ E .lines i .taken) mine-way (fine down-way)) ok)
 
     -- a message that some sending wrote
     take-letter : (c : Call) (x : Letter edits) → LetterOk n items E h x → logged w c ≡ took w l (some x) → refusedLog w c ≡ hears w (w .heard)
-        → Sim n items (answered ours s l c (answerAs client (clientTakes C (letterMessage x))))
+        → Sim n items from (answered ours s l c (answerAs client (clientTakes C (letterMessage x))))
     unfolding took clientTakesEdit clientTakesAck
     take-letter c (up k m) ok made quiet =
         let hd : Header = record { line = k; direction = 0; number = m .number; seen = m .seen } in
-        subst (λ (a : Answer Client). Sim n items (answered ours s l c (answerAs client a))) (sym (client-message C hd (m .edit)))
+        subst (λ (a : Answer Client). Sim n items from (answered ours s l c (answerAs client a))) (sym (client-message C hd (m .edit)))
         (take-edit c m k 0 (ok .1) (λ e. absurd (omega arith)) (λ e. absurd (omega arith)) quiet (clientTakesEdit C hd (m .edit))
         (outcome (asks (clientEditQuestions C hd (m .edit))) C (clientTaken C (m .seen) (m .edit)) (E .clients l .made - m .seen))
         (client-takes-edit C hd (m .edit) (header-range hd (m .edit) (ok .1)) sound))
     take-letter c (down k m) ok made quiet =
         let hd : Header = record { line = k; direction = 1; number = m .number; seen = m .seen } in
-        subst (λ (a : Answer Client). Sim n items (answered ours s l c (answerAs client a))) (sym (client-message C hd (m .edit)))
+        subst (λ (a : Answer Client). Sim n items from (answered ours s l c (answerAs client a))) (sym (client-message C hd (m .edit)))
         (take-edit c m k 1 (ok .1) (λ e. ok .0) (λ e. made) quiet (clientTakesEdit C hd (m .edit))
         (outcome (asks (clientEditQuestions C hd (m .edit))) C (clientTaken C (m .seen) (m .edit)) (E .clients l .made - m .seen))
         (client-takes-edit C hd (m .edit) (header-range hd (m .edit) (ok .1)) sound))
@@ -199,7 +199,7 @@ module _ (n : ℕ) (items : List ℕ) (s : State ours) (sim : Sim n items s) whe
 
     -- bytes that no message has
     take-junk : (c : Call) (a : Answer Client) → Outcome (asks (ask 2 (soundClient C) ∷ ask 3 false ∷ [])) C C 0 a → refusedLog w c ≡ hears w (w .heard)
-        → Sim n items (answered ours s l c (answerAs client a))
+        → Sim n items from (answered ours s l c (answerAs client a))
     take-junk c a (outcomes.Outcome.no r) quiet = turned-down l c (asks (ask 2 (soundClient C) ∷ ask 3 false ∷ [])) (client C) r (sim .client-is l lo hi) quiet
     take-junk c a (outcomes.Outcome.yes r) quiet = never (yes-all (ask 2 (soundClient C) ∷ ask 3 false ∷ []) (omega arith) r .1 .0)
 
@@ -216,7 +216,7 @@ module _ (n : ℕ) (items : List ℕ) (s : State ours) (sim : Sim n items s) whe
       → refusedLog w c ≡ hears w (w .heard)
       → (a : Answer Server)
       → Outcome (asks (serverEditQuestions S (record { line = k; direction = direction; number = m .number; seen = m .seen }) (m .edit))) S (serverTaken S k (m .seen) (m .edit)) (lineOf S k .made - m .seen) a
-      → soundServer (a .end) ≡ true → Sim n items (answered ours s 0 c (answerAs server a))
+      → soundServer (a .end) ≡ true → Sim n items from (answered ours s 0 c (answerAs server a))
   unfolding log
   serve-edit c m k direction range fine made quiet a (outcomes.Outcome.no r) ok =
       turned-down 0 c (asks (serverEditQuestions S (record { line = k; direction = direction; number = m .number; seen = m .seen }) (m .edit))) (server S) r (sim .server-is) quiet
@@ -230,15 +230,15 @@ module _ (n : ℕ) (items : List ℕ) (s : State ours) (sim : Sim n items s) whe
       let number : m .number ≡ suc (E .lines k .taken) =
       eqb-true (m .number) (lineOf S k .taken + 1) (y .1 .1 .1 .0) ∙ add-one (lineOf S k .taken) ∙ ap (λ (v : Line). suc (v .taken)) same in
       let low : E .lines k .acked ≤ m .seen = subst (λ (v : Line). v .acked ≤ m .seen) same (leb-true (lineOf S k .acked) (m .seen) (y .1 .1 .1 .1 .0)) in
-      subst (λ (v : Line). Sim n items (record { ends = at 0 (server (serverTaken S k (m .seen) (m .edit))) (s .ends); messages = s .messages; passed = s .passed ++ ((v .made - m .seen) ∷ []); recorded = logged w c }))
+      subst (λ (v : Line). Sim n items from (record { ends = at 0 (server (serverTaken S k (m .seen) (m .edit))) (s .ends); messages = s .messages; passed = s .passed ++ ((v .made - m .seen) ∷ []); recorded = logged w c }))
       (sym same)
-      (subst (λ (z : Log). Sim n items (record { ends = at 0 (server (serverTaken S k (m .seen) (m .edit))) (s .ends); messages = s .messages; passed = s .passed ++ ((E .lines k .made - m .seen) ∷ []); recorded = z }))
+      (subst (λ (z : Log). Sim n items from (record { ends = at 0 (server (serverTaken S k (m .seen) (m .edit))) (s .ends); messages = s .messages; passed = s .passed ++ ((E .lines k .made - m .seen) ∷ []); recorded = z }))
       (sym (made up-way))
       (takes-up n items s sim k (there .0) (there .1) m (fine up-way) number low (small-range hd (m .edit) range) ok))
 
   serve-ack : (c : Call) (k direction seen : ℕ) → (direction ≡ 0 → seen ≤ E .clients k .taken) → (direction ≡ 0 → logged w c ≡ hears w (logs.hearing w 0 k seen)) → refusedLog w c ≡ hears w (w .heard)
       → (a : Answer Server) → Outcome (asks (serverAckQuestions S k direction seen)) S (serverAcked S k seen) 0 a → soundServer (a .end) ≡ true
-      → Sim n items (answered ours s 0 c (answerAs server a))
+      → Sim n items from (answered ours s 0 c (answerAs server a))
   unfolding log
   serve-ack c k direction seen fine made quiet a (outcomes.Outcome.no r) ok = turned-down 0 c (asks (serverAckQuestions S k direction seen)) (server S) r (sim .server-is) quiet
   serve-ack c k direction seen fine made quiet a (outcomes.Outcome.yes r) ok =
@@ -246,21 +246,21 @@ module _ (n : ℕ) (items : List ℕ) (s : State ours) (sim : Sim n items s) whe
       let up-way : direction ≡ 0 = eqb-true direction 0 (and-left (eqb direction 0) (between 1 n k) (y .1 .0)) in
       let there = between-true 1 n k (and-right (eqb direction 0) (between 1 n k) (y .1 .0)) in
       let low : E .lines k .acked ≤ seen = subst (λ (v : Line). v .acked ≤ seen) (line-of k (there .0) (there .1)) (leb-true (lineOf S k .acked) seen (y .1 .1 .0)) in
-      subst (λ (z : Log). Sim n items (record { ends = at 0 (server (serverAcked S k seen)) (s .ends); messages = s .messages; passed = s .passed ++ (0 ∷ []); recorded = z })) (sym (made up-way))
+      subst (λ (z : Log). Sim n items from (record { ends = at 0 (server (serverAcked S k seen)) (s .ends); messages = s .messages; passed = s .passed ++ (0 ∷ []); recorded = z })) (sym (made up-way))
       (acks-up n items s sim k (there .0) (there .1) seen low (fine up-way) ok)
 
   serve-letter : (c : Call) (x : Letter edits) → LetterOk n items E h x → logged w c ≡ took w 0 (some x) → refusedLog w c ≡ hears w (w .heard)
-      → Sim n items (answered ours s 0 c (answerAs server (serverTakes S (letterMessage x))))
+      → Sim n items from (answered ours s 0 c (answerAs server (serverTakes S (letterMessage x))))
   unfolding took serverTakesEdit serverTakesAck
   serve-letter c (up k m) ok made quiet =
       let hd : Header = record { line = k; direction = 0; number = m .number; seen = m .seen } in
-      subst (λ (a : Answer Server). Sim n items (answered ours s 0 c (answerAs server a))) (sym (server-message S hd (m .edit)))
+      subst (λ (a : Answer Server). Sim n items from (answered ours s 0 c (answerAs server a))) (sym (server-message S hd (m .edit)))
       (serve-edit c m k 0 (ok .1) (λ e. ok .0) (λ e. made) quiet (serverTakesEdit S hd (m .edit))
       (outcome (asks (serverEditQuestions S hd (m .edit))) S (serverTaken S k (m .seen) (m .edit)) (lineOf S k .made - m .seen))
       (server-takes-edit S hd (m .edit) (header-range hd (m .edit) (ok .1)) (sim .server-sound)))
   serve-letter c (down k m) ok made quiet =
       let hd : Header = record { line = k; direction = 1; number = m .number; seen = m .seen } in
-      subst (λ (a : Answer Server). Sim n items (answered ours s 0 c (answerAs server a))) (sym (server-message S hd (m .edit)))
+      subst (λ (a : Answer Server). Sim n items from (answered ours s 0 c (answerAs server a))) (sym (server-message S hd (m .edit)))
       (serve-edit c m k 1 (ok .1) (λ e. absurd (omega arith)) (λ e. absurd (omega arith)) quiet (serverTakesEdit S hd (m .edit))
       (outcome (asks (serverEditQuestions S hd (m .edit))) S (serverTaken S k (m .seen) (m .edit)) (lineOf S k .made - m .seen))
       (server-takes-edit S hd (m .edit) (header-range hd (m .edit) (ok .1)) (sim .server-sound)))
@@ -270,7 +270,7 @@ module _ (n : ℕ) (items : List ℕ) (s : State ours) (sim : Sim n items s) whe
       serve-ack c k 1 seen (λ e. absurd (omega arith)) (λ e. absurd (omega arith)) quiet (serverTakesAck S k 1 seen) (outcome (asks (serverAckQuestions S k 1 seen)) S (serverAcked S k seen) 0) (server-takes-ack S k 1 seen (sim .server-sound))
 
   serve-junk : (c : Call) (a : Answer Server) → Outcome (asks (ask 2 (soundServer S) ∷ ask 3 false ∷ [])) S S 0 a → refusedLog w c ≡ hears w (w .heard)
-      → Sim n items (answered ours s 0 c (answerAs server a))
+      → Sim n items from (answered ours s 0 c (answerAs server a))
   serve-junk c a (outcomes.Outcome.no r) quiet = turned-down 0 c (asks (ask 2 (soundServer S) ∷ ask 3 false ∷ [])) (server S) r (sim .server-is) quiet
   serve-junk c a (outcomes.Outcome.yes r) quiet = never (yes-all (ask 2 (soundServer S) ∷ ask 3 false ∷ []) (omega arith) r .1 .0)
 
@@ -278,17 +278,17 @@ module _ (n : ℕ) (items : List ℕ) (s : State ours) (sim : Sim n items s) whe
 
   -- a sending writes the letter of the definitions, or nothing
   post : (c : Call) (r : ℕ) (bytes lent : List ℕ) (x : Letter edits) → logged w c ≡ writes w x → refusedLog w c ≡ w → (r ≡ 0 → LetterOk n items E h x × (bytes ≡ letterBytes x))
-      → (a : Sent) → Posted r bytes lent a → Sim n items (written ours s c a)
+      → (a : Sent) → Posted r bytes lent a → Sim n items from (written ours s c a)
   unfolding log
   post c r bytes lent x made quiet ok a (outcomes.Posted.no d) =
-      subst (λ (z : Log). Sim n items (record { ends = s .ends; messages = cond (eqb r 0) (s .messages ++ (take 0 lent ∷ [])) (s .messages); passed = s .passed; recorded = z }))
+      subst (λ (z : Log). Sim n items from (record { ends = s .ends; messages = cond (eqb r 0) (s .messages ++ (take 0 lent ∷ [])) (s .messages); passed = s .passed; recorded = z }))
       (sym (log-no w c r d ∙ quiet))
-      (subst (λ (b : Bool). Sim n items (record { ends = s .ends; messages = cond b (s .messages ++ (take 0 lent ∷ [])) (s .messages); passed = s .passed; recorded = w }))
+      (subst (λ (b : Bool). Sim n items from (record { ends = s .ends; messages = cond b (s .messages ++ (take 0 lent ∷ [])) (s .messages); passed = s .passed; recorded = w }))
       (sym (ne-eqb r 0 d)) sim)
   post c r bytes lent x made quiet ok a (outcomes.Posted.yes z) =
-      subst (λ (y : Log). Sim n items (record { ends = s .ends; messages = s .messages ++ (take (length bytes) (bytes ++ drop (length bytes) lent) ∷ []); passed = s .passed; recorded = y }))
+      subst (λ (y : Log). Sim n items from (record { ends = s .ends; messages = s .messages ++ (take (length bytes) (bytes ++ drop (length bytes) lent) ∷ []); passed = s .passed; recorded = y }))
       (sym made)
-      (subst (λ (b : List ℕ). Sim n items (record { ends = s .ends; messages = s .messages ++ (b ∷ []); passed = s .passed; recorded = writes w x }))
+      (subst (λ (b : List ℕ). Sim n items from (record { ends = s .ends; messages = s .messages ++ (b ∷ []); passed = s .passed; recorded = writes w x }))
       (sym (take-append-seam bytes (drop (length bytes) lent) ∙ ok z .1)) (writes-on n items s sim x (ok z .0)))
 
   -- client l sends edit number k
@@ -321,7 +321,7 @@ module _ (n : ℕ) (items : List ℕ) (s : State ours) (sim : Sim n items s) whe
             (lo, hi, priority-get (eqb l) (E .clients l .pending) (k - suc (E .clients l .acked)) place (F .priorities)),
           )
 
-    client-sends : (line k : ℕ) (lent : List ℕ) → Sim n items (written ours s (send l line k lent) (sendClient (clientFrom n l (E .clients l) (E .docs l) (sim .ci l)) line k lent))
+    client-sends : (line k : ℕ) (lent : List ℕ) → Sim n items from (written ours s (send l line k lent) (sendClient (clientFrom n l (E .clients l) (E .docs l) (sim .ci l)) line k lent))
     unfolding sendClient logged refusedLog
     client-sends line k lent =
         let C = clientFrom n l (E .clients l) (E .docs l) (sim .ci l) in
@@ -333,7 +333,7 @@ module _ (n : ℕ) (items : List ℕ) (s : State ours) (sim : Sim n items s) whe
         (subst (LetterOk n items E h) (sym (up-is k low (q13 .1) line)) (up-ok k low (q13 .1)), up-bytes k low (q13 .1) ∙ ap letterBytes (sym (up-is k low (q13 .1) line))))
         (sendClient C line k lent) (posted (asks (sendClientQuestions C line k lent)) (bytesOf (clientMessage C k)) lent)
 
-    client-tells : (line : ℕ) (lent : List ℕ) → Sim n items (written ours s (tell l line lent) (tellClient (clientFrom n l (E .clients l) (E .docs l) (sim .ci l)) line lent))
+    client-tells : (line : ℕ) (lent : List ℕ) → Sim n items from (written ours s (tell l line lent) (tellClient (clientFrom n l (E .clients l) (E .docs l) (sim .ci l)) line lent))
     unfolding tellClient logged refusedLog
     client-tells line lent =
         let C = clientFrom n l (E .clients l) (E .docs l) (sim .ci l) in
@@ -394,7 +394,7 @@ module _ (n : ℕ) (items : List ℕ) (s : State ours) (sim : Sim n items s) whe
           ap (λ (v : Line). bytesOf (message.Ack l 1 (v .taken))) (line-of l lo hi) ∙ ap letterBytes (sym is),
         )
 
-  server-posts : (line k : ℕ) (lent : List ℕ) → Sim n items (written ours s (send 0 line k lent) (sendServer S line k lent))
+  server-posts : (line k : ℕ) (lent : List ℕ) → Sim n items from (written ours s (send 0 line k lent) (sendServer S line k lent))
   unfolding sendServer logged refusedLog
   server-posts line k lent =
       post (send 0 line k lent) (asks (sendServerQuestions S line k lent)) (bytesOf (serverMessage S line k)) lent (editLetter h 0 line k) refl refl
@@ -403,7 +403,7 @@ module _ (n : ℕ) (items : List ℕ) (s : State ours) (sim : Sim n items s) whe
       server-sends line (there .0) (there .1) k lent z)
       (sendServer S line k lent) (posted (asks (sendServerQuestions S line k lent)) (bytesOf (serverMessage S line k)) lent)
 
-  server-acks : (line : ℕ) (lent : List ℕ) → Sim n items (written ours s (tell 0 line lent) (tellServer S line lent))
+  server-acks : (line : ℕ) (lent : List ℕ) → Sim n items from (written ours s (tell 0 line lent) (tellServer S line lent))
   unfolding tellServer logged refusedLog
   server-acks line lent =
       post (tell 0 line lent) (asks (tellServerQuestions S line lent)) (bytesOf (message.Ack line 1 (lineOf S line .taken))) lent (ackLetter h 0 line) refl refl
@@ -428,78 +428,78 @@ pub unread : (r : Read) → unreadable r ≡ true → r ≡ read.Refused
 unread read.Refused e = refl
 unread (read.Message m) e = never e
 
-module _ (n : ℕ) (items : List ℕ) (s : State ours) (sim : Sim n items s) where
+module _ (n : ℕ) (items : List ℕ) {from : Moment} (s : State ours) (sim : Sim n items from s) where
   -- a message taken at end a
-  takes-at : (a i : ℕ) → a ≤ n → (b : List ℕ) → getElem? (s .messages) i ≡ some b → Sim n items (answered ours s a (receive a i) (ours .take (s .ends a) b))
+  takes-at : (a i : ℕ) → a ≤ n → (b : List ℕ) → getElem? (s .messages) i ≡ some b → Sim n items from (answered ours s a (receive a i) (ours .take (s .ends a) b))
   unfolding takeClient takeServer logged refusedLog
   takes-at a i hi b e =
       let m = lettered (s .recorded .letters) i b (ap (λ (ms : List (List ℕ)). getElem? ms i) (sym (sim .messages)) ∙ e) (LetterOk n items (sim .E) (s .recorded .history)) (sim .letters) in
       go a hi (m .0) (m .1) (m .2) (m .3)
     where
       go : (a : ℕ) → a ≤ n → (x : Letter edits) → getElem? (s .recorded .letters) i ≡ some x → b ≡ letterBytes x → LetterOk n items (sim .E) (s .recorded .history) x
-          → Sim n items (answered ours s a (receive a i) (ours .take (s .ends a) b))
+          → Sim n items from (answered ours s a (receive a i) (ours .take (s .ends a) b))
       go zero hi x is same ok =
           let S = serverFrom n (length items) (sim .E .doc) (sim .E .lines) (sim .si) in
-          subst (λ (e : End). Sim n items (answered ours s 0 (receive 0 i) (ours .take e b))) (sym (sim .server-is))
-          (subst (λ (r : Read). Sim n items (answered ours s 0 (receive 0 i) (answerAs server (serverReads S r)))) (sym (ap parsed same ∙ codec .written-read (letterMessage x) (ok .1)))
+          subst (λ (e : End). Sim n items from (answered ours s 0 (receive 0 i) (ours .take e b))) (sym (sim .server-is))
+          (subst (λ (r : Read). Sim n items from (answered ours s 0 (receive 0 i) (answerAs server (serverReads S r)))) (sym (ap parsed same ∙ codec .written-read (letterMessage x) (ok .1)))
           (serve-letter n items s sim (receive 0 i) x ok (ap (took (s .recorded) 0) is) refl))
       go (suc a) hi x is same ok =
           let C = clientFrom n (suc a) (sim .E .clients (suc a)) (sim .E .docs (suc a)) (sim .ci (suc a)) in
-          subst (λ (e : End). Sim n items (answered ours s (suc a) (receive (suc a) i) (ours .take e b))) (sym (sim .client-is (suc a) (omega arith) hi))
-          (subst (λ (r : Read). Sim n items (answered ours s (suc a) (receive (suc a) i) (answerAs client (clientReads C r)))) (sym (ap parsed same ∙ codec .written-read (letterMessage x) (ok .1)))
+          subst (λ (e : End). Sim n items from (answered ours s (suc a) (receive (suc a) i) (ours .take e b))) (sym (sim .client-is (suc a) (omega arith) hi))
+          (subst (λ (r : Read). Sim n items from (answered ours s (suc a) (receive (suc a) i) (answerAs client (clientReads C r)))) (sym (ap parsed same ∙ codec .written-read (letterMessage x) (ok .1)))
           (take-letter n items s sim (suc a) (omega arith) hi (receive (suc a) i) x ok (ap (took (s .recorded) (suc a)) is) refl))
 
-  junks-at : (a : ℕ) (bytes : List ℕ) → a ≤ n → parsed bytes ≡ read.Refused → Sim n items (answered ours s a (junk a bytes) (ours .take (s .ends a) bytes))
+  junks-at : (a : ℕ) (bytes : List ℕ) → a ≤ n → parsed bytes ≡ read.Refused → Sim n items from (answered ours s a (junk a bytes) (ours .take (s .ends a) bytes))
   unfolding takeClient takeServer refusedLog
   junks-at zero bytes hi e =
       let S = serverFrom n (length items) (sim .E .doc) (sim .E .lines) (sim .si) in
-      subst (λ (d : End). Sim n items (answered ours s 0 (junk 0 bytes) (ours .take d bytes))) (sym (sim .server-is))
-      (subst (λ (r : Read). Sim n items (answered ours s 0 (junk 0 bytes) (answerAs server (serverReads S r)))) (sym e)
+      subst (λ (d : End). Sim n items from (answered ours s 0 (junk 0 bytes) (ours .take d bytes))) (sym (sim .server-is))
+      (subst (λ (r : Read). Sim n items from (answered ours s 0 (junk 0 bytes) (answerAs server (serverReads S r)))) (sym e)
       (serve-junk n items s sim (junk 0 bytes) (answer (asks (ask 2 (soundServer S) ∷ ask 3 false ∷ [])) S S 0) (outcome (asks (ask 2 (soundServer S) ∷ ask 3 false ∷ [])) S S 0) refl))
   junks-at (suc a) bytes hi e =
       let C = clientFrom n (suc a) (sim .E .clients (suc a)) (sim .E .docs (suc a)) (sim .ci (suc a)) in
-      subst (λ (d : End). Sim n items (answered ours s (suc a) (junk (suc a) bytes) (ours .take d bytes))) (sym (sim .client-is (suc a) (omega arith) hi))
-      (subst (λ (r : Read). Sim n items (answered ours s (suc a) (junk (suc a) bytes) (answerAs client (clientReads C r)))) (sym e)
+      subst (λ (d : End). Sim n items from (answered ours s (suc a) (junk (suc a) bytes) (ours .take d bytes))) (sym (sim .client-is (suc a) (omega arith) hi))
+      (subst (λ (r : Read). Sim n items from (answered ours s (suc a) (junk (suc a) bytes) (answerAs client (clientReads C r)))) (sym e)
       (take-junk n items s sim (suc a) (omega arith) hi (junk (suc a) bytes) (answer (asks (ask 2 (soundClient C) ∷ ask 3 false ∷ [])) C C 0)
       (outcome (asks (ask 2 (soundClient C) ∷ ask 3 false ∷ [])) C C 0) refl))
 
-  sends-at : (a l k : ℕ) (lent : List ℕ) → a ≤ n → Sim n items (written ours s (send a l k lent) (ours .send (s .ends a) l k lent))
-  sends-at zero l k lent hi = subst (λ (e : End). Sim n items (written ours s (send 0 l k lent) (ours .send e l k lent))) (sym (sim .server-is)) (server-posts n items s sim l k lent)
+  sends-at : (a l k : ℕ) (lent : List ℕ) → a ≤ n → Sim n items from (written ours s (send a l k lent) (ours .send (s .ends a) l k lent))
+  sends-at zero l k lent hi = subst (λ (e : End). Sim n items from (written ours s (send 0 l k lent) (ours .send e l k lent))) (sym (sim .server-is)) (server-posts n items s sim l k lent)
   sends-at (suc a) l k lent hi =
-      subst (λ (e : End). Sim n items (written ours s (send (suc a) l k lent) (ours .send e l k lent))) (sym (sim .client-is (suc a) (omega arith) hi))
+      subst (λ (e : End). Sim n items from (written ours s (send (suc a) l k lent) (ours .send e l k lent))) (sym (sim .client-is (suc a) (omega arith) hi))
       (client-sends n items s sim (suc a) (omega arith) hi l k lent)
 
-  tells-at : (a l : ℕ) (lent : List ℕ) → a ≤ n → Sim n items (written ours s (tell a l lent) (ours .tell (s .ends a) l lent))
-  tells-at zero l lent hi = subst (λ (e : End). Sim n items (written ours s (tell 0 l lent) (ours .tell e l lent))) (sym (sim .server-is)) (server-acks n items s sim l lent)
+  tells-at : (a l : ℕ) (lent : List ℕ) → a ≤ n → Sim n items from (written ours s (tell a l lent) (ours .tell (s .ends a) l lent))
+  tells-at zero l lent hi = subst (λ (e : End). Sim n items from (written ours s (tell 0 l lent) (ours .tell e l lent))) (sym (sim .server-is)) (server-acks n items s sim l lent)
   tells-at (suc a) l lent hi =
-      subst (λ (e : End). Sim n items (written ours s (tell (suc a) l lent) (ours .tell e l lent))) (sym (sim .client-is (suc a) (omega arith) hi))
+      subst (λ (e : End). Sim n items from (written ours s (tell (suc a) l lent) (ours .tell e l lent))) (sym (sim .client-is (suc a) (omega arith) hi))
       (client-tells n items s sim (suc a) (omega arith) hi l lent)
 
   edits-at : (c : Call) (l : ℕ) (e : Edit) → 1 ≤ l → l ≤ n → priority (eqb l) e ≡ true → Small e → logged (s .recorded) c ≡ logs.edited (s .recorded) l e
       → refusedLog (s .recorded) c ≡ hears (s .recorded) (s .recorded .heard)
-      → Sim n items (answered ours s l c (answerAs client (editClient (clientFrom n l (sim .E .clients l) (sim .E .docs l) (sim .ci l)) e)))
+      → Sim n items from (answered ours s l c (answerAs client (editClient (clientFrom n l (sim .E .clients l) (sim .E .docs l) (sim .ci l)) e)))
   unfolding editClient
   edits-at c l e lo hi pr sm made quiet =
       let C = clientFrom n l (sim .E .clients l) (sim .E .docs l) (sim .ci l) in
       edit-call n items s sim l lo hi c e pr sm made quiet (editClient C e) (outcome (asks (editQuestions C e)) C (edited C e) 0) (edits-sound C e pr (sim .client-sound l lo hi))
 
-  pub called : (c : Call) → callable n c ≡ true → Sim n items (call ours s c)
+  pub called : (c : Call) → callable n c ≡ true → Sim n items from (call ours s c)
   unfolding call callable handed logged refusedLog
   called (insert l p x) ok =
       let t = three (between 1 n l) (ltb p 65536) (ltb x 4294967296) ok in
       let at-l = between-true 1 n l (t .0) in
-      subst (λ (e : End). Sim n items (answered ours s l (insert l p x) (ours .insert e p x))) (sym (sim .client-is l (at-l .0) (at-l .1)))
+      subst (λ (e : End). Sim n items from (answered ours s l (insert l p x) (ours .insert e p x))) (sym (sim .client-is l (at-l .0) (at-l .1)))
       (edits-at (insert l p x) l (Insert p x l) (at-l .0) (at-l .1) (eq-eqb l l refl) (le-leb x 4294967295 (omega (arith, ltb-true x 4294967296 (t .2)))) refl refl)
   called (delete l p) ok =
       let at-l = between-true 1 n l (and-left (between 1 n l) (ltb p 65536) ok) in
-      subst (λ (e : End). Sim n items (answered ours s l (delete l p) (ours .delete e p))) (sym (sim .client-is l (at-l .0) (at-l .1)))
+      subst (λ (e : End). Sim n items from (answered ours s l (delete l p) (ours .delete e p))) (sym (sim .client-is l (at-l .0) (at-l .1)))
       (edits-at (delete l p) l (Delete p) (at-l .0) (at-l .1) refl refl refl refl)
   called (send a l k lent) ok =
       sends-at a l k lent (leb-true a n (three (leb a n) (ltb l 256) (ltb k 65536) (and-left (leb a n && ltb l 256 && ltb k 65536) (areBytes lent) ok) .0))
   called (tell a l lent) ok = tells-at a l lent (leb-true a n (three (leb a n) (ltb l 256) (areBytes lent) ok .0))
   called (receive a i) ok = go (getElem? (s .messages) i) refl
     where
-      go : (m : Option (List ℕ)) → getElem? (s .messages) i ≡ m → Sim n items (handed ours s a (receive a i) m)
+      go : (m : Option (List ℕ)) → getElem? (s .messages) i ≡ m → Sim n items from (handed ours s a (receive a i) m)
       go none e = sim
       go (some b) e = takes-at a i (leb-true a n ok) b e
   called (junk a bytes) ok =

@@ -9,11 +9,11 @@ use lib.ListN.{length}
 use borrow.Author.Tests.{leb-true}
 use Rattle.jupiter.specs.Made.{select, reject}
 use Rattle.jupiter.specs.Form.{replay}
-use Rattle.jupiter.specs.History.{History, order, missing}
+use Rattle.jupiter.specs.History.{History, noHistory, order, missing}
 use Rattle.jupiter.specs.Ends as ends
 use Rattle.jupiter.specs.Ends.{Ends}
 use Rattle.jupiter.specs.Claims.{inserts, LineClaim}
-use Rattle.jupiter.proofs.Step.{opens}
+use Rattle.jupiter.proofs.Step.{opens, later-refl}
 use Rattle.model.specs.Limits.{maxLines, maxPending, maxInitial}
 use Rattle.model.specs.Questions.{asks, between, Answer}
 use Rattle.model.specs.Client.{Client, noClient, openClientQuestions, openClient}
@@ -29,7 +29,7 @@ use Rattle.model.proofs.SoundServer.{server-facts, LineFacts, line-fact
 use Rattle.model.proofs.Sound.{accepted, opens-client, opens-server}
 use Rattle.model.proofs.Opens.{freshClient, freshServer, client-opens, server-opens}
 use Rattle.model.proofs.Table.{table-replicate}
-use Rattle.model.proofs.Sim.{clientFrom, serverFrom, line-from, Sim}
+use Rattle.model.proofs.Sim.{clientFrom, serverFrom, line-from, Moment, Sim}
 use Rattle.model.proofs.Counts as counts
 use Rattle.model.proofs.Calls.{called}
 use Rattle.model.proofs.Next.{delivers-down, delivers-up}
@@ -42,7 +42,7 @@ some-left : {A : Type 0} (xs : List A) → (xs ≡ [] → ⊥) → 1 ≤ length 
 some-left [] h = absurd (h refl)
 some-left (x ∷ xs) h = omega arith
 
-module _ (n : ℕ) (items : List ℕ) (s : State ours) (sim : Sim n items s) (few : length items ≤ maxInitial) where
+module _ (n : ℕ) (items : List ℕ) {from : Moment} (s : State ours) (sim : Sim n items from s) (few : length items ≤ maxInitial) where
   abbrev h : History edits
   h = s .recorded .history
 
@@ -111,6 +111,9 @@ module _ (n : ℕ) (items : List ℕ) (s : State ours) (sim : Sim n items s) (fe
 
 -- ---- opening
 
+abbrev pub opening : List ℕ → Moment
+opening items = record { ends = ends.opened items; history = noHistory }
+
 module _ (n : ℕ) (items : List ℕ) (lo : 1 ≤ n) (hi : n ≤ maxLines) (few : length items ≤ maxInitial) where
   fresh : ends.End edits
   fresh = record { made = 0; taken = 0; acked = 0; pending = [] }
@@ -123,7 +126,7 @@ module _ (n : ℕ) (items : List ℕ) (lo : 1 ≤ n) (hi : n ≤ maxLines) (few 
   client-starts : (l : ℕ) → 1 ≤ l → l ≤ n → openClient n l items .end ≡ clientFrom n l (record { made = 0; taken = 0; acked = 0; pending = [] }) items 0
   client-starts l a b = ap (λ (r : Answer Client). r .end) (client-opens n l items lo hi a b few)
 
-  pub starts : Sim n items (start ours n items)
+  pub starts : Sim n items (opening items) (start ours n items)
   unfolding select reject inserts
   starts =
       record {
@@ -131,6 +134,7 @@ module _ (n : ℕ) (items : List ℕ) (lo : 1 ≤ n) (hi : n ≤ maxLines) (few 
         ci = λ l. 0;
         si = λ l. 0;
         inv = opens items;
+        later = later-refl (ends.opened items) noHistory;
         server-is = ap server server-starts;
         client-is = opened;
         server-sound = ap soundServer (sym server-starts) ∙ opens-server n items (ap (λ (a : Answer Server). a .refusal) (server-opens n items lo hi few));
@@ -156,12 +160,12 @@ module _ (n : ℕ) (items : List ℕ) (lo : 1 ≤ n) (hi : n ≤ maxLines) (few 
 
 -- ---- every list of calls
 
-pub runs : (n : ℕ) (items : List ℕ) (calls : List Call) (s : State ours) → Sim n items s → Sim n items (run ours n s calls)
+pub runs : (n : ℕ) (items : List ℕ) {from : Moment} (calls : List Call) (s : State ours) → Sim n items from s → Sim n items from (run ours n s calls)
 unfolding run
-runs n items [] s sim = sim
-runs n items (c ∷ cs) s sim = runs n items cs (cond (callable n c) (call ours s c) s) (go (callable n c) refl)
+runs n items {from = from} [] s sim = sim
+runs n items {from = from} (c ∷ cs) s sim = runs n items cs (cond (callable n c) (call ours s c) s) (go (callable n c) refl)
   where
-    go : (b : Bool) → callable n c ≡ b → Sim n items (cond b (call ours s c) s)
+    go : (b : Bool) → callable n c ≡ b → Sim n items from (cond b (call ours s c) s)
     go true e = called n items s sim c e
     go false e = sim
 

@@ -16,7 +16,7 @@ use Rattle.model.specs.Edits.{edits}
 use Rattle.model.specs.Log.{madeAt, takenAt}
 use Rattle.model.specs.Run.{State}
 use Rattle.model.specs.Ours.{ours}
-use Rattle.model.proofs.Sim.{Sim}
+use Rattle.model.proofs.Sim.{Moment, Sim}
 
 client-made-at : (h : History edits) (l : ℕ) → 1 ≤ l → madeAt h l l ≡ madeBy h l
 unfolding madeAt
@@ -36,7 +36,7 @@ server-taken-at : (h : History edits) (l : ℕ) → takenAt h 0 l ≡ length (mi
 unfolding takenAt
 server-taken-at h l = refl
 
-module _ (n : ℕ) (items : List ℕ) (s : State ours) (sim : Sim n items s) (l : ℕ) where
+module _ (n : ℕ) (items : List ℕ) {from : Moment} (s : State ours) (sim : Sim n items from s) (l : ℕ) where
   abbrev h : History edits
   h = s .recorded .history
 

@@ -23,7 +23,7 @@ use Rattle.jupiter.proofs.Lists.{All, all-append, all-map}
 use Rattle.jupiter.proofs.Forms.{form-made}
 use Rattle.jupiter.proofs.Line.{LineAt, set-is, down-made, down-arrives}
 use Rattle.jupiter.proofs.World.{Inv, arrives, first-missing, first-untaken, mine-served, others-served}
-use Rattle.jupiter.proofs.Step.{Later, Step, step-edit, step-up, step-down, step-ack-up, step-ack-down, UpMessage, DownMessage}
+use Rattle.jupiter.proofs.Step.{Later, later-trans, Step, step-edit, step-up, step-down, step-ack-up, step-ack-down, UpMessage, DownMessage}
 use Rattle.jupiter.proofs.Size.{inserts-append, form-grows}
 use Rattle.jupiter.proofs.Runs.{fine-later}
 use Rattle.model.specs.Cross.{priority, insertsOf}
@@ -36,7 +36,7 @@ use Rattle.model.specs.Run.{State}
 use Rattle.model.specs.Ours.{End, client, server, ours}
 use Rattle.model.proofs.Instance.{to-T, edit-laws, past-same, over-same}
 use Rattle.model.proofs.Small.{Small, small-past, small-over, all-drop}
-use Rattle.model.proofs.Sim.{clientFrom, serverFrom, LetterOk, OfLines, Sim, at-line, at-other, edited-from, taken-from, server-taken-from, server-acked-from}
+use Rattle.model.proofs.Sim.{clientFrom, serverFrom, LetterOk, OfLines, Moment, Sim, at-line, at-other, edited-from, taken-from, server-taken-from, server-acked-from}
 
 -- what passes a test, passes it
 selected : (p : Made edits → Bool) (xs : List (Made edits)) → All (λ x. p x ≡ true) (select p xs)
@@ -97,7 +97,7 @@ letters-later : (n : ℕ) (items : List ℕ) (E E′ : Ends edits) (h h′ : His
 letters-later n items E E′ h h′ inv f xs ok =
     all-map (LetterOk n items E h) (LetterOk n items E′ h′) xs (λ x o. (fine-later items E h E′ h′ inv f x (o .0), o .1, o .2)) ok
 
-module _ (n : ℕ) (items : List ℕ) (s : State ours) (sim : Sim n items s) where
+module _ (n : ℕ) (items : List ℕ) {from : Moment} (s : State ours) (sim : Sim n items from s) where
   abbrev w : Log
   w = s .recorded
 
@@ -107,13 +107,14 @@ module _ (n : ℕ) (items : List ℕ) (s : State ours) (sim : Sim n items s) whe
   -- ---- refused
 
   -- the end comes back as it was, and the count owed is 0
-  pub refused : (a : ℕ) → Sim n items (record { ends = at a (s .ends a) (s .ends); messages = s .messages; passed = s .passed ++ (0 ∷ []); recorded = hears w (w .heard) })
+  pub refused : (a : ℕ) → Sim n items from (record { ends = at a (s .ends a) (s .ends); messages = s .messages; passed = s .passed ++ (0 ∷ []); recorded = hears w (w .heard) })
   refused a =
       record {
         E = sim .E;
         ci = sim .ci;
         si = sim .si;
         inv = sim .inv;
+        later = sim .later;
         server-is = same 0 ∙ sim .server-is;
         client-is = λ l p q. same l ∙ sim .client-is l p q;
         server-sound = sim .server-sound;
@@ -161,7 +162,7 @@ module _ (n : ℕ) (items : List ℕ) (s : State ours) (sim : Sim n items s) whe
       unfolding inOrder
       made-form = form-made o (inOrder (order h l) (h .applied l)) (selected (λ x. holds (o .context) (x .name)) (order h l))
 
-      pub edits-on : Sim n items (record { ends = at l (client (edited C e)) (s .ends); messages = s .messages; passed = s .passed ++ (0 ∷ []); recorded = logs.edited w l e })
+      pub edits-on : Sim n items from (record { ends = at l (client (edited C e)) (s .ends); messages = s .messages; passed = s .passed ++ (0 ∷ []); recorded = logs.edited w l e })
       unfolding afterEdit
       edits-on =
           record {
@@ -169,6 +170,7 @@ module _ (n : ℕ) (items : List ℕ) (s : State ours) (sim : Sim n items s) whe
             ci = at l (sim .ci l + insertsOf e) (sim .ci);
             si = sim .si;
             inv = step .inv;
+            later = later-trans _ _ _ _ _ _ (sim .later) (step .later);
             server-is = at-other l (client (edited C e)) (s .ends) 0 (λ z. omega arith) ∙ sim .server-is;
             client-is = λ j a b.
                 at-line (λ i x v d k. x ≡ client (clientFrom n i v d k)) l (client (edited C e)) (keeps e (E .clients l)) (applied e (E .docs l)) (sim .ci l + insertsOf e)
@@ -230,7 +232,7 @@ module _ (n : ℕ) (items : List ℕ) (s : State ours) (sim : Sim n items s) whe
       g-other : isBy l g ≡ false
       g-other = L.reject-fails (isBy l) blank (order h l) (E .clients l .taken) (down-made items l (order h l) (h .served) (h .applied l) (E .clients l) (E .lines l) (E .docs l) line x ok next cur)
 
-      pub takes-down : Sim n items (record {
+      pub takes-down : Sim n items from (record {
         ends = at l (client (clientTaken C (x .seen) (x .edit))) (s .ends);
         messages = s .messages;
         passed = s .passed ++ ((E .clients l .made - x .seen) ∷ []);
@@ -243,6 +245,7 @@ module _ (n : ℕ) (items : List ℕ) (s : State ours) (sim : Sim n items s) whe
             ci = sim .ci;
             si = sim .si;
             inv = down-step .inv;
+            later = later-trans _ _ _ _ _ _ (sim .later) (down-step .later);
             server-is = at-other l (client (clientTaken C (x .seen) (x .edit))) (s .ends) 0 (λ z. omega arith) ∙ sim .server-is;
             client-is = λ j a b.
                 at-line (λ i y v d (k : Unit {0}). y ≡ client (clientFrom n i v d (sim .ci i))) l (client (clientTaken C (x .seen) (x .edit))) (takes x (E .clients l))
@@ -326,7 +329,7 @@ module _ (n : ℕ) (items : List ℕ) (s : State ours) (sim : Sim n items s) whe
             differ : false ≡ true → ⊥
             differ q = let z : _≡_ {A = ℕ} 0 1 = cc in omega arith
 
-        takes-split : Sim n items (record {
+        takes-split : Sim n items from (record {
           ends = at 0 (server (serverTaken S l (x .seen) (x .edit))) (s .ends);
           messages = s .messages;
           passed = s .passed ++ ((E .lines l .made - x .seen) ∷ []);
@@ -345,6 +348,7 @@ module _ (n : ℕ) (items : List ℕ) (s : State ours) (sim : Sim n items s) whe
               ci = sim .ci;
               si = at l (sim .si l + insertsOf (x .edit)) (sim .si);
               inv = up-step .inv;
+              later = later-trans _ _ _ _ _ _ (sim .later) (up-step .later);
               server-is = ap server (server-taken-from n (length items) (E .doc) (E .lines) (sim .si) l lo hi x);
               client-is = λ j b c. at-other 0 (server (serverTaken S l (x .seen) (x .edit))) (s .ends) j (λ z. omega arith) ∙ sim .client-is j b c;
               server-sound = ap soundServer (sym (server-taken-from n (length items) (E .doc) (E .lines) (sim .si) l lo hi x)) ∙ sound;
@@ -390,7 +394,7 @@ module _ (n : ℕ) (items : List ℕ) (s : State ours) (sim : Sim n items s) whe
             server-inserts j false e =
                 sim .si-is j ∙ ap (λ (r : List (Made edits)). inserts (mine j r)) (sym (append-nil (h .served))) ∙ ap inserts (sym (L.select-out (isBy j) blank (h .served) o [] (o-not j e)))
 
-      pub takes-up : Sim n items (record {
+      pub takes-up : Sim n items from (record {
         ends = at 0 (server (serverTaken S l (x .seen) (x .edit))) (s .ends);
         messages = s .messages;
         passed = s .passed ++ ((E .lines l .made - x .seen) ∷ []);
@@ -398,7 +402,7 @@ module _ (n : ℕ) (items : List ℕ) (s : State ours) (sim : Sim n items s) whe
       })
       takes-up =
           first-untaken items edit-laws E h (sim .inv) l x ok next cur (h .untaken l) refl
-          (λ r. Sim n items (record {
+          (λ r. Sim n items from (record {
             ends = at 0 (server (serverTaken S l (x .seen) (x .edit))) (s .ends);
             messages = s .messages;
             passed = s .passed ++ ((E .lines l .made - x .seen) ∷ []);
@@ -418,7 +422,7 @@ module _ (n : ℕ) (items : List ℕ) (s : State ours) (sim : Sim n items s) whe
       acked-down : Step items E h (ackingDown l seen E) h
       acked-down = step-ack-down items E h (sim .inv) l seen low made
 
-      pub acks-down : Sim n items (record {
+      pub acks-down : Sim n items from (record {
         ends = at l (client (clientAcked C seen)) (s .ends);
         messages = s .messages;
         passed = s .passed ++ (0 ∷ []);
@@ -430,6 +434,7 @@ module _ (n : ℕ) (items : List ℕ) (s : State ours) (sim : Sim n items s) whe
             ci = sim .ci;
             si = sim .si;
             inv = acked-down .inv;
+            later = later-trans _ _ _ _ _ _ (sim .later) (acked-down .later);
             server-is = at-other l (client (clientAcked C seen)) (s .ends) 0 (λ z. omega arith) ∙ sim .server-is;
             client-is = λ j b c.
                 at-line (λ i y v (d : Unit {0}) (k : Unit {0}). y ≡ client (clientFrom n i v (E .docs i) (sim .ci i))) l (client (clientAcked C seen)) (acks seen (E .clients l)) tt tt
@@ -463,7 +468,7 @@ module _ (n : ℕ) (items : List ℕ) (s : State ours) (sim : Sim n items s) whe
       acked-up : Step items E h (ackingUp l seen E) h
       acked-up = step-ack-up items E h (sim .inv) l seen low made
 
-      pub acks-up : Sim n items (record {
+      pub acks-up : Sim n items from (record {
         ends = at 0 (server (serverAcked S l seen)) (s .ends);
         messages = s .messages;
         passed = s .passed ++ (0 ∷ []);
@@ -475,6 +480,7 @@ module _ (n : ℕ) (items : List ℕ) (s : State ours) (sim : Sim n items s) whe
             ci = sim .ci;
             si = sim .si;
             inv = acked-up .inv;
+            later = later-trans _ _ _ _ _ _ (sim .later) (acked-up .later);
             server-is = ap server (server-acked-from n (length items) (E .doc) (E .lines) (sim .si) l lo hi seen);
             client-is = λ j b c. at-other 0 (server (serverAcked S l seen)) (s .ends) j (λ z. omega arith) ∙ sim .client-is j b c;
             server-sound = ap soundServer (sym (server-acked-from n (length items) (E .doc) (E .lines) (sim .si) l lo hi seen)) ∙ sound;
@@ -499,13 +505,14 @@ module _ (n : ℕ) (items : List ℕ) (s : State ours) (sim : Sim n items s) whe
 
   -- ---- a message is written
   pub writes-on : (x : Letter edits) → LetterOk n items (sim .E) h x
-      → Sim n items (record { ends = s .ends; messages = s .messages ++ (letterBytes x ∷ []); passed = s .passed; recorded = writes w x })
+      → Sim n items from (record { ends = s .ends; messages = s .messages ++ (letterBytes x ∷ []); passed = s .passed; recorded = writes w x })
   writes-on x ok =
       record {
         E = sim .E;
         ci = sim .ci;
         si = sim .si;
         inv = sim .inv;
+        later = sim .later;
         server-is = sim .server-is;
         client-is = sim .client-is;
         server-sound = sim .server-sound;

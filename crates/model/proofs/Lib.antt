@@ -19,7 +19,7 @@ pub mod Bounds
 pub mod Next
 pub mod Numbers
 pub mod Converges
-pub mod Refusals
+pub mod Consequences
 pub mod Wrong
 pub mod Computing
 pub mod Marked

@@ -44,7 +44,7 @@ use Rattle.model.proofs.Sound.{new-end}
 use Rattle.model.proofs.Table.{table-roomy}
 use Rattle.model.proofs.Instance.{edit-laws, from-T, past-same, over-same}
 use Rattle.model.proofs.Ranges.{priority-get}
-use Rattle.model.proofs.Sim.{clientFrom, serverFrom, lineFrom, line-from, carried-from, server-taken-from, Sim}
+use Rattle.model.proofs.Sim.{clientFrom, serverFrom, lineFrom, line-from, carried-from, server-taken-from, Moment, Sim}
 use Rattle.model.proofs.Follow.{first-inserts, inserts-cons}
 use Rattle.model.proofs.Calls.{client-message, server-message, up-is, up-bytes, up-ok, down-is, down-bytes, down-ok}
 use Rattle.model.proofs.Bounds.{inserts-most, client-most, client-more, doc-most, client-placed, server-placed}
@@ -54,7 +54,7 @@ pub sent-all : (r : ℕ) (bytes lent : List ℕ) → r ≡ 0 → sent r bytes le
 unfolding sent
 sent-all r bytes lent e = rw e
 
-module _ (n : ℕ) (items : List ℕ) (s : State ours) (sim : Sim n items s) (few : length items ≤ 128) (l : ℕ) (lo : 1 ≤ l) (hi : l ≤ n) where
+module _ (n : ℕ) (items : List ℕ) {from : Moment} (s : State ours) (sim : Sim n items from s) (few : length items ≤ 128) (l : ℕ) (lo : 1 ≤ l) (hi : l ≤ n) where
   abbrev h : History edits
   h = s .recorded .history
 

@@ -40,7 +40,7 @@ use Rattle.model.specs.Run.{State, callable, areBytes, unreadable, hande
 use Rattle.model.specs.Ours.{End, client, server, ours}
 use Rattle.model.proofs.Tests.{Alike, alike, never, both, and-left, and-right, between-true, true-between}
 use Rattle.model.proofs.Sound.{three}
-use Rattle.model.proofs.Sim.{clientFrom, serverFrom, lineFrom, line-from, Lined, LetterOk, Sim}
+use Rattle.model.proofs.Sim.{clientFrom, serverFrom, lineFrom, line-from, Lined, LetterOk, Moment, Sim}
 use Rattle.model.proofs.Counts.{client-made, client-taken, server-made, server-taken}
 use Rattle.model.proofs.Rooms.{same-room}
 use Rattle.model.proofs.Calls.{client-message, server-message, lettered, unread, up-is, up-bytes, down-is, down-bytes}
@@ -63,7 +63,7 @@ sent-is r bytes lent = go (eqb r 0) refl
     go true e = sym (eqb-true r 0 e)
     go false e = refl
 
-module _ (n : ℕ) (items : List ℕ) (s : State ours) (sim : Sim n items s) (few : length items ≤ 128) where
+module _ (n : ℕ) (items : List ℕ) {from : Moment} (s : State ours) (sim : Sim n items from s) (few : length items ≤ 128) where
   abbrev w : Log
   w = s .recorded
 

@@ -19,6 +19,7 @@ use Rattle.jupiter.specs.Run.{Letter, up, down, upAck, downAck}
 use Rattle.jupiter.specs.Claims.{inserts}
 use Rattle.jupiter.proofs.Lists.{All}
 use Rattle.jupiter.proofs.World.{Inv}
+use Rattle.jupiter.proofs.Step.{Later, later-refl}
 use Rattle.jupiter.proofs.Runs.{Fine}
 use Rattle.model.specs.Cross.{past, priority, insertsOf}
 use Rattle.model.specs.Client.{Client, soundClient, other, edited, clientTaken, clientAcked}
@@ -56,12 +57,19 @@ LetterOk n items E h x = Fine items E h x × (inRange (letterMessage x) ≡ true
 abbrev pub OfLines : ℕ → Made edits → Type 0
 OfLines n e = (1 ≤ e .name .line) × (e .name .line ≤ n)
 
-pub record Sim (n : ℕ) (items : List ℕ) (s : State ours) : Type 0 where
+-- the theory's ends and the history at some moment
+pub record Moment : Type 0 where
+  pub ends : Ends edits
+  pub history : History edits
+
+-- where the calls since the moment `from` have led
+pub record Sim (n : ℕ) (items : List ℕ) (from : Moment) (s : State ours) : Type 0 where
   -- the theory's ends, and the inserts that the client and the server count on each line
   pub E : Ends edits
   pub ci : ℕ → ℕ
   pub si : ℕ → ℕ
   pub inv : Inv items E (s .recorded .history)
+  pub later : Later (from .ends) (from .history) E (s .recorded .history)
   pub server-is : s .ends 0 ≡ server (serverFrom n (length items) (E .doc) (E .lines) si)
   pub client-is : (l : ℕ) → 1 ≤ l → l ≤ n → s .ends l ≡ client (clientFrom n l (E .clients l) (E .docs l) (ci l))
   pub server-sound : soundServer (serverFrom n (length items) (E .doc) (E .lines) si) ≡ true
@@ -79,6 +87,37 @@ pub record Sim (n : ℕ) (items : List ℕ) (s : State ours) : Type 0 where
   pub si-is : (l : ℕ) → si l ≡ inserts (mine l (s .recorded .history .served))
   pub client-small : (l : ℕ) → All Small (E .clients l .pending)
   pub server-small : (l : ℕ) → All Small (E .lines l .pending)
+
+-- the moment that a simulation has come to, and from which it may go on
+abbrev pub present : {n : ℕ} {items : List ℕ} {from : Moment} {s : State ours} → Sim n items from s → Moment
+present {s = s} sim = record { ends = sim .E; history = s .recorded .history }
+
+pub from-here : {n : ℕ} {items : List ℕ} {from : Moment} {s : State ours} (sim : Sim n items from s) → Sim n items (present sim) s
+from-here {s = s} sim =
+    record {
+      E = sim .E;
+      ci = sim .ci;
+      si = sim .si;
+      inv = sim .inv;
+      later = later-refl (sim .E) (s .recorded .history);
+      server-is = sim .server-is;
+      client-is = sim .client-is;
+      server-sound = sim .server-sound;
+      client-sound = sim .client-sound;
+      server-shown = sim .server-shown;
+      client-shown = sim .client-shown;
+      server-heard = sim .server-heard;
+      client-heard = sim .client-heard;
+      messages = sim .messages;
+      letters = sim .letters;
+      passed = sim .passed;
+      taken = sim .taken;
+      served-lines = sim .served-lines;
+      ci-is = sim .ci-is;
+      si-is = sim .si-is;
+      client-small = sim .client-small;
+      server-small = sim .server-small;
+    }
 
 -- ---- one line changed, the others as they were
 module _ {A B C D : Type 0} (R : ℕ → A → B → C → D → Type 0) (l : ℕ) (v : A) (w : B) (x : C) (y : D) (f : ℕ → A) (g : ℕ → B) (h : ℕ → C) (k : ℕ → D) where

@@ -13,5 +13,5 @@ pub mod Claim
 pub mod Ours
 pub mod Sound
 pub mod Wrong
-pub mod Refusals
+pub mod Consequences
 pub mod Marked
