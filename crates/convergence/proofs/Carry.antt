@@ -143,30 +143,30 @@ module _ (S T : Sheet) (R : S .End → T .End → Type 0) where
 
       holds-line : (l : ℕ) → 1 ≤ l → l ≤ n → OnLine T n t l → OnLine S n beside l
       holds-line l lo hi o =
-          let hub = related 0 (omega arith) in
+          let base = related 0 (omega arith) in
           let here = related l hi in
           let h : History _ = t .recorded .history in
           record {
             client-made = f .made (ends l) (t .ends l) here l ∙ o .client-made;
             client-taken = f .taken (ends l) (t .ends l) here l ∙ o .client-taken;
-            server-made = f .made (ends 0) (t .ends 0) hub l ∙ o .server-made;
-            server-taken = f .taken (ends 0) (t .ends 0) hub l ∙ o .server-taken;
+            server-made = f .made (ends 0) (t .ends 0) base l ∙ o .server-made;
+            server-taken = f .taken (ends 0) (t .ends 0) base l ∙ o .server-taken;
             meeting = ap (replay (order h l) (h .applied l) (missing h l)) (f .items (ends l) (t .ends l) here) ∙ o .meeting
-                ∙ ap (replay (order h l) (h .served) (h .untaken l)) (sym (f .items (ends 0) (t .ends 0) hub));
+                ∙ ap (replay (order h l) (h .served) (h .untaken l)) (sym (f .items (ends 0) (t .ends 0) base));
             equal = λ p q.
                 f .items (ends l) (t .ends l) here
-                ∙ o .equal (sym (f .made (ends l) (t .ends l) here l) ∙ p ∙ f .taken (ends 0) (t .ends 0) hub l) (sym (f .taken (ends l) (t .ends l) here l) ∙ q ∙ f .made (ends 0) (t .ends 0) hub l)
-                ∙ sym (f .items (ends 0) (t .ends 0) hub);
+                ∙ o .equal (sym (f .made (ends l) (t .ends l) here l) ∙ p ∙ f .taken (ends 0) (t .ends 0) base l) (sym (f .taken (ends l) (t .ends l) here l) ∙ q ∙ f .made (ends 0) (t .ends 0) base l)
+                ∙ sym (f .items (ends 0) (t .ends 0) base);
             next-down = λ lent enough more.
                 let same = f .taken (ends l) (t .ends l) here l in
                 subst (λ (k : ℕ). Delivered S (ends 0) (ends l) l (suc k) lent) (sym same)
-                (delivered (ends 0) (ends l) (t .ends 0) (t .ends l) hub here l (suc (T .taken (t .ends l) l)) lent
+                (delivered (ends 0) (ends l) (t .ends 0) (t .ends l) base here l (suc (T .taken (t .ends l) l)) lent
                 (o .next-down lent (subst (λ (k : ℕ). Enough T n t 0 l (suc k) lent) same enough) more));
             next-up = λ lent enough more free.
-                let same = f .taken (ends 0) (t .ends 0) hub l in
+                let same = f .taken (ends 0) (t .ends 0) base l in
                 subst (λ (k : ℕ). Delivered S (ends l) (ends 0) l (suc k) lent) (sym same)
-                (delivered (ends l) (ends 0) (t .ends l) (t .ends 0) here hub l (suc (T .taken (t .ends 0) l)) lent
-                (o .next-up lent (subst (λ (k : ℕ). Enough T n t l l (suc k) lent) same enough) more (λ j x y z full. free j x y z (f .made (ends 0) (t .ends 0) hub j ∙ full))));
+                (delivered (ends l) (ends 0) (t .ends l) (t .ends 0) here base l (suc (T .taken (t .ends 0) l)) lent
+                (o .next-up lent (subst (λ (k : ℕ). Enough T n t l l (suc k) lent) same enough) more (λ j x y z full. free j x y z (f .made (ends 0) (t .ends 0) base j ∙ full))));
           }
 
       holds-beside : Holds T n t → Holds S n beside

@@ -15,7 +15,6 @@ use Rattle.ot.specs.declared.Edit.{Edit}
 use Rattle.ot.specs.declared.Edit.the-variants.{Nothing, Delete, Insert}
 use Rattle.ot.specs.Edit.{applied, fits}
 use Rattle.wire.specs.declared.Header.{Header}
-use Rattle.wire.specs.declared.Message.{Message}
 use Rattle.wire.specs.declared.Message.the-variants as message
 use Rattle.wire.specs.declared.Read.{Read}
 use Rattle.wire.specs.declared.Read.the-variants as read
@@ -28,7 +27,7 @@ use Rattle.jupiter.specs.Point.{ownForm, othForm}
 use Rattle.jupiter.specs.History.{History, at, order}
 use Rattle.jupiter.specs.Ends as ends
 use Rattle.jupiter.specs.Ends.{Ends}
-use Rattle.jupiter.specs.Run.{Letter, up, down, upAck, downAck}
+use Rattle.jupiter.specs.Run.{Message, up, down, upAck, downAck}
 use Rattle.jupiter.proofs.Lists.{All}
 use Rattle.jupiter.proofs.Step.{UpMessage, DownMessage, up-message, down-message}
 use Rattle.model.specs.Limits.{maxItems}
@@ -39,7 +38,7 @@ use Rattle.model.specs.Server.{Line, Server, lineOf, soundServer, server
 use Rattle.model.specs.Edits.{edits}
 use Rattle.model.specs.Sheet.{Call, insert, delete, send, tell, receive, junk}
 use Rattle.model.specs.Log as logs
-use Rattle.model.specs.Log.{Log, letterMessage, letterBytes, takenAt, editLetter, ackLetter, hears, writes, took, tookUp, tookDown, logged, refusedLog, log}
+use Rattle.model.specs.Log.{Log, wireMessage, messageBytes, takenAt, editMessage, ackMessage, hears, writes, took, tookUp, tookDown, logged, refusedLog, log}
 use Rattle.model.specs.Run.{State, answered, written, handed, call, callable, unreadable, areBytes}
 use Rattle.model.specs.Ours.{End, client, server, answerAs, ours}
 use Rattle.model.proofs.Tests.{never, and-left, and-right, yes-all, between-true}
@@ -50,7 +49,7 @@ use Rattle.model.proofs.Small.{Small, all-get}
 use Rattle.model.proofs.Outcome as outcomes
 use Rattle.model.proofs.Outcome.{Outcome, outcome, Posted, posted}
 use Rattle.model.proofs.Ranges.{fits-range, placed-get, priority-get, up-range, down-range, up-ack-range, down-ack-range}
-use Rattle.model.proofs.Sim.{clientFrom, serverFrom, lineFrom, line-from, LetterOk, Moment, Sim}
+use Rattle.model.proofs.Sim.{clientFrom, serverFrom, lineFrom, line-from, MessageOk, Moment, Sim}
 use Rattle.model.proofs.Follow.{refused, edits-on, takes-down, takes-up, acks-down, acks-up, writes-on}
 
 -- the log of a refused call, and of one that was not
@@ -80,26 +79,26 @@ small-range h Nothing r = refl
 small-range h (Delete p) r = refl
 small-range h (Insert p x q) r = le-leb x 4294967295 (insert-bounds h p x q r .item-high)
 
--- the letters of a client's and of the server's sending
-client-edit-letter : (h : History edits) (l line k t : ℕ) → 1 ≤ l → length (others l (h .applied l)) ≡ t
-    → editLetter h l line k ≡ up l (record { number = k; seen = t; edit = ownForm l (order h l) (k - 1) t })
-unfolding editLetter takenAt
-client-edit-letter h zero line k t a e = absurd (omega arith)
-client-edit-letter h (suc l) line k t a e = ap (λ (i : ℕ). up (suc l) (record { number = k; seen = i; edit = ownForm (suc l) (order h (suc l)) (k - 1) i })) e
+-- the messages of a client's and of the server's sending
+client-edit-message : (h : History edits) (l line k t : ℕ) → 1 ≤ l → length (others l (h .applied l)) ≡ t
+    → editMessage h l line k ≡ up l (record { number = k; seen = t; edit = ownForm l (order h l) (k - 1) t })
+unfolding editMessage takenAt
+client-edit-message h zero line k t a e = absurd (omega arith)
+client-edit-message h (suc l) line k t a e = ap (λ (i : ℕ). up (suc l) (record { number = k; seen = i; edit = ownForm (suc l) (order h (suc l)) (k - 1) i })) e
 
-client-ack-letter : (h : History edits) (l line t : ℕ) → 1 ≤ l → length (others l (h .applied l)) ≡ t → ackLetter h l line ≡ upAck l t
-unfolding ackLetter takenAt
-client-ack-letter h zero line t a e = absurd (omega arith)
-client-ack-letter h (suc l) line t a e = ap (upAck (suc l)) e
+client-ack-message : (h : History edits) (l line t : ℕ) → 1 ≤ l → length (others l (h .applied l)) ≡ t → ackMessage h l line ≡ upAck l t
+unfolding ackMessage takenAt
+client-ack-message h zero line t a e = absurd (omega arith)
+client-ack-message h (suc l) line t a e = ap (upAck (suc l)) e
 
-server-edit-letter : (h : History edits) (line k t : ℕ) → length (mine line (h .served)) ≡ t
-    → editLetter h 0 line k ≡ down line (record { number = k; seen = t; edit = othForm line (order h line) t (k - 1) })
-unfolding editLetter takenAt
-server-edit-letter h line k t e = ap (λ (i : ℕ). down line (record { number = k; seen = i; edit = othForm line (order h line) i (k - 1) })) e
+server-edit-message : (h : History edits) (line k t : ℕ) → length (mine line (h .served)) ≡ t
+    → editMessage h 0 line k ≡ down line (record { number = k; seen = t; edit = othForm line (order h line) t (k - 1) })
+unfolding editMessage takenAt
+server-edit-message h line k t e = ap (λ (i : ℕ). down line (record { number = k; seen = i; edit = othForm line (order h line) i (k - 1) })) e
 
-server-ack-letter : (h : History edits) (line t : ℕ) → length (mine line (h .served)) ≡ t → ackLetter h 0 line ≡ downAck line t
-unfolding ackLetter takenAt
-server-ack-letter h line t e = ap (downAck line) e
+server-ack-message : (h : History edits) (line t : ℕ) → length (mine line (h .served)) ≡ t → ackMessage h 0 line ≡ downAck line t
+unfolding ackMessage takenAt
+server-ack-message h line t e = ap (downAck line) e
 
 module _ (n : ℕ) (items : List ℕ) {from : Moment} (s : State ours) (sim : Sim n items from s) where
   abbrev w : Log
@@ -141,7 +140,7 @@ module _ (n : ℕ) (items : List ℕ) {from : Moment} (s : State ours) (sim : Si
         (edits-on n items s sim l lo hi e pr sm q9 ok)
 
     -- an edit message
-    take-edit : (c : Call) (m : ends.Message edits) (k : ℕ) (direction : ℕ) → inRange (messageOf (record { line = k; direction = direction; number = m .number; seen = m .seen }) (m .edit)) ≡ true
+    take-edit : (c : Call) (m : ends.EditMessage edits) (k : ℕ) (direction : ℕ) → inRange (messageOf (record { line = k; direction = direction; number = m .number; seen = m .seen }) (m .edit)) ≡ true
         → (direction ≡ 1 → DownMessage items E h k m) → (direction ≡ 1 → logged w c ≡ cond (eqb l k) (tookDown w k (m .seen)) (hears w (w .heard)))
         → refusedLog w c ≡ hears w (w .heard)
         → (a : Answer Client)
@@ -177,24 +176,24 @@ module _ (n : ℕ) (items : List ℕ) {from : Moment} (s : State ours) (sim : Si
         (acks-down n items s sim l lo hi seen (leb-true (E .clients l .acked) seen (y .1 .1 .0)) (subst (λ (i : ℕ). seen ≤ E .lines i .taken) mine-way (fine down-way)) ok)
 
     -- a message that some sending wrote
-    take-letter : (c : Call) (x : Letter edits) → LetterOk n items E h x → logged w c ≡ took w l (some x) → refusedLog w c ≡ hears w (w .heard)
-        → Sim n items from (answered ours s l c (answerAs client (clientTakes C (letterMessage x))))
+    take-message : (c : Call) (x : Message edits) → MessageOk n items E h x → logged w c ≡ took w l (some x) → refusedLog w c ≡ hears w (w .heard)
+        → Sim n items from (answered ours s l c (answerAs client (clientTakes C (wireMessage x))))
     unfolding took clientTakesEdit clientTakesAck
-    take-letter c (up k m) ok made quiet =
+    take-message c (up k m) ok made quiet =
         let hd : Header = record { line = k; direction = 0; number = m .number; seen = m .seen } in
         subst (λ (a : Answer Client). Sim n items from (answered ours s l c (answerAs client a))) (sym (client-message C hd (m .edit)))
         (take-edit c m k 0 (ok .1) (λ e. absurd (omega arith)) (λ e. absurd (omega arith)) quiet (clientTakesEdit C hd (m .edit))
         (outcome (asks (clientEditQuestions C hd (m .edit))) C (clientTaken C (m .seen) (m .edit)) (E .clients l .made - m .seen))
         (client-takes-edit C hd (m .edit) (header-range hd (m .edit) (ok .1)) sound))
-    take-letter c (down k m) ok made quiet =
+    take-message c (down k m) ok made quiet =
         let hd : Header = record { line = k; direction = 1; number = m .number; seen = m .seen } in
         subst (λ (a : Answer Client). Sim n items from (answered ours s l c (answerAs client a))) (sym (client-message C hd (m .edit)))
         (take-edit c m k 1 (ok .1) (λ e. ok .0) (λ e. made) quiet (clientTakesEdit C hd (m .edit))
         (outcome (asks (clientEditQuestions C hd (m .edit))) C (clientTaken C (m .seen) (m .edit)) (E .clients l .made - m .seen))
         (client-takes-edit C hd (m .edit) (header-range hd (m .edit) (ok .1)) sound))
-    take-letter c (upAck k seen) ok made quiet =
+    take-message c (upAck k seen) ok made quiet =
         take-ack c k 0 seen (λ e. absurd (omega arith)) (λ e. absurd (omega arith)) quiet (clientTakesAck C k 0 seen) (outcome (asks (clientAckQuestions C k 0 seen)) C (clientAcked C seen) 0) (client-takes-ack C k 0 seen sound)
-    take-letter c (downAck k seen) ok made quiet =
+    take-message c (downAck k seen) ok made quiet =
         take-ack c k 1 seen (λ e. ok .0) (λ e. made) quiet (clientTakesAck C k 1 seen) (outcome (asks (clientAckQuestions C k 1 seen)) C (clientAcked C seen) 0) (client-takes-ack C k 1 seen sound)
 
     -- bytes that no message has
@@ -211,7 +210,7 @@ module _ (n : ℕ) (items : List ℕ) {from : Moment} (s : State ours) (sim : Si
   line-of : (k : ℕ) → 1 ≤ k → k ≤ n → lineOf S k ≡ lineFrom (E .lines k) (sim .si k)
   line-of k a b = line-from n (length items) (E .doc) (E .lines) (sim .si) k a b
 
-  serve-edit : (c : Call) (m : ends.Message edits) (k : ℕ) (direction : ℕ) → inRange (messageOf (record { line = k; direction = direction; number = m .number; seen = m .seen }) (m .edit)) ≡ true
+  serve-edit : (c : Call) (m : ends.EditMessage edits) (k : ℕ) (direction : ℕ) → inRange (messageOf (record { line = k; direction = direction; number = m .number; seen = m .seen }) (m .edit)) ≡ true
       → (direction ≡ 0 → UpMessage items E h k m) → (direction ≡ 0 → logged w c ≡ tookUp w k (m .seen))
       → refusedLog w c ≡ hears w (w .heard)
       → (a : Answer Server)
@@ -249,24 +248,24 @@ module _ (n : ℕ) (items : List ℕ) {from : Moment} (s : State ours) (sim : Si
       subst (λ (z : Log). Sim n items from (record { ends = at 0 (server (serverAcked S k seen)) (s .ends); messages = s .messages; passed = s .passed ++ (0 ∷ []); recorded = z })) (sym (made up-way))
       (acks-up n items s sim k (there .0) (there .1) seen low (fine up-way) ok)
 
-  serve-letter : (c : Call) (x : Letter edits) → LetterOk n items E h x → logged w c ≡ took w 0 (some x) → refusedLog w c ≡ hears w (w .heard)
-      → Sim n items from (answered ours s 0 c (answerAs server (serverTakes S (letterMessage x))))
+  serve-message : (c : Call) (x : Message edits) → MessageOk n items E h x → logged w c ≡ took w 0 (some x) → refusedLog w c ≡ hears w (w .heard)
+      → Sim n items from (answered ours s 0 c (answerAs server (serverTakes S (wireMessage x))))
   unfolding took serverTakesEdit serverTakesAck
-  serve-letter c (up k m) ok made quiet =
+  serve-message c (up k m) ok made quiet =
       let hd : Header = record { line = k; direction = 0; number = m .number; seen = m .seen } in
       subst (λ (a : Answer Server). Sim n items from (answered ours s 0 c (answerAs server a))) (sym (server-message S hd (m .edit)))
       (serve-edit c m k 0 (ok .1) (λ e. ok .0) (λ e. made) quiet (serverTakesEdit S hd (m .edit))
       (outcome (asks (serverEditQuestions S hd (m .edit))) S (serverTaken S k (m .seen) (m .edit)) (lineOf S k .made - m .seen))
       (server-takes-edit S hd (m .edit) (header-range hd (m .edit) (ok .1)) (sim .server-sound)))
-  serve-letter c (down k m) ok made quiet =
+  serve-message c (down k m) ok made quiet =
       let hd : Header = record { line = k; direction = 1; number = m .number; seen = m .seen } in
       subst (λ (a : Answer Server). Sim n items from (answered ours s 0 c (answerAs server a))) (sym (server-message S hd (m .edit)))
       (serve-edit c m k 1 (ok .1) (λ e. absurd (omega arith)) (λ e. absurd (omega arith)) quiet (serverTakesEdit S hd (m .edit))
       (outcome (asks (serverEditQuestions S hd (m .edit))) S (serverTaken S k (m .seen) (m .edit)) (lineOf S k .made - m .seen))
       (server-takes-edit S hd (m .edit) (header-range hd (m .edit) (ok .1)) (sim .server-sound)))
-  serve-letter c (upAck k seen) ok made quiet =
+  serve-message c (upAck k seen) ok made quiet =
       serve-ack c k 0 seen (λ e. ok .0) (λ e. made) quiet (serverTakesAck S k 0 seen) (outcome (asks (serverAckQuestions S k 0 seen)) S (serverAcked S k seen) 0) (server-takes-ack S k 0 seen (sim .server-sound))
-  serve-letter c (downAck k seen) ok made quiet =
+  serve-message c (downAck k seen) ok made quiet =
       serve-ack c k 1 seen (λ e. absurd (omega arith)) (λ e. absurd (omega arith)) quiet (serverTakesAck S k 1 seen) (outcome (asks (serverAckQuestions S k 1 seen)) S (serverAcked S k seen) 0) (server-takes-ack S k 1 seen (sim .server-sound))
 
   serve-junk : (c : Call) (a : Answer Server) → Outcome (asks (ask 2 (soundServer S) ∷ ask 3 false ∷ [])) S S 0 a → refusedLog w c ≡ hears w (w .heard)
@@ -276,8 +275,8 @@ module _ (n : ℕ) (items : List ℕ) {from : Moment} (s : State ours) (sim : Si
 
   -- ---- sending
 
-  -- a sending writes the letter of the definitions, or nothing
-  post : (c : Call) (r : ℕ) (bytes lent : List ℕ) (x : Letter edits) → logged w c ≡ writes w x → refusedLog w c ≡ w → (r ≡ 0 → LetterOk n items E h x × (bytes ≡ letterBytes x))
+  -- a sending writes the message of the definitions, or nothing
+  post : (c : Call) (r : ℕ) (bytes lent : List ℕ) (x : Message edits) → logged w c ≡ writes w x → refusedLog w c ≡ w → (r ≡ 0 → MessageOk n items E h x × (bytes ≡ messageBytes x))
       → (a : Sent) → Posted r bytes lent a → Sim n items from (written ours s c a)
   unfolding log
   post c r bytes lent x made quiet ok a (outcomes.Posted.no d) =
@@ -297,18 +296,18 @@ module _ (n : ℕ) (items : List ℕ) {from : Moment} (s : State ours) (sim : Si
     F = client-facts (clientFrom n l (E .clients l) (E .docs l) (sim .ci l)) (sim .client-sound l lo hi)
 
     module _ (k : ℕ) (low : E .clients l .acked < k) (high : k ≤ E .clients l .made) where
-      pub up-is : (line : ℕ) → editLetter h l line k ≡ up l (ends.message k (E .clients l))
+      pub up-is : (line : ℕ) → editMessage h l line k ≡ up l (ends.message k (E .clients l))
       up-is line =
           let ok = up-message items E h (sim .inv) l k low high in
-          client-edit-letter h l line k (E .clients l .taken) lo (sim .taken l)
+          client-edit-message h l line k (E .clients l .taken) lo (sim .taken l)
           ∙ ap (λ (e : Edit). up l (record { number = k; seen = E .clients l .taken; edit = e }))
           (ap (λ (i : ℕ). ownForm l (order h l) i (E .clients l .taken)) (omega (arith, ok .number)) ∙ sym (ok .edit))
 
-      pub up-bytes : bytesOf (clientMessage (clientFrom n l (E .clients l) (E .docs l) (sim .ci l)) k) ≡ letterBytes (up l (ends.message k (E .clients l)))
+      pub up-bytes : bytesOf (clientMessage (clientFrom n l (E .clients l) (E .docs l) (sim .ci l)) k) ≡ messageBytes (up l (ends.message k (E .clients l)))
       up-bytes =
           ap (λ (i : ℕ). bytesOf (messageOf (record { line = l; direction = 0; number = k; seen = E .clients l .taken }) (getD (E .clients l .pending) (k - i) Nothing))) (add-one (E .clients l .acked))
 
-      pub up-ok : LetterOk n items E h (up l (ends.message k (E .clients l)))
+      pub up-ok : MessageOk n items E h (up l (ends.message k (E .clients l)))
       up-ok =
           let place : k - suc (E .clients l .acked) < length (E .clients l .pending) = omega (arith, F .count) in (
             up-message items E h (sim .inv) l k low high,
@@ -325,23 +324,23 @@ module _ (n : ℕ) (items : List ℕ) {from : Moment} (s : State ours) (sim : Si
     unfolding sendClient logged refusedLog
     client-sends line k lent =
         let C = clientFrom n l (E .clients l) (E .docs l) (sim .ci l) in
-        post (send l line k lent) (asks (sendClientQuestions C line k lent)) (bytesOf (clientMessage C k)) lent (editLetter h l line k) refl refl
+        post (send l line k lent) (asks (sendClientQuestions C line k lent)) (bytesOf (clientMessage C k)) lent (editMessage h l line k) refl refl
         (λ z.
         let y = yes-all (sendClientQuestions C line k lent) (omega arith) z in
         let q13 = between-true (E .clients l .acked + 1) (E .clients l .made) k (y .1 .1 .0) in
         let low : E .clients l .acked < k = omega arith in
-        (subst (LetterOk n items E h) (sym (up-is k low (q13 .1) line)) (up-ok k low (q13 .1)), up-bytes k low (q13 .1) ∙ ap letterBytes (sym (up-is k low (q13 .1) line))))
+        (subst (MessageOk n items E h) (sym (up-is k low (q13 .1) line)) (up-ok k low (q13 .1)), up-bytes k low (q13 .1) ∙ ap messageBytes (sym (up-is k low (q13 .1) line))))
         (sendClient C line k lent) (posted (asks (sendClientQuestions C line k lent)) (bytesOf (clientMessage C k)) lent)
 
     client-tells : (line : ℕ) (lent : List ℕ) → Sim n items from (written ours s (tell l line lent) (tellClient (clientFrom n l (E .clients l) (E .docs l) (sim .ci l)) line lent))
     unfolding tellClient logged refusedLog
     client-tells line lent =
         let C = clientFrom n l (E .clients l) (E .docs l) (sim .ci l) in
-        let is = client-ack-letter h l line (E .clients l .taken) lo (sim .taken l) in
-        post (tell l line lent) (asks (tellClientQuestions C line lent)) (bytesOf (message.Ack l 0 (E .clients l .taken))) lent (ackLetter h l line) refl refl
+        let is = client-ack-message h l line (E .clients l .taken) lo (sim .taken l) in
+        post (tell l line lent) (asks (tellClientQuestions C line lent)) (bytesOf (message.Ack l 0 (E .clients l .taken))) lent (ackMessage h l line) refl refl
         (λ z. (
-          subst (LetterOk n items E h) (sym is) (le-refl (E .clients l .taken), up-ack-range l (E .clients l .taken) lo (omega (arith, F .lines .1)) (F .taken), (lo, hi)),
-          ap letterBytes (sym is),
+          subst (MessageOk n items E h) (sym is) (le-refl (E .clients l .taken), up-ack-range l (E .clients l .taken) lo (omega (arith, F .lines .1)) (F .taken), (lo, hi)),
+          ap messageBytes (sym is),
         ))
         (tellClient C line lent) (posted (asks (tellClientQuestions C line lent)) (bytesOf (message.Ack l 0 (E .clients l .taken))) lent)
 
@@ -354,19 +353,19 @@ module _ (n : ℕ) (items : List ℕ) {from : Moment} (s : State ours) (sim : Si
     K = subst (λ (v : Line). LineFacts n (takenSum (S .lines)) l v) (line-of l lo hi) (line-fact S G l lo hi)
 
     module _ (k : ℕ) (low : E .lines l .acked < k) (high : k ≤ E .lines l .made) where
-      pub down-is : editLetter h 0 l k ≡ down l (ends.message k (E .lines l))
+      pub down-is : editMessage h 0 l k ≡ down l (ends.message k (E .lines l))
       down-is =
           let ok = down-message items E h (sim .inv) l k low high in
-          server-edit-letter h l k (E .lines l .taken) (sym (sim .inv .lines l .v-count))
+          server-edit-message h l k (E .lines l .taken) (sym (sim .inv .lines l .v-count))
           ∙ ap (λ (e : Edit). down l (record { number = k; seen = E .lines l .taken; edit = e }))
           (ap (othForm l (order h l) (E .lines l .taken)) (omega (arith, ok .number)) ∙ sym (ok .edit))
 
-      pub down-bytes : bytesOf (serverMessage S l k) ≡ letterBytes (down l (ends.message k (E .lines l)))
+      pub down-bytes : bytesOf (serverMessage S l k) ≡ messageBytes (down l (ends.message k (E .lines l)))
       down-bytes =
           ap (λ (v : Line). bytesOf (messageOf (record { line = l; direction = 1; number = k; seen = v .taken }) (pendingAt (v .acked) (v .pending) k))) (line-of l lo hi)
           ∙ ap (λ (i : ℕ). bytesOf (messageOf (record { line = l; direction = 1; number = k; seen = E .lines l .taken }) (getD (E .lines l .pending) (k - i) Nothing))) (add-one (E .lines l .acked))
 
-      pub down-ok : LetterOk n items E h (down l (ends.message k (E .lines l)))
+      pub down-ok : MessageOk n items E h (down l (ends.message k (E .lines l)))
       down-ok =
           let place : k - suc (E .lines l .acked) < length (E .lines l .pending) = omega (arith, K .count) in (
             down-message items E h (sim .inv) l k low high,
@@ -379,25 +378,25 @@ module _ (n : ℕ) (items : List ℕ) {from : Moment} (s : State ours) (sim : Si
             (lo, hi, priority-get (other n l) (E .lines l .pending) (k - suc (E .lines l .acked)) place (K .priorities)),
           )
 
-    server-sends : (k : ℕ) (lent : List ℕ) → asks (sendServerQuestions S l k lent) ≡ 0 → LetterOk n items E h (editLetter h 0 l k) × (bytesOf (serverMessage S l k) ≡ letterBytes (editLetter h 0 l k))
+    server-sends : (k : ℕ) (lent : List ℕ) → asks (sendServerQuestions S l k lent) ≡ 0 → MessageOk n items E h (editMessage h 0 l k) × (bytesOf (serverMessage S l k) ≡ messageBytes (editMessage h 0 l k))
     server-sends k lent z =
         let y = yes-all (sendServerQuestions S l k lent) (omega arith) z in
         let q13 = between-true (lineOf S l .acked + 1) (lineOf S l .made) k (y .1 .1 .0) in
         let low : E .lines l .acked < k = subst (λ (v : Line). v .acked < k) (line-of l lo hi) (omega arith) in
         let high : k ≤ E .lines l .made = subst (λ (v : Line). k ≤ v .made) (line-of l lo hi) (q13 .1) in
-        (subst (LetterOk n items E h) (sym (down-is k low high)) (down-ok k low high), down-bytes k low high ∙ ap letterBytes (sym (down-is k low high)))
+        (subst (MessageOk n items E h) (sym (down-is k low high)) (down-ok k low high), down-bytes k low high ∙ ap messageBytes (sym (down-is k low high)))
 
-    server-tells : LetterOk n items E h (ackLetter h 0 l) × (bytesOf (message.Ack l 1 (lineOf S l .taken)) ≡ letterBytes (ackLetter h 0 l))
+    server-tells : MessageOk n items E h (ackMessage h 0 l) × (bytesOf (message.Ack l 1 (lineOf S l .taken)) ≡ messageBytes (ackMessage h 0 l))
     server-tells =
-        let is = server-ack-letter h l (E .lines l .taken) (sym (sim .inv .lines l .v-count)) in (
-          subst (LetterOk n items E h) (sym is) (le-refl (E .lines l .taken), down-ack-range l (E .lines l .taken) lo (omega (arith, G .n .1)) (K .taken), (lo, hi)),
-          ap (λ (v : Line). bytesOf (message.Ack l 1 (v .taken))) (line-of l lo hi) ∙ ap letterBytes (sym is),
+        let is = server-ack-message h l (E .lines l .taken) (sym (sim .inv .lines l .v-count)) in (
+          subst (MessageOk n items E h) (sym is) (le-refl (E .lines l .taken), down-ack-range l (E .lines l .taken) lo (omega (arith, G .n .1)) (K .taken), (lo, hi)),
+          ap (λ (v : Line). bytesOf (message.Ack l 1 (v .taken))) (line-of l lo hi) ∙ ap messageBytes (sym is),
         )
 
   server-posts : (line k : ℕ) (lent : List ℕ) → Sim n items from (written ours s (send 0 line k lent) (sendServer S line k lent))
   unfolding sendServer logged refusedLog
   server-posts line k lent =
-      post (send 0 line k lent) (asks (sendServerQuestions S line k lent)) (bytesOf (serverMessage S line k)) lent (editLetter h 0 line k) refl refl
+      post (send 0 line k lent) (asks (sendServerQuestions S line k lent)) (bytesOf (serverMessage S line k)) lent (editMessage h 0 line k) refl refl
       (λ z.
       let there = between-true 1 n line (yes-all (sendServerQuestions S line k lent) (omega arith) z .1 .0) in
       server-sends line (there .0) (there .1) k lent z)
@@ -406,7 +405,7 @@ module _ (n : ℕ) (items : List ℕ) {from : Moment} (s : State ours) (sim : Si
   server-acks : (line : ℕ) (lent : List ℕ) → Sim n items from (written ours s (tell 0 line lent) (tellServer S line lent))
   unfolding tellServer logged refusedLog
   server-acks line lent =
-      post (tell 0 line lent) (asks (tellServerQuestions S line lent)) (bytesOf (message.Ack line 1 (lineOf S line .taken))) lent (ackLetter h 0 line) refl refl
+      post (tell 0 line lent) (asks (tellServerQuestions S line lent)) (bytesOf (message.Ack line 1 (lineOf S line .taken))) lent (ackMessage h 0 line) refl refl
       (λ z.
       let there = between-true 1 n line (yes-all (tellServerQuestions S line lent) (omega arith) z .1 .0) in
       server-tells line (there .0) (there .1))
@@ -414,15 +413,15 @@ module _ (n : ℕ) (items : List ℕ) {from : Moment} (s : State ours) (sim : Si
 
 -- ---- any call
 
--- a message of the list of messages is that of a letter
+-- a message of the list of messages is that of a message
 some-eq : (x y : List ℕ) → some x ≡ some y → x ≡ y
 some-eq x y e = cc
 
-pub lettered : (xs : List (Letter edits)) (i : ℕ) (b : List ℕ) → getElem? (map letterBytes xs) i ≡ some b → (P : Letter edits → Type 0) → All P xs
-    → (x : Letter edits) × (getElem? xs i ≡ some x) × (b ≡ letterBytes x) × P x
-lettered [] i b e P a = absurd (let z : _≡_ {A = ℕ} 0 1 = cc in omega arith)
-lettered (x ∷ xs) zero b e P a = (x, refl, some-eq b (letterBytes x) (sym e), a .0)
-lettered (x ∷ xs) (suc i) b e P a = lettered xs i b e P (a .1)
+pub written-as : (xs : List (Message edits)) (i : ℕ) (b : List ℕ) → getElem? (map messageBytes xs) i ≡ some b → (P : Message edits → Type 0) → All P xs
+    → (x : Message edits) × (getElem? xs i ≡ some x) × (b ≡ messageBytes x) × P x
+written-as [] i b e P a = absurd (let z : _≡_ {A = ℕ} 0 1 = cc in omega arith)
+written-as (x ∷ xs) zero b e P a = (x, refl, some-eq b (messageBytes x) (sym e), a .0)
+written-as (x ∷ xs) (suc i) b e P a = written-as xs i b e P (a .1)
 
 pub unread : (r : Read) → unreadable r ≡ true → r ≡ read.Refused
 unread read.Refused e = refl
@@ -433,21 +432,21 @@ module _ (n : ℕ) (items : List ℕ) {from : Moment} (s : State ours) (sim : Si
   takes-at : (a i : ℕ) → a ≤ n → (b : List ℕ) → getElem? (s .messages) i ≡ some b → Sim n items from (answered ours s a (receive a i) (ours .take (s .ends a) b))
   unfolding takeClient takeServer logged refusedLog
   takes-at a i hi b e =
-      let m = lettered (s .recorded .letters) i b (ap (λ (ms : List (List ℕ)). getElem? ms i) (sym (sim .messages)) ∙ e) (LetterOk n items (sim .E) (s .recorded .history)) (sim .letters) in
+      let m = written-as (s .recorded .messages) i b (ap (λ (ms : List (List ℕ)). getElem? ms i) (sym (sim .messages)) ∙ e) (MessageOk n items (sim .E) (s .recorded .history)) (sim .written) in
       go a hi (m .0) (m .1) (m .2) (m .3)
     where
-      go : (a : ℕ) → a ≤ n → (x : Letter edits) → getElem? (s .recorded .letters) i ≡ some x → b ≡ letterBytes x → LetterOk n items (sim .E) (s .recorded .history) x
+      go : (a : ℕ) → a ≤ n → (x : Message edits) → getElem? (s .recorded .messages) i ≡ some x → b ≡ messageBytes x → MessageOk n items (sim .E) (s .recorded .history) x
           → Sim n items from (answered ours s a (receive a i) (ours .take (s .ends a) b))
       go zero hi x is same ok =
           let S = serverFrom n (length items) (sim .E .doc) (sim .E .lines) (sim .si) in
           subst (λ (e : End). Sim n items from (answered ours s 0 (receive 0 i) (ours .take e b))) (sym (sim .server-is))
-          (subst (λ (r : Read). Sim n items from (answered ours s 0 (receive 0 i) (answerAs server (serverReads S r)))) (sym (ap parsed same ∙ codec .written-read (letterMessage x) (ok .1)))
-          (serve-letter n items s sim (receive 0 i) x ok (ap (took (s .recorded) 0) is) refl))
+          (subst (λ (r : Read). Sim n items from (answered ours s 0 (receive 0 i) (answerAs server (serverReads S r)))) (sym (ap parsed same ∙ codec .written-read (wireMessage x) (ok .1)))
+          (serve-message n items s sim (receive 0 i) x ok (ap (took (s .recorded) 0) is) refl))
       go (suc a) hi x is same ok =
           let C = clientFrom n (suc a) (sim .E .clients (suc a)) (sim .E .docs (suc a)) (sim .ci (suc a)) in
           subst (λ (e : End). Sim n items from (answered ours s (suc a) (receive (suc a) i) (ours .take e b))) (sym (sim .client-is (suc a) (omega arith) hi))
-          (subst (λ (r : Read). Sim n items from (answered ours s (suc a) (receive (suc a) i) (answerAs client (clientReads C r)))) (sym (ap parsed same ∙ codec .written-read (letterMessage x) (ok .1)))
-          (take-letter n items s sim (suc a) (omega arith) hi (receive (suc a) i) x ok (ap (took (s .recorded) (suc a)) is) refl))
+          (subst (λ (r : Read). Sim n items from (answered ours s (suc a) (receive (suc a) i) (answerAs client (clientReads C r)))) (sym (ap parsed same ∙ codec .written-read (wireMessage x) (ok .1)))
+          (take-message n items s sim (suc a) (omega arith) hi (receive (suc a) i) x ok (ap (took (s .recorded) (suc a)) is) refl))
 
   junks-at : (a : ℕ) (bytes : List ℕ) → a ≤ n → parsed bytes ≡ read.Refused → Sim n items from (answered ours s a (junk a bytes) (ours .take (s .ends a) bytes))
   unfolding takeClient takeServer refusedLog

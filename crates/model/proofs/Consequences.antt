@@ -11,7 +11,7 @@ use Rattle.jupiter.specs.Form.{grown, listAt, replay}
 use Rattle.jupiter.specs.History.{History, order}
 use Rattle.jupiter.specs.Ends.{Ends}
 use Rattle.jupiter.specs.Run as theory
-use Rattle.jupiter.specs.Run.{Letter, up, down, upAck, downAck}
+use Rattle.jupiter.specs.Run.{Message, up, down, upAck, downAck}
 use Rattle.jupiter.specs.Claims.{Who, SameSet, docOf}
 use Rattle.jupiter.specs.Claims as claims
 use Rattle.jupiter.proofs.Step.{Later}
@@ -22,7 +22,7 @@ use Rattle.jupiter.proofs.Consistency as theorem
 use Rattle.model.specs.Questions.{Question, asks}
 use Rattle.model.specs.Edits.{edits}
 use Rattle.model.specs.Sheet.{Sheet, Call, insert, delete, send, tell, receive, junk}
-use Rattle.model.specs.Log.{Log, log, letterBytes}
+use Rattle.model.specs.Log.{Log, log, messageBytes}
 use Rattle.model.specs.Numbers.{next, taking, handing, number}
 use Rattle.model.specs.Run.{State, callable, handed, handedNumber, call, numberOf, run, start}
 use Rattle.model.specs.Claim.{Holds, Opened, Converges}
@@ -50,7 +50,7 @@ module _ (S T : Sheet) (n : ℕ) where
   -- one call, where both states have the same log
   module _ (s : State S) (t : State T) (hs : Holds S n s) (ht : Holds T n t) (e : s .recorded ≡ t .recorded) where
     same-messages : s .messages ≡ t .messages
-    same-messages = hs .messages ∙ ap (λ (w : Log). map letterBytes (w .letters)) e ∙ sym (ht .messages)
+    same-messages = hs .messages ∙ ap (λ (w : Log). map messageBytes (w .messages)) e ∙ sym (ht .messages)
 
     pub same-number : (c : Call) → callable n c ≡ true → numberOf S s c ≡ numberOf T t c
     same-number c ok = hs .numbers c ok ∙ ap (λ (w : Log). number n w c) e ∙ sym (ht .numbers c ok)
@@ -127,7 +127,7 @@ asked (q ∷ qs) f = go (q .yes) (asked qs (f .1))
     go true rest = rest
     go false rest = f .0
 
-allowed : (n : ℕ) (w : Log) (a : ℕ) (x : Option (Letter edits)) → Allowed (handing n w a x)
+allowed : (n : ℕ) (w : Log) (a : ℕ) (x : Option (Message edits)) → Allowed (handing n w a x)
 unfolding among
 allowed n w a none = refl
 allowed n w a (some (up l m)) = asked (taking n w a (up l m)) (refl, (refl, (refl, (refl, (refl, tt)))))
@@ -139,7 +139,7 @@ pub refusals : (S : Sheet) → Converges S → TakingRefusals S
 unfolding number callable
 refusals S c n items o calls a i hi =
     let s = after S n items calls in
-    subst Allowed (sym (c .holds n items o calls .numbers (receive a i) (le-leb a n hi))) (allowed n (s .recorded) a (getElem? (s .recorded .letters) i))
+    subst Allowed (sym (c .holds n items o calls .numbers (receive a i) (le-leb a n hi))) (allowed n (s .recorded) a (getElem? (s .recorded .messages) i))
 
 -- ---- consistency of ours
 
@@ -150,7 +150,7 @@ who (suc a) = claims.client (suc a)
 
 -- the theory's state: every line is there from the opening
 abbrev stateOf : Moment → theory.State edits
-stateOf m = record { ends = m .ends; history = m .history; letters = []; start = λ l. 0 }
+stateOf m = record { ends = m .ends; history = m .history; messages = []; start = λ l. 0 }
 
 reached : {n : ℕ} {items : List ℕ} {from : Moment} {s : State ours} (sim : Sim n items from s) → Reached items (stateOf (present sim))
 unfolding replay listAt grown

@@ -20,7 +20,7 @@ use Rattle.model.specs.Client.{Client, noClient, openClientQuestions, op
 use Rattle.model.specs.Server.{Line, Server, noLine, noServer, soundServer, openServerQuestions, openServer}
 use Rattle.model.specs.Edits.{edits}
 use Rattle.model.specs.Sheet.{Call}
-use Rattle.model.specs.Log.{editLetter, letterBytes}
+use Rattle.model.specs.Log.{editMessage, messageBytes}
 use Rattle.model.specs.Run.{State, callable, call, run, start}
 use Rattle.model.specs.Claim.{Delivered, Full, OnLine, Holds, Converges}
 use Rattle.model.specs.Ours.{End, client, server, ours}
@@ -59,27 +59,27 @@ module _ (n : ℕ) (items : List ℕ) {from : Moment} (s : State ours) (sim : Si
       let line : LineClaim items h l 0 (E .clients l) (E .lines l) (E .docs l) (E .doc) = counts.line n items s sim l in
       let same = line-from n (length items) (E .doc) (E .lines) (sim .si) l lo hi in
       let here : s .ends l ≡ client C = sim .client-is l lo hi in
-      let hub : s .ends 0 ≡ server S = sim .server-is in
+      let base : s .ends 0 ≡ server S = sim .server-is in
       let cm : ours .made (s .ends l) l ≡ E .clients l .made = ap (λ (e : End). ours .made e l) here in
       let ct : ours .taken (s .ends l) l ≡ E .clients l .taken = ap (λ (e : End). ours .taken e l) here in
-      let sm : ours .made (s .ends 0) l ≡ E .lines l .made = ap (λ (e : End). ours .made e l) hub ∙ ap (λ (v : Line). v .made) same in
-      let st : ours .taken (s .ends 0) l ≡ E .lines l .taken = ap (λ (e : End). ours .taken e l) hub ∙ ap (λ (v : Line). v .taken) same in
+      let sm : ours .made (s .ends 0) l ≡ E .lines l .made = ap (λ (e : End). ours .made e l) base ∙ ap (λ (v : Line). v .made) same in
+      let st : ours .taken (s .ends 0) l ≡ E .lines l .taken = ap (λ (e : End). ours .taken e l) base ∙ ap (λ (v : Line). v .taken) same in
       record {
         client-made = cm ∙ counts.client-made n items s sim l lo;
         client-taken = ct ∙ counts.client-taken n items s sim l lo;
         server-made = sm ∙ counts.server-made n items s sim l;
         server-taken = st ∙ counts.server-taken n items s sim l;
         meeting = ap (λ (e : End). replay (order h l) (h .applied l) (missing h l) (ours .items e)) here ∙ line .meets
-            ∙ ap (λ (e : End). replay (order h l) (h .served) (h .untaken l) (ours .items e)) (sym hub);
-        equal = λ p q. ap (λ (e : End). ours .items e) here ∙ line .equal (sym cm ∙ p ∙ st) (sym ct ∙ q ∙ sm) ∙ ap (λ (e : End). ours .items e) (sym hub);
+            ∙ ap (λ (e : End). replay (order h l) (h .served) (h .untaken l) (ours .items e)) (sym base);
+        equal = λ p q. ap (λ (e : End). ours .items e) here ∙ line .equal (sym cm ∙ p ∙ st) (sym ct ∙ q ∙ sm) ∙ ap (λ (e : End). ours .items e) (sym base);
         next-down = λ lent enough more.
             let left : E .clients l .taken < E .lines l .made = omega (arith, some-left (missing h l) more, line .count-missing) in
-            subst (λ (e : End). Delivered ours e (s .ends l) l (suc (ours .taken (s .ends l) l)) lent) (sym hub)
-            (subst (λ (e : End). Delivered ours (server S) e l (suc (ours .taken e l)) lent) (sym here) (delivers-down n items s sim few l lo hi left lent (subst (λ (k : ℕ). length (letterBytes (editLetter h 0 l (suc k))) ≤ length lent) ct (enough .1))));
+            subst (λ (e : End). Delivered ours e (s .ends l) l (suc (ours .taken (s .ends l) l)) lent) (sym base)
+            (subst (λ (e : End). Delivered ours (server S) e l (suc (ours .taken e l)) lent) (sym here) (delivers-down n items s sim few l lo hi left lent (subst (λ (k : ℕ). length (messageBytes (editMessage h 0 l (suc k))) ≤ length lent) ct (enough .1))));
         next-up = λ lent enough more free.
             let left : E .lines l .taken < E .clients l .made = omega (arith, some-left (h .untaken l) more, line .count-untaken) in
             subst (λ (e : End). Delivered ours e (s .ends 0) l (suc (ours .taken (s .ends 0) l)) lent) (sym here)
-            (subst (λ (e : End). Delivered ours (client C) e l (suc (ours .taken e l)) lent) (sym hub) (delivers-up n items s sim few l lo hi left (room free) lent (subst (λ (k : ℕ). length (letterBytes (editLetter h l l (suc k))) ≤ length lent) st (enough .1))));
+            (subst (λ (e : End). Delivered ours (client C) e l (suc (ours .taken e l)) lent) (sym base) (delivers-up n items s sim few l lo hi left (room free) lent (subst (λ (k : ℕ). length (messageBytes (editMessage h l l (suc k))) ≤ length lent) st (enough .1))));
       }
     where
       -- question 12 asks what "full" says: 64 above the last seen
@@ -144,7 +144,7 @@ module _ (n : ℕ) (items : List ℕ) (lo : 1 ≤ n) (hi : n ≤ maxLines) (few 
         server-heard = λ l. refl;
         client-heard = λ l a. refl;
         messages = refl;
-        letters = tt;
+        written = tt;
         passed = refl;
         taken = λ l. refl;
         served-lines = tt;

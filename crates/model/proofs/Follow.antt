@@ -15,8 +15,8 @@ use Rattle.jupiter.specs.Form.{form, inOrder}
 use Rattle.jupiter.specs.Point.{blank, own, oth, point}
 use Rattle.jupiter.specs.History.{History, at, order, madeBy, missing, newEdit, afterEdit, serves, applies, afterDown}
 use Rattle.jupiter.specs.Ends as ends
-use Rattle.jupiter.specs.Ends.{Ends, Message, keeps, acks, takes, arrived, editing, takingUp, takingDown, ackingUp, ackingDown}
-use Rattle.jupiter.specs.Run.{Letter}
+use Rattle.jupiter.specs.Ends.{Ends, EditMessage, keeps, acks, takes, arrived, editing, takingUp, takingDown, ackingUp, ackingDown}
+use Rattle.jupiter.specs.Run.{Message}
 use Rattle.jupiter.specs.Claims.{inserts}
 use Rattle.jupiter.proofs.Lists as L
 use Rattle.jupiter.proofs.Lists.{All, all-append, all-map}
@@ -31,12 +31,12 @@ use Rattle.model.specs.Client.{Client, soundClient, edited, clientTaken,
 use Rattle.model.specs.Server.{Server, soundServer, serverTaken, serverAcked}
 use Rattle.model.specs.Edits.{edits}
 use Rattle.model.specs.Log as logs
-use Rattle.model.specs.Log.{Log, letterBytes, setOf, madeAt, hears, tookUp, tookDown, writes}
+use Rattle.model.specs.Log.{Log, messageBytes, setOf, madeAt, hears, tookUp, tookDown, writes}
 use Rattle.model.specs.Run.{State}
 use Rattle.model.specs.Ours.{End, client, server, ours}
 use Rattle.model.proofs.Instance.{to-T, edit-laws, past-same, over-same}
 use Rattle.model.proofs.Small.{Small, small-past, small-over, all-drop}
-use Rattle.model.proofs.Sim.{clientFrom, serverFrom, LetterOk, OfLines, Moment, Sim, at-line, at-other, edited-from, taken-from, server-taken-from, server-acked-from}
+use Rattle.model.proofs.Sim.{clientFrom, serverFrom, MessageOk, OfLines, Moment, Sim, at-line, at-other, edited-from, taken-from, server-taken-from, server-acked-from}
 
 -- what passes a test, passes it
 selected : (p : Made edits → Bool) (xs : List (Made edits)) → All (λ x. p x ≡ true) (select p xs)
@@ -80,7 +80,7 @@ client-count h zero made a e = absurd (omega arith)
 client-count h (suc l) made a e = e
 
 -- the pending edits of an end that takes an edit
-small-taken : (x : Message edits) (v : ends.End edits) → All Small (v .pending) → All Small (takes x v .pending)
+small-taken : (x : EditMessage edits) (v : ends.End edits) → All Small (v .pending) → All Small (takes x v .pending)
 small-taken x v a =
     subst (All Small) (over-same (x .edit) (drop (x .seen - v .acked) (v .pending))) (small-over (x .edit) (drop (x .seen - v .acked) (v .pending)) (all-drop Small (x .seen - v .acked) (v .pending) a))
 
@@ -92,10 +92,10 @@ unheard : (a : ℕ) (f : ℕ → ℕ) (g : ℕ → ℕ → ℕ) (j i : ℕ) → 
 unheard a f g j i h = ap (λ (k : ℕ → ℕ). k i) (at-other a f g j h)
 
 -- every message stays one that can be taken
-letters-later : (n : ℕ) (items : List ℕ) (E E′ : Ends edits) (h h′ : History edits) → Inv items E h → Later E h E′ h′ → (xs : List (Letter edits))
-    → All (LetterOk n items E h) xs → All (LetterOk n items E′ h′) xs
-letters-later n items E E′ h h′ inv f xs ok =
-    all-map (LetterOk n items E h) (LetterOk n items E′ h′) xs (λ x o. (fine-later items E h E′ h′ inv f x (o .0), o .1, o .2)) ok
+messages-later : (n : ℕ) (items : List ℕ) (E E′ : Ends edits) (h h′ : History edits) → Inv items E h → Later E h E′ h′ → (xs : List (Message edits))
+    → All (MessageOk n items E h) xs → All (MessageOk n items E′ h′) xs
+messages-later n items E E′ h h′ inv f xs ok =
+    all-map (MessageOk n items E h) (MessageOk n items E′ h′) xs (λ x o. (fine-later items E h E′ h′ inv f x (o .0), o .1, o .2)) ok
 
 module _ (n : ℕ) (items : List ℕ) {from : Moment} (s : State ours) (sim : Sim n items from s) where
   abbrev w : Log
@@ -124,7 +124,7 @@ module _ (n : ℕ) (items : List ℕ) {from : Moment} (s : State ours) (sim : Si
         server-heard = sim .server-heard;
         client-heard = sim .client-heard;
         messages = sim .messages;
-        letters = sim .letters;
+        written = sim .written;
         passed = ap (λ (ks : List ℕ). ks ++ (0 ∷ [])) (sim .passed);
         taken = sim .taken;
         served-lines = sim .served-lines;
@@ -189,7 +189,7 @@ module _ (n : ℕ) (items : List ℕ) {from : Moment} (s : State ours) (sim : Si
                 at-line (λ i v (x : Unit {0}) (y : Unit {0}) (z : Unit {0}). w .heard i i ≡ v .acked) l (keeps e (E .clients l)) tt tt tt
                 (E .clients) (λ i. tt) (λ i. tt) (λ i. tt) j (sim .client-heard l lo) (sim .client-heard j a);
             messages = sim .messages;
-            letters = letters-later n items E (editing l e E) h (afterEdit l e h) (sim .inv) (step .later) (w .letters) (sim .letters);
+            written = messages-later n items E (editing l e E) h (afterEdit l e h) (sim .inv) (step .later) (w .messages) (sim .written);
             passed = ap (λ (ks : List ℕ). ks ++ (0 ∷ [])) (sim .passed);
             taken = λ j.
                 at-line (λ i xs v (y : Unit {0}) (z : Unit {0}). length (others i xs) ≡ v .taken) l (h .applied l ++ (o ∷ [])) (keeps e (E .clients l)) tt tt
@@ -209,7 +209,7 @@ module _ (n : ℕ) (items : List ℕ) {from : Moment} (s : State ours) (sim : Si
 
     -- ---- a client takes its next edit
 
-    module _ (x : Message edits) (ok : DownMessage items E h l x) (next : x .number ≡ suc (E .clients l .taken)) (cur : E .clients l .acked ≤ x .seen) (sm : Small (x .edit))
+    module _ (x : EditMessage edits) (ok : DownMessage items E h l x) (next : x .number ≡ suc (E .clients l .taken)) (cur : E .clients l .acked ≤ x .seen) (sm : Small (x .edit))
         (sound : soundClient (clientTaken C (x .seen) (x .edit)) ≡ true) where
       down-step : Step items E h (takingDown l x E) (afterDown l h)
       down-step = step-down items E h (sim .inv) l x ok next cur
@@ -267,7 +267,7 @@ module _ (n : ℕ) (items : List ℕ) {from : Moment} (s : State ours) (sim : Si
                 at-line (λ i f v (y : Unit {0}) (z : Unit {0}). f i ≡ v .acked) l (at l (x .seen) (w .heard l)) (takes x (E .clients l)) tt tt
                 (w .heard) (E .clients) (λ i. tt) (λ i. tt) j (at-here l (x .seen) (w .heard l)) (sim .client-heard j a);
             messages = sim .messages;
-            letters = letters-later n items E (takingDown l x E) h (afterDown l h) (sim .inv) (down-step .later) (w .letters) (sim .letters);
+            written = messages-later n items E (takingDown l x E) h (afterDown l h) (sim .inv) (down-step .later) (w .messages) (sim .written);
             passed = ap₂ (λ (ks : List ℕ) (k : ℕ). ks ++ ((k - x .seen) ∷ [])) (sim .passed) (client-count h l (E .clients l .made) lo (line .c-made ∙ ap length (mine-served l (h .served) (h .untaken l) (sim .inv .lines l .untaken-own)) ∙ length-append (mine l (h .served)) (h .untaken l)));
             taken = λ j.
                 subst (λ (es : List (Made edits)). length (others j (applies l es h .applied j)) ≡ at l (takes x (E .clients l)) (E .clients) j .taken) (sym missing-first)
@@ -289,7 +289,7 @@ module _ (n : ℕ) (items : List ℕ) {from : Moment} (s : State ours) (sim : Si
     S = serverFrom n (length items) (E .doc) (E .lines) (sim .si)
 
     -- the message's edit is the first that the server lacks
-    pub first-inserts : (x : Message edits) → UpMessage items E h l x → x .number ≡ suc (E .lines l .taken) → (o : Made edits) (us : List (Made edits)) → h .untaken l ≡ o ∷ us
+    pub first-inserts : (x : EditMessage edits) → UpMessage items E h l x → x .number ≡ suc (E .lines l .taken) → (o : Made edits) (us : List (Made edits)) → h .untaken l ≡ o ∷ us
         → insertsOf (x .edit) ≡ insertsOf (o .edit)
     first-inserts x ok next o us split =
         let o-by : isBy l o ≡ true = subst (λ (r : List (Made edits)). All (λ y. isBy l y ≡ true) r) split (sim .inv .lines l .untaken-own) .0 in
@@ -300,7 +300,7 @@ module _ (n : ℕ) (items : List ℕ) {from : Moment} (s : State ours) (sim : Si
         ∙ ap (λ (r : List (Made edits)). getD r (length (mine l (h .served))) blank) (L.select-in (isBy l) blank (h .served) o us o-by)
         ∙ getD-append-seam (mine l (h .served)) o (mine l us) blank)
 
-    module _ (x : Message edits) (ok : UpMessage items E h l x) (next : x .number ≡ suc (E .lines l .taken)) (cur : E .lines l .acked ≤ x .seen) (sm : Small (x .edit))
+    module _ (x : EditMessage edits) (ok : UpMessage items E h l x) (next : x .number ≡ suc (E .lines l .taken)) (cur : E .lines l .acked ≤ x .seen) (sm : Small (x .edit))
         (sound : soundServer (serverTaken S l (x .seen) (x .edit)) ≡ true) where
       abbrev up-line : LineAt items l (order h l) (h .served) (h .applied l) (E .clients l) (E .lines l) (E .docs l)
       up-line = sim .inv .lines l .line
@@ -337,7 +337,7 @@ module _ (n : ℕ) (items : List ℕ) {from : Moment} (s : State ours) (sim : Si
             history = serves l (o ∷ us) h;
             shown = logs.shows w 0 (logs.first (o ∷ us));
             heard = logs.hearing w 0 l (x .seen);
-            letters = w .letters;
+            messages = w .messages;
             passed = w .passed ++ ((madeAt h 0 l - x .seen) ∷ []);
           };
         })
@@ -360,7 +360,7 @@ module _ (n : ℕ) (items : List ℕ) {from : Moment} (s : State ours) (sim : Si
                   at-line (λ i k v (y : Unit {0}) (z : Unit {0}). k ≡ v .acked) l (x .seen) (takes x (E .lines l)) tt tt (w .heard 0) (λ k. keeps a (E .lines k)) (λ i. tt) (λ i. tt) j
                   refl (sim .server-heard j);
               messages = sim .messages;
-              letters = letters-later n items E (takingUp l x E) h (serves l (o ∷ us) h) (sim .inv) (up-step .later) (w .letters) (sim .letters);
+              written = messages-later n items E (takingUp l x E) h (serves l (o ∷ us) h) (sim .inv) (up-step .later) (w .messages) (sim .written);
               passed =
                   ap₂ (λ (ks : List ℕ) (k : ℕ). ks ++ ((k - x .seen) ∷ [])) (sim .passed)
                   (up-line .v-made ∙ ap length (others-served l (h .served) (h .untaken l) (sim .inv .lines l .untaken-own)));
@@ -410,7 +410,7 @@ module _ (n : ℕ) (items : List ℕ) {from : Moment} (s : State ours) (sim : Si
               history = serves l r h;
               shown = logs.shows w 0 (logs.first r);
               heard = logs.hearing w 0 l (x .seen);
-              letters = w .letters;
+              messages = w .messages;
               passed = w .passed ++ ((madeAt h 0 l - x .seen) ∷ []);
             };
           }))
@@ -450,7 +450,7 @@ module _ (n : ℕ) (items : List ℕ) {from : Moment} (s : State ours) (sim : Si
                 at-line (λ i f v (y : Unit {0}) (z : Unit {0}). f i ≡ v .acked) l (at l seen (w .heard l)) (acks seen (E .clients l)) tt tt
                 (w .heard) (E .clients) (λ i. tt) (λ i. tt) j (at-here l seen (w .heard l)) (sim .client-heard j a);
             messages = sim .messages;
-            letters = letters-later n items E (ackingDown l seen E) h h (sim .inv) (acked-down .later) (w .letters) (sim .letters);
+            written = messages-later n items E (ackingDown l seen E) h h (sim .inv) (acked-down .later) (w .messages) (sim .written);
             passed = ap (λ (ks : List ℕ). ks ++ (0 ∷ [])) (sim .passed);
             taken = λ j.
                 at-line (λ i v (y : Unit {0}) (d : Unit {0}) (k : Unit {0}). length (others i (h .applied i)) ≡ v .taken) l (acks seen (E .clients l)) tt tt tt
@@ -491,7 +491,7 @@ module _ (n : ℕ) (items : List ℕ) {from : Moment} (s : State ours) (sim : Si
             server-heard = λ j.
                 at-line (λ i k v (y : Unit {0}) (z : Unit {0}). k ≡ v .acked) l seen (acks seen (E .lines l)) tt tt (w .heard 0) (E .lines) (λ i. tt) (λ i. tt) j refl (sim .server-heard j);
             messages = sim .messages;
-            letters = letters-later n items E (ackingUp l seen E) h h (sim .inv) (acked-up .later) (w .letters) (sim .letters);
+            written = messages-later n items E (ackingUp l seen E) h h (sim .inv) (acked-up .later) (w .messages) (sim .written);
             passed = ap (λ (ks : List ℕ). ks ++ (0 ∷ [])) (sim .passed);
             taken = sim .taken;
             served-lines = sim .served-lines;
@@ -504,8 +504,8 @@ module _ (n : ℕ) (items : List ℕ) {from : Moment} (s : State ours) (sim : Si
           }
 
   -- ---- a message is written
-  pub writes-on : (x : Letter edits) → LetterOk n items (sim .E) h x
-      → Sim n items from (record { ends = s .ends; messages = s .messages ++ (letterBytes x ∷ []); passed = s .passed; recorded = writes w x })
+  pub writes-on : (x : Message edits) → MessageOk n items (sim .E) h x
+      → Sim n items from (record { ends = s .ends; messages = s .messages ++ (messageBytes x ∷ []); passed = s .passed; recorded = writes w x })
   writes-on x ok =
       record {
         E = sim .E;
@@ -521,8 +521,8 @@ module _ (n : ℕ) (items : List ℕ) {from : Moment} (s : State ours) (sim : Si
         client-shown = sim .client-shown;
         server-heard = sim .server-heard;
         client-heard = sim .client-heard;
-        messages = ap (λ (ms : List (List ℕ)). ms ++ (letterBytes x ∷ [])) (sim .messages) ∙ sym (map-append letterBytes (w .letters) (x ∷ []));
-        letters = all-append (LetterOk n items (sim .E) h) (w .letters) (x ∷ []) (sim .letters) (ok, tt);
+        messages = ap (λ (ms : List (List ℕ)). ms ++ (messageBytes x ∷ [])) (sim .messages) ∙ sym (map-append messageBytes (w .messages) (x ∷ []));
+        written = all-append (MessageOk n items (sim .E) h) (w .messages) (x ∷ []) (sim .written) (ok, tt);
         passed = sim .passed;
         taken = sim .taken;
         served-lines = sim .served-lines;

@@ -23,7 +23,7 @@ use Rattle.jupiter.specs.Made.{mine}
 use Rattle.jupiter.specs.History.{History, order}
 use Rattle.jupiter.specs.Ends as ends
 use Rattle.jupiter.specs.Ends.{Ends}
-use Rattle.jupiter.specs.Run.{Letter, up, down, upAck, downAck}
+use Rattle.jupiter.specs.Run.{Message, up, down, upAck, downAck}
 use Rattle.jupiter.specs.Claims.{inserts}
 use Rattle.jupiter.proofs.Lists.{All}
 use Rattle.jupiter.proofs.Step.{DownMessage}
@@ -34,16 +34,16 @@ use Rattle.model.specs.Client.{Client, soundClient, edited, editQuestion
 use Rattle.model.specs.Server.{Line, Server, lineOf, soundServer, serverMessage, sendServerQuestions, sendServer, tellServerQuestions, tellServer, serverTaken, serverAcked, othersRoomy, serverEditQuestions, serverTakesEdit, serverAckQuestions, serverTakesAck, serverTakes, serverReads, takeServer}
 use Rattle.model.specs.Edits.{edits}
 use Rattle.model.specs.Sheet.{Call, insert, delete, send, tell, receive, junk}
-use Rattle.model.specs.Log.{Log, letterMessage, letterBytes, madeAt, takenAt, editLetter}
+use Rattle.model.specs.Log.{Log, wireMessage, messageBytes, madeAt, takenAt, editMessage}
 use Rattle.model.specs.Numbers.{pendingAt, roomOn, allBut, editing, sending, telling, taking, handing, number}
 use Rattle.model.specs.Run.{State, callable, areBytes, unreadable, handedNumber, numberOf}
 use Rattle.model.specs.Ours.{End, client, server, ours}
 use Rattle.model.proofs.Tests.{Alike, alike, never, both, and-left, and-right, between-true, true-between}
 use Rattle.model.proofs.Sound.{three}
-use Rattle.model.proofs.Sim.{clientFrom, serverFrom, lineFrom, line-from, Lined, LetterOk, Moment, Sim}
+use Rattle.model.proofs.Sim.{clientFrom, serverFrom, lineFrom, line-from, Lined, MessageOk, Moment, Sim}
 use Rattle.model.proofs.Counts.{client-made, client-taken, server-made, server-taken}
 use Rattle.model.proofs.Rooms.{same-room}
-use Rattle.model.proofs.Calls.{client-message, server-message, lettered, unread, up-is, up-bytes, down-is, down-bytes}
+use Rattle.model.proofs.Calls.{client-message, server-message, written-as, unread, up-is, up-bytes, down-is, down-bytes}
 use Rattle.model.proofs.Next.{down-8, down-9, up-8, up-9, up-10}
 
 -- the number of an answer
@@ -117,21 +117,21 @@ module _ (n : ℕ) (items : List ℕ) {from : Moment} (s : State ours) (sim : Si
         Alike.same (λ i. between (heard-on k own i + 1) (made-is i) number) (λ y13.
         let in-it = between-true (c .acked + 1) (c .made) number y13 in
         let low : c .acked < number = omega arith in
-        Alike.same (ap (λ (b : List ℕ). leb (length b) (length lent)) (up-bytes n items s sim l lo hi number low (in-it .1) ∙ ap letterBytes (sym (up-is n items s sim l lo hi number low (in-it .1) k))))
+        Alike.same (ap (λ (b : List ℕ). leb (length b) (length lent)) (up-bytes n items s sim l lo hi number low (in-it .1) ∙ ap messageBytes (sym (up-is n items s sim l lo hi number low (in-it .1) k))))
         (λ y14. Alike.done)))))
 
     client-tells : (k : ℕ) (lent : List ℕ) → asks (tellClientQuestions C k lent) ≡ asks (telling n l k lent)
     client-tells k lent = alike (tellClientQuestions C k lent) (telling n l k lent) (Alike.over (sim .client-sound l lo hi) (Alike.same refl (λ y4. Alike.same refl (λ y14. Alike.done))))
 
     -- question 4: an edit that goes down on this line is another client's
-    own-edit : (k : ℕ) (m : ends.Message edits) → Lined n (down k m) → (eqb k l && priority (other n l) (m .edit)) ≡ eqb k l
+    own-edit : (k : ℕ) (m : ends.EditMessage edits) → Lined n (down k m) → (eqb k l && priority (other n l) (m .edit)) ≡ eqb k l
     own-edit k m ok = go (eqb k l) refl
       where
         go : (b : Bool) → eqb k l ≡ b → (b && priority (other n l) (m .edit)) ≡ b
         go true e = subst (λ (i : ℕ). priority (other n i) (m .edit) ≡ true) (eqb-true k l e) (ok .2)
         go false e = refl
 
-    client-takes : (x : Letter edits) → LetterOk n items E h x → clientTakes C (letterMessage x) .refusal ≡ asks (taking n w l x)
+    client-takes : (x : Message edits) → MessageOk n items E h x → clientTakes C (wireMessage x) .refusal ≡ asks (taking n w l x)
     unfolding clientTakesEdit clientTakesAck takenAt
     client-takes (up k m) ok =
         let hd : Header = record { line = k; direction = 0; number = m .number; seen = m .seen } in
@@ -191,13 +191,13 @@ module _ (n : ℕ) (items : List ℕ) {from : Moment} (s : State ours) (sim : Si
       let low : E .lines k .acked < number = subst (λ (v : Line). v .acked < number) same (omega arith) in
       let high : number ≤ E .lines k .made = subst (λ (v : Line). number ≤ v .made) same (in-it .1) in
       Alike.same (ap (λ (b : List ℕ). leb (length b) (length lent))
-      (down-bytes n items s sim k (there .0) (there .1) number low high ∙ ap letterBytes (sym (down-is n items s sim k (there .0) (there .1) number low high))))
+      (down-bytes n items s sim k (there .0) (there .1) number low high ∙ ap messageBytes (sym (down-is n items s sim k (there .0) (there .1) number low high))))
       (λ y14. Alike.done)))))
 
   server-tells : (k : ℕ) (lent : List ℕ) → asks (tellServerQuestions S k lent) ≡ asks (telling n 0 k lent)
   server-tells k lent = alike (tellServerQuestions S k lent) (telling n 0 k lent) (Alike.over (sim .server-sound) (Alike.same refl (λ y4. Alike.same refl (λ y14. Alike.done))))
 
-  server-takes : (x : Letter edits) → LetterOk n items E h x → serverTakes S (letterMessage x) .refusal ≡ asks (taking n w 0 x)
+  server-takes : (x : Message edits) → MessageOk n items E h x → serverTakes S (wireMessage x) .refusal ≡ asks (taking n w 0 x)
   unfolding serverTakesEdit serverTakesAck
   server-takes (up k m) ok =
       let hd : Header = record { line = k; direction = 0; number = m .number; seen = m .seen } in
@@ -249,13 +249,13 @@ module _ (n : ℕ) (items : List ℕ) {from : Moment} (s : State ours) (sim : Si
       ap (λ (e : End). ours .tell e l lent .refusal) (sim .client-is (suc a) (omega arith) hi)
       ∙ sent-is (asks (tellClientQuestions (C a hi) l lent)) (bytesOf (message.Ack (suc a) 0 (E .clients (suc a) .taken))) lent ∙ client-tells a hi l lent
 
-  takes-at : (a : ℕ) → a ≤ n → (x : Letter edits) → LetterOk n items E h x → ours .take (s .ends a) (letterBytes x) .refusal ≡ asks (taking n w a x)
+  takes-at : (a : ℕ) → a ≤ n → (x : Message edits) → MessageOk n items E h x → ours .take (s .ends a) (messageBytes x) .refusal ≡ asks (taking n w a x)
   unfolding takeClient takeServer
   takes-at zero hi x ok =
-      ap (λ (e : End). ours .take e (letterBytes x) .refusal) (sim .server-is) ∙ ap (λ (r : Read). serverReads S r .refusal) (codec .written-read (letterMessage x) (ok .1)) ∙ server-takes x ok
+      ap (λ (e : End). ours .take e (messageBytes x) .refusal) (sim .server-is) ∙ ap (λ (r : Read). serverReads S r .refusal) (codec .written-read (wireMessage x) (ok .1)) ∙ server-takes x ok
   takes-at (suc a) hi x ok =
-      ap (λ (e : End). ours .take e (letterBytes x) .refusal) (sim .client-is (suc a) (omega arith) hi)
-      ∙ ap (λ (r : Read). clientReads (C a hi) r .refusal) (codec .written-read (letterMessage x) (ok .1)) ∙ client-takes a hi x ok
+      ap (λ (e : End). ours .take e (messageBytes x) .refusal) (sim .client-is (suc a) (omega arith) hi)
+      ∙ ap (λ (r : Read). clientReads (C a hi) r .refusal) (codec .written-read (wireMessage x) (ok .1)) ∙ client-takes a hi x ok
 
   junk-at : (a : ℕ) (bytes : List ℕ) → a ≤ n → parsed bytes ≡ read.Refused → ours .take (s .ends a) bytes .refusal ≡ 3
   unfolding takeClient takeServer
@@ -266,12 +266,12 @@ module _ (n : ℕ) (items : List ℕ) {from : Moment} (s : State ours) (sim : Si
       ap (λ (d : End). ours .take d bytes .refusal) (sim .client-is (suc a) (omega arith) hi) ∙ ap (λ (r : Read). clientReads (C a hi) r .refusal) e
       ∙ refusal-is (asks (ask 2 (soundClient (C a hi)) ∷ ask 3 false ∷ [])) (C a hi) (C a hi) 0 ∙ rw (sim .client-sound (suc a) (omega arith) hi)
 
-  -- a message of the list, and the letter that it is of
-  hands-at : (a i : ℕ) → a ≤ n → handedNumber ours s a (getElem? (s .messages) i) ≡ handing n w a (getElem? (w .letters) i)
+  -- a message of the list, and the message that it is of
+  hands-at : (a i : ℕ) → a ≤ n → handedNumber ours s a (getElem? (s .messages) i) ≡ handing n w a (getElem? (w .messages) i)
   hands-at a i hi =
-      ap (λ (ms : List (List ℕ)). handedNumber ours s a (getElem? ms i)) (sim .messages) ∙ go (w .letters) i (sim .letters)
+      ap (λ (ms : List (List ℕ)). handedNumber ours s a (getElem? ms i)) (sim .messages) ∙ go (w .messages) i (sim .written)
     where
-      go : (xs : List (Letter edits)) (i : ℕ) → All (LetterOk n items E h) xs → handedNumber ours s a (getElem? (map letterBytes xs) i) ≡ handing n w a (getElem? xs i)
+      go : (xs : List (Message edits)) (i : ℕ) → All (MessageOk n items E h) xs → handedNumber ours s a (getElem? (map messageBytes xs) i) ≡ handing n w a (getElem? xs i)
       go [] i ok = refl
       go (x ∷ xs) zero ok = takes-at a hi x (ok .0)
       go (x ∷ xs) (suc i) ok = go xs i (ok .1)
@@ -292,9 +292,9 @@ module _ (n : ℕ) (items : List ℕ) {from : Moment} (s : State ours) (sim : Si
       let t = three (leb a n) (areBytes bytes) (unreadable (parsed bytes)) ok in
       junk-at a bytes (leb-true a n (t .0)) (unread (parsed bytes) (t .2))
 
-  pub reads-back : map parsed (s .messages) ≡ map (λ x. read.Message (letterMessage x)) (w .letters)
-  reads-back = ap (map parsed) (sim .messages) ∙ go (w .letters) (sim .letters)
+  pub reads-back : map parsed (s .messages) ≡ map (λ x. read.Message (wireMessage x)) (w .messages)
+  reads-back = ap (map parsed) (sim .messages) ∙ go (w .messages) (sim .written)
     where
-      go : (xs : List (Letter edits)) → All (LetterOk n items E h) xs → map parsed (map letterBytes xs) ≡ map (λ x. read.Message (letterMessage x)) xs
+      go : (xs : List (Message edits)) → All (MessageOk n items E h) xs → map parsed (map messageBytes xs) ≡ map (λ x. read.Message (wireMessage x)) xs
       go [] ok = refl
-      go (x ∷ xs) ok = ap₂ _∷_ (codec .written-read (letterMessage x) (ok .0 .1)) (go xs (ok .1))
+      go (x ∷ xs) ok = ap₂ _∷_ (codec .written-read (wireMessage x) (ok .0 .1)) (go xs (ok .1))

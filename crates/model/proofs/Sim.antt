@@ -14,8 +14,8 @@ use Rattle.wire.specs.Message.{inRange}
 use Rattle.jupiter.specs.Made.{Made, mine, others}
 use Rattle.jupiter.specs.History.{History, at, order}
 use Rattle.jupiter.specs.Ends as ends
-use Rattle.jupiter.specs.Ends.{Ends, Message, keeps, acks, takes, arrived}
-use Rattle.jupiter.specs.Run.{Letter, up, down, upAck, downAck}
+use Rattle.jupiter.specs.Ends.{Ends, EditMessage, keeps, acks, takes, arrived}
+use Rattle.jupiter.specs.Run.{Message, up, down, upAck, downAck}
 use Rattle.jupiter.specs.Claims.{inserts}
 use Rattle.jupiter.proofs.Lists.{All}
 use Rattle.jupiter.proofs.World.{Inv}
@@ -25,7 +25,7 @@ use Rattle.model.specs.Cross.{past, priority, insertsOf}
 use Rattle.model.specs.Client.{Client, soundClient, other, edited, clientTaken, clientAcked}
 use Rattle.model.specs.Server.{Line, Server, noLine, lineOf, soundServer, unackedOf, carried, lineTaken, lineKeeps, lineAcked, atPlace, serverTaken, serverAcked}
 use Rattle.model.specs.Edits.{edits}
-use Rattle.model.specs.Log.{letterMessage, letterBytes}
+use Rattle.model.specs.Log.{wireMessage, messageBytes}
 use Rattle.model.specs.Run.{State}
 use Rattle.model.specs.Ours.{End, client, server, ours}
 use Rattle.model.proofs.Table.{table, table-cong, table-get, table-at, cond-ne}
@@ -44,15 +44,15 @@ abbrev pub serverFrom : ℕ → ℕ → List ℕ → (ℕ → ends.End edits) �
 serverFrom n initial items vs is = record { n = n; initial = initial; items = items; lines = table (λ j. lineFrom (vs j) (is j)) 1 n }
 
 -- it goes on a line that there is, and an insert has a priority that question 4 lets through at the end it goes to
-abbrev pub Lined : ℕ → Letter edits → Type 0
+abbrev pub Lined : ℕ → Message edits → Type 0
 Lined n (up l m) = (1 ≤ l) × (l ≤ n) × (priority (eqb l) (m .edit) ≡ true)
 Lined n (down l m) = (1 ≤ l) × (l ≤ n) × (priority (other n l) (m .edit) ≡ true)
 Lined n (upAck l seen) = (1 ≤ l) × (l ≤ n)
 Lined n (downAck l seen) = (1 ≤ l) × (l ≤ n)
 
 -- a message that was written: it can be taken at any time, and its fields are in range
-abbrev pub LetterOk : ℕ → List ℕ → Ends edits → History edits → Letter edits → Type 0
-LetterOk n items E h x = Fine items E h x × (inRange (letterMessage x) ≡ true) × Lined n x
+abbrev pub MessageOk : ℕ → List ℕ → Ends edits → History edits → Message edits → Type 0
+MessageOk n items E h x = Fine items E h x × (inRange (wireMessage x) ≡ true) × Lined n x
 
 abbrev pub OfLines : ℕ → Made edits → Type 0
 OfLines n e = (1 ≤ e .name .line) × (e .name .line ≤ n)
@@ -78,8 +78,8 @@ pub record Sim (n : ℕ) (items : List ℕ) (from : Moment) (s : State ours) : T
   pub client-shown : (l : ℕ) → 1 ≤ l → l ≤ n → s .recorded .shown l ≡ E .docs l
   pub server-heard : (l : ℕ) → s .recorded .heard 0 l ≡ E .lines l .acked
   pub client-heard : (l : ℕ) → 1 ≤ l → s .recorded .heard l l ≡ E .clients l .acked
-  pub messages : s .messages ≡ map letterBytes (s .recorded .letters)
-  pub letters : All (LetterOk n items E (s .recorded .history)) (s .recorded .letters)
+  pub messages : s .messages ≡ map messageBytes (s .recorded .messages)
+  pub written : All (MessageOk n items E (s .recorded .history)) (s .recorded .messages)
   pub passed : s .passed ≡ s .recorded .passed
   pub taken : (l : ℕ) → length (others l (s .recorded .history .applied l)) ≡ E .clients l .taken
   pub served-lines : All (OfLines n) (s .recorded .history .served)
@@ -109,7 +109,7 @@ from-here {s = s} sim =
       server-heard = sim .server-heard;
       client-heard = sim .client-heard;
       messages = sim .messages;
-      letters = sim .letters;
+      written = sim .written;
       passed = sim .passed;
       taken = sim .taken;
       served-lines = sim .served-lines;
@@ -136,7 +136,7 @@ at-other l v f j h = cond-ne l j v (f j) h
 pub edited-from : (n l : ℕ) (v : ends.End edits) (items : List ℕ) (i : ℕ) (e : Edit) → edited (clientFrom n l v items i) e ≡ clientFrom n l (keeps e v) (applied e items) (i + insertsOf e)
 edited-from n l v items i e = rw (add-one (v .made))
 
-pub taken-from : (n l : ℕ) (v : ends.End edits) (items : List ℕ) (i : ℕ) (x : Message edits)
+pub taken-from : (n l : ℕ) (v : ends.End edits) (items : List ℕ) (i : ℕ) (x : EditMessage edits)
     → clientTaken (clientFrom n l v items i) (x .seen) (x .edit) ≡ clientFrom n l (takes x v) (applied (arrived x v) items) i
 taken-from n l v items i x =
     rw (add-one (v .taken), past-same (x .edit) (drop (x .seen - v .acked) (v .pending)), over-same (x .edit) (drop (x .seen - v .acked) (v .pending)))
@@ -151,12 +151,12 @@ line-from n initial items vs is l a b =
     let f : ℕ → Line = λ j. lineFrom (vs j) (is j) in
     table-get f noLine 1 n (l - 1) (omega arith) ∙ ap f (omega arith)
 
-pub carried-from : (n initial : ℕ) (items : List ℕ) (vs : ℕ → ends.End edits) (is : ℕ → ℕ) (l : ℕ) → 1 ≤ l → l ≤ n → (x : Message edits)
+pub carried-from : (n initial : ℕ) (items : List ℕ) (vs : ℕ → ends.End edits) (is : ℕ → ℕ) (l : ℕ) → 1 ≤ l → l ≤ n → (x : EditMessage edits)
     → carried (serverFrom n initial items vs is) l (x .seen) (x .edit) ≡ arrived x (vs l)
 carried-from n initial items vs is l a b x =
     ap (λ (v : Line). past (x .edit) (unackedOf v (x .seen))) (line-from n initial items vs is l a b) ∙ past-same (x .edit) (drop (x .seen - vs l .acked) (vs l .pending))
 
-pub server-taken-from : (n initial : ℕ) (items : List ℕ) (vs : ℕ → ends.End edits) (is : ℕ → ℕ) (l : ℕ) → 1 ≤ l → l ≤ n → (x : Message edits)
+pub server-taken-from : (n initial : ℕ) (items : List ℕ) (vs : ℕ → ends.End edits) (is : ℕ → ℕ) (l : ℕ) → 1 ≤ l → l ≤ n → (x : EditMessage edits)
     → serverTaken (serverFrom n initial items vs is) l (x .seen) (x .edit)
     ≡ serverFrom n initial (applied (arrived x (vs l)) items) (at l (takes x (vs l)) (λ k. keeps (arrived x (vs l)) (vs k))) (at l (is l + insertsOf (x .edit)) is)
 server-taken-from n initial items vs is l a b x =

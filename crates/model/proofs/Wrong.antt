@@ -8,7 +8,7 @@ use lib.Dec.{ltb}
 use lib.ListN.{take}
 use borrow.Author.Tests.{ltb-true}
 use Rattle.model.specs.Questions.{Sent}
-use Rattle.model.specs.Log.{letterMessage, editLetter}
+use Rattle.model.specs.Log.{wireMessage, editMessage}
 use Rattle.model.specs.Sheet.{Sheet, Call, insert, delete, send, tell, receive, junk}
 use Rattle.model.specs.Run.{State, run, start}
 use Rattle.model.specs.Claim.{Delivered, Enough, Opened, Holds, Converges, Full}
@@ -71,7 +71,7 @@ differ a b l e = omega (arith, ltb-true a b l)
 -- 14 bytes are enough for any message
 enough : (S : Sheet) (n : ℕ) (s : State S) (a l k : ℕ) → Enough S n s a l k lent
 unfolding computing
-enough S n s a l k = (refl, short (letterMessage (editLetter (s .recorded .history) a l k)))
+enough S n s a l k = (refl, short (wireMessage (editMessage (s .recorded .history) a l k)))
 
 refusing-fails : Converges refusing → ⊥
 unfolding computing

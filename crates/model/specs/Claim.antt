@@ -14,7 +14,7 @@ use Rattle.model.specs.Client.{openClientQuestions}
 use Rattle.model.specs.Server.{openServerQuestions}
 use Rattle.model.specs.Edits.{edits}
 use Rattle.model.specs.Sheet.{Sheet, Call}
-use Rattle.model.specs.Log.{madeAt, takenAt, editLetter, letterMessage, letterBytes}
+use Rattle.model.specs.Log.{madeAt, takenAt, editMessage, wireMessage, messageBytes}
 use Rattle.model.specs.Numbers.{number}
 use Rattle.model.specs.Run.{State, areItems, areBytes, callable, numberOf, run, start}
 
@@ -37,7 +37,7 @@ module _ (S : Sheet) where
 
     -- the lent bytes are enough for the message that Sending writes at end a for edit number k of line l
     abbrev pub Enough : ℕ → ℕ → ℕ → List ℕ → Type 0
-    Enough a l k lent = (areBytes lent ≡ true) × (length (letterBytes (editLetter history a l k)) ≤ length lent)
+    Enough a l k lent = (areBytes lent ≡ true) × (length (messageBytes (editMessage history a l k)) ≤ length lent)
 
     pub record OnLine (l : ℕ) : Type 0 where
       -- the counts of both ends are those of the history
@@ -62,9 +62,9 @@ module _ (S : Sheet) where
       -- each end's list is the initial list with its edits applied, each in its form at what the end had applied
       pub lists : (a : ℕ) → a ≤ n → S .items (s .ends a) ≡ s .recorded .shown a
       -- each message written is the one that the definitions give, byte for byte
-      pub messages : s .messages ≡ map letterBytes (s .recorded .letters)
+      pub messages : s .messages ≡ map messageBytes (s .recorded .messages)
       -- and is read back as what was written
-      pub read-back : map parsed (s .messages) ≡ map (λ x. read.Message (letterMessage x)) (s .recorded .letters)
+      pub read-back : map parsed (s .messages) ≡ map (λ x. read.Message (wireMessage x)) (s .recorded .messages)
       -- Whatever is called next is answered with the number of the first question that says no. So bytes that no message has give 3, and a
       -- message that is not refused goes to that end and is the next one there.
       pub numbers : (c : Call) → callable n c ≡ true → numberOf S s c ≡ number n (s .recorded) c

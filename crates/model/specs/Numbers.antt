@@ -10,8 +10,8 @@ use Rattle.ot.specs.declared.Edit.{Edit}
 use Rattle.ot.specs.declared.Edit.the-variants as edit
 use Rattle.ot.specs.Edit.{applied, fits}
 use Rattle.jupiter.specs.Made.{mine}
-use Rattle.jupiter.specs.Ends.{Message}
-use Rattle.jupiter.specs.Run.{Letter, up, down, upAck, downAck}
+use Rattle.jupiter.specs.Ends.{EditMessage}
+use Rattle.jupiter.specs.Run.{Message, up, down, upAck, downAck}
 use Rattle.jupiter.specs.History.{order}
 use Rattle.jupiter.specs.Claims.{inserts}
 use Rattle.model.specs.Limits.{maxInserts, maxEdits, maxPending, maxItems}
@@ -19,7 +19,7 @@ use Rattle.model.specs.Questions.{Question, ask, asks, between}
 use Rattle.model.specs.Cross.{insertsOf}
 use Rattle.model.specs.Edits.{edits}
 use Rattle.model.specs.Sheet.{Call, insert, delete, send, tell, receive, junk}
-use Rattle.model.specs.Log.{Log, madeAt, takenAt, editLetter, letterBytes}
+use Rattle.model.specs.Log.{Log, madeAt, takenAt, editMessage, messageBytes}
 
 -- Line l is end a's own: the server has lines 1 to n.
 abbrev pub owns : ℕ → ℕ → ℕ → Bool
@@ -51,7 +51,7 @@ abbrev pub sending : ℕ → Log → ℕ → ℕ → ℕ → List ℕ → List Q
 sending n w a l k lent =
     ask 4 (owns n a l)
     ∷ ask 13 (between (w .heard a l + 1) (madeAt (w .history) a l) k)
-    ∷ ask 14 (leb (length (letterBytes (editLetter (w .history) a l k))) (length lent))
+    ∷ ask 14 (leb (length (messageBytes (editMessage (w .history) a l k))) (length lent))
     ∷ []
 
 abbrev pub telling : ℕ → ℕ → ℕ → List ℕ → List Question
@@ -67,7 +67,7 @@ abbrev pub roomOn : Log → ℕ → Bool
 roomOn w l = ltb (pendingAt w 0 l) maxPending
 
 -- an edit message that goes to end a on line l: it is the next one, and its seen is not overtaken
-abbrev pub next : Log → ℕ → ℕ → Message edits → List Question → List Question
+abbrev pub next : Log → ℕ → ℕ → EditMessage edits → List Question → List Question
 next w a l m more =
     ask 5 (ltb (takenAt (w .history) a l) (m .number))
     ∷ ask 6 (eqb (m .number) (takenAt (w .history) a l + 1))
@@ -75,14 +75,14 @@ next w a l m more =
     ∷ more
 
 -- end a takes a message that was written
-abbrev pub taking : ℕ → Log → ℕ → Letter edits → List Question
+abbrev pub taking : ℕ → Log → ℕ → Message edits → List Question
 taking n w a (up l m) = ask 4 (upTo n a l) ∷ next w a l m (ask 12 (allBut (roomOn w) l n) ∷ [])
 taking n w a (down l m) = ask 4 (downTo n a l) ∷ next w a l m []
 taking n w a (upAck l seen) = ask 4 (upTo n a l) ∷ ask 7 (leb (w .heard a l) seen) ∷ []
 taking n w a (downAck l seen) = ask 4 (downTo n a l) ∷ ask 7 (leb (w .heard a l) seen) ∷ []
 
 -- no such message was written: no call
-abbrev pub handing : ℕ → Log → ℕ → Option (Letter edits) → ℕ
+abbrev pub handing : ℕ → Log → ℕ → Option (Message edits) → ℕ
 handing n w a none = 0
 handing n w a (some x) = asks (taking n w a x)
 
@@ -91,5 +91,5 @@ number n w (insert l p x) = asks (editing w l (edit.Insert p x l))
 number n w (delete l p) = asks (editing w l (edit.Delete p))
 number n w (send a l k lent) = asks (sending n w a l k lent)
 number n w (tell a l lent) = asks (telling n a l lent)
-number n w (receive a i) = handing n w a (getElem? (w .letters) i)
+number n w (receive a i) = handing n w a (getElem? (w .messages) i)
 number n w (junk a bytes) = 3
