@@ -33,7 +33,7 @@ use Rattle.model.proofs.Sim.{clientFrom, serverFrom, line-from, Moment,
 use Rattle.model.proofs.Counts as counts
 use Rattle.model.proofs.Calls.{called}
 use Rattle.model.proofs.Next.{delivers-down, delivers-up}
-use Rattle.model.proofs.Hands.{hands-back}
+use Rattle.model.proofs.Alone.{alone}
 use Rattle.model.proofs.Numbers.{refusal-is, numbered, reads-back}
 
 -- ---- from the theory's ends to the claim
@@ -183,7 +183,7 @@ converges =
     record {
       opens-server = λ n items a. unfold openServer in (refusal-is (asks (openServerQuestions n items)) noServer (freshServer n items) 0);
       opens-client = λ n l items a. unfold openClient in (refusal-is (asks (openClientQuestions n l items)) noClient (freshClient n l items) 0);
-      hands-back = hands-back;
+      alone = alone;
       holds = λ n items opened calls.
           let asked = server-asked n items (opened .server) in
           holds n items (run ours n (start ours n items) calls) (runs n items calls (start ours n items) (starts n items (asked .0) (asked .1) (asked .2))) (asked .2);

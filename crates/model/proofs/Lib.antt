@@ -10,7 +10,7 @@ pub mod Small
 pub mod Sim
 pub mod Follow
 pub mod Outcome
-pub mod Hands
+pub mod Alone
 pub mod Ranges
 pub mod Calls
 pub mod Counts

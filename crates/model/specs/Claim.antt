@@ -3,13 +3,13 @@ use Prim.Native.Nat.{ℕ, suc, _+_, _≤_}
 use mathlib.Core.Path.{_≡_}
 use mathlib.Core.Bool.{true}
 use mathlib.Core.List.{List, [], map}
-use lib.ListN.{length, take}
+use lib.ListN.{length, take, drop}
 use Rattle.wire.specs.declared.Read.the-variants as read
 use Rattle.wire.specs.Bytes.{parsed}
 use Rattle.jupiter.specs.Form.{replay}
 use Rattle.jupiter.specs.History.{History, order, missing}
 use Rattle.model.specs.Limits.{maxPending}
-use Rattle.model.specs.Questions.{asks}
+use Rattle.model.specs.Questions.{asks, Answer, Sent}
 use Rattle.model.specs.Client.{openClientQuestions}
 use Rattle.model.specs.Server.{openServerQuestions}
 use Rattle.model.specs.Edits.{edits}
@@ -17,6 +17,17 @@ use Rattle.model.specs.Sheet.{Sheet, Call}
 use Rattle.model.specs.Log.{madeAt, takenAt, editMessage, wireMessage, messageBytes}
 use Rattle.model.specs.Numbers.{number}
 use Rattle.model.specs.Run.{State, areItems, areBytes, callable, numberOf, run, start}
+
+-- A refusal hands back the end as it came, and its count is 0; a refused sending changes no lent byte, and its length is 0.
+abbrev pub Back : {E : Type 0} → E → Answer E → Type 0
+Back e a = (a .refusal ≡ 0 → ⊥) → (a .end ≡ e) × (a .passed ≡ 0)
+
+abbrev pub Unwritten : List ℕ → Sent → Type 0
+Unwritten lent r = (r .refusal ≡ 0 → ⊥) → (r .written ≡ 0) × (r .buffer ≡ lent)
+
+-- bytes past the message stay
+abbrev pub PastStays : List ℕ → Sent → Type 0
+PastStays lent r = drop (r .written) (r .buffer) ≡ drop (r .written) lent
 
 module _ (S : Sheet) where
   -- An edit message from one end to another is taken: the sending is not refused, the taking of what it wrote is not refused, and the
@@ -72,11 +83,13 @@ module _ (S : Sheet) where
       pub passed : s .passed ≡ s .recorded .passed
       pub lines : (l : ℕ) → 1 ≤ l → l ≤ n → OnLine l
 
-  -- a refusal hands back the end as it came, whatever end that is
-  pub record HandsBack : Type 0 where
-    pub inserts : (e : S .End) (p x : ℕ) → (S .insert e p x .refusal ≡ 0 → ⊥) → S .insert e p x .end ≡ e
-    pub deletes : (e : S .End) (p : ℕ) → (S .delete e p .refusal ≡ 0 → ⊥) → S .delete e p .end ≡ e
-    pub takes : (e : S .End) (bytes : List ℕ) → (S .take e bytes .refusal ≡ 0 → ⊥) → S .take e bytes .end ≡ e
+  -- what a call leaves alone, whatever end it is handed
+  pub record LeavesAlone : Type 0 where
+    pub inserts : (e : S .End) (p x : ℕ) → Back e (S .insert e p x)
+    pub deletes : (e : S .End) (p : ℕ) → Back e (S .delete e p)
+    pub takes : (e : S .End) (bytes : List ℕ) → Back e (S .take e bytes)
+    pub sends : (e : S .End) (l k : ℕ) (lent : List ℕ) → Unwritten lent (S .send e l k lent) × PastStays lent (S .send e l k lent)
+    pub tells : (e : S .End) (l : ℕ) (lent : List ℕ) → Unwritten lent (S .tell e l lent) × PastStays lent (S .tell e l lent)
 
   -- the server and the clients as openings, not refused, returned them
   pub record Opened (n : ℕ) (items : List ℕ) : Type 0 where
@@ -88,5 +101,5 @@ module _ (S : Sheet) where
   pub record Converges : Type 0 where
     pub opens-server : (n : ℕ) (items : List ℕ) → areItems items ≡ true → S .openServer n items .refusal ≡ asks (openServerQuestions n items)
     pub opens-client : (n l : ℕ) (items : List ℕ) → areItems items ≡ true → S .openClient n l items .refusal ≡ asks (openClientQuestions n l items)
-    pub hands-back : HandsBack
+    pub alone : LeavesAlone
     pub holds : (n : ℕ) (items : List ℕ) → Opened n items → (calls : List Call) → Holds n (run S n (start S n items) calls)
