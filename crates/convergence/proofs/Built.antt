@@ -9,10 +9,12 @@ use borrow.Author.Tests.{eqb-false, eq-eqb, ne-eqb}
 use Rattle.model.specs.Questions.{Answer, Sent, sent}
 use Rattle.model.specs.Client as model
 use Rattle.model.specs.Server as models
+use Rattle.model.specs.Claim.{Back, Unwritten, PastStays}
 use Rattle.model.specs.Ours as ours
 use Rattle.model.proofs.Sound.{keeps-sound}
-use Rattle.model.proofs.Hands.{Hands, edit-hands, client-hands, server-hands}
+use Rattle.model.proofs.Alone.{ClientAlone, ServerAlone, sent-alone, edit-back, client-back, server-back, client-alone, server-alone}
 use Rattle.model.proofs.Converges as model-converges
+use Rattle.model.proofs.Consequences.{consequences}
 use Rattle.client.specs.declared.Client.{Client}
 use Rattle.client.specs.declared.Answer as clients
 use Rattle.client.specs.Store as store
@@ -22,7 +24,7 @@ use Rattle.server.specs.declared.Answer as servers
 use Rattle.server.specs.View as view
 use Rattle.server.specs.Sound.{soundStruct}
 use Rattle.server.specs.Calls as server
-use Rattle.convergence.specs.Built.{clientAnswer, serverAnswer, clientCalls, serverCalls, built, Claimed}
+use Rattle.convergence.specs.Built.{clientAnswer, serverAnswer, clientCalls, serverCalls, built, Claimed, Carried}
 use Rattle.convergence.proofs.Carry.{Alike, carries}
 use Rattle.convergence.proofs.Pairs.{ClientFollows, ServerFollows, Both, follows}
 use Rattle.server.proofs.Stored.{view-store, store-sound}
@@ -36,17 +38,17 @@ abbrev StandsServer : Server → models.Server → Type 0
 StandsServer s m = (s ≡ view.store m) × (models.soundServer m ≡ true)
 
 -- the end of an answer in structs
-stored-end : {M E : Type 0} (store : M → E) (m : M) (a : Answer M) → Hands m a → cond (eqb (a .refusal) 0) (store (a .end)) (store m) ≡ store (a .end)
+stored-end : {M E : Type 0} (store : M → E) (m : M) (a : Answer M) → Back m a → cond (eqb (a .refusal) 0) (store (a .end)) (store m) ≡ store (a .end)
 stored-end store m a h = go (eqb (a .refusal) 0) refl
   where
     go : (b : Bool) → eqb (a .refusal) 0 ≡ b → cond b (store (a .end)) (store m) ≡ store (a .end)
     go true e = refl
-    go false e = ap store (sym (h (eqb-false (a .refusal) 0 e)))
+    go false e = ap store (sym (h (eqb-false (a .refusal) 0 e) .0))
 
 -- ---- the client's calls
 
 -- a call at a struct that stands for m
-client-alike : (c : Client) (m : model.Client) → StandsClient c m → (call : model.Client → Answer model.Client) → Hands m (call m) → model.soundClient (call m .end) ≡ true
+client-alike : (c : Client) (m : model.Client) → StandsClient c m → (call : model.Client → Answer model.Client) → Back m (call m) → model.soundClient (call m .end) ≡ true
     → Alike StandsClient (clientAnswer (client.guarded c (call (store.view c)))) (call m)
 unfolding client.guarded
 client-alike c m r call h t =
@@ -63,14 +65,35 @@ client-sending c m r call lent =
     ∙ ap (λ (b : Bool). cond b (call (store.view (store.store m))) (record { refusal = 2; written = 0; buffer = lent })) (client-stored m (r .1))
     ∙ ap call (client-view m (r .1))
 
--- a refusal hands back the struct that came
-guarded-back : (c : Client) (a : Answer model.Client) → Hands c (clientAnswer (client.guarded c a))
+-- what the calls leave alone, whatever struct they are handed
+guarded-back : (c : Client) (a : Answer model.Client) → Back (store.view c) a → Back c (clientAnswer (client.guarded c a))
 unfolding client.guarded
-guarded-back c a = go (store.sound c)
+guarded-back c a k = go (store.sound c)
   where
-    go : (b : Bool) → Hands c (clientAnswer (cond b (client.given c a) (client.refusedWith 2 c)))
-    go true h = rw (ne-eqb (a .refusal) 0 h)
-    go false h = refl
+    go : (b : Bool) → Back c (clientAnswer (cond b (client.given c a) (client.refusedWith 2 c)))
+    go true h = (rw (ne-eqb (a .refusal) 0 h), k h .1)
+    go false h = (refl, refl)
+
+abbrev Alone : List ℕ → Sent → Type 0
+Alone lent r = Unwritten lent r × PastStays lent r
+
+guarded-alone : (c : Client) (lent : List ℕ) (a : Sent) → Alone lent a → Alone lent (client.guardedSending c a lent)
+unfolding client.guardedSending
+guarded-alone c lent a k = go (store.sound c)
+  where
+    go : (b : Bool) → Alone lent (cond b a (record { refusal = 2; written = 0; buffer = lent }))
+    go true = k
+    go false = (λ h. (refl, refl), refl)
+
+struct-client-alone : ClientAlone clientCalls
+struct-client-alone =
+    record {
+      inserts = λ c p x. guarded-back c (model.insertClient (store.view c) p x) (edit-back (store.view c) _);
+      deletes = λ c p. guarded-back c (model.deleteClient (store.view c) p) (edit-back (store.view c) _);
+      takes = λ c bytes. guarded-back c (model.takeClient (store.view c) bytes) (client-back (store.view c) bytes);
+      sends = λ c l k lent. guarded-alone c lent (model.sendClient (store.view c) l k lent) (client-alone .sends (store.view c) l k lent);
+      tells = λ c l lent. guarded-alone c lent (model.tellClient (store.view c) l lent) (client-alone .tells (store.view c) l lent);
+    }
 
 client-follows : ClientFollows clientCalls ours.clientCalls StandsClient
 client-follows =
@@ -83,14 +106,12 @@ client-follows =
         ap (λ (b : Bool). cond b (store.store (model.openClient n l xs .end)) (store.store model.noClient)) (eq-eqb (model.openClient n l xs .refusal) 0 e),
         keeps-sound .opens-client n l xs e,
       );
-      inserts = λ c m r p x. client-alike c m r (λ v. model.insertClient v p x) (edit-hands m _) (keeps-sound .inserts m p x (r .1));
-      deletes = λ c m r p. client-alike c m r (λ v. model.deleteClient v p) (edit-hands m _) (keeps-sound .deletes m p (r .1));
-      takes = λ c m r bytes. client-alike c m r (λ v. model.takeClient v bytes) (client-hands m bytes) (keeps-sound .client-takes m bytes (r .1));
+      inserts = λ c m r p x. client-alike c m r (λ v. model.insertClient v p x) (edit-back m _) (keeps-sound .inserts m p x (r .1));
+      deletes = λ c m r p. client-alike c m r (λ v. model.deleteClient v p) (edit-back m _) (keeps-sound .deletes m p (r .1));
+      takes = λ c m r bytes. client-alike c m r (λ v. model.takeClient v bytes) (client-back m bytes) (keeps-sound .client-takes m bytes (r .1));
       sends = λ c m r l k lent. client-sending c m r (λ v. model.sendClient v l k lent) lent;
       tells = λ c m r l lent. client-sending c m r (λ v. model.tellClient v l lent) lent;
-      inserts-back = λ c p x. guarded-back c (model.insertClient (store.view c) p x);
-      deletes-back = λ c p. guarded-back c (model.deleteClient (store.view c) p);
-      takes-back = λ c bytes. guarded-back c (model.takeClient (store.view c) bytes);
+      alone = struct-client-alone;
     }
 
 -- ---- the server's calls
@@ -102,15 +123,24 @@ server-takes s m r bytes =
     (subst (λ (x : servers.Answer). Alike StandsServer (serverAnswer x) (models.takeServer m bytes))
     (sym (ap (λ (b : Bool). cond b (server.answered (view.store m) (models.takeServer (view.view (view.store m)) bytes)) (server.refused (view.store m) 2)) (store-sound m (r .1))
     ∙ ap (λ (v : models.Server). server.answered (view.store m) (models.takeServer v bytes)) (view-store m (r .1))))
-    (record { refusal = refl; passed = refl; ends = (stored-end view.store m (models.takeServer m bytes) (server-hands m bytes), keeps-sound .server-takes m bytes (r .1)) }))
+    (record { refusal = refl; passed = refl; ends = (stored-end view.store m (models.takeServer m bytes) (server-back m bytes), keeps-sound .server-takes m bytes (r .1)) }))
 
-server-back : (s : Server) (bytes : List ℕ) → Hands s (serverAnswer (server.takes s bytes))
-unfolding server.takes server.answered
-server-back s bytes = go (soundStruct s) (models.takeServer (view.view s) bytes)
+struct-server-alone : ServerAlone serverCalls
+unfolding server.takes server.answered server.sends server.tells
+struct-server-alone =
+    record {
+      takes = λ s bytes. taking s (soundStruct s) (models.takeServer (view.view s) bytes) (server-back (view.view s) bytes);
+      sends = λ s l k lent. sending lent (soundStruct s) (models.sendServer (view.view s) l k lent) (server-alone .sends (view.view s) l k lent);
+      tells = λ s l lent. sending lent (soundStruct s) (models.tellServer (view.view s) l lent) (server-alone .tells (view.view s) l lent);
+    }
   where
-    go : (b : Bool) (a : Answer models.Server) → Hands s (serverAnswer (cond b (server.answered s a) (server.refused s 2)))
-    go true a h = rw (ne-eqb (a .refusal) 0 h)
-    go false a h = refl
+    taking : (s : Server) (b : Bool) (a : Answer models.Server) → Back (view.view s) a → Back s (serverAnswer (cond b (server.answered s a) (server.refused s 2)))
+    taking s true a k h = (rw (ne-eqb (a .refusal) 0 h), k h .1)
+    taking s false a k h = (refl, refl)
+
+    sending : (lent : List ℕ) (b : Bool) (a : Sent) → Alone lent a → Alone lent (cond b a (sent 2 [] lent))
+    sending lent true a k = k
+    sending lent false a k = sent-alone 2 [] lent
 
 -- a sending at a struct that stands for m
 server-sending : (s : Server) (m : models.Server) → StandsServer s m → (call : models.Server → Sent) (lent : List ℕ)
@@ -137,10 +167,19 @@ server-follows =
       takes = server-takes;
       sends = λ s m r l k lent. server-sending s m r (λ v. models.sendServer v l k lent) lent;
       tells = λ s m r l lent. server-sending s m r (λ v. models.tellServer v l lent) lent;
-      takes-back = server-back;
+      alone = struct-server-alone;
     }
 
 pub claimed : Claimed
 claimed =
     carries built ours.ours (Both clientCalls ours.clientCalls serverCalls ours.serverCalls StandsClient StandsServer)
     (follows clientCalls ours.clientCalls serverCalls ours.serverCalls StandsClient StandsServer client-follows server-follows) model-converges.converges
+
+pub carried : Carried
+carried =
+    record {
+      claimed = claimed;
+      consistent = consequences .consistent built claimed;
+      refusals = consequences .refusals built claimed;
+      agree = consequences .agree built ours.ours claimed model-converges.converges;
+    }

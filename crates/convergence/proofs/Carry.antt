@@ -15,7 +15,7 @@ use Rattle.model.specs.Questions.{Answer, Sent, between}
 use Rattle.model.specs.Sheet.{Sheet, Call, insert, delete, send, tell, receive, junk}
 use Rattle.model.specs.Log.{Log, log}
 use Rattle.model.specs.Run.{State, areBytes, unreadable, callable, answered, written, handed, call, handedNumber, numberOf, run, opened, start}
-use Rattle.model.specs.Claim.{Delivered, Enough, OnLine, Holds, HandsBack, Opened, Converges}
+use Rattle.model.specs.Claim.{Delivered, Enough, OnLine, Holds, LeavesAlone, Opened, Converges}
 use Rattle.model.proofs.Tests.{and-left, between-true}
 use Rattle.model.proofs.Sound.{three}
 
@@ -38,7 +38,7 @@ module _ (S T : Sheet) (R : S .End → T .End → Type 0) where
     pub takes : (a : S .End) (b : T .End) → R a b → (bytes : List ℕ) → Alike R (S .take a bytes) (T .take b bytes)
     pub sends : (a : S .End) (b : T .End) → R a b → (l k : ℕ) (lent : List ℕ) → S .send a l k lent ≡ T .send b l k lent
     pub tells : (a : S .End) (b : T .End) → R a b → (l : ℕ) (lent : List ℕ) → S .tell a l lent ≡ T .tell b l lent
-    pub hands-back : HandsBack S
+    pub alone : LeavesAlone S
 
   module _ (f : Follows) (n : ℕ) where
     pub record Same (s : State S) (t : State T) : Type 0 where
@@ -198,7 +198,7 @@ module _ (S T : Sheet) (R : S .End → T .End → Type 0) where
       record {
         opens-server = λ n items few. f .server-refusal n items ∙ c .opens-server n items few;
         opens-client = λ n l items few. f .client-refusal n l items ∙ c .opens-client n l items few;
-        hands-back = f .hands-back;
+        alone = f .alone;
         holds = λ n items o calls.
             let o′ : Opened T n items =
             record { numbers = o .numbers; server = sym (f .server-refusal n items) ∙ o .server; clients = λ l a b. sym (f .client-refusal n l items) ∙ o .clients l a b } in

@@ -1,9 +1,9 @@
 -- A sheet made of a client and a server follows another one if the client follows the client and the server the server.
-use mathlib.Core.Path.{_≡_, refl, ap}
+use mathlib.Core.Path.{_≡_, refl}
 use mathlib.Core.List.{List}
 use Prim.Native.Nat.{ℕ}
 use Rattle.model.specs.SheetOf.{ClientCalls, ServerCalls, End, client, server, answerAs, sheetOf}
-use Rattle.model.proofs.Hands.{Hands}
+use Rattle.model.proofs.Alone.{ClientAlone, ServerAlone, both-alone}
 use Rattle.convergence.proofs.Carry.{Alike, Follows}
 
 pub record ClientFollows (c d : ClientCalls) (R : c .Client → d .Client → Type 0) : Type 0 where
@@ -17,10 +17,7 @@ pub record ClientFollows (c d : ClientCalls) (R : c .Client → d .Client → Ty
   pub takes : (a : c .Client) (b : d .Client) → R a b → (bytes : List ℕ) → Alike R (c .take a bytes) (d .take b bytes)
   pub sends : (a : c .Client) (b : d .Client) → R a b → (l k : ℕ) (lent : List ℕ) → c .send a l k lent ≡ d .send b l k lent
   pub tells : (a : c .Client) (b : d .Client) → R a b → (l : ℕ) (lent : List ℕ) → c .tell a l lent ≡ d .tell b l lent
-  -- a refusal hands back the end as it came
-  pub inserts-back : (a : c .Client) (p x : ℕ) → Hands a (c .insert a p x)
-  pub deletes-back : (a : c .Client) (p : ℕ) → Hands a (c .delete a p)
-  pub takes-back : (a : c .Client) (bytes : List ℕ) → Hands a (c .take a bytes)
+  pub alone : ClientAlone c
 
 pub record ServerFollows (v w : ServerCalls) (R : v .Server → w .Server → Type 0) : Type 0 where
   pub items : (a : v .Server) (b : w .Server) → R a b → v .items a ≡ w .items b
@@ -31,7 +28,7 @@ pub record ServerFollows (v w : ServerCalls) (R : v .Server → w .Server → Ty
   pub takes : (a : v .Server) (b : w .Server) → R a b → (bytes : List ℕ) → Alike R (v .take a bytes) (w .take b bytes)
   pub sends : (a : v .Server) (b : w .Server) → R a b → (l k : ℕ) (lent : List ℕ) → v .send a l k lent ≡ w .send b l k lent
   pub tells : (a : v .Server) (b : w .Server) → R a b → (l : ℕ) (lent : List ℕ) → v .tell a l lent ≡ w .tell b l lent
-  pub takes-back : (a : v .Server) (bytes : List ℕ) → Hands a (v .take a bytes)
+  pub alone : ServerAlone v
 
 module _ (c d : ClientCalls) (v w : ServerCalls) (P : c .Client → d .Client → Type 0) (Q : v .Server → w .Server → Type 0) where
   abbrev Here : Type 0
@@ -69,7 +66,7 @@ module _ (c d : ClientCalls) (v w : ServerCalls) (P : c .Client → d .Client �
         takes = either (λ a b r. (bytes : List ℕ) → Alike Both (sheetOf c v .take a bytes) (sheetOf d w .take b bytes)) (λ a b r bytes. asClient _ _ (f .takes a b r bytes)) (λ a b r bytes. asServer _ _ (g .takes a b r bytes));
         sends = either (λ a b r. (l k : ℕ) (lent : List ℕ) → sheetOf c v .send a l k lent ≡ sheetOf d w .send b l k lent) (f .sends) (g .sends);
         tells = either (λ a b r. (l : ℕ) (lent : List ℕ) → sheetOf c v .tell a l lent ≡ sheetOf d w .tell b l lent) (f .tells) (g .tells);
-        hands-back = record { inserts = inserts-back; deletes = deletes-back; takes = takes-back };
+        alone = both-alone c v (f .alone) (g .alone);
       }
     where
       asClient : (x : _) (y : _) → Alike P x y → Alike Both (answerAs client x) (answerAs client y)
@@ -80,15 +77,3 @@ module _ (c d : ClientCalls) (v w : ServerCalls) (P : c .Client → d .Client �
 
       unmade : (a : v .Server) (b : w .Server) → Q a b → Alike Both (record { refusal = 2; end = server a; passed = 0 }) (record { refusal = 2; end = server b; passed = 0 })
       unmade a b r = record { refusal = refl; passed = refl; ends = r }
-
-      inserts-back : (a : Here) (p x : ℕ) → Hands a (sheetOf c v .insert a p x)
-      inserts-back (client a) p x h = ap client (f .inserts-back a p x h)
-      inserts-back (server a) p x h = refl
-
-      deletes-back : (a : Here) (p : ℕ) → Hands a (sheetOf c v .delete a p)
-      deletes-back (client a) p h = ap client (f .deletes-back a p h)
-      deletes-back (server a) p h = refl
-
-      takes-back : (a : Here) (bytes : List ℕ) → Hands a (sheetOf c v .take a bytes)
-      takes-back (client a) bytes h = ap client (f .takes-back a bytes h)
-      takes-back (server a) bytes h = ap server (g .takes-back a bytes h)

@@ -4,8 +4,11 @@ use mathlib.Core.List.{List}
 use lib.ListN.{take}
 use Rattle.model.specs.Questions.{Answer}
 use Rattle.model.specs.Sheet.{Sheet}
-use Rattle.model.specs.SheetOf.{ClientCalls, ServerCalls, sheetOf}
+use Rattle.model.specs.SheetOf as sheets
+use Rattle.model.specs.SheetOf.{ClientCalls, ServerCalls, End, answerAs, sheetOf}
 use Rattle.model.specs.Claim.{Converges}
+use Rattle.model.specs.Consequences.{Consistent, TakingRefusals, Agree}
+use Rattle.model.specs.Ours.{ours}
 use Rattle.model.specs.Server as model
 use Rattle.client.specs.declared.Client.{Client}
 use Rattle.client.specs.declared.Answer as clients
@@ -53,6 +56,26 @@ serverCalls =
 abbrev pub built : Sheet
 built = sheetOf clientCalls serverCalls
 
+-- the ends of this sheet, and the answers of the methods about them
+abbrev pub ofClient : Client → End Client Server
+ofClient c = sheets.client c
+
+abbrev pub ofServer : Server → End Client Server
+ofServer s = sheets.server s
+
+abbrev pub fromClient : clients.Answer → Answer (End Client Server)
+fromClient a = answerAs sheets.client (clientAnswer a)
+
+abbrev pub fromServer : servers.Answer → Answer (End Client Server)
+fromServer a = answerAs sheets.server (serverAnswer a)
+
 -- demands 2 and 3 of the structs that run
 abbrev pub Claimed : Type 0
 Claimed = Converges built
+
+-- and what the claim gives: no list of calls tells the structs from the model
+pub record Carried : Type 0 where
+  pub claimed : Claimed
+  pub consistent : Consistent built
+  pub refusals : TakingRefusals built
+  pub agree : Agree built ours
