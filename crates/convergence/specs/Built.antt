@@ -1,6 +1,4 @@
 -- The sheet of the structs that run: each call is what the contract of its method says that it answers.
-use Prim.Native.Nat.{ℕ}
-use mathlib.Core.List.{List}
 use lib.ListN.{take}
 use Rattle.model.specs.Questions.{Answer}
 use Rattle.model.specs.Sheet.{Sheet}

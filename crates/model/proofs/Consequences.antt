@@ -8,7 +8,6 @@ use native.Mathlib.Omega.{arith}
 use lib.ListN.{getElem?}
 use borrow.Author.Tests.{le-leb}
 use Rattle.jupiter.specs.Form.{grown, listAt, replay}
-use Rattle.jupiter.specs.History.{History, order}
 use Rattle.jupiter.specs.Ends.{Ends}
 use Rattle.jupiter.specs.Run as theory
 use Rattle.jupiter.specs.Run.{Message, up, down, upAck, downAck}
@@ -16,14 +15,13 @@ use Rattle.jupiter.specs.Claims.{Who, SameSet, docOf}
 use Rattle.jupiter.specs.Claims as claims
 use Rattle.jupiter.proofs.Step.{Later}
 use Rattle.jupiter.proofs.Start.{whole, whole-none, from-opening}
-use Rattle.jupiter.proofs.Opening.{Opening}
 use Rattle.jupiter.proofs.Runs.{Reached, Onward}
 use Rattle.jupiter.proofs.Consistency as theorem
 use Rattle.model.specs.Questions.{Question, asks}
 use Rattle.model.specs.Edits.{edits}
 use Rattle.model.specs.Sheet.{Sheet, Call, insert, delete, send, tell, receive, junk}
-use Rattle.model.specs.Log.{Log, log, messageBytes}
-use Rattle.model.specs.Numbers.{next, taking, handing, number}
+use Rattle.model.specs.Log.{Log, log, madeAt, takenAt, messageBytes}
+use Rattle.model.specs.Numbers.{taking, handing, number}
 use Rattle.model.specs.Run.{State, callable, handed, handedNumber, call, numberOf, run, start}
 use Rattle.model.specs.Claim.{Holds, Opened, Converges}
 use Rattle.model.specs.Ours.{End, client, server, ours}
@@ -92,20 +90,41 @@ module _ (S T : Sheet) (c : Converges S) (d : Converges T) (n : ℕ) (items : Li
         clients = λ l a b. d .opens-client n l items (o .numbers) ∙ sym (c .opens-client n l items (o .numbers)) ∙ o .clients l a b;
       }
 
+  both-hold : (calls : List Call) → Holds S n (after S n items calls) × Holds T n (after T n items calls)
+  both-hold calls = (c .holds n items o calls, d .holds n items opened-too calls)
+
   same-run : (calls : List Call) → after S n items calls .recorded ≡ after T n items calls .recorded
   same-run calls = same-log S T n calls (start S n items) (start T n items) (c .holds n items o) (d .holds n items opened-too) refl
 
 pub agree : (S T : Sheet) → Converges S → Converges T → Agree S T
 agree S T c d =
     record {
+      opens-server = λ n items few. c .opens-server n items few ∙ sym (d .opens-server n items few);
+      opens-client = λ n l items few. c .opens-client n l items few ∙ sym (d .opens-client n l items few);
       lists = λ n items o calls a b.
-          c .holds n items o calls .lists a b ∙ ap (λ (w : Log). w .shown a) (same-run S T c d n items o calls) ∙ sym (d .holds n items (opened-too S T c d n items o) calls .lists a b);
+          let h = both-hold S T c d n items o calls in
+          h .0 .lists a b ∙ ap (λ (w : Log). w .shown a) (same-run S T c d n items o calls) ∙ sym (h .1 .lists a b);
+      made = λ n items o calls l lo hi.
+          let h = both-hold S T c d n items o calls in
+          let x = h .0 .lines l lo hi in
+          let y = h .1 .lines l lo hi in
+          let e = same-run S T c d n items o calls in
+          (x .client-made ∙ ap (λ (w : Log). madeAt (w .history) l l) e ∙ sym (y .client-made), x .server-made ∙ ap (λ (w : Log). madeAt (w .history) 0 l) e ∙ sym (y .server-made));
+      taken = λ n items o calls l lo hi.
+          let h = both-hold S T c d n items o calls in
+          let x = h .0 .lines l lo hi in
+          let y = h .1 .lines l lo hi in
+          let e = same-run S T c d n items o calls in
+          (x .client-taken ∙ ap (λ (w : Log). takenAt (w .history) l l) e ∙ sym (y .client-taken), x .server-taken ∙ ap (λ (w : Log). takenAt (w .history) 0 l) e ∙ sym (y .server-taken));
       messages = λ n items o calls.
-          same-messages S T n (after S n items calls) (after T n items calls) (c .holds n items o calls) (d .holds n items (opened-too S T c d n items o) calls) (same-run S T c d n items o calls);
+          let h = both-hold S T c d n items o calls in
+          same-messages S T n (after S n items calls) (after T n items calls) (h .0) (h .1) (same-run S T c d n items o calls);
       passed = λ n items o calls.
-          c .holds n items o calls .passed ∙ ap (λ (w : Log). w .passed) (same-run S T c d n items o calls) ∙ sym (d .holds n items (opened-too S T c d n items o) calls .passed);
+          let h = both-hold S T c d n items o calls in
+          h .0 .passed ∙ ap (λ (w : Log). w .passed) (same-run S T c d n items o calls) ∙ sym (h .1 .passed);
       numbers = λ n items o calls.
-          same-number S T n (after S n items calls) (after T n items calls) (c .holds n items o calls) (d .holds n items (opened-too S T c d n items o) calls) (same-run S T c d n items o calls);
+          let h = both-hold S T c d n items o calls in
+          same-number S T n (after S n items calls) (after T n items calls) (h .0) (h .1) (same-run S T c d n items o calls);
     }
 
 -- ---- refusals

@@ -1,7 +1,6 @@
 -- Every call of a list is answered with the number that the questions give, asked of the log.
 use mathlib.Core.Path.{_≡_, refl, ap, ap₂, sym, _∙_, subst}
-use mathlib.Core.Bool.{Bool, true, false, not, _&&_, cond}
-use mathlib.Core.Option.{Option, none, some}
+use mathlib.Core.Bool.{Bool, true, false, _&&_, cond}
 use mathlib.Core.List.{List, [], _∷_, _++_, map}
 use Prim.Native.Nat.{ℕ, zero, suc, _+_, _-_, _≤_, _<_}
 use native.Mathlib.Numerals.{add-one}
@@ -34,16 +33,16 @@ use Rattle.model.specs.Client.{Client, soundClient, edited, editQuestion
 use Rattle.model.specs.Server.{Line, Server, lineOf, soundServer, serverMessage, sendServerQuestions, sendServer, tellServerQuestions, tellServer, serverTaken, serverAcked, othersRoomy, serverEditQuestions, serverTakesEdit, serverAckQuestions, serverTakesAck, serverTakes, serverReads, takeServer}
 use Rattle.model.specs.Edits.{edits}
 use Rattle.model.specs.Sheet.{Call, insert, delete, send, tell, receive, junk}
-use Rattle.model.specs.Log.{Log, wireMessage, messageBytes, madeAt, takenAt, editMessage}
-use Rattle.model.specs.Numbers.{pendingAt, roomOn, allBut, editing, sending, telling, taking, handing, number}
+use Rattle.model.specs.Log.{Log, wireMessage, messageBytes, madeAt, takenAt}
+use Rattle.model.specs.Numbers.{roomOn, allBut, editing, sending, telling, taking, handing, number}
 use Rattle.model.specs.Run.{State, callable, areBytes, unreadable, handedNumber, numberOf}
-use Rattle.model.specs.Ours.{End, client, server, ours}
-use Rattle.model.proofs.Tests.{Alike, alike, never, both, and-left, and-right, between-true, true-between}
+use Rattle.model.specs.Ours.{End, ours}
+use Rattle.model.proofs.Tests.{Alike, alike, never, both, and-left, between-true, true-between}
 use Rattle.model.proofs.Sound.{three}
 use Rattle.model.proofs.Sim.{clientFrom, serverFrom, lineFrom, line-from, Lined, MessageOk, Moment, Sim}
 use Rattle.model.proofs.Counts.{client-made, client-taken, server-made, server-taken}
 use Rattle.model.proofs.Rooms.{same-room}
-use Rattle.model.proofs.Calls.{client-message, server-message, written-as, unread, up-is, up-bytes, down-is, down-bytes}
+use Rattle.model.proofs.Calls.{client-message, server-message, unread, up-is, up-bytes, down-is, down-bytes}
 use Rattle.model.proofs.Next.{down-8, down-9, up-8, up-9, up-10}
 
 -- the number of an answer

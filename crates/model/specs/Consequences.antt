@@ -9,7 +9,7 @@ use Rattle.jupiter.specs.History.{History}
 use Rattle.jupiter.specs.Claims.{SameSet}
 use Rattle.model.specs.Edits.{edits}
 use Rattle.model.specs.Sheet.{Sheet, Call, receive}
-use Rattle.model.specs.Run.{State, callable, numberOf, run, start}
+use Rattle.model.specs.Run.{State, areItems, callable, numberOf, run, start}
 use Rattle.model.specs.Claim.{Opened, Converges}
 
 unfoldable pub among : List ℕ → ℕ → Bool
@@ -45,10 +45,19 @@ module _ (S : Sheet) where
       (n : ℕ) (items : List ℕ) → Opened S n items → (calls : List Call) (a i : ℕ) → a ≤ n
       → among (0 ∷ 4 ∷ 5 ∷ 6 ∷ 7 ∷ 12 ∷ []) (numberOf S (after S n items calls) (receive a i)) ≡ true
 
-  -- No list of calls tells two sheets apart that converge: lists, messages, counts of edits passed, and the number that the next call gets.
+  -- No list of calls tells two sheets apart that converge: by what opening says, by lists, counts of edits, messages and counts of edits
+  -- passed, or by the number that the next call gets.
   pub record Agree (T : Sheet) : Type 0 where
+    pub opens-server : (n : ℕ) (items : List ℕ) → areItems items ≡ true → S .openServer n items .refusal ≡ T .openServer n items .refusal
+    pub opens-client : (n l : ℕ) (items : List ℕ) → areItems items ≡ true → S .openClient n l items .refusal ≡ T .openClient n l items .refusal
     pub lists : (n : ℕ) (items : List ℕ) → Opened S n items → (calls : List Call) (a : ℕ) → a ≤ n
         → S .items (after S n items calls .ends a) ≡ T .items (after T n items calls .ends a)
+    pub made : (n : ℕ) (items : List ℕ) → Opened S n items → (calls : List Call) (l : ℕ) → 1 ≤ l → l ≤ n
+        → (S .made (after S n items calls .ends l) l ≡ T .made (after T n items calls .ends l) l)
+        × (S .made (after S n items calls .ends 0) l ≡ T .made (after T n items calls .ends 0) l)
+    pub taken : (n : ℕ) (items : List ℕ) → Opened S n items → (calls : List Call) (l : ℕ) → 1 ≤ l → l ≤ n
+        → (S .taken (after S n items calls .ends l) l ≡ T .taken (after T n items calls .ends l) l)
+        × (S .taken (after S n items calls .ends 0) l ≡ T .taken (after T n items calls .ends 0) l)
     pub messages : (n : ℕ) (items : List ℕ) → Opened S n items → (calls : List Call) → after S n items calls .messages ≡ after T n items calls .messages
     pub passed : (n : ℕ) (items : List ℕ) → Opened S n items → (calls : List Call) → after S n items calls .passed ≡ after T n items calls .passed
     pub numbers : (n : ℕ) (items : List ℕ) → Opened S n items → (calls : List Call) (c : Call) → callable n c ≡ true

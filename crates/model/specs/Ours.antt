@@ -1,5 +1,4 @@
 -- The sheet that this project builds.
-use mathlib.Core.List.{List}
 use Rattle.model.specs.Sheet.{Sheet}
 use Rattle.model.specs.SheetOf as sheets
 use Rattle.model.specs.SheetOf.{ClientCalls, ServerCalls, sheetOf}

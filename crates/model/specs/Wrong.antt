@@ -2,7 +2,7 @@
 use Prim.Native.Nat.{ℕ, suc, _+_, _-_}
 use mathlib.Core.Bool.{not, _&&_, cond}
 use mathlib.Core.List.{List, [], _∷_}
-use lib.Dec.{ltb, leb, eqb}
+use lib.Dec.{ltb, eqb}
 use Rattle.ot.specs.declared.Edit.{Edit}
 use Rattle.ot.specs.declared.Edit.the-variants.{Nothing, Delete, Insert}
 use Rattle.ot.specs.Edit.{applied, transformed}
@@ -11,7 +11,7 @@ use Rattle.wire.specs.declared.Message.the-variants as message
 use Rattle.wire.specs.declared.Read.{Read}
 use Rattle.wire.specs.declared.Read.the-variants as read
 use Rattle.wire.specs.Bytes.{parsed}
-use Rattle.model.specs.Questions.{asks, Answer, answer, Sent}
+use Rattle.model.specs.Questions.{asks, Answer, answer}
 use Rattle.model.specs.Client.{Client, unacked, insertClient, clientAcked, clientTakesAck, clientEditQuestions, takeClient}
 use Rattle.model.specs.Server.{Server, lineOf, serverReads, takeServer}
 use Rattle.model.specs.Numbers.{allBut}

@@ -3,9 +3,6 @@ use borrow.Author.Needs.{needs}
 use Rattle.convergence.proofs.client_delete.Statement.{statement}
 use Rattle.convergence.specs.Built.{fromClient}
 use Rattle.convergence.proofs.client_delete.Tie as tie
-use Rattle.convergence.proofs.client_delete.Reads as reads
-use Rattle.convergence.proofs.client_delete.Lts as lts
-use Rattle.client.proofs.Client.delete.Reads as delete-reads
 
 -- src/lib.rt:27:5
 delete-requires : tie.Need-delete-requires

@@ -3,9 +3,6 @@ use borrow.Author.Needs.{needs}
 use Rattle.convergence.proofs.client_insert.Statement.{statement}
 use Rattle.convergence.specs.Built.{fromClient}
 use Rattle.convergence.proofs.client_insert.Tie as tie
-use Rattle.convergence.proofs.client_insert.Reads as reads
-use Rattle.convergence.proofs.client_insert.Lts as lts
-use Rattle.client.proofs.Client.insert.Reads as insert-reads
 
 -- src/lib.rt:21:5
 insert-requires : tie.Need-insert-requires

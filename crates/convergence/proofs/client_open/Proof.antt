@@ -3,9 +3,6 @@ use borrow.Author.Needs.{needs}
 use Rattle.convergence.proofs.client_open.Statement.{statement}
 use Rattle.convergence.specs.Built.{fromClient}
 use Rattle.convergence.proofs.client_open.Tie as tie
-use Rattle.convergence.proofs.client_open.Reads as reads
-use Rattle.convergence.proofs.client_open.Lts as lts
-use Rattle.client.proofs.Client.open.Reads as open-reads
 
 -- src/lib.rt:15:5
 open-requires : tie.Need-open-requires

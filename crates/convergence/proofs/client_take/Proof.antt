@@ -3,9 +3,6 @@ use borrow.Author.Needs.{needs}
 use Rattle.convergence.proofs.client_take.Statement.{statement}
 use Rattle.convergence.specs.Built.{fromClient}
 use Rattle.convergence.proofs.client_take.Tie as tie
-use Rattle.convergence.proofs.client_take.Reads as reads
-use Rattle.convergence.proofs.client_take.Lts as lts
-use Rattle.client.proofs.Client.take.Reads as take-reads
 
 -- src/lib.rt:45:5
 take-requires : tie.Need-take-requires

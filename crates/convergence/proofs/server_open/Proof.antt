@@ -3,9 +3,6 @@ use borrow.Author.Needs.{needs}
 use Rattle.convergence.proofs.server_open.Statement.{statement}
 use Rattle.convergence.specs.Built.{fromServer}
 use Rattle.convergence.proofs.server_open.Tie as tie
-use Rattle.convergence.proofs.server_open.Reads as reads
-use Rattle.convergence.proofs.server_open.Lts as lts
-use Rattle.server.proofs.Server.open.Reads as open-reads
 
 -- src/lib.rt:53:5
 open-requires : tie.Need-open-requires

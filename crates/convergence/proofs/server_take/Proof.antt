@@ -3,9 +3,6 @@ use borrow.Author.Needs.{needs}
 use Rattle.convergence.proofs.server_take.Statement.{statement}
 use Rattle.convergence.specs.Built.{fromServer}
 use Rattle.convergence.proofs.server_take.Tie as tie
-use Rattle.convergence.proofs.server_take.Reads as reads
-use Rattle.convergence.proofs.server_take.Lts as lts
-use Rattle.server.proofs.Server.take.Reads as take-reads
 
 -- src/lib.rt:71:5
 take-requires : tie.Need-take-requires
