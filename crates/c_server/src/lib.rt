@@ -1,6 +1,6 @@
 // The server's end in lent bytes, for programs in C and Rust. A call asks question 18, reads the end's parts, and goes on as the same call of `server`
 // does. Only a call that is not refused writes.
-mod layout;
+pub mod layout;
 mod numbers;
 
 ghost use mathlib.Core.Path.{_≡_};

@@ -14,17 +14,17 @@ use Rattle.jupiter.specs.History.{History, order, missing}
 use Rattle.model.specs.Questions.{Answer, Sent, between}
 use Rattle.model.specs.Sheet.{Sheet, Call, insert, delete, send, tell, receive, junk}
 use Rattle.model.specs.Log.{Log, log}
-use Rattle.model.specs.Run.{State, areBytes, unreadable, callable, answered, written, handed, call, run, opened, start}
-use Rattle.model.specs.Claim.{Delivered, OnLine, Holds, Converges}
+use Rattle.model.specs.Run.{State, areBytes, unreadable, callable, answered, written, handed, call, handedNumber, numberOf, run, opened, start}
+use Rattle.model.specs.Claim.{Delivered, Enough, OnLine, Holds, LeavesAlone, Opened, Converges}
 use Rattle.model.proofs.Tests.{and-left, between-true}
 use Rattle.model.proofs.Sound.{three}
 
-module _ (S T : Sheet) (R : S .End → T .End → Type 0) where
-  pub record Alike (a : Answer (S .End)) (b : Answer (T .End)) : Type 0 where
-    pub refusal : a .refusal ≡ b .refusal
-    pub passed : a .passed ≡ b .passed
-    pub ends : R (a .end) (b .end)
+pub record Alike {A B : Type 0} (R : A → B → Type 0) (a : Answer A) (b : Answer B) : Type 0 where
+  pub refusal : a .refusal ≡ b .refusal
+  pub passed : a .passed ≡ b .passed
+  pub ends : R (a .end) (b .end)
 
+module _ (S T : Sheet) (R : S .End → T .End → Type 0) where
   pub record Follows : Type 0 where
     pub items : (a : S .End) (b : T .End) → R a b → S .items a ≡ T .items b
     pub made : (a : S .End) (b : T .End) → R a b → (l : ℕ) → S .made a l ≡ T .made b l
@@ -33,11 +33,12 @@ module _ (S T : Sheet) (R : S .End → T .End → Type 0) where
     pub server-opens : (n : ℕ) (xs : List ℕ) → T .openServer n xs .refusal ≡ 0 → R (S .openServer n xs .end) (T .openServer n xs .end)
     pub client-refusal : (n l : ℕ) (xs : List ℕ) → S .openClient n l xs .refusal ≡ T .openClient n l xs .refusal
     pub client-opens : (n l : ℕ) (xs : List ℕ) → T .openClient n l xs .refusal ≡ 0 → R (S .openClient n l xs .end) (T .openClient n l xs .end)
-    pub inserts : (a : S .End) (b : T .End) → R a b → (p x : ℕ) → Alike (S .insert a p x) (T .insert b p x)
-    pub deletes : (a : S .End) (b : T .End) → R a b → (p : ℕ) → Alike (S .delete a p) (T .delete b p)
-    pub takes : (a : S .End) (b : T .End) → R a b → (bytes : List ℕ) → Alike (S .take a bytes) (T .take b bytes)
+    pub inserts : (a : S .End) (b : T .End) → R a b → (p x : ℕ) → Alike R (S .insert a p x) (T .insert b p x)
+    pub deletes : (a : S .End) (b : T .End) → R a b → (p : ℕ) → Alike R (S .delete a p) (T .delete b p)
+    pub takes : (a : S .End) (b : T .End) → R a b → (bytes : List ℕ) → Alike R (S .take a bytes) (T .take b bytes)
     pub sends : (a : S .End) (b : T .End) → R a b → (l k : ℕ) (lent : List ℕ) → S .send a l k lent ≡ T .send b l k lent
     pub tells : (a : S .End) (b : T .End) → R a b → (l : ℕ) (lent : List ℕ) → S .tell a l lent ≡ T .tell b l lent
+    pub alone : LeavesAlone S
 
   module _ (f : Follows) (n : ℕ) where
     pub record Same (s : State S) (t : State T) : Type 0 where
@@ -46,7 +47,7 @@ module _ (S T : Sheet) (R : S .End → T .End → Type 0) where
       pub passed : s .passed ≡ t .passed
       pub recorded : s .recorded ≡ t .recorded
 
-    same-answered : (s : State S) (t : State T) → Same s t → (a : ℕ) (c : Call) (x : Answer (S .End)) (y : Answer (T .End)) → Alike x y → Same (answered S s a c x) (answered T t a c y)
+    same-answered : (s : State S) (t : State T) → Same s t → (a : ℕ) (c : Call) (x : Answer (S .End)) (y : Answer (T .End)) → Alike R x y → Same (answered S s a c x) (answered T t a c y)
     same-answered s t m a c x y k =
         record {
           ends = λ j h. go j h (eqb a j);
@@ -101,6 +102,29 @@ module _ (S T : Sheet) (R : S .End → T .End → Type 0) where
         go true e = same-call s t m c e
         go false e = m
 
+    same-number : (s : State S) (t : State T) → Same s t → (c : Call) → callable n c ≡ true → numberOf S s c ≡ numberOf T t c
+    unfolding numberOf callable
+    same-number s t m (insert l p x) ok =
+        let h = between-true 1 n l (three (between 1 n l) (ltb p 65536) (ltb x 4294967296) ok .0) in
+        f .inserts (s .ends l) (t .ends l) (m .ends l (h .1)) p x .refusal
+    same-number s t m (delete l p) ok =
+        let h = between-true 1 n l (and-left (between 1 n l) (ltb p 65536) ok) in
+        f .deletes (s .ends l) (t .ends l) (m .ends l (h .1)) p .refusal
+    same-number s t m (send a l k lent) ok =
+        let h = leb-true a n (three (leb a n) (ltb l 256) (ltb k 65536) (and-left (leb a n && ltb l 256 && ltb k 65536) (areBytes lent) ok) .0) in
+        ap (λ (x : Sent). x .refusal) (f .sends (s .ends a) (t .ends a) (m .ends a h) l k lent)
+    same-number s t m (tell a l lent) ok =
+        let h = leb-true a n (three (leb a n) (ltb l 256) (areBytes lent) ok .0) in
+        ap (λ (x : Sent). x .refusal) (f .tells (s .ends a) (t .ends a) (m .ends a h) l lent)
+    same-number s t m (receive a i) ok = ap (λ (ms : List (List ℕ)). handedNumber S s a (getElem? ms i)) (m .messages) ∙ go (getElem? (t .messages) i)
+      where
+        go : (b : Option (List ℕ)) → handedNumber S s a b ≡ handedNumber T t a b
+        go none = refl
+        go (some b) = f .takes (s .ends a) (t .ends a) (m .ends a (leb-true a n ok)) b .refusal
+    same-number s t m (junk a bytes) ok =
+        let h = leb-true a n (three (leb a n) (areBytes bytes) (unreadable (parsed bytes)) ok .0) in
+        f .takes (s .ends a) (t .ends a) (m .ends a h) bytes .refusal
+
     -- ---- the claim
     delivered : (a a′ : S .End) (b b′ : T .End) → R a b → R a′ b′ → (l k : ℕ) (lent : List ℕ) → Delivered T b b′ l k lent → Delivered S a a′ l k lent
     delivered a a′ b b′ r r′ l k lent d =
@@ -119,27 +143,30 @@ module _ (S T : Sheet) (R : S .End → T .End → Type 0) where
 
       holds-line : (l : ℕ) → 1 ≤ l → l ≤ n → OnLine T n t l → OnLine S n beside l
       holds-line l lo hi o =
-          let hub = related 0 (omega arith) in
+          let base = related 0 (omega arith) in
           let here = related l hi in
           let h : History _ = t .recorded .history in
           record {
             client-made = f .made (ends l) (t .ends l) here l ∙ o .client-made;
             client-taken = f .taken (ends l) (t .ends l) here l ∙ o .client-taken;
-            server-made = f .made (ends 0) (t .ends 0) hub l ∙ o .server-made;
-            server-taken = f .taken (ends 0) (t .ends 0) hub l ∙ o .server-taken;
+            server-made = f .made (ends 0) (t .ends 0) base l ∙ o .server-made;
+            server-taken = f .taken (ends 0) (t .ends 0) base l ∙ o .server-taken;
             meeting = ap (replay (order h l) (h .applied l) (missing h l)) (f .items (ends l) (t .ends l) here) ∙ o .meeting
-                ∙ ap (replay (order h l) (h .served) (h .untaken l)) (sym (f .items (ends 0) (t .ends 0) hub));
+                ∙ ap (replay (order h l) (h .served) (h .untaken l)) (sym (f .items (ends 0) (t .ends 0) base));
             equal = λ p q.
                 f .items (ends l) (t .ends l) here
-                ∙ o .equal (sym (f .made (ends l) (t .ends l) here l) ∙ p ∙ f .taken (ends 0) (t .ends 0) hub l) (sym (f .taken (ends l) (t .ends l) here l) ∙ q ∙ f .made (ends 0) (t .ends 0) hub l)
-                ∙ sym (f .items (ends 0) (t .ends 0) hub);
-            next-down = λ lent b long more.
-                subst (λ (k : ℕ). Delivered S (ends 0) (ends l) l (suc k) lent) (sym (f .taken (ends l) (t .ends l) here l))
-                (delivered (ends 0) (ends l) (t .ends 0) (t .ends l) hub here l (suc (T .taken (t .ends l) l)) lent (o .next-down lent b long more));
-            next-up = λ lent b long more free.
-                subst (λ (k : ℕ). Delivered S (ends l) (ends 0) l (suc k) lent) (sym (f .taken (ends 0) (t .ends 0) hub l))
-                (delivered (ends l) (ends 0) (t .ends l) (t .ends 0) here hub l (suc (T .taken (t .ends 0) l)) lent
-                (o .next-up lent b long more (λ j x y z full. free j x y z (f .made (ends 0) (t .ends 0) hub j ∙ full))));
+                ∙ o .equal (sym (f .made (ends l) (t .ends l) here l) ∙ p ∙ f .taken (ends 0) (t .ends 0) base l) (sym (f .taken (ends l) (t .ends l) here l) ∙ q ∙ f .made (ends 0) (t .ends 0) base l)
+                ∙ sym (f .items (ends 0) (t .ends 0) base);
+            next-down = λ lent enough more.
+                let same = f .taken (ends l) (t .ends l) here l in
+                subst (λ (k : ℕ). Delivered S (ends 0) (ends l) l (suc k) lent) (sym same)
+                (delivered (ends 0) (ends l) (t .ends 0) (t .ends l) base here l (suc (T .taken (t .ends l) l)) lent
+                (o .next-down lent (subst (λ (k : ℕ). Enough T n t 0 l (suc k) lent) same enough) more));
+            next-up = λ lent enough more free.
+                let same = f .taken (ends 0) (t .ends 0) base l in
+                subst (λ (k : ℕ). Delivered S (ends l) (ends 0) l (suc k) lent) (sym same)
+                (delivered (ends l) (ends 0) (t .ends l) (t .ends 0) here base l (suc (T .taken (t .ends 0) l)) lent
+                (o .next-up lent (subst (λ (k : ℕ). Enough T n t l l (suc k) lent) same enough) more (λ j x y z full. free j x y z (f .made (ends 0) (t .ends 0) base j ∙ full))));
           }
 
       holds-beside : Holds T n t → Holds S n beside
@@ -147,6 +174,8 @@ module _ (S T : Sheet) (R : S .End → T .End → Type 0) where
           record {
             lists = λ a h. f .items (ends a) (t .ends a) (related a h) ∙ o .lists a h;
             messages = o .messages;
+            read-back = o .read-back;
+            numbers = λ c ok. same-number beside t (record { ends = related; messages = refl; passed = refl; recorded = refl }) c ok ∙ o .numbers c ok;
             passed = o .passed;
             lines = λ l lo hi. holds-line l lo hi (o .lines l lo hi);
           }
@@ -157,21 +186,22 @@ module _ (S T : Sheet) (R : S .End → T .End → Type 0) where
         λ i. record { ends = s .ends; messages = sym (m .messages) i; passed = sym (m .passed) i; recorded = sym (m .recorded) i } in
         subst (Holds S n) path (holds-beside (s .ends) t (m .ends) o)
 
-    starts : (items : List ℕ) → T .openServer n items .refusal ≡ 0 → ((l : ℕ) → 1 ≤ l → l ≤ n → T .openClient n l items .refusal ≡ 0) → Same (start S n items) (start T n items)
-    starts items a b = record { ends = go; messages = refl; passed = refl; recorded = refl }
+    starts : (items : List ℕ) → Opened T n items → Same (start S n items) (start T n items)
+    starts items o = record { ends = go; messages = refl; passed = refl; recorded = refl }
       where
         go : (l : ℕ) → l ≤ n → R (opened S n items l) (opened T n items l)
-        go zero h = f .server-opens n items a
-        go (suc l) h = f .client-opens n (suc l) items (b (suc l) (omega arith) h)
+        go zero h = f .server-opens n items (o .server)
+        go (suc l) h = f .client-opens n (suc l) items (o .clients (suc l) (omega arith) h)
 
   pub carries : Follows → Converges T → Converges S
   carries f c =
       record {
-        opens-server = λ n items a b d e. f .server-refusal n items ∙ c .opens-server n items a b d e;
-        opens-client = λ n l items a b d e g i. f .client-refusal n l items ∙ c .opens-client n l items a b d e g i;
-        holds = λ n items few o os calls.
-            let o′ = sym (f .server-refusal n items) ∙ o in
-            let os′ : (l : ℕ) → 1 ≤ l → l ≤ n → T .openClient n l items .refusal ≡ 0 = λ l a b. sym (f .client-refusal n l items) ∙ os l a b in
-            holds-same f n (run S n (start S n items) calls) (run T n (start T n items) calls) (same-run f n calls (start S n items) (start T n items) (starts f n items o′ os′))
-            (c .holds n items few o′ os′ calls);
+        opens-server = λ n items few. f .server-refusal n items ∙ c .opens-server n items few;
+        opens-client = λ n l items few. f .client-refusal n l items ∙ c .opens-client n l items few;
+        alone = f .alone;
+        holds = λ n items o calls.
+            let o′ : Opened T n items =
+            record { numbers = o .numbers; server = sym (f .server-refusal n items) ∙ o .server; clients = λ l a b. sym (f .client-refusal n l items) ∙ o .clients l a b } in
+            holds-same f n (run S n (start S n items) calls) (run T n (start T n items) calls) (same-run f n calls (start S n items) (start T n items) (starts f n items o′))
+            (c .holds n items o′ calls);
       }

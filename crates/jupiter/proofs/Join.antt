@@ -97,7 +97,7 @@ module _ {𝓐 : Algebra} (d : 𝓐 .Doc) (E : Ends 𝓐) (h : History 𝓐) (in
         c-pending = sym (ap (segment (λ i. ownForm l w i n) 0) no-own ∙ segment-none (λ i. ownForm l w i n) 0);
         v-pending = sym (ap (segment (λ j. othForm l w 0 j) n) all-others ∙ segment-none (λ j. othForm l w 0 j) n);
         c-doc = server-doc d E h inv l ∙ ap (λ a. docAt d l w a (length (others l w))) (none-taken ∙ sym no-own) ∙ ap (docAt d l w (length (mine l w))) all-others;
-        shown = ap (λ r. replay r [] (h .served) d) order-is ∙ inv .hub-shown;
+        shown = ap (λ r. replay r [] (h .served) d) order-is ∙ inv .server-shown;
       }
 
   taken-le : (k : ℕ) → taken E k ≤ taken E′ k
@@ -111,7 +111,7 @@ module _ {𝓐 : Algebra} (d : 𝓐 .Doc) (E : Ends 𝓐) (h : History 𝓐) (in
   inv-join =
       record {
         doc-is = inv .doc-is;
-        hub-shown = inv .hub-shown;
+        server-shown = inv .server-shown;
         closed = record { order-closed = inv .closed .order-closed; applied-within = λ k. within k (eqb l k) refl; applied-closed = λ k. closed′ k (eqb l k) };
         served-bound = λ k x t. le-trans (inv .served-bound k x t) (taken-le k);
         lines = λ k. go k (eqb l k) refl;

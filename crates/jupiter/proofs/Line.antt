@@ -12,7 +12,7 @@ use Rattle.jupiter.specs.Algebra.{Algebra, Laws}
 use Rattle.jupiter.specs.Made.{Name, Made, same, holds, names, isBy, mine, others}
 use Rattle.jupiter.specs.Form.{form, listAt, inOrder, replay}
 use Rattle.jupiter.specs.Point.{point, blank, own, oth, ownForm, othForm}
-use Rattle.jupiter.specs.Ends.{past, over, End, Message, keeps, unacked, acks, takes, arrived}
+use Rattle.jupiter.specs.Ends.{past, over, End, EditMessage, keeps, unacked, acks, takes, arrived}
 use Rattle.jupiter.proofs.Lists as L
 use Rattle.jupiter.proofs.Segment.{segment, segment-cong, segment-snoc, segment-get, segment-drop, past-segment, over-segment}
 use Rattle.jupiter.proofs.Grid.{ltb-true, ltb-false, below-suc, seenOf, lagOf, Grows, own-form-same, oth-form-same, own-cell, oth-cell, oth-line, oth-out, Good, docAt, OwnEdge, OthEdge, Grid}
@@ -22,7 +22,7 @@ use Rattle.jupiter.proofs.Replay.{or-false, same-differ, is-false, hold
 module _ {𝓐 : Algebra} where
   -- An up message holds the form that the definition gives at the edits that its seen tells, and so does a down message: (k - 1, seen) and
   -- (seen, k - 1) are its point.
-  pub record UpOk (l : ℕ) (w : List (Made 𝓐)) (taken : ℕ) (x : Message 𝓐) : Type 0 where
+  pub record UpOk (l : ℕ) (w : List (Made 𝓐)) (taken : ℕ) (x : EditMessage 𝓐) : Type 0 where
     pub index : ℕ
     pub number : x .number ≡ suc index
     pub made : index < length (mine l w)
@@ -30,7 +30,7 @@ module _ {𝓐 : Algebra} where
     pub seen-le : x .seen ≤ taken
     pub edit : x .edit ≡ ownForm l w index (x .seen)
 
-  pub record DownOk (l : ℕ) (w : List (Made 𝓐)) (taken : ℕ) (x : Message 𝓐) : Type 0 where
+  pub record DownOk (l : ℕ) (w : List (Made 𝓐)) (taken : ℕ) (x : EditMessage 𝓐) : Type 0 where
     pub index : ℕ
     pub number : x .number ≡ suc index
     pub made : index < length (others l w)
@@ -39,7 +39,7 @@ module _ {𝓐 : Algebra} where
     pub edit : x .edit ≡ othForm l w (x .seen) index
 
   -- they stay so
-  pub up-on : (l : ℕ) (w w′ : List (Made 𝓐)) → Grows l w w′ → (t t′ : ℕ) → t ≤ length (others l w) → t ≤ t′ → (x : Message 𝓐) → UpOk l w t x → UpOk l w′ t′ x
+  pub up-on : (l : ℕ) (w w′ : List (Made 𝓐)) → Grows l w w′ → (t t′ : ℕ) → t ≤ length (others l w) → t ≤ t′ → (x : EditMessage 𝓐) → UpOk l w t x → UpOk l w′ t′ x
   up-on l w w′ g t t′ tn tt′ x ok =
       record {
         index = ok .index;
@@ -50,7 +50,7 @@ module _ {𝓐 : Algebra} where
         edit = ok .edit ∙ sym (own-form-same l w w′ g (ok .index) (x .seen) (ok .made) (le-trans (ok .seen-le) tn));
       }
 
-  pub down-on : (l : ℕ) (w w′ : List (Made 𝓐)) → Grows l w w′ → (a a′ : ℕ) → a ≤ length (mine l w) → a ≤ a′ → (x : Message 𝓐) → DownOk l w a x → DownOk l w′ a′ x
+  pub down-on : (l : ℕ) (w w′ : List (Made 𝓐)) → Grows l w w′ → (a a′ : ℕ) → a ≤ length (mine l w) → a ≤ a′ → (x : EditMessage 𝓐) → DownOk l w a x → DownOk l w′ a′ x
   down-on l w w′ g a a′ am aa′ x ok =
       record {
         index = ok .index;
@@ -311,7 +311,7 @@ module _ {𝓐 : Algebra} (d : 𝓐 .Doc) where
         }
 
     -- ---- the server takes the client's next edit
-    module _ (x : Message 𝓐) (ok : UpOk l w (c .taken) x) (next : x .number ≡ suc (v .taken)) (cur : v .acked ≤ x .seen) where
+    module _ (x : EditMessage 𝓐) (ok : UpOk l w (c .taken) x) (next : x .number ≡ suc (v .taken)) (cur : v .acked ≤ x .seen) where
       up-index : ok .index ≡ v .taken
       up-index = omega (arith, ok .number)
 
@@ -379,7 +379,7 @@ module _ {𝓐 : Algebra} (d : 𝓐 .Doc) where
           seen-case k (inr e) = subst (λ n. seenOf (own l w n) ≤ x .seen) (sym e) up-seen
 
     -- ---- the client takes its next edit
-    module _ (x : Message 𝓐) (ok : DownOk l w (v .taken) x) (next : x .number ≡ suc (c .taken)) (cur : c .acked ≤ x .seen) where
+    module _ (x : EditMessage 𝓐) (ok : DownOk l w (v .taken) x) (next : x .number ≡ suc (c .taken)) (cur : c .acked ≤ x .seen) where
       down-index : ok .index ≡ c .taken
       down-index = omega (arith, ok .number)
 

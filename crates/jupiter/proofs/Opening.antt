@@ -93,7 +93,7 @@ module _ {𝓐 : Algebra} (d : 𝓐 .Doc) where
       record {
         behind = refl;
         list = ap (λ r. replay (order h l) [] r d) (take-length (h .served)) ∙ ap (λ w. replay w [] (h .served) d) (order-is d E h inv l none-made)
-            ∙ inv .hub-shown ∙ inv .doc-is ∙ ap (listAt d) (sym (take-length (h .served)));
+            ∙ inv .server-shown ∙ inv .doc-is ∙ ap (listAt d) (sym (take-length (h .served)));
       }
 
   module _ (start : ℕ → ℕ) (E : Ends 𝓐) (h : History 𝓐) (inv : Inv d (whole start E) h) (l : ℕ) (was : Opening (order h l) (h .served) (h .applied l) (start l)) where

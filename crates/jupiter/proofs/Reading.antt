@@ -10,7 +10,7 @@ use Rattle.jupiter.specs.Made.{Name, Made, holds, mine, others}
 use Rattle.jupiter.specs.Form.{Last, allInside, outside, further, lastOutside}
 use Rattle.jupiter.specs.Point.{point, own, oth, ownForm, othForm}
 use Rattle.jupiter.specs.History.{order}
-use Rattle.jupiter.specs.Ends.{Message}
+use Rattle.jupiter.specs.Ends.{EditMessage}
 use Rattle.jupiter.specs.Run.{Call, State, run}
 use Rattle.jupiter.proofs.Lists.{All}
 use Rattle.jupiter.proofs.Forms.{Inside, form-by}
@@ -52,7 +52,7 @@ module _ {𝓐 : Algebra} where
       oth-form-same l (order (s .history) l) (order (run s cs .history) l) (run-ok d laws cs s r .later .grows l) i j
 
   -- A message's edit is of the line that made it, and adds what the edit as made adds.
-  module _ (laws : Laws 𝓐) (l : ℕ) (w : List (Made 𝓐)) (contexts : Contexts l w) (taken : ℕ) (x : Message 𝓐) where
+  module _ (laws : Laws 𝓐) (l : ℕ) (w : List (Made 𝓐)) (contexts : Contexts l w) (taken : ℕ) (x : EditMessage 𝓐) where
     pub up-by : UpOk l w taken x → T (𝓐 .by l (x .edit))
     up-by ok = subst (λ e. T (𝓐 .by l e)) (sym (ok .edit)) (form-by laws l (own l w (ok .index)) (point l w (ok .index) (x .seen)) (contexts .own-by (ok .index) (ok .made)))
 

@@ -10,12 +10,12 @@ use lib.ListN.{length, getElem?}
 use Rattle.jupiter.specs.Algebra.{Algebra, Laws}
 use Rattle.jupiter.specs.History.{History, order, madeBy, afterEdit, afterUp, afterDown, afterJoin}
 use Rattle.jupiter.specs.Ends.{Ends, canSend, message, current, canTake, editing, takingUp, takingDown, ackingUp, ackingDown}
-use Rattle.jupiter.specs.Run.{Letter, up, down, upAck, downAck, Call, edit, sendUp, sendDown, tellUp, tellDown, deliver, join, State, initial, writes, goes, lineOf, silent, unused, joins, receive, step, run}
+use Rattle.jupiter.specs.Run.{Message, up, down, upAck, downAck, Call, edit, sendUp, sendDown, tellUp, tellDown, deliver, join, State, initial, writes, goes, lineOf, silent, unused, joins, receive, step, run}
 use Rattle.jupiter.proofs.Lists.{All, all-append, all-map}
 use Rattle.jupiter.proofs.Grid.{is-true, to-T, eqb-eq, ltb-lt}
 use Rattle.jupiter.proofs.World.{Inv}
 use Rattle.jupiter.proofs.Step.{Later, later-refl, later-trans, Step, opens, UpMessage, DownMessage, up-later, down-later}
-use Rattle.jupiter.proofs.Start.{whole, wholeLetter, letter-same, from-opening, step-edit, step-up, step-down, step-ack-up, step-ack-down, step-join, up-message, down-message}
+use Rattle.jupiter.proofs.Start.{whole, wholeMessage, message-same, from-opening, step-edit, step-up, step-down, step-ack-up, step-ack-down, step-join, up-message, down-message}
 use Rattle.jupiter.proofs.Opening.{Longer, longer-refl, longer-edit, longer-up, longer-down, Opening, opening-first, opening-join, opening-later}
 use Rattle.jupiter.proofs.Replay.{and-left, and-right}
 
@@ -31,25 +31,25 @@ module _ {𝓐 : Algebra} where
   wholeEnds s = whole (s .start) (s .ends)
 
 module _ {𝓐 : Algebra} (d : 𝓐 .Doc) where
-  -- a letter may be taken at any time
-  abbrev pub Fine : Ends 𝓐 → History 𝓐 → Letter 𝓐 → Type 0
+  -- a message may be taken at any time
+  abbrev pub Fine : Ends 𝓐 → History 𝓐 → Message 𝓐 → Type 0
   Fine E h (up l m) = UpMessage d E h l m
   Fine E h (down l m) = DownMessage d E h l m
   Fine E h (upAck l s) = s ≤ E .clients l .taken
   Fine E h (downAck l s) = s ≤ E .lines l .taken
 
-  pub fine-later : (E : Ends 𝓐) (h : History 𝓐) (E′ : Ends 𝓐) (h′ : History 𝓐) → Inv d E h → Later E h E′ h′ → (x : Letter 𝓐) → Fine E h x → Fine E′ h′ x
+  pub fine-later : (E : Ends 𝓐) (h : History 𝓐) (E′ : Ends 𝓐) (h′ : History 𝓐) → Inv d E h → Later E h E′ h′ → (x : Message 𝓐) → Fine E h x → Fine E′ h′ x
   fine-later E h E′ h′ inv f (up l m) ok = up-later d E h E′ h′ inv f l m ok
   fine-later E h E′ h′ inv f (down l m) ok = down-later d E h E′ h′ inv f l m ok
   fine-later E h E′ h′ inv f (upAck l s) ok = le-trans ok (f .c-later l)
   fine-later E h E′ h′ inv f (downAck l s) ok = le-trans ok (f .v-later l)
 
-  abbrev FineIn : State 𝓐 → Letter 𝓐 → Type 0
-  FineIn s x = Fine (wholeEnds s) (s .history) (wholeLetter (s .start) x)
+  abbrev FineIn : State 𝓐 → Message 𝓐 → Type 0
+  FineIn s x = Fine (wholeEnds s) (s .history) (wholeMessage (s .start) x)
 
   pub record Reached (s : State 𝓐) : Type 0 where
     pub inv : Inv d (wholeEnds s) (s .history)
-    pub fine : All (λ x. Fine (wholeEnds s) (s .history) (wholeLetter (s .start) x)) (s .letters)
+    pub fine : All (λ x. Fine (wholeEnds s) (s .history) (wholeMessage (s .start) x)) (s .messages)
     pub openings : (l : ℕ) → Opening d (order (s .history) l) (s .history .served) (s .history .applied l) (s .start l)
 
   pub record Onward (s s′ : State 𝓐) : Type 0 where
@@ -66,29 +66,29 @@ module _ {𝓐 : Algebra} (d : 𝓐 .Doc) where
       record {
         reached = record {
           inv = t .inv;
-          fine = all-map (FineIn s) (FineIn (goes f g s)) (s .letters)
-              (λ x. fine-later (wholeEnds s) (s .history) (wholeEnds (goes f g s)) (g (s .history)) (r .inv) (t .later) (wholeLetter (s .start) x)) (r .fine);
+          fine = all-map (FineIn s) (FineIn (goes f g s)) (s .messages)
+              (λ x. fine-later (wholeEnds s) (s .history) (wholeEnds (goes f g s)) (g (s .history)) (r .inv) (t .later) (wholeMessage (s .start) x)) (r .fine);
           openings = λ l. opening-later d (s .start) (s .ends) (s .history) (r .inv) l (r .openings l) (wholeEnds (goes f g s)) (g (s .history)) (t .later) longer;
         };
         later = t .later;
       }
 
-  -- a letter more
-  wrote : (s : State 𝓐) → Reached s → (x : Letter 𝓐) → FineIn s x → Onward s (writes x s)
+  -- a message more
+  wrote : (s : State 𝓐) → Reached s → (x : Message 𝓐) → FineIn s x → Onward s (writes x s)
   wrote s r x ok =
       record {
-        reached = record { inv = r .inv; fine = all-append (FineIn s) (s .letters) (x ∷ []) (r .fine) (ok, tt); openings = r .openings };
+        reached = record { inv = r .inv; fine = all-append (FineIn s) (s .messages) (x ∷ []) (r .fine) (ok, tt); openings = r .openings };
         later = later-refl (wholeEnds s) (s .history);
       }
 
-  -- a client joins: no letter is on its line, so that each letter reads as before
+  -- a client joins: no message is on its line, so that each message reads as before
   joined-ok : (s : State 𝓐) → Reached s → (l : ℕ) → unused l s ≡ true → Onward s (joins l s)
   unfolding silent
   joined-ok s r l e =
       record {
         reached = record {
           inv = t .inv;
-          fine = letters (s .letters) (and-right (eqb (madeBy (s .history) l) 0) (silent l (s .letters)) e) (r .fine);
+          fine = messages (s .messages) (and-right (eqb (madeBy (s .history) l) 0) (silent l (s .messages)) e) (r .fine);
           openings = λ k. opening k (eqb l k) refl;
         };
         later = t .later;
@@ -98,7 +98,7 @@ module _ {𝓐 : Algebra} (d : 𝓐 .Doc) where
       n = length (s .history .served)
 
       none-made : madeBy (s .history) l ≡ 0
-      none-made = eqb-eq (madeBy (s .history) l) 0 (and-left (eqb (madeBy (s .history) l) 0) (silent l (s .letters)) e)
+      none-made = eqb-eq (madeBy (s .history) l) 0 (and-left (eqb (madeBy (s .history) l) 0) (silent l (s .messages)) e)
 
       t : Step d (wholeEnds s) (s .history) (wholeEnds (joins l s)) (afterJoin l (s .history))
       t = step-join d (s .start) (s .ends) (s .history) (r .inv) l none-made
@@ -113,21 +113,21 @@ module _ {𝓐 : Algebra} (d : 𝓐 .Doc) where
       not-true true q = absurd (false≢true q)
       not-true false q = refl
 
-      letters : (xs : List (Letter 𝓐)) → silent l xs ≡ true → All (FineIn s) xs → All (FineIn (joins l s)) xs
-      letters [] q ok = tt
-      letters (x ∷ xs) q ok = (
-        subst (Fine (wholeEnds (joins l s)) (afterJoin l (s .history))) (sym (letter-same l n (s .start) x (not-true _ (and-left (not (eqb l (lineOf x))) (silent l xs) q))))
-            (fine-later (wholeEnds s) (s .history) (wholeEnds (joins l s)) (afterJoin l (s .history)) (r .inv) (t .later) (wholeLetter (s .start) x) (ok .0)),
-        letters xs (and-right (not (eqb l (lineOf x))) (silent l xs) q) (ok .1),
+      messages : (xs : List (Message 𝓐)) → silent l xs ≡ true → All (FineIn s) xs → All (FineIn (joins l s)) xs
+      messages [] q ok = tt
+      messages (x ∷ xs) q ok = (
+        subst (Fine (wholeEnds (joins l s)) (afterJoin l (s .history))) (sym (message-same l n (s .start) x (not-true _ (and-left (not (eqb l (lineOf x))) (silent l xs) q))))
+            (fine-later (wholeEnds s) (s .history) (wholeEnds (joins l s)) (afterJoin l (s .history)) (r .inv) (t .later) (wholeMessage (s .start) x) (ok .0)),
+        messages xs (and-right (not (eqb l (lineOf x))) (silent l xs) q) (ok .1),
       )
 
-  pub all-get : (Q : Letter 𝓐 → Type 0) (xs : List (Letter 𝓐)) (i : ℕ) (x : Letter 𝓐) → All Q xs → getElem? xs i ≡ some x → Q x
+  pub all-get : (Q : Message 𝓐 → Type 0) (xs : List (Message 𝓐)) (i : ℕ) (x : Message 𝓐) → All Q xs → getElem? xs i ≡ some x → Q x
   all-get Q [] i x h e = absurd (Option·none-ne-some x e)
   all-get Q (y ∷ ys) zero x h e = subst Q (Option·some-injective y x e) (h .0)
   all-get Q (y ∷ ys) (suc i) x h e = all-get Q ys i x (h .1) e
 
   module _ (laws : Laws 𝓐) where
-    receive-ok : (s : State 𝓐) → Reached s → (x : Letter 𝓐) → FineIn s x → Onward s (receive (some x) s)
+    receive-ok : (s : State 𝓐) → Reached s → (x : Message 𝓐) → FineIn s x → Onward s (receive (some x) s)
     unfolding receive
     receive-ok s r (up l m) ok = go (canTake m (s .ends .lines l)) refl
       where
@@ -189,11 +189,11 @@ module _ {𝓐 : Algebra} (d : 𝓐 .Doc) where
             (leb-le k (s .ends .lines l .made) (and-right (ltb (s .ends .lines l .acked) k) _ q)))
     step-ok s r (tellUp l) = wrote s r (upAck l (s .ends .clients l .taken)) (le-refl _)
     step-ok s r (tellDown l) = wrote s r (downAck l (s .ends .lines l .taken)) (le-refl _)
-    step-ok s r (deliver i) = go (getElem? (s .letters) i) refl
+    step-ok s r (deliver i) = go (getElem? (s .messages) i) refl
       where
-        go : (x : Option (Letter 𝓐)) → getElem? (s .letters) i ≡ x → Onward s (receive x s)
+        go : (x : Option (Message 𝓐)) → getElem? (s .messages) i ≡ x → Onward s (receive x s)
         go none e = stays s r
-        go (some x) e = receive-ok s r x (all-get (FineIn s) (s .letters) i x (r .fine) e)
+        go (some x) e = receive-ok s r x (all-get (FineIn s) (s .messages) i x (r .fine) e)
     step-ok s r (join l) = go (unused l s) refl
       where
         go : (b : Bool) → unused l s ≡ b → Onward s (cond b (joins l s) s)

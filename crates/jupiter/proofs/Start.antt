@@ -10,8 +10,8 @@ use lib.Dec.{T, eqb}
 use lib.ListN.{length, getD, drop}
 use Rattle.jupiter.specs.Algebra.{Algebra, Laws}
 use Rattle.jupiter.specs.History.{at, History, madeBy, afterEdit, afterUp, afterDown, afterJoin}
-use Rattle.jupiter.specs.Ends.{past, over, End, Message, Ends, fresh, keeps, unacked, acks, takes, arrived, message, editing, takingUp, takingDown, ackingUp, ackingDown, joining}
-use Rattle.jupiter.specs.Run.{Letter, up, down, upAck, downAck, lineOf}
+use Rattle.jupiter.specs.Ends.{past, over, End, EditMessage, Ends, fresh, keeps, unacked, acks, takes, arrived, message, editing, takingUp, takingDown, ackingUp, ackingDown, joining}
+use Rattle.jupiter.specs.Run.{Message, up, down, upAck, downAck, lineOf}
 use Rattle.jupiter.proofs.Grid.{eqb-eq}
 use Rattle.jupiter.proofs.World.{Inv}
 use Rattle.jupiter.proofs.Step as S
@@ -27,17 +27,17 @@ module _ {𝓐 : Algebra} where
   abbrev pub wholeServer : ℕ → End 𝓐 → End 𝓐
   wholeServer s v = record { made = s + v .made; taken = v .taken; acked = s + v .acked; pending = v .pending }
 
-  abbrev pub wholeUp : ℕ → Message 𝓐 → Message 𝓐
+  abbrev pub wholeUp : ℕ → EditMessage 𝓐 → EditMessage 𝓐
   wholeUp s m = record { number = m .number; seen = s + m .seen; edit = m .edit }
 
-  abbrev pub wholeDown : ℕ → Message 𝓐 → Message 𝓐
+  abbrev pub wholeDown : ℕ → EditMessage 𝓐 → EditMessage 𝓐
   wholeDown s m = record { number = s + m .number; seen = m .seen; edit = m .edit }
 
-  abbrev pub wholeLetter : (ℕ → ℕ) → Letter 𝓐 → Letter 𝓐
-  wholeLetter start (up l m) = up l (wholeUp (start l) m)
-  wholeLetter start (down l m) = down l (wholeDown (start l) m)
-  wholeLetter start (upAck l seen) = upAck l (start l + seen)
-  wholeLetter start (downAck l seen) = downAck l seen
+  abbrev pub wholeMessage : (ℕ → ℕ) → Message 𝓐 → Message 𝓐
+  wholeMessage start (up l m) = up l (wholeUp (start l) m)
+  wholeMessage start (down l m) = down l (wholeDown (start l) m)
+  wholeMessage start (upAck l seen) = upAck l (start l + seen)
+  wholeMessage start (downAck l seen) = downAck l seen
 
   abbrev pub whole : (ℕ → ℕ) → Ends 𝓐 → Ends 𝓐
   whole start E =
@@ -48,12 +48,12 @@ module _ {𝓐 : Algebra} where
         clients = λ l. wholeClient (start l) (E .clients l);
       }
 
-  -- a start on another line is nothing to a letter
-  pub letter-same : (l n : ℕ) (start : ℕ → ℕ) (x : Letter 𝓐) → eqb l (lineOf x) ≡ false → wholeLetter (at l n start) x ≡ wholeLetter start x
-  letter-same l n start (up k m) q = ap (λ b. up k (wholeUp (cond b n (start k)) m)) q
-  letter-same l n start (down k m) q = ap (λ b. down k (wholeDown (cond b n (start k)) m)) q
-  letter-same l n start (upAck k seen) q = ap (λ b. upAck k (cond b n (start k) + seen)) q
-  letter-same l n start (downAck k seen) q = refl
+  -- a start on another line is nothing to a message
+  pub message-same : (l n : ℕ) (start : ℕ → ℕ) (x : Message 𝓐) → eqb l (lineOf x) ≡ false → wholeMessage (at l n start) x ≡ wholeMessage start x
+  message-same l n start (up k m) q = ap (λ b. up k (wholeUp (cond b n (start k)) m)) q
+  message-same l n start (down k m) q = ap (λ b. down k (wholeDown (cond b n (start k)) m)) q
+  message-same l n start (upAck k seen) q = ap (λ b. upAck k (cond b n (start k) + seen)) q
+  message-same l n start (downAck k seen) q = refl
 
   -- lines that are there from the opening
   pub whole-none : (E : Ends 𝓐) → whole (λ l. 0) E ≡ E
@@ -82,7 +82,7 @@ module _ {𝓐 : Algebra} where
       same : (s a b : ℕ) → s + a - (s + b) ≡ a - b
       same s a b = omega arith
 
-  pub arrived-whole : (s : ℕ) (m : Message 𝓐) (v : End 𝓐) → arrived (wholeUp s m) (wholeServer s v) ≡ arrived m v
+  pub arrived-whole : (s : ℕ) (m : EditMessage 𝓐) (v : End 𝓐) → arrived (wholeUp s m) (wholeServer s v) ≡ arrived m v
   arrived-whole s m v = ap (past 𝓐 (m .edit)) (unacked-whole s v (m .seen))
 
   pub message-whole : (s k : ℕ) (v : End 𝓐) → message (s + k) (wholeServer s v) ≡ wholeDown s (message k v)
@@ -107,11 +107,11 @@ module _ {𝓐 : Algebra} where
   acks-whole s seen v i =
       record { made = s + v .made; taken = v .taken; acked = s + seen; pending = unacked-whole s v seen i }
 
-  takes-whole-server : (s : ℕ) (m : Message 𝓐) (v : End 𝓐) → takes (wholeUp s m) (wholeServer s v) ≡ wholeServer s (takes m v)
+  takes-whole-server : (s : ℕ) (m : EditMessage 𝓐) (v : End 𝓐) → takes (wholeUp s m) (wholeServer s v) ≡ wholeServer s (takes m v)
   takes-whole-server s m v i =
       record { made = s + v .made; taken = suc (v .taken); acked = s + m .seen; pending = over 𝓐 (m .edit) (unacked-whole s v (m .seen) i) }
 
-  takes-whole-client : (s : ℕ) (m : Message 𝓐) (c : End 𝓐) → takes (wholeDown s m) (wholeClient s c) ≡ wholeClient s (takes m c)
+  takes-whole-client : (s : ℕ) (m : EditMessage 𝓐) (c : End 𝓐) → takes (wholeDown s m) (wholeClient s c) ≡ wholeClient s (takes m c)
   takes-whole-client s m c i =
       record { made = c .made; taken = more s (c .taken) i; acked = m .seen; pending = takes m c .pending }
     where
@@ -145,7 +145,7 @@ module _ {𝓐 : Algebra} where
           clients = λ k. at-whole clients l (keeps e (A .clients l)) (keeps e (E .clients l)) (A .clients) (E .clients) refl (λ j. refl) k i;
         }
 
-    takingUp-whole : (l : ℕ) (m : Message 𝓐) → takingUp l (wholeUp (start l) m) A ≡ whole start (takingUp l m E)
+    takingUp-whole : (l : ℕ) (m : EditMessage 𝓐) → takingUp l (wholeUp (start l) m) A ≡ whole start (takingUp l m E)
     takingUp-whole l m =
         let x = arrived m (E .lines l) in
         let is : arrived (wholeUp (start l) m) (A .lines l) ≡ x = arrived-whole (start l) m (E .lines l) in
@@ -157,7 +157,7 @@ module _ {𝓐 : Algebra} where
           clients = A .clients;
         }
 
-    takingDown-whole : (l : ℕ) (m : Message 𝓐) → takingDown l (wholeDown (start l) m) A ≡ whole start (takingDown l m E)
+    takingDown-whole : (l : ℕ) (m : EditMessage 𝓐) → takingDown l (wholeDown (start l) m) A ≡ whole start (takingDown l m E)
     takingDown-whole l m i =
         record {
           doc = E .doc;
@@ -218,12 +218,12 @@ module _ {𝓐 : Algebra} (d : 𝓐 .Doc) where
     step-edit laws l e by-l ok =
         subst (λ X. Step d (whole start E) h X (afterEdit l e h)) (editing-whole start E l e) (S.step-edit d laws (whole start E) h inv l e by-l ok)
 
-    pub step-up : Laws 𝓐 → (l : ℕ) (m : Message 𝓐) → UpMessage d (whole start E) h l (wholeUp (start l) m) → m .number ≡ suc (E .lines l .taken) → E .lines l .acked ≤ m .seen
+    pub step-up : Laws 𝓐 → (l : ℕ) (m : EditMessage 𝓐) → UpMessage d (whole start E) h l (wholeUp (start l) m) → m .number ≡ suc (E .lines l .taken) → E .lines l .acked ≤ m .seen
         → Goes (takingUp l m E) (afterUp l h)
     step-up laws l m ok next cur =
         subst (λ X. Step d (whole start E) h X (afterUp l h)) (takingUp-whole start E l m) (S.step-up d laws (whole start E) h inv l (wholeUp (start l) m) ok next (omega arith))
 
-    pub step-down : (l : ℕ) (m : Message 𝓐) → DownMessage d (whole start E) h l (wholeDown (start l) m) → m .number ≡ suc (E .clients l .taken) → E .clients l .acked ≤ m .seen
+    pub step-down : (l : ℕ) (m : EditMessage 𝓐) → DownMessage d (whole start E) h l (wholeDown (start l) m) → m .number ≡ suc (E .clients l .taken) → E .clients l .acked ≤ m .seen
         → Goes (takingDown l m E) (afterDown l h)
     step-down l m ok next cur =
         subst (λ X. Step d (whole start E) h X (afterDown l h)) (takingDown-whole start E l m) (S.step-down d (whole start E) h inv l (wholeDown (start l) m) ok (omega arith) cur)

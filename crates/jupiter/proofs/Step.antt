@@ -13,7 +13,7 @@ use Rattle.jupiter.specs.Made.{Name, Made, holds, select, reject, names,
 use Rattle.jupiter.specs.Form.{grown, listAt, inOrder, replay}
 use Rattle.jupiter.specs.Point.{blank, oth, ownForm, othForm}
 use Rattle.jupiter.specs.History.{History, noHistory, order, newEdit, afterEdit, serves, afterUp, applies, afterDown}
-use Rattle.jupiter.specs.Ends.{Message, Ends, opened, keeps, acks, takes, arrived, message, editing, takingUp, takingDown, ackingUp, ackingDown}
+use Rattle.jupiter.specs.Ends.{EditMessage, Ends, opened, keeps, acks, takes, arrived, message, editing, takingUp, takingDown, ackingUp, ackingDown}
 use Rattle.jupiter.proofs.Lists as L
 use Rattle.jupiter.proofs.Segment.{segment-none}
 use Rattle.jupiter.proofs.Grid.{eqb-eq, eqb-same, Grows, grows-refl, grows-trans}
@@ -88,7 +88,7 @@ module _ {𝓐 : Algebra} (d : 𝓐 .Doc) where
   opens =
       record {
         doc-is = refl′;
-        hub-shown = shown′;
+        server-shown = shown′;
         closed = record { order-closed = λ l. tt; applied-within = λ l n t. absurd (none-held n t); applied-closed = λ l. tt };
         served-bound = λ k x t. absurd (none-held (named k x) t);
         lines = λ l. record {
@@ -180,7 +180,7 @@ module _ {𝓐 : Algebra} (d : 𝓐 .Doc) where
       set-same′ k false q = refl
 
   -- ---- the server takes the next edit of a line
-  pub step-up : Laws 𝓐 → (E : Ends 𝓐) (h : History 𝓐) → Inv d E h → (l : ℕ) (x : Message 𝓐) → UpOk l (order h l) (E .clients l .taken) x
+  pub step-up : Laws 𝓐 → (E : Ends 𝓐) (h : History 𝓐) → Inv d E h → (l : ℕ) (x : EditMessage 𝓐) → UpOk l (order h l) (E .clients l .taken) x
       → x .number ≡ suc (E .lines l .taken) → E .lines l .acked ≤ x .seen → Step E h (takingUp l x E) (afterUp l h)
   unfolding serves
   step-up laws E h inv l x ok next cur = first-untaken d laws E h inv l x ok next cur (h .untaken l) refl (λ r. Step E h (takingUp l x E) (serves l r h)) go
@@ -211,7 +211,7 @@ module _ {𝓐 : Algebra} (d : 𝓐 .Doc) where
               (o-new-to d laws E h inv l x ok next cur o us split k (λ e. true≢false (sym (eqb-same l) ∙ ap (eqb l) e ∙ q)))
 
   -- ---- a client takes its next edit
-  pub step-down : (E : Ends 𝓐) (h : History 𝓐) → Inv d E h → (l : ℕ) (x : Message 𝓐) → DownOk l (order h l) (E .lines l .taken) x
+  pub step-down : (E : Ends 𝓐) (h : History 𝓐) → Inv d E h → (l : ℕ) (x : EditMessage 𝓐) → DownOk l (order h l) (E .lines l .taken) x
       → x .number ≡ suc (E .clients l .taken) → E .clients l .acked ≤ x .seen → Step E h (takingDown l x E) (afterDown l h)
   unfolding applies
   step-down E h inv l x ok next cur =
@@ -279,10 +279,10 @@ module _ {𝓐 : Algebra} (d : 𝓐 .Doc) where
 
   -- ---- messages
   -- what a message on line l must be, whenever it is taken
-  abbrev pub UpMessage : Ends 𝓐 → History 𝓐 → ℕ → Message 𝓐 → Type 0
+  abbrev pub UpMessage : Ends 𝓐 → History 𝓐 → ℕ → EditMessage 𝓐 → Type 0
   UpMessage E h l x = UpOk l (order h l) (E .clients l .taken) x
 
-  abbrev pub DownMessage : Ends 𝓐 → History 𝓐 → ℕ → Message 𝓐 → Type 0
+  abbrev pub DownMessage : Ends 𝓐 → History 𝓐 → ℕ → EditMessage 𝓐 → Type 0
   DownMessage E h l x = DownOk l (order h l) (E .lines l .taken) x
 
   pub up-message : (E : Ends 𝓐) (h : History 𝓐) → Inv d E h → (l k : ℕ) → E .clients l .acked < k → k ≤ E .clients l .made → UpMessage E h l (message k (E .clients l))
@@ -291,14 +291,14 @@ module _ {𝓐 : Algebra} (d : 𝓐 .Doc) where
   pub down-message : (E : Ends 𝓐) (h : History 𝓐) → Inv d E h → (l k : ℕ) → E .lines l .acked < k → k ≤ E .lines l .made → DownMessage E h l (message k (E .lines l))
   down-message E h inv l = send-down d l (order h l) (h .served) (h .applied l) (E .clients l) (E .lines l) (E .docs l) (inv .lines l .line)
 
-  pub up-later : (E : Ends 𝓐) (h : History 𝓐) (E′ : Ends 𝓐) (h′ : History 𝓐) → Inv d E h → Later E h E′ h′ → (l : ℕ) (x : Message 𝓐) → UpMessage E h l x → UpMessage E′ h′ l x
+  pub up-later : (E : Ends 𝓐) (h : History 𝓐) (E′ : Ends 𝓐) (h′ : History 𝓐) → Inv d E h → Later E h E′ h′ → (l : ℕ) (x : EditMessage 𝓐) → UpMessage E h l x → UpMessage E′ h′ l x
   up-later E h E′ h′ inv f l x ok = up-on l (order h l) (order h′ l) (f .grows l) _ _ (inv .lines l .line .c-taken) (f .c-later l) x ok
 
-  pub down-later : (E : Ends 𝓐) (h : History 𝓐) (E′ : Ends 𝓐) (h′ : History 𝓐) → Inv d E h → Later E h E′ h′ → (l : ℕ) (x : Message 𝓐) → DownMessage E h l x → DownMessage E′ h′ l x
+  pub down-later : (E : Ends 𝓐) (h : History 𝓐) (E′ : Ends 𝓐) (h′ : History 𝓐) → Inv d E h → Later E h E′ h′ → (l : ℕ) (x : EditMessage 𝓐) → DownMessage E h l x → DownMessage E′ h′ l x
   down-later E h E′ h′ inv f l x ok = down-on l (order h l) (order h′ l) (f .grows l) _ _ (inv .lines l .line .v-taken) (f .v-later l) x ok
 
   -- ---- what arrives fits, and is the form at what the taker has applied
-  pub down-fits : (E : Ends 𝓐) (h : History 𝓐) → Inv d E h → (l : ℕ) (x : Message 𝓐) → DownMessage E h l x
+  pub down-fits : (E : Ends 𝓐) (h : History 𝓐) → Inv d E h → (l : ℕ) (x : EditMessage 𝓐) → DownMessage E h l x
       → x .number ≡ suc (E .clients l .taken) → E .clients l .acked ≤ x .seen → T (𝓐 .fits (arrived x (E .clients l)) (E .docs l))
   down-fits E h inv l x ok next cur =
       let line = inv .lines l .line in
@@ -307,7 +307,7 @@ module _ {𝓐 : Algebra} (d : 𝓐 .Doc) where
       subst (λ e. T (𝓐 .fits e (E .docs l))) (sym is)
       (subst (λ r. T (𝓐 .fits (othForm l (order h l) (length (mine l (order h l))) (E .clients l .taken)) r)) (sym (line .c-doc)) (edge .fits))
 
-  pub up-fits : (E : Ends 𝓐) (h : History 𝓐) → Inv d E h → (l : ℕ) (x : Message 𝓐) → UpMessage E h l x
+  pub up-fits : (E : Ends 𝓐) (h : History 𝓐) → Inv d E h → (l : ℕ) (x : EditMessage 𝓐) → UpMessage E h l x
       → x .number ≡ suc (E .lines l .taken) → E .lines l .acked ≤ x .seen → T (𝓐 .fits (arrived x (E .lines l)) (E .doc))
   up-fits E h inv l x ok next cur =
       let line = inv .lines l .line in

@@ -13,8 +13,8 @@ use Rattle.jupiter.specs.Made.{Made, mine, others}
 use Rattle.jupiter.specs.Form.{form, inOrder}
 use Rattle.jupiter.specs.Point.{point, blank, own, oth, ownForm, othForm}
 use Rattle.jupiter.specs.History.{History, order, missing}
-use Rattle.jupiter.specs.Ends.{End, Message, Ends, arrived, message}
-use Rattle.jupiter.specs.Run.{Letter, up, down, upAck, downAck, edit, State, initial, run}
+use Rattle.jupiter.specs.Ends.{End, EditMessage, Ends, arrived, message}
+use Rattle.jupiter.specs.Run.{Message, up, down, upAck, downAck, edit, State, initial, run}
 use Rattle.jupiter.specs.Claims.{ClosedSet, Written, Delivers, LineClaim, Claim, Who, server, client, setOf, Converges, QuiescentConsistency}
 use Rattle.jupiter.proofs.Lists.{All}
 use Rattle.jupiter.proofs.Segment.{segment-length, segment-get}
@@ -23,7 +23,7 @@ use Rattle.jupiter.proofs.Line.{LineAt, set-is, down-arrives, up-form, 
 use Rattle.jupiter.proofs.Closure.{served-closed}
 use Rattle.jupiter.proofs.World.{others-served, Inv, missing-is, first-missing}
 use Rattle.jupiter.proofs.Step.{down-fits, up-fits}
-use Rattle.jupiter.proofs.Start.{wholeClient, wholeServer, wholeUp, wholeDown, wholeLetter, whole, unacked-whole, arrived-whole, up-message, down-message}
+use Rattle.jupiter.proofs.Start.{wholeClient, wholeServer, wholeUp, wholeDown, wholeMessage, whole, unacked-whole, arrived-whole, up-message, down-message}
 use Rattle.jupiter.proofs.Opening.{since}
 use Rattle.jupiter.proofs.Runs.{leb-true, wholeEnds, Fine, Reached, all-get, run-ok, starts}
 use Rattle.jupiter.proofs.Meeting.{client-less, server-less, meet, server-doc, untaken-is}
@@ -109,7 +109,7 @@ module _ {𝓐 : Algebra} (d : 𝓐 .Doc) (start : ℕ → ℕ) (E : Ends 𝓐) 
   pub arrives-down : (e : Made 𝓐) (es : List (Made 𝓐)) → missing h l ≡ e ∷ es → arrived (message (suc (c .taken)) v) c ≡ form e (inOrder w (h .applied l))
   arrives-down e es q =
       let lt : suc (c .taken) ≤ v .made = omega (arith, ap length q, count-missing) in
-      let x : Message 𝓐 = wholeDown s (message (suc (c .taken)) v) in
+      let x : EditMessage 𝓐 = wholeDown s (message (suc (c .taken)) v) in
       let ok = down-message d start E h inv l (suc (c .taken)) (suc-le-suc v-acked) lt in
       let next : x .number ≡ suc (s + c .taken) = omega arith in
       let is : oth l w (s + c .taken) ≡ e = ap (λ r. getD r 0 blank) (sym (first-missing d (whole start E) h inv l x ok next (line .c-acked)) ∙ q) in
@@ -119,7 +119,7 @@ module _ {𝓐 : Algebra} (d : 𝓐 .Doc) (start : ℕ → ℕ) (E : Ends 𝓐) 
   pub arrives-up : (e : Made 𝓐) (es : List (Made 𝓐)) → h .untaken l ≡ e ∷ es → arrived (message (suc (v .taken)) c) v ≡ form e (h .served)
   arrives-up e es q =
       let lt : suc (v .taken) ≤ c .made = omega (arith, ap length q, count-untaken) in
-      let x : Message 𝓐 = wholeUp s (message (suc (v .taken)) c) in
+      let x : EditMessage 𝓐 = wholeUp s (message (suc (v .taken)) c) in
       let ok = up-message d start E h inv l (suc (v .taken)) (suc-le-suc (line .c-acked)) lt in
       let im : v .taken < length (mine l w) = omega (arith, line .c-made) in
       let is : own l w (v .taken) ≡ e =
@@ -180,7 +180,7 @@ module _ {𝓐 : Algebra} (d : 𝓐 .Doc) (start : ℕ → ℕ) (E : Ends 𝓐) 
 
 -- ---- every moment of every run
 module _ {𝓐 : Algebra} (d : 𝓐 .Doc) where
-  written : (start : ℕ → ℕ) (h : History 𝓐) (E : Ends 𝓐) (x : Letter 𝓐) → Fine d E h (wholeLetter start x) → Written start h x
+  written : (start : ℕ → ℕ) (h : History 𝓐) (E : Ends 𝓐) (x : Message 𝓐) → Fine d E h (wholeMessage start x) → Written start h x
   written start h E (up l m) ok = record { index = ok .index; number = ok .number; known = ok .made; edit = ok .edit }
   written start h E (down l m) ok = record { index = ok .index; number = ok .number; known = ok .made; edit = ok .edit }
   written start h E (upAck l seen) ok = tt
@@ -193,12 +193,12 @@ module _ {𝓐 : Algebra} (d : 𝓐 .Doc) where
   pub claim : (s : State 𝓐) → Reached d s → Claim d s
   claim s r =
       record {
-        hub = r .inv .doc-is;
-        hub-list = sym (r .inv .hub-shown);
+        server = r .inv .doc-is;
+        server-list = sym (r .inv .server-shown);
         closed = sets-closed s r;
         first = λ l. r .openings l .behind;
         since = λ l. since d (s .start) (s .ends) (s .history) (r .inv) l (r .openings l) (s .ends .docs l) (r .inv .lines l .line .shown);
-        letters = λ i x e. written (s .start) (s .history) (wholeEnds s) x (all-get d (λ y. Fine d (wholeEnds s) (s .history) (wholeLetter (s .start) y)) (s .letters) i x (r .fine) e);
+        messages = λ i x e. written (s .start) (s .history) (wholeEnds s) x (all-get d (λ y. Fine d (wholeEnds s) (s .history) (wholeMessage (s .start) y)) (s .messages) i x (r .fine) e);
         lines = λ l. line-claim d (s .start) (s .ends) (s .history) (r .inv) l;
       }
 

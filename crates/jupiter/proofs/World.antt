@@ -14,7 +14,7 @@ use Rattle.jupiter.specs.Made.{Name, Made, holds, names, isBy, mine, oth
 use Rattle.jupiter.specs.Form.{form, listAt, inOrder, replay}
 use Rattle.jupiter.specs.Point.{blank, own, oth}
 use Rattle.jupiter.specs.History.{at, History, order, madeBy, missing, newEdit, makes, afterEdit, serves, afterUp, applies, afterDown}
-use Rattle.jupiter.specs.Ends.{End, Message, Ends, keeps, acks, takes, arrived, editing, takingUp, takingDown, ackingUp, ackingDown}
+use Rattle.jupiter.specs.Ends.{End, EditMessage, Ends, keeps, acks, takes, arrived, editing, takingUp, takingDown, ackingUp, ackingDown}
 use Rattle.jupiter.proofs.Lists as L
 use Rattle.jupiter.proofs.Lists.{All, all-append}
 use Rattle.jupiter.proofs.Forms.{listAt-snoc}
@@ -56,7 +56,7 @@ module _ {𝓐 : Algebra} (d : 𝓐 .Doc) where
 
   pub record Inv (E : Ends 𝓐) (h : History 𝓐) : Type 0 where
     pub doc-is : E .doc ≡ listAt d (h .served)
-    pub hub-shown : replay (h .served) [] (h .served) d ≡ E .doc
+    pub server-shown : replay (h .served) [] (h .served) d ≡ E .doc
     pub closed : Closed h
     pub served-bound : (k x : ℕ) → holds (names (h .served)) (named k x) ≡ true → x ≤ taken E k
     pub lines : (l : ℕ) → LineInv l (h .served) (h .untaken l) (h .applied l) (taken E) (E .clients l) (E .lines l) (E .docs l)
@@ -127,7 +127,7 @@ module _ {𝓐 : Algebra} (d : 𝓐 .Doc) where
     inv-edit =
         record {
           doc-is = inv .doc-is;
-          hub-shown = inv .hub-shown;
+          server-shown = inv .server-shown;
           closed = edit-closed;
           served-bound = inv .served-bound;
           lines = λ k. go k (eqb l k) refl;
@@ -163,7 +163,7 @@ module _ {𝓐 : Algebra} (d : 𝓐 .Doc) where
     inv-ack-up a b =
         record {
           doc-is = inv .doc-is;
-          hub-shown = inv .hub-shown;
+          server-shown = inv .server-shown;
           closed = inv .closed;
           served-bound = λ k x t. le-trans (inv .served-bound k x t) (same-taken (eqb l k) k refl);
           lines = λ k. go k (eqb l k) refl;
@@ -195,7 +195,7 @@ module _ {𝓐 : Algebra} (d : 𝓐 .Doc) where
         go k false q = old k (E .lines k) refl (inv .lines k .line)
 
     pub inv-ack-down : E .clients l .acked ≤ s → s ≤ E .lines l .taken → Inv (ackingDown l s E) h
-    inv-ack-down a b = record { doc-is = inv .doc-is; hub-shown = inv .hub-shown; closed = inv .closed; served-bound = inv .served-bound; lines = λ k. go k (eqb l k) refl }
+    inv-ack-down a b = record { doc-is = inv .doc-is; server-shown = inv .server-shown; closed = inv .closed; served-bound = inv .served-bound; lines = λ k. go k (eqb l k) refl }
       where
         go : (k : ℕ) (b : Bool) → eqb l k ≡ b
             → LineInv k (h .served) (h .untaken k) (h .applied k) (taken E) (cond b (acks s (E .clients l)) (E .clients k)) (E .lines k) (E .docs k)
@@ -221,7 +221,7 @@ module _ {𝓐 : Algebra} (d : 𝓐 .Doc) where
         L.select-rest (isBy l) blank (λ y. holds (names (h .applied l)) (y .name)) (h .served) (E .clients l .taken)
         (λ k hk. subst (λ r. k < length r → holds (names (h .applied l)) (getD r k blank .name) ≡ ltb k (E .clients l .taken)) e (inv .lines l .line .applied-oth k) hk)
 
-  module _ (E : Ends 𝓐) (h : History 𝓐) (inv : Inv E h) (l : ℕ) (x : Message 𝓐) (ok : DownOk l (order h l) (E .lines l .taken) x)
+  module _ (E : Ends 𝓐) (h : History 𝓐) (inv : Inv E h) (l : ℕ) (x : EditMessage 𝓐) (ok : DownOk l (order h l) (E .lines l .taken) x)
       (next : x .number ≡ suc (E .clients l .taken)) (cur : E .clients l .acked ≤ x .seen) where
     abbrev dw : List (Made 𝓐)
     dw = h .served ++ h .untaken l
@@ -298,7 +298,7 @@ module _ {𝓐 : Algebra} (d : 𝓐 .Doc) where
     inv-down =
         subst (λ M. Inv (takingDown l x E) (applies l M h)) (sym first-missing) (record {
           doc-is = inv .doc-is;
-          hub-shown = inv .hub-shown;
+          server-shown = inv .server-shown;
           closed = down-closed;
           served-bound = inv .served-bound;
           lines = λ k. go k (eqb l k) refl;
@@ -317,7 +317,7 @@ module _ {𝓐 : Algebra} (d : 𝓐 .Doc) where
     grows-down k = subst (λ M. Grows k (order h k) (order (applies l M h) k)) (sym first-missing) (grows-refl k (order h k))
 
   -- ---- the server takes a client's next edit
-  module _ (laws : Laws 𝓐) (E : Ends 𝓐) (h : History 𝓐) (inv : Inv E h) (l : ℕ) (x : Message 𝓐) (ok : UpOk l (order h l) (E .clients l .taken) x)
+  module _ (laws : Laws 𝓐) (E : Ends 𝓐) (h : History 𝓐) (inv : Inv E h) (l : ℕ) (x : EditMessage 𝓐) (ok : UpOk l (order h l) (E .clients l .taken) x)
       (next : x .number ≡ suc (E .lines l .taken)) (cur : E .lines l .acked ≤ x .seen) (o : Made 𝓐) (us : List (Made 𝓐)) (split : h .untaken l ≡ o ∷ us) where
     abbrev uw : List (Made 𝓐)
     uw = h .served ++ o ∷ us
@@ -447,7 +447,7 @@ module _ {𝓐 : Algebra} (d : 𝓐 .Doc) where
         replay-snoc (h .served ++ (o ∷ [])) [] (h .served) o d
         ∙ ap (λ C. 𝓐 .apply (form o C) (replay (h .served ++ (o ∷ [])) [] (h .served) d))
         (inOrder-insert (h .served) o [] (h .served) o-new ∙ ap (λ r. inOrder r (h .served)) (append-nil (h .served)) ∙ in-itself (h .served))
-        ∙ ap (𝓐 .apply (form o (h .served))) (replay-insert (h .served) o [] [] (h .served) d o-new ∙ ap (λ r. replay r [] (h .served) d) (append-nil (h .served)) ∙ inv .hub-shown)
+        ∙ ap (𝓐 .apply (form o (h .served))) (replay-insert (h .served) o [] [] (h .served) d o-new ∙ ap (λ r. replay r [] (h .served) d) (append-nil (h .served)) ∙ inv .server-shown)
         ∙ ap (λ e. 𝓐 .apply e (E .doc)) (sym arrives)
 
     up-closed : Closed (serves l (o ∷ us) h)
@@ -480,7 +480,7 @@ module _ {𝓐 : Algebra} (d : 𝓐 .Doc) where
     up-inv =
         record {
           doc-is = ap (λ e. 𝓐 .apply e (E .doc)) arrives ∙ ap (𝓐 .apply (form o (h .served))) (inv .doc-is) ∙ sym (listAt-snoc d (h .served) o);
-          hub-shown = up-shown;
+          server-shown = up-shown;
           closed = up-closed;
           served-bound = λ k y t. bound k y (holds-split (h .served) o (named k y) t);
           lines = λ k. go k (eqb l k) refl;
@@ -514,7 +514,7 @@ module _ {𝓐 : Algebra} (d : 𝓐 .Doc) where
     o-new-to k lk = new-to (names (h .applied k)) k lk (inv .lines k .applied-bound)
 
   -- the client has an edit that the server has not taken
-  module _ (laws : Laws 𝓐) (E : Ends 𝓐) (h : History 𝓐) (inv : Inv E h) (l : ℕ) (x : Message 𝓐) (ok : UpOk l (order h l) (E .clients l .taken) x)
+  module _ (laws : Laws 𝓐) (E : Ends 𝓐) (h : History 𝓐) (inv : Inv E h) (l : ℕ) (x : EditMessage 𝓐) (ok : UpOk l (order h l) (E .clients l .taken) x)
       (next : x .number ≡ suc (E .lines l .taken)) (cur : E .lines l .acked ≤ x .seen) where
     pub first-untaken : (r : List (Made 𝓐)) → h .untaken l ≡ r → (P : List (Made 𝓐) → Type 0) → ((o : Made 𝓐) (us : List (Made 𝓐)) → h .untaken l ≡ o ∷ us → P (o ∷ us)) → P r
     first-untaken [] q P f =

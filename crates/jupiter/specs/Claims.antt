@@ -11,8 +11,8 @@ use Rattle.jupiter.specs.Made.{Name, Made, holds, names, mine, others}
 use Rattle.jupiter.specs.Form.{form, listAt, inOrder, without, replay}
 use Rattle.jupiter.specs.Point.{point, blank, own, oth, ownForm, othForm}
 use Rattle.jupiter.specs.History.{History, order, missing}
-use Rattle.jupiter.specs.Ends.{End, Message, unacked, canSend, message, canTake, arrived}
-use Rattle.jupiter.specs.Run.{Letter, up, down, upAck, downAck, Call, State, initial, run}
+use Rattle.jupiter.specs.Ends.{End, EditMessage, unacked, canSend, message, canTake, arrived}
+use Rattle.jupiter.specs.Run.{Message, up, down, upAck, downAck, Call, State, initial, run}
 
 -- an end of the sheet
 pub data Who : Type 0 where
@@ -46,16 +46,16 @@ module _ {𝓐 : Algebra} where
   inserts (e ∷ es) = 𝓐 .grows (e .edit) + inserts es
 
   -- the message carries edit k of n, index + 1, in the form given for it
-  pub record Carries (m : Message 𝓐) (k n : ℕ) (its : ℕ → 𝓐 .Edit) : Type 0 where
+  pub record Carries (m : EditMessage 𝓐) (k n : ℕ) (its : ℕ → 𝓐 .Edit) : Type 0 where
     pub index : ℕ
     pub number : k ≡ suc index
     pub known : index < n
     pub edit : m .edit ≡ its index
 
-  -- A letter, however old, holds the form that the definition gives: number i + 1 going up at the sender's first i edits and the first `seen`
+  -- A message, however old, holds the form that the definition gives: number i + 1 going up at the sender's first i edits and the first `seen`
   -- of the others; number j + 1 going down at the first `seen` edits of the client and the first j of the others. The others are counted from
   -- the line's start.
-  abbrev pub Written : (ℕ → ℕ) → History 𝓐 → Letter 𝓐 → Type 0
+  abbrev pub Written : (ℕ → ℕ) → History 𝓐 → Message 𝓐 → Type 0
   Written start h (up l m) =
       Carries m (m .number) (length (mine l (order h l))) (λ i. ownForm l (order h l) i (start l + m .seen))
   Written start h (down l m) =
@@ -70,8 +70,8 @@ module _ {𝓐 : Algebra} where
     pub fits : T (𝓐 .fits (arrived (message (suc (to .taken)) from) to) d)
 
   -- of line l, which starts behind `start` edits: h is the history, c the client's end, v the server's; the client shows `doc` and the
-  -- server `hub`
-  pub record LineClaim (initially : 𝓐 .Doc) (h : History 𝓐) (l start : ℕ) (c v : End 𝓐) (doc hub : 𝓐 .Doc) : Type 0 where
+  -- server `server-doc`
+  pub record LineClaim (initially : 𝓐 .Doc) (h : History 𝓐) (l start : ℕ) (c v : End 𝓐) (doc server-doc : 𝓐 .Doc) : Type 0 where
     -- the counts of the ends are those of the history, from the line's start
     pub client-made : c .made ≡ length (mine l (order h l))
     pub client-taken : c .made + (start + c .taken) ≡ length (h .applied l)
@@ -98,12 +98,12 @@ module _ {𝓐 : Algebra} where
         → T (𝓐 .fits (othForm l (order h l) (v .taken) (start + j)) (listAt initially (point l (order h l) (v .taken) (start + j))))
     -- 01, "Meeting": the client's list with the missing edits, each in its form at the client's edits and the missing ones before it, is the
     -- server's list with the unaccepted ones, each in its form at the server's edits and the unaccepted ones before it
-    pub meets : replay (order h l) (h .applied l) (missing h l) doc ≡ replay (order h l) (h .served) (h .untaken l) hub
+    pub meets : replay (order h l) (h .applied l) (missing h l) doc ≡ replay (order h l) (h .served) (h .untaken l) server-doc
     -- equal counts, equal lists
-    pub equal : c .made ≡ v .taken → c .taken ≡ v .made → doc ≡ hub
+    pub equal : c .made ≡ v .taken → c .taken ≡ v .made → doc ≡ server-doc
     -- the next message is taken
     pub next-down : c .taken < v .made → Delivers v c doc
-    pub next-up : v .taken < c .made → Delivers c v hub
+    pub next-up : v .taken < c .made → Delivers c v server-doc
     -- and is the next edit: it arrives in that edit's form at what the taking end has applied
     pub arrives-down : (e : Made 𝓐) (es : List (Made 𝓐)) → missing h l ≡ e ∷ es → arrived (message (suc (c .taken)) v) c ≡ form e (inOrder (order h l) (h .applied l))
     pub arrives-up : (e : Made 𝓐) (es : List (Made 𝓐)) → h .untaken l ≡ e ∷ es → arrived (message (suc (v .taken)) c) v ≡ form e (h .served)
@@ -113,15 +113,15 @@ module _ {𝓐 : Algebra} where
 
   pub record Claim (initially : 𝓐 .Doc) (s : State 𝓐) : Type 0 where
     -- the server shows the opening list with every edit applied in its form at those it had taken before
-    pub hub : s .ends .doc ≡ listAt initially (s .history .served)
-    pub hub-list : s .ends .doc ≡ replay (s .history .served) [] (s .history .served) initially
+    pub server : s .ends .doc ≡ listAt initially (s .history .served)
+    pub server-list : s .ends .doc ≡ replay (s .history .served) [] (s .history .served) initially
     -- what an end has applied is closed: 01's C holds the context of each of its edits
     pub closed : (x : Who) → ClosedSet (setOf x s)
     -- client l has applied first what stands behind its opening list, and shows that list with every edit since then applied in its form at
     -- what the client had applied
     pub first : (l : ℕ) → take (s .start l) (s .history .applied l) ≡ behind l s
     pub since : (l : ℕ) → s .ends .docs l ≡ replay (order (s .history) l) (behind l s) (drop (s .start l) (s .history .applied l)) (listAt initially (behind l s))
-    pub letters : (i : ℕ) (x : Letter 𝓐) → getElem? (s .letters) i ≡ some x → Written (s .start) (s .history) x
+    pub messages : (i : ℕ) (x : Message 𝓐) → getElem? (s .messages) i ≡ some x → Written (s .start) (s .history) x
     pub lines : (l : ℕ) → LineClaim initially (s .history) l (s .start l) (s .ends .clients l) (s .ends .lines l) (s .ends .docs l) (s .ends .doc)
 
   -- nothing is outstanding on line l: the server has taken what its client has made, and the client what the server has for it

@@ -27,7 +27,7 @@ pub record End (𝓐 : Algebra) : Type 0 where
   pub acked : ℕ
   pub pending : List (𝓐 .Edit)
 
-pub record Message (𝓐 : Algebra) : Type 0 where
+pub record EditMessage (𝓐 : Algebra) : Type 0 where
   pub number : ℕ
   pub seen : ℕ
   pub edit : 𝓐 .Edit
@@ -60,18 +60,18 @@ module _ {𝓐 : Algebra} where
   acks seen v = record { made = v .made; taken = v .taken; acked = seen; pending = unacked v seen }
 
   -- an edit message taken, and the edit as it is then applied
-  abbrev pub takes : Message 𝓐 → End 𝓐 → End 𝓐
+  abbrev pub takes : EditMessage 𝓐 → End 𝓐 → End 𝓐
   takes m v =
       record { made = v .made; taken = suc (v .taken); acked = m .seen; pending = over 𝓐 (m .edit) (unacked v (m .seen)) }
 
-  abbrev pub arrived : Message 𝓐 → End 𝓐 → 𝓐 .Edit
+  abbrev pub arrived : EditMessage 𝓐 → End 𝓐 → 𝓐 .Edit
   arrived m v = past 𝓐 (m .edit) (unacked v (m .seen))
 
   -- sending: number k of the pending edits, in its present form
   abbrev pub canSend : ℕ → End 𝓐 → Bool
   canSend k v = ltb (v .acked) k && leb k (v .made)
 
-  abbrev pub message : ℕ → End 𝓐 → Message 𝓐
+  abbrev pub message : ℕ → End 𝓐 → EditMessage 𝓐
   message k v = record { number = k; seen = v .taken; edit = getD (v .pending) (k - suc (v .acked)) (𝓐 .nothing) }
 
   -- An acknowledgement counts where it is not overtaken and counts no edit that was not made; an edit message where its number is also the
@@ -79,7 +79,7 @@ module _ {𝓐 : Algebra} where
   abbrev pub current : ℕ → End 𝓐 → Bool
   current seen v = leb (v .acked) seen && leb seen (v .made)
 
-  abbrev pub canTake : Message 𝓐 → End 𝓐 → Bool
+  abbrev pub canTake : EditMessage 𝓐 → End 𝓐 → Bool
   canTake m v = eqb (m .number) (suc (v .taken)) && current (m .seen) v
 
   -- What each accepted call does to the ends.
@@ -93,7 +93,7 @@ module _ {𝓐 : Algebra} where
       }
 
   -- the server applies the edit, and keeps it for every other line
-  abbrev pub takingUp : ℕ → Message 𝓐 → Ends 𝓐 → Ends 𝓐
+  abbrev pub takingUp : ℕ → EditMessage 𝓐 → Ends 𝓐 → Ends 𝓐
   takingUp l m w =
       record {
         doc = 𝓐 .apply (arrived m (w .lines l)) (w .doc);
@@ -102,7 +102,7 @@ module _ {𝓐 : Algebra} where
         clients = w .clients;
       }
 
-  abbrev pub takingDown : ℕ → Message 𝓐 → Ends 𝓐 → Ends 𝓐
+  abbrev pub takingDown : ℕ → EditMessage 𝓐 → Ends 𝓐 → Ends 𝓐
   takingDown l m w =
       record {
         doc = w .doc;

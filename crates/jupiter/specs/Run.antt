@@ -7,12 +7,12 @@ use lib.Dec.{eqb}
 use lib.ListN.{length, getElem?}
 use Rattle.jupiter.specs.Algebra.{Algebra}
 use Rattle.jupiter.specs.History.{at, History, noHistory, madeBy, afterEdit, afterUp, afterDown, afterJoin}
-use Rattle.jupiter.specs.Ends.{Message, Ends, opened, canSend, message, current, canTake, editing, takingUp, takingDown, ackingUp, ackingDown, joining}
+use Rattle.jupiter.specs.Ends.{EditMessage, Ends, opened, canSend, message, current, canTake, editing, takingUp, takingDown, ackingUp, ackingDown, joining}
 
--- What was written, with its line. An end takes only what goes its way on its line, so the letter says who may take it.
-pub data Letter (𝓐 : Algebra) : Type 0 where
-  up down : ℕ → Message 𝓐 → Letter 𝓐
-  upAck downAck : ℕ → ℕ → Letter 𝓐
+-- What was written, with its line. An end takes only what goes its way on its line, so the message says who may take it.
+pub data Message (𝓐 : Algebra) : Type 0 where
+  up down : ℕ → EditMessage 𝓐 → Message 𝓐
+  upAck downAck : ℕ → ℕ → Message 𝓐
 
 pub data Call (𝓐 : Algebra) : Type 0 where
   -- client l makes an edit
@@ -21,7 +21,7 @@ pub data Call (𝓐 : Algebra) : Type 0 where
   sendUp sendDown : ℕ → ℕ → Call 𝓐
   -- client l, or the server to client l, sends an acknowledgement
   tellUp tellDown : ℕ → Call 𝓐
-  -- whoever may take it gets the letter that was written as the i-th, counted from 0: at any time, in any order, any number of times
+  -- whoever may take it gets the message that was written as the i-th, counted from 0: at any time, in any order, any number of times
   deliver : ℕ → Call 𝓐
   -- client l joins late: its line starts at what the server has by now
   join : ℕ → Call 𝓐
@@ -31,46 +31,46 @@ pub data Call (𝓐 : Algebra) : Type 0 where
 pub record State (𝓐 : Algebra) : Type 0 where
   pub ends : Ends 𝓐
   pub history : History 𝓐
-  pub letters : List (Letter 𝓐)
+  pub messages : List (Message 𝓐)
   pub start : ℕ → ℕ
 
 module _ {𝓐 : Algebra} where
   abbrev pub initial : 𝓐 .Doc → State 𝓐
-  initial d = record { ends = opened d; history = noHistory; letters = []; start = λ l. 0 }
+  initial d = record { ends = opened d; history = noHistory; messages = []; start = λ l. 0 }
 
-  abbrev pub writes : Letter 𝓐 → State 𝓐 → State 𝓐
-  writes x s = record { ends = s .ends; history = s .history; letters = s .letters ++ (x ∷ []); start = s .start }
+  abbrev pub writes : Message 𝓐 → State 𝓐 → State 𝓐
+  writes x s = record { ends = s .ends; history = s .history; messages = s .messages ++ (x ∷ []); start = s .start }
 
   abbrev pub goes : (Ends 𝓐 → Ends 𝓐) → (History 𝓐 → History 𝓐) → State 𝓐 → State 𝓐
-  goes f g s = record { ends = f (s .ends); history = g (s .history); letters = s .letters; start = s .start }
+  goes f g s = record { ends = f (s .ends); history = g (s .history); messages = s .messages; start = s .start }
 
-  abbrev pub lineOf : Letter 𝓐 → ℕ
+  abbrev pub lineOf : Message 𝓐 → ℕ
   lineOf (up l m) = l
   lineOf (down l m) = l
   lineOf (upAck l seen) = l
   lineOf (downAck l seen) = l
 
-  -- none of the letters is on line l
-  unfoldable pub silent : ℕ → List (Letter 𝓐) → Bool
+  -- none of the messages is on line l
+  unfoldable pub silent : ℕ → List (Message 𝓐) → Bool
   silent l [] = true
   silent l (x ∷ xs) = not (eqb l (lineOf x)) && silent l xs
 
-  -- No edit was made on line l, and no letter written: only such a line may start late. One that has joined and done nothing since may do so
+  -- No edit was made on line l, and no message written: only such a line may start late. One that has joined and done nothing since may do so
   -- again.
   abbrev pub unused : ℕ → State 𝓐 → Bool
-  unused l s = eqb (madeBy (s .history) l) 0 && silent l (s .letters)
+  unused l s = eqb (madeBy (s .history) l) 0 && silent l (s .messages)
 
   abbrev pub joins : ℕ → State 𝓐 → State 𝓐
   joins l s =
       record {
         ends = joining l (s .ends);
         history = afterJoin l (s .history);
-        letters = s .letters;
+        messages = s .messages;
         start = at l (length (s .history .served)) (s .start);
       }
 
-  -- a letter that may not be taken changes nothing
-  unfoldable pub receive : Option (Letter 𝓐) → State 𝓐 → State 𝓐
+  -- a message that may not be taken changes nothing
+  unfoldable pub receive : Option (Message 𝓐) → State 𝓐 → State 𝓐
   receive none s = s
   receive (some (up l m)) s = cond (canTake m (s .ends .lines l)) (goes (takingUp l m) (afterUp l) s) s
   receive (some (down l m)) s = cond (canTake m (s .ends .clients l)) (goes (takingDown l m) (afterDown l) s) s
@@ -86,7 +86,7 @@ module _ {𝓐 : Algebra} where
       cond (canSend k (s .ends .lines l)) (writes (down l (message k (s .ends .lines l))) s) s
   step s (tellUp l) = writes (upAck l (s .ends .clients l .taken)) s
   step s (tellDown l) = writes (downAck l (s .ends .lines l .taken)) s
-  step s (deliver i) = receive (getElem? (s .letters) i) s
+  step s (deliver i) = receive (getElem? (s .messages) i) s
   step s (join l) = cond (unused l s) (joins l s) s
 
   unfoldable pub run : State 𝓐 → List (Call 𝓐) → State 𝓐

@@ -96,7 +96,7 @@ pub extern "C" fn lub_client_bytes() -> u64
 pub extern "C" fn lub_server_bytes() -> u64
     ensures { λ r. ⌜ r ≡ serverSize ⌝ }
 {
-    c_server::LAYOUT as u64
+    c_server::layout::SIZE as u64
 }
 
 // The run program with its input and output in memory.

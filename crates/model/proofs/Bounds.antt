@@ -32,7 +32,7 @@ use Rattle.model.proofs.Cross.{fits-placed}
 use Rattle.model.proofs.Instance.{edit-laws, from-T}
 use Rattle.model.proofs.SoundClient.{client-facts}
 use Rattle.model.proofs.SoundServer.{server-facts, line-fact}
-use Rattle.model.proofs.Sim.{clientFrom, serverFrom, line-from, OfLines, Sim}
+use Rattle.model.proofs.Sim.{clientFrom, serverFrom, line-from, OfLines, Moment, Sim}
 
 -- of edits that are all line l's, none is another line's
 mine-none : (l k : ℕ) → eqb l k ≡ false → (ys : List (Made edits)) → All (λ y. isBy l y ≡ true) ys → mine k ys ≡ []
@@ -40,7 +40,7 @@ unfolding select
 mine-none l k d [] a = refl
 mine-none l k d (y ∷ ys) a = rw (ne-eqb k (y .name .line) (λ e. eqb-false l k d (eqb-true l (y .name .line) (a .0) ∙ sym e))) (mine-none l k d ys (a .1))
 
-module _ (n : ℕ) (items : List ℕ) (s : State ours) (sim : Sim n items s) (few : length items ≤ 128) where
+module _ (n : ℕ) (items : List ℕ) {from : Moment} (s : State ours) (sim : Sim n items from s) (few : length items ≤ 128) where
   abbrev h : History edits
   h = s .recorded .history
 

@@ -15,7 +15,6 @@ use Rattle.ot.specs.declared.Edit.{Edit}
 use Rattle.ot.specs.declared.Edit.the-variants.{Nothing, Delete, Insert}
 use Rattle.ot.specs.Edit.{applied, fits}
 use Rattle.wire.specs.declared.Header.{Header}
-use Rattle.wire.specs.declared.Message.{Message}
 use Rattle.wire.specs.declared.Message.the-variants as message
 use Rattle.wire.specs.declared.Read.{Read}
 use Rattle.wire.specs.declared.Read.the-variants as read
@@ -28,7 +27,7 @@ use Rattle.jupiter.specs.Point.{ownForm, othForm}
 use Rattle.jupiter.specs.History.{History, at, order}
 use Rattle.jupiter.specs.Ends as ends
 use Rattle.jupiter.specs.Ends.{Ends}
-use Rattle.jupiter.specs.Run.{Letter, up, down, upAck, downAck}
+use Rattle.jupiter.specs.Run.{Message, up, down, upAck, downAck}
 use Rattle.jupiter.proofs.Lists.{All}
 use Rattle.jupiter.proofs.Step.{UpMessage, DownMessage, up-message, down-message}
 use Rattle.model.specs.Limits.{maxItems}
@@ -39,10 +38,10 @@ use Rattle.model.specs.Server.{Line, Server, lineOf, soundServer, server
 use Rattle.model.specs.Edits.{edits}
 use Rattle.model.specs.Sheet.{Call, insert, delete, send, tell, receive, junk}
 use Rattle.model.specs.Log as logs
-use Rattle.model.specs.Log.{Log, letterMessage, letterBytes, takenAt, editLetter, ackLetter, hears, writes, took, tookUp, tookDown, logged, refusedLog, log}
+use Rattle.model.specs.Log.{Log, wireMessage, messageBytes, takenAt, editMessage, ackMessage, hears, writes, took, tookUp, tookDown, logged, refusedLog, log}
 use Rattle.model.specs.Run.{State, answered, written, handed, call, callable, unreadable, areBytes}
-use Rattle.model.specs.Ours.{End, client, server, answerAs, insertAt, deleteAt, sendAt, tellAt, takeAt, ours}
-use Rattle.model.proofs.Tests.{and-left, and-right, yes-all, between-true}
+use Rattle.model.specs.Ours.{End, client, server, answerAs, ours}
+use Rattle.model.proofs.Tests.{never, and-left, and-right, yes-all, between-true}
 use Rattle.model.proofs.SoundClient.{ClientFacts, client-facts}
 use Rattle.model.proofs.SoundServer.{ServerFacts, server-facts, LineFacts, line-fact, made-most, takenSum}
 use Rattle.model.proofs.Sound.{three, edits-sound, client-takes-edit, client-takes-ack, server-takes-edit, server-takes-ack}
@@ -50,11 +49,8 @@ use Rattle.model.proofs.Small.{Small, all-get}
 use Rattle.model.proofs.Outcome as outcomes
 use Rattle.model.proofs.Outcome.{Outcome, outcome, Posted, posted}
 use Rattle.model.proofs.Ranges.{fits-range, placed-get, priority-get, up-range, down-range, up-ack-range, down-ack-range}
-use Rattle.model.proofs.Sim.{clientFrom, serverFrom, lineFrom, line-from, LetterOk, Sim}
+use Rattle.model.proofs.Sim.{clientFrom, serverFrom, lineFrom, line-from, MessageOk, Moment, Sim}
 use Rattle.model.proofs.Follow.{refused, edits-on, takes-down, takes-up, acks-down, acks-up, writes-on}
-
-never : {A : Type 0} → false ≡ true → A
-never e = absurd (let z : _≡_ {A = ℕ} 0 1 = cc in omega arith)
 
 -- the log of a refused call, and of one that was not
 log-no : (w : Log) (c : Call) (r : ℕ) → (r ≡ 0 → ⊥) → log w c r ≡ refusedLog w c
@@ -83,28 +79,28 @@ small-range h Nothing r = refl
 small-range h (Delete p) r = refl
 small-range h (Insert p x q) r = le-leb x 4294967295 (insert-bounds h p x q r .item-high)
 
--- the letters of a client's and of the server's sending
-client-edit-letter : (h : History edits) (l line k t : ℕ) → 1 ≤ l → length (others l (h .applied l)) ≡ t
-    → editLetter h l line k ≡ up l (record { number = k; seen = t; edit = ownForm l (order h l) (k - 1) t })
-unfolding editLetter takenAt
-client-edit-letter h zero line k t a e = absurd (omega arith)
-client-edit-letter h (suc l) line k t a e = ap (λ (i : ℕ). up (suc l) (record { number = k; seen = i; edit = ownForm (suc l) (order h (suc l)) (k - 1) i })) e
+-- the messages of a client's and of the server's sending
+client-edit-message : (h : History edits) (l line k t : ℕ) → 1 ≤ l → length (others l (h .applied l)) ≡ t
+    → editMessage h l line k ≡ up l (record { number = k; seen = t; edit = ownForm l (order h l) (k - 1) t })
+unfolding editMessage takenAt
+client-edit-message h zero line k t a e = absurd (omega arith)
+client-edit-message h (suc l) line k t a e = ap (λ (i : ℕ). up (suc l) (record { number = k; seen = i; edit = ownForm (suc l) (order h (suc l)) (k - 1) i })) e
 
-client-ack-letter : (h : History edits) (l line t : ℕ) → 1 ≤ l → length (others l (h .applied l)) ≡ t → ackLetter h l line ≡ upAck l t
-unfolding ackLetter takenAt
-client-ack-letter h zero line t a e = absurd (omega arith)
-client-ack-letter h (suc l) line t a e = ap (upAck (suc l)) e
+client-ack-message : (h : History edits) (l line t : ℕ) → 1 ≤ l → length (others l (h .applied l)) ≡ t → ackMessage h l line ≡ upAck l t
+unfolding ackMessage takenAt
+client-ack-message h zero line t a e = absurd (omega arith)
+client-ack-message h (suc l) line t a e = ap (upAck (suc l)) e
 
-server-edit-letter : (h : History edits) (line k t : ℕ) → length (mine line (h .served)) ≡ t
-    → editLetter h 0 line k ≡ down line (record { number = k; seen = t; edit = othForm line (order h line) t (k - 1) })
-unfolding editLetter takenAt
-server-edit-letter h line k t e = ap (λ (i : ℕ). down line (record { number = k; seen = i; edit = othForm line (order h line) i (k - 1) })) e
+server-edit-message : (h : History edits) (line k t : ℕ) → length (mine line (h .served)) ≡ t
+    → editMessage h 0 line k ≡ down line (record { number = k; seen = t; edit = othForm line (order h line) t (k - 1) })
+unfolding editMessage takenAt
+server-edit-message h line k t e = ap (λ (i : ℕ). down line (record { number = k; seen = i; edit = othForm line (order h line) i (k - 1) })) e
 
-server-ack-letter : (h : History edits) (line t : ℕ) → length (mine line (h .served)) ≡ t → ackLetter h 0 line ≡ downAck line t
-unfolding ackLetter takenAt
-server-ack-letter h line t e = ap (downAck line) e
+server-ack-message : (h : History edits) (line t : ℕ) → length (mine line (h .served)) ≡ t → ackMessage h 0 line ≡ downAck line t
+unfolding ackMessage takenAt
+server-ack-message h line t e = ap (downAck line) e
 
-module _ (n : ℕ) (items : List ℕ) (s : State ours) (sim : Sim n items s) where
+module _ (n : ℕ) (items : List ℕ) {from : Moment} (s : State ours) (sim : Sim n items from s) where
   abbrev w : Log
   w = s .recorded
 
@@ -116,12 +112,12 @@ module _ (n : ℕ) (items : List ℕ) (s : State ours) (sim : Sim n items s) whe
 
   -- the end comes back as it was handed in
   turned-down : (a : ℕ) (c : Call) (r : ℕ) (e : End) → (r ≡ 0 → ⊥) → s .ends a ≡ e → refusedLog w c ≡ hears w (w .heard)
-      → Sim n items (answered ours s a c (record { refusal = r; end = e; passed = 0 }))
+      → Sim n items from (answered ours s a c (record { refusal = r; end = e; passed = 0 }))
   turned-down a c r e d same quiet =
       subst
-      (λ (z : Log). Sim n items (record { ends = at a e (s .ends); messages = s .messages; passed = s .passed ++ (0 ∷ []); recorded = z }))
+      (λ (z : Log). Sim n items from (record { ends = at a e (s .ends); messages = s .messages; passed = s .passed ++ (0 ∷ []); recorded = z }))
       (sym (log-no w c r d ∙ quiet))
-      (subst (λ (y : End). Sim n items (record { ends = at a y (s .ends); messages = s .messages; passed = s .passed ++ (0 ∷ []); recorded = hears w (w .heard) })) same
+      (subst (λ (y : End). Sim n items from (record { ends = at a y (s .ends); messages = s .messages; passed = s .passed ++ (0 ∷ []); recorded = hears w (w .heard) })) same
       (refused n items s sim a))
 
   -- ---- at client l
@@ -134,22 +130,22 @@ module _ (n : ℕ) (items : List ℕ) (s : State ours) (sim : Sim n items s) whe
 
     edit-call : (c : Call) (e : Edit) → priority (eqb l) e ≡ true → Small e → logged w c ≡ logs.edited w l e → refusedLog w c ≡ hears w (w .heard)
         → (a : Answer Client) → Outcome (asks (editQuestions C e)) C (edited C e) 0 a → soundClient (a .end) ≡ true
-        → Sim n items (answered ours s l c (answerAs client a))
+        → Sim n items from (answered ours s l c (answerAs client a))
     unfolding log
     edit-call c e pr sm made quiet a (outcomes.Outcome.no r) ok = turned-down l c (asks (editQuestions C e)) (client C) r (sim .client-is l lo hi) quiet
     edit-call c e pr sm made quiet a (outcomes.Outcome.yes r) ok =
         let y = yes-all (editQuestions C e) (omega arith) r in
         let q9 = and-left (fits e (length (E .docs l))) (leb (length (applied e (E .docs l))) maxItems) (y .1 .0) in
-        subst (λ (z : Log). Sim n items (record { ends = at l (client (edited C e)) (s .ends); messages = s .messages; passed = s .passed ++ (0 ∷ []); recorded = z })) (sym made)
+        subst (λ (z : Log). Sim n items from (record { ends = at l (client (edited C e)) (s .ends); messages = s .messages; passed = s .passed ++ (0 ∷ []); recorded = z })) (sym made)
         (edits-on n items s sim l lo hi e pr sm q9 ok)
 
     -- an edit message
-    take-edit : (c : Call) (m : ends.Message edits) (k : ℕ) (direction : ℕ) → inRange (messageOf (record { line = k; direction = direction; number = m .number; seen = m .seen }) (m .edit)) ≡ true
+    take-edit : (c : Call) (m : ends.EditMessage edits) (k : ℕ) (direction : ℕ) → inRange (messageOf (record { line = k; direction = direction; number = m .number; seen = m .seen }) (m .edit)) ≡ true
         → (direction ≡ 1 → DownMessage items E h k m) → (direction ≡ 1 → logged w c ≡ cond (eqb l k) (tookDown w k (m .seen)) (hears w (w .heard)))
         → refusedLog w c ≡ hears w (w .heard)
         → (a : Answer Client)
         → Outcome (asks (clientEditQuestions C (record { line = k; direction = direction; number = m .number; seen = m .seen }) (m .edit))) C (clientTaken C (m .seen) (m .edit)) (E .clients l .made - m .seen) a
-        → soundClient (a .end) ≡ true → Sim n items (answered ours s l c (answerAs client a))
+        → soundClient (a .end) ≡ true → Sim n items from (answered ours s l c (answerAs client a))
     unfolding log
     take-edit c m k direction range fine made quiet a (outcomes.Outcome.no r) ok =
         turned-down l c (asks (clientEditQuestions C (record { line = k; direction = direction; number = m .number; seen = m .seen }) (m .edit))) (client C) r (sim .client-is l lo hi) quiet
@@ -160,48 +156,49 @@ module _ (n : ℕ) (items : List ℕ) (s : State ours) (sim : Sim n items s) whe
         let down-way : direction ≡ 1 = eqb-true direction 1 (q4 .0) in
         let mine-way : k ≡ l = eqb-true k l (q4 .1) in
         let number : m .number ≡ suc (E .clients l .taken) = eqb-true (m .number) (E .clients l .taken + 1) (y .1 .1 .1 .0) ∙ add-one (E .clients l .taken) in
-        subst (λ (z : Log). Sim n items (record { ends = at l (client (clientTaken C (m .seen) (m .edit))) (s .ends); messages = s .messages; passed = s .passed ++ ((E .clients l .made - m .seen) ∷ []); recorded = z }))
+        subst (λ (z : Log). Sim n items from (record { ends = at l (client (clientTaken C (m .seen) (m .edit))) (s .ends); messages = s .messages; passed = s .passed ++ ((E .clients l .made - m .seen) ∷ []); recorded = z }))
         (sym (made down-way ∙ ap (λ (i : ℕ). cond (eqb l i) (tookDown w i (m .seen)) (hears w (w .heard))) mine-way ∙ rw (eq-eqb l l refl)))
         (takes-down n items s sim l lo hi m (subst (λ (i : ℕ). DownMessage items E h i m) mine-way (fine down-way)) number (leb-true (E .clients l .acked) (m .seen) (y .1 .1 .1 .1 .0))
         (small-range hd (m .edit) range) ok)
 
     -- an acknowledgement
-    take-ack : (c : Call) (k direction seen : ℕ) → (direction ≡ 1 → seen ≤ E .lines k .taken) → (direction ≡ 1 → logged w c ≡ hears w (w .heard)) → refusedLog w c ≡ hears w (w .heard)
+    take-ack : (c : Call) (k direction seen : ℕ) → (direction ≡ 1 → seen ≤ E .lines k .taken) → (direction ≡ 1 → logged w c ≡ cond (eqb l k) (hears w (logs.hearing w k k seen)) (hears w (w .heard))) → refusedLog w c ≡ hears w (w .heard)
         → (a : Answer Client) → Outcome (asks (clientAckQuestions C k direction seen)) C (clientAcked C seen) 0 a → soundClient (a .end) ≡ true
-        → Sim n items (answered ours s l c (answerAs client a))
+        → Sim n items from (answered ours s l c (answerAs client a))
     unfolding log
     take-ack c k direction seen fine made quiet a (outcomes.Outcome.no r) ok = turned-down l c (asks (clientAckQuestions C k direction seen)) (client C) r (sim .client-is l lo hi) quiet
     take-ack c k direction seen fine made quiet a (outcomes.Outcome.yes r) ok =
         let y = yes-all (clientAckQuestions C k direction seen) (omega arith) r in
         let down-way : direction ≡ 1 = eqb-true direction 1 (and-left (eqb direction 1) (eqb k l) (y .1 .0)) in
         let mine-way : k ≡ l = eqb-true k l (and-right (eqb direction 1) (eqb k l) (y .1 .0)) in
-        subst (λ (z : Log). Sim n items (record { ends = at l (client (clientAcked C seen)) (s .ends); messages = s .messages; passed = s .passed ++ (0 ∷ []); recorded = z })) (sym (made down-way))
+        subst (λ (z : Log). Sim n items from (record { ends = at l (client (clientAcked C seen)) (s .ends); messages = s .messages; passed = s .passed ++ (0 ∷ []); recorded = z }))
+        (sym (made down-way ∙ ap (λ (i : ℕ). cond (eqb l i) (hears w (logs.hearing w i i seen)) (hears w (w .heard))) mine-way ∙ rw (eq-eqb l l refl)))
         (acks-down n items s sim l lo hi seen (leb-true (E .clients l .acked) seen (y .1 .1 .0)) (subst (λ (i : ℕ). seen ≤ E .lines i .taken) mine-way (fine down-way)) ok)
 
     -- a message that some sending wrote
-    take-letter : (c : Call) (x : Letter edits) → LetterOk items E h x → logged w c ≡ took w l (some x) → refusedLog w c ≡ hears w (w .heard)
-        → Sim n items (answered ours s l c (answerAs client (clientTakes C (letterMessage x))))
+    take-message : (c : Call) (x : Message edits) → MessageOk n items E h x → logged w c ≡ took w l (some x) → refusedLog w c ≡ hears w (w .heard)
+        → Sim n items from (answered ours s l c (answerAs client (clientTakes C (wireMessage x))))
     unfolding took clientTakesEdit clientTakesAck
-    take-letter c (up k m) ok made quiet =
+    take-message c (up k m) ok made quiet =
         let hd : Header = record { line = k; direction = 0; number = m .number; seen = m .seen } in
-        subst (λ (a : Answer Client). Sim n items (answered ours s l c (answerAs client a))) (sym (client-message C hd (m .edit)))
+        subst (λ (a : Answer Client). Sim n items from (answered ours s l c (answerAs client a))) (sym (client-message C hd (m .edit)))
         (take-edit c m k 0 (ok .1) (λ e. absurd (omega arith)) (λ e. absurd (omega arith)) quiet (clientTakesEdit C hd (m .edit))
         (outcome (asks (clientEditQuestions C hd (m .edit))) C (clientTaken C (m .seen) (m .edit)) (E .clients l .made - m .seen))
         (client-takes-edit C hd (m .edit) (header-range hd (m .edit) (ok .1)) sound))
-    take-letter c (down k m) ok made quiet =
+    take-message c (down k m) ok made quiet =
         let hd : Header = record { line = k; direction = 1; number = m .number; seen = m .seen } in
-        subst (λ (a : Answer Client). Sim n items (answered ours s l c (answerAs client a))) (sym (client-message C hd (m .edit)))
+        subst (λ (a : Answer Client). Sim n items from (answered ours s l c (answerAs client a))) (sym (client-message C hd (m .edit)))
         (take-edit c m k 1 (ok .1) (λ e. ok .0) (λ e. made) quiet (clientTakesEdit C hd (m .edit))
         (outcome (asks (clientEditQuestions C hd (m .edit))) C (clientTaken C (m .seen) (m .edit)) (E .clients l .made - m .seen))
         (client-takes-edit C hd (m .edit) (header-range hd (m .edit) (ok .1)) sound))
-    take-letter c (upAck k seen) ok made quiet =
+    take-message c (upAck k seen) ok made quiet =
         take-ack c k 0 seen (λ e. absurd (omega arith)) (λ e. absurd (omega arith)) quiet (clientTakesAck C k 0 seen) (outcome (asks (clientAckQuestions C k 0 seen)) C (clientAcked C seen) 0) (client-takes-ack C k 0 seen sound)
-    take-letter c (downAck k seen) ok made quiet =
+    take-message c (downAck k seen) ok made quiet =
         take-ack c k 1 seen (λ e. ok .0) (λ e. made) quiet (clientTakesAck C k 1 seen) (outcome (asks (clientAckQuestions C k 1 seen)) C (clientAcked C seen) 0) (client-takes-ack C k 1 seen sound)
 
     -- bytes that no message has
     take-junk : (c : Call) (a : Answer Client) → Outcome (asks (ask 2 (soundClient C) ∷ ask 3 false ∷ [])) C C 0 a → refusedLog w c ≡ hears w (w .heard)
-        → Sim n items (answered ours s l c (answerAs client a))
+        → Sim n items from (answered ours s l c (answerAs client a))
     take-junk c a (outcomes.Outcome.no r) quiet = turned-down l c (asks (ask 2 (soundClient C) ∷ ask 3 false ∷ [])) (client C) r (sim .client-is l lo hi) quiet
     take-junk c a (outcomes.Outcome.yes r) quiet = never (yes-all (ask 2 (soundClient C) ∷ ask 3 false ∷ []) (omega arith) r .1 .0)
 
@@ -213,12 +210,12 @@ module _ (n : ℕ) (items : List ℕ) (s : State ours) (sim : Sim n items s) whe
   line-of : (k : ℕ) → 1 ≤ k → k ≤ n → lineOf S k ≡ lineFrom (E .lines k) (sim .si k)
   line-of k a b = line-from n (length items) (E .doc) (E .lines) (sim .si) k a b
 
-  serve-edit : (c : Call) (m : ends.Message edits) (k : ℕ) (direction : ℕ) → inRange (messageOf (record { line = k; direction = direction; number = m .number; seen = m .seen }) (m .edit)) ≡ true
+  serve-edit : (c : Call) (m : ends.EditMessage edits) (k : ℕ) (direction : ℕ) → inRange (messageOf (record { line = k; direction = direction; number = m .number; seen = m .seen }) (m .edit)) ≡ true
       → (direction ≡ 0 → UpMessage items E h k m) → (direction ≡ 0 → logged w c ≡ tookUp w k (m .seen))
       → refusedLog w c ≡ hears w (w .heard)
       → (a : Answer Server)
       → Outcome (asks (serverEditQuestions S (record { line = k; direction = direction; number = m .number; seen = m .seen }) (m .edit))) S (serverTaken S k (m .seen) (m .edit)) (lineOf S k .made - m .seen) a
-      → soundServer (a .end) ≡ true → Sim n items (answered ours s 0 c (answerAs server a))
+      → soundServer (a .end) ≡ true → Sim n items from (answered ours s 0 c (answerAs server a))
   unfolding log
   serve-edit c m k direction range fine made quiet a (outcomes.Outcome.no r) ok =
       turned-down 0 c (asks (serverEditQuestions S (record { line = k; direction = direction; number = m .number; seen = m .seen }) (m .edit))) (server S) r (sim .server-is) quiet
@@ -232,15 +229,15 @@ module _ (n : ℕ) (items : List ℕ) (s : State ours) (sim : Sim n items s) whe
       let number : m .number ≡ suc (E .lines k .taken) =
       eqb-true (m .number) (lineOf S k .taken + 1) (y .1 .1 .1 .0) ∙ add-one (lineOf S k .taken) ∙ ap (λ (v : Line). suc (v .taken)) same in
       let low : E .lines k .acked ≤ m .seen = subst (λ (v : Line). v .acked ≤ m .seen) same (leb-true (lineOf S k .acked) (m .seen) (y .1 .1 .1 .1 .0)) in
-      subst (λ (v : Line). Sim n items (record { ends = at 0 (server (serverTaken S k (m .seen) (m .edit))) (s .ends); messages = s .messages; passed = s .passed ++ ((v .made - m .seen) ∷ []); recorded = logged w c }))
+      subst (λ (v : Line). Sim n items from (record { ends = at 0 (server (serverTaken S k (m .seen) (m .edit))) (s .ends); messages = s .messages; passed = s .passed ++ ((v .made - m .seen) ∷ []); recorded = logged w c }))
       (sym same)
-      (subst (λ (z : Log). Sim n items (record { ends = at 0 (server (serverTaken S k (m .seen) (m .edit))) (s .ends); messages = s .messages; passed = s .passed ++ ((E .lines k .made - m .seen) ∷ []); recorded = z }))
+      (subst (λ (z : Log). Sim n items from (record { ends = at 0 (server (serverTaken S k (m .seen) (m .edit))) (s .ends); messages = s .messages; passed = s .passed ++ ((E .lines k .made - m .seen) ∷ []); recorded = z }))
       (sym (made up-way))
       (takes-up n items s sim k (there .0) (there .1) m (fine up-way) number low (small-range hd (m .edit) range) ok))
 
-  serve-ack : (c : Call) (k direction seen : ℕ) → (direction ≡ 0 → seen ≤ E .clients k .taken) → (direction ≡ 0 → logged w c ≡ hears w (at k seen (w .heard))) → refusedLog w c ≡ hears w (w .heard)
+  serve-ack : (c : Call) (k direction seen : ℕ) → (direction ≡ 0 → seen ≤ E .clients k .taken) → (direction ≡ 0 → logged w c ≡ hears w (logs.hearing w 0 k seen)) → refusedLog w c ≡ hears w (w .heard)
       → (a : Answer Server) → Outcome (asks (serverAckQuestions S k direction seen)) S (serverAcked S k seen) 0 a → soundServer (a .end) ≡ true
-      → Sim n items (answered ours s 0 c (answerAs server a))
+      → Sim n items from (answered ours s 0 c (answerAs server a))
   unfolding log
   serve-ack c k direction seen fine made quiet a (outcomes.Outcome.no r) ok = turned-down 0 c (asks (serverAckQuestions S k direction seen)) (server S) r (sim .server-is) quiet
   serve-ack c k direction seen fine made quiet a (outcomes.Outcome.yes r) ok =
@@ -248,49 +245,49 @@ module _ (n : ℕ) (items : List ℕ) (s : State ours) (sim : Sim n items s) whe
       let up-way : direction ≡ 0 = eqb-true direction 0 (and-left (eqb direction 0) (between 1 n k) (y .1 .0)) in
       let there = between-true 1 n k (and-right (eqb direction 0) (between 1 n k) (y .1 .0)) in
       let low : E .lines k .acked ≤ seen = subst (λ (v : Line). v .acked ≤ seen) (line-of k (there .0) (there .1)) (leb-true (lineOf S k .acked) seen (y .1 .1 .0)) in
-      subst (λ (z : Log). Sim n items (record { ends = at 0 (server (serverAcked S k seen)) (s .ends); messages = s .messages; passed = s .passed ++ (0 ∷ []); recorded = z })) (sym (made up-way))
+      subst (λ (z : Log). Sim n items from (record { ends = at 0 (server (serverAcked S k seen)) (s .ends); messages = s .messages; passed = s .passed ++ (0 ∷ []); recorded = z })) (sym (made up-way))
       (acks-up n items s sim k (there .0) (there .1) seen low (fine up-way) ok)
 
-  serve-letter : (c : Call) (x : Letter edits) → LetterOk items E h x → logged w c ≡ took w 0 (some x) → refusedLog w c ≡ hears w (w .heard)
-      → Sim n items (answered ours s 0 c (answerAs server (serverTakes S (letterMessage x))))
+  serve-message : (c : Call) (x : Message edits) → MessageOk n items E h x → logged w c ≡ took w 0 (some x) → refusedLog w c ≡ hears w (w .heard)
+      → Sim n items from (answered ours s 0 c (answerAs server (serverTakes S (wireMessage x))))
   unfolding took serverTakesEdit serverTakesAck
-  serve-letter c (up k m) ok made quiet =
+  serve-message c (up k m) ok made quiet =
       let hd : Header = record { line = k; direction = 0; number = m .number; seen = m .seen } in
-      subst (λ (a : Answer Server). Sim n items (answered ours s 0 c (answerAs server a))) (sym (server-message S hd (m .edit)))
+      subst (λ (a : Answer Server). Sim n items from (answered ours s 0 c (answerAs server a))) (sym (server-message S hd (m .edit)))
       (serve-edit c m k 0 (ok .1) (λ e. ok .0) (λ e. made) quiet (serverTakesEdit S hd (m .edit))
       (outcome (asks (serverEditQuestions S hd (m .edit))) S (serverTaken S k (m .seen) (m .edit)) (lineOf S k .made - m .seen))
       (server-takes-edit S hd (m .edit) (header-range hd (m .edit) (ok .1)) (sim .server-sound)))
-  serve-letter c (down k m) ok made quiet =
+  serve-message c (down k m) ok made quiet =
       let hd : Header = record { line = k; direction = 1; number = m .number; seen = m .seen } in
-      subst (λ (a : Answer Server). Sim n items (answered ours s 0 c (answerAs server a))) (sym (server-message S hd (m .edit)))
+      subst (λ (a : Answer Server). Sim n items from (answered ours s 0 c (answerAs server a))) (sym (server-message S hd (m .edit)))
       (serve-edit c m k 1 (ok .1) (λ e. absurd (omega arith)) (λ e. absurd (omega arith)) quiet (serverTakesEdit S hd (m .edit))
       (outcome (asks (serverEditQuestions S hd (m .edit))) S (serverTaken S k (m .seen) (m .edit)) (lineOf S k .made - m .seen))
       (server-takes-edit S hd (m .edit) (header-range hd (m .edit) (ok .1)) (sim .server-sound)))
-  serve-letter c (upAck k seen) ok made quiet =
+  serve-message c (upAck k seen) ok made quiet =
       serve-ack c k 0 seen (λ e. ok .0) (λ e. made) quiet (serverTakesAck S k 0 seen) (outcome (asks (serverAckQuestions S k 0 seen)) S (serverAcked S k seen) 0) (server-takes-ack S k 0 seen (sim .server-sound))
-  serve-letter c (downAck k seen) ok made quiet =
+  serve-message c (downAck k seen) ok made quiet =
       serve-ack c k 1 seen (λ e. absurd (omega arith)) (λ e. absurd (omega arith)) quiet (serverTakesAck S k 1 seen) (outcome (asks (serverAckQuestions S k 1 seen)) S (serverAcked S k seen) 0) (server-takes-ack S k 1 seen (sim .server-sound))
 
   serve-junk : (c : Call) (a : Answer Server) → Outcome (asks (ask 2 (soundServer S) ∷ ask 3 false ∷ [])) S S 0 a → refusedLog w c ≡ hears w (w .heard)
-      → Sim n items (answered ours s 0 c (answerAs server a))
+      → Sim n items from (answered ours s 0 c (answerAs server a))
   serve-junk c a (outcomes.Outcome.no r) quiet = turned-down 0 c (asks (ask 2 (soundServer S) ∷ ask 3 false ∷ [])) (server S) r (sim .server-is) quiet
   serve-junk c a (outcomes.Outcome.yes r) quiet = never (yes-all (ask 2 (soundServer S) ∷ ask 3 false ∷ []) (omega arith) r .1 .0)
 
   -- ---- sending
 
-  -- a sending writes the letter of the definitions, or nothing
-  post : (c : Call) (r : ℕ) (bytes lent : List ℕ) (x : Letter edits) → logged w c ≡ writes w x → refusedLog w c ≡ w → (r ≡ 0 → LetterOk items E h x × (bytes ≡ letterBytes x))
-      → (a : Sent) → Posted r bytes lent a → Sim n items (written ours s c a)
+  -- a sending writes the message of the definitions, or nothing
+  post : (c : Call) (r : ℕ) (bytes lent : List ℕ) (x : Message edits) → logged w c ≡ writes w x → refusedLog w c ≡ w → (r ≡ 0 → MessageOk n items E h x × (bytes ≡ messageBytes x))
+      → (a : Sent) → Posted r bytes lent a → Sim n items from (written ours s c a)
   unfolding log
   post c r bytes lent x made quiet ok a (outcomes.Posted.no d) =
-      subst (λ (z : Log). Sim n items (record { ends = s .ends; messages = cond (eqb r 0) (s .messages ++ (take 0 lent ∷ [])) (s .messages); passed = s .passed; recorded = z }))
+      subst (λ (z : Log). Sim n items from (record { ends = s .ends; messages = cond (eqb r 0) (s .messages ++ (take 0 lent ∷ [])) (s .messages); passed = s .passed; recorded = z }))
       (sym (log-no w c r d ∙ quiet))
-      (subst (λ (b : Bool). Sim n items (record { ends = s .ends; messages = cond b (s .messages ++ (take 0 lent ∷ [])) (s .messages); passed = s .passed; recorded = w }))
+      (subst (λ (b : Bool). Sim n items from (record { ends = s .ends; messages = cond b (s .messages ++ (take 0 lent ∷ [])) (s .messages); passed = s .passed; recorded = w }))
       (sym (ne-eqb r 0 d)) sim)
   post c r bytes lent x made quiet ok a (outcomes.Posted.yes z) =
-      subst (λ (y : Log). Sim n items (record { ends = s .ends; messages = s .messages ++ (take (length bytes) (bytes ++ drop (length bytes) lent) ∷ []); passed = s .passed; recorded = y }))
+      subst (λ (y : Log). Sim n items from (record { ends = s .ends; messages = s .messages ++ (take (length bytes) (bytes ++ drop (length bytes) lent) ∷ []); passed = s .passed; recorded = y }))
       (sym made)
-      (subst (λ (b : List ℕ). Sim n items (record { ends = s .ends; messages = s .messages ++ (b ∷ []); passed = s .passed; recorded = writes w x }))
+      (subst (λ (b : List ℕ). Sim n items from (record { ends = s .ends; messages = s .messages ++ (b ∷ []); passed = s .passed; recorded = writes w x }))
       (sym (take-append-seam bytes (drop (length bytes) lent) ∙ ok z .1)) (writes-on n items s sim x (ok z .0)))
 
   -- client l sends edit number k
@@ -299,18 +296,18 @@ module _ (n : ℕ) (items : List ℕ) (s : State ours) (sim : Sim n items s) whe
     F = client-facts (clientFrom n l (E .clients l) (E .docs l) (sim .ci l)) (sim .client-sound l lo hi)
 
     module _ (k : ℕ) (low : E .clients l .acked < k) (high : k ≤ E .clients l .made) where
-      pub up-is : (line : ℕ) → editLetter h l line k ≡ up l (ends.message k (E .clients l))
+      pub up-is : (line : ℕ) → editMessage h l line k ≡ up l (ends.message k (E .clients l))
       up-is line =
           let ok = up-message items E h (sim .inv) l k low high in
-          client-edit-letter h l line k (E .clients l .taken) lo (sim .taken l)
+          client-edit-message h l line k (E .clients l .taken) lo (sim .taken l)
           ∙ ap (λ (e : Edit). up l (record { number = k; seen = E .clients l .taken; edit = e }))
           (ap (λ (i : ℕ). ownForm l (order h l) i (E .clients l .taken)) (omega (arith, ok .number)) ∙ sym (ok .edit))
 
-      pub up-bytes : bytesOf (clientMessage (clientFrom n l (E .clients l) (E .docs l) (sim .ci l)) k) ≡ letterBytes (up l (ends.message k (E .clients l)))
+      pub up-bytes : bytesOf (clientMessage (clientFrom n l (E .clients l) (E .docs l) (sim .ci l)) k) ≡ messageBytes (up l (ends.message k (E .clients l)))
       up-bytes =
           ap (λ (i : ℕ). bytesOf (messageOf (record { line = l; direction = 0; number = k; seen = E .clients l .taken }) (getD (E .clients l .pending) (k - i) Nothing))) (add-one (E .clients l .acked))
 
-      pub up-ok : LetterOk items E h (up l (ends.message k (E .clients l)))
+      pub up-ok : MessageOk n items E h (up l (ends.message k (E .clients l)))
       up-ok =
           let place : k - suc (E .clients l .acked) < length (E .clients l .pending) = omega (arith, F .count) in (
             up-message items E h (sim .inv) l k low high,
@@ -320,29 +317,30 @@ module _ (n : ℕ) (items : List ℕ) (s : State ours) (sim : Sim n items s) whe
                 (priority-get (eqb l) (E .clients l .pending) (k - suc (E .clients l .acked)) place (F .priorities))
                 (λ r e. let z : l ≡ r = eqb-true l r e in (omega arith, omega (arith, F .lines .1)))
                 (all-get Small (E .clients l .pending) (k - suc (E .clients l .acked)) Nothing place (sim .client-small l)),
+            (lo, hi, priority-get (eqb l) (E .clients l .pending) (k - suc (E .clients l .acked)) place (F .priorities)),
           )
 
-    client-sends : (line k : ℕ) (lent : List ℕ) → Sim n items (written ours s (send l line k lent) (sendClient (clientFrom n l (E .clients l) (E .docs l) (sim .ci l)) line k lent))
+    client-sends : (line k : ℕ) (lent : List ℕ) → Sim n items from (written ours s (send l line k lent) (sendClient (clientFrom n l (E .clients l) (E .docs l) (sim .ci l)) line k lent))
     unfolding sendClient logged refusedLog
     client-sends line k lent =
         let C = clientFrom n l (E .clients l) (E .docs l) (sim .ci l) in
-        post (send l line k lent) (asks (sendClientQuestions C line k lent)) (bytesOf (clientMessage C k)) lent (editLetter h l line k) refl refl
+        post (send l line k lent) (asks (sendClientQuestions C line k lent)) (bytesOf (clientMessage C k)) lent (editMessage h l line k) refl refl
         (λ z.
         let y = yes-all (sendClientQuestions C line k lent) (omega arith) z in
         let q13 = between-true (E .clients l .acked + 1) (E .clients l .made) k (y .1 .1 .0) in
         let low : E .clients l .acked < k = omega arith in
-        (subst (LetterOk items E h) (sym (up-is k low (q13 .1) line)) (up-ok k low (q13 .1)), up-bytes k low (q13 .1) ∙ ap letterBytes (sym (up-is k low (q13 .1) line))))
+        (subst (MessageOk n items E h) (sym (up-is k low (q13 .1) line)) (up-ok k low (q13 .1)), up-bytes k low (q13 .1) ∙ ap messageBytes (sym (up-is k low (q13 .1) line))))
         (sendClient C line k lent) (posted (asks (sendClientQuestions C line k lent)) (bytesOf (clientMessage C k)) lent)
 
-    client-tells : (line : ℕ) (lent : List ℕ) → Sim n items (written ours s (tell l line lent) (tellClient (clientFrom n l (E .clients l) (E .docs l) (sim .ci l)) line lent))
+    client-tells : (line : ℕ) (lent : List ℕ) → Sim n items from (written ours s (tell l line lent) (tellClient (clientFrom n l (E .clients l) (E .docs l) (sim .ci l)) line lent))
     unfolding tellClient logged refusedLog
     client-tells line lent =
         let C = clientFrom n l (E .clients l) (E .docs l) (sim .ci l) in
-        let is = client-ack-letter h l line (E .clients l .taken) lo (sim .taken l) in
-        post (tell l line lent) (asks (tellClientQuestions C line lent)) (bytesOf (message.Ack l 0 (E .clients l .taken))) lent (ackLetter h l line) refl refl
+        let is = client-ack-message h l line (E .clients l .taken) lo (sim .taken l) in
+        post (tell l line lent) (asks (tellClientQuestions C line lent)) (bytesOf (message.Ack l 0 (E .clients l .taken))) lent (ackMessage h l line) refl refl
         (λ z. (
-          subst (LetterOk items E h) (sym is) (le-refl (E .clients l .taken), up-ack-range l (E .clients l .taken) lo (omega (arith, F .lines .1)) (F .taken)),
-          ap letterBytes (sym is),
+          subst (MessageOk n items E h) (sym is) (le-refl (E .clients l .taken), up-ack-range l (E .clients l .taken) lo (omega (arith, F .lines .1)) (F .taken), (lo, hi)),
+          ap messageBytes (sym is),
         ))
         (tellClient C line lent) (posted (asks (tellClientQuestions C line lent)) (bytesOf (message.Ack l 0 (E .clients l .taken))) lent)
 
@@ -355,19 +353,19 @@ module _ (n : ℕ) (items : List ℕ) (s : State ours) (sim : Sim n items s) whe
     K = subst (λ (v : Line). LineFacts n (takenSum (S .lines)) l v) (line-of l lo hi) (line-fact S G l lo hi)
 
     module _ (k : ℕ) (low : E .lines l .acked < k) (high : k ≤ E .lines l .made) where
-      pub down-is : editLetter h 0 l k ≡ down l (ends.message k (E .lines l))
+      pub down-is : editMessage h 0 l k ≡ down l (ends.message k (E .lines l))
       down-is =
           let ok = down-message items E h (sim .inv) l k low high in
-          server-edit-letter h l k (E .lines l .taken) (sym (sim .inv .lines l .v-count))
+          server-edit-message h l k (E .lines l .taken) (sym (sim .inv .lines l .v-count))
           ∙ ap (λ (e : Edit). down l (record { number = k; seen = E .lines l .taken; edit = e }))
           (ap (othForm l (order h l) (E .lines l .taken)) (omega (arith, ok .number)) ∙ sym (ok .edit))
 
-      pub down-bytes : bytesOf (serverMessage S l k) ≡ letterBytes (down l (ends.message k (E .lines l)))
+      pub down-bytes : bytesOf (serverMessage S l k) ≡ messageBytes (down l (ends.message k (E .lines l)))
       down-bytes =
           ap (λ (v : Line). bytesOf (messageOf (record { line = l; direction = 1; number = k; seen = v .taken }) (pendingAt (v .acked) (v .pending) k))) (line-of l lo hi)
           ∙ ap (λ (i : ℕ). bytesOf (messageOf (record { line = l; direction = 1; number = k; seen = E .lines l .taken }) (getD (E .lines l .pending) (k - i) Nothing))) (add-one (E .lines l .acked))
 
-      pub down-ok : LetterOk items E h (down l (ends.message k (E .lines l)))
+      pub down-ok : MessageOk n items E h (down l (ends.message k (E .lines l)))
       down-ok =
           let place : k - suc (E .lines l .acked) < length (E .lines l .pending) = omega (arith, K .count) in (
             down-message items E h (sim .inv) l k low high,
@@ -377,36 +375,37 @@ module _ (n : ℕ) (items : List ℕ) (s : State ours) (sim : Sim n items s) whe
                 (priority-get (other n l) (E .lines l .pending) (k - suc (E .lines l .acked)) place (K .priorities))
                 (λ r e. let z = between-true 1 n r (and-left (between 1 n r) (not (eqb r l)) e) in (z .0, omega (arith, G .n .1)))
                 (all-get Small (E .lines l .pending) (k - suc (E .lines l .acked)) Nothing place (sim .server-small l)),
+            (lo, hi, priority-get (other n l) (E .lines l .pending) (k - suc (E .lines l .acked)) place (K .priorities)),
           )
 
-    server-sends : (k : ℕ) (lent : List ℕ) → asks (sendServerQuestions S l k lent) ≡ 0 → LetterOk items E h (editLetter h 0 l k) × (bytesOf (serverMessage S l k) ≡ letterBytes (editLetter h 0 l k))
+    server-sends : (k : ℕ) (lent : List ℕ) → asks (sendServerQuestions S l k lent) ≡ 0 → MessageOk n items E h (editMessage h 0 l k) × (bytesOf (serverMessage S l k) ≡ messageBytes (editMessage h 0 l k))
     server-sends k lent z =
         let y = yes-all (sendServerQuestions S l k lent) (omega arith) z in
         let q13 = between-true (lineOf S l .acked + 1) (lineOf S l .made) k (y .1 .1 .0) in
         let low : E .lines l .acked < k = subst (λ (v : Line). v .acked < k) (line-of l lo hi) (omega arith) in
         let high : k ≤ E .lines l .made = subst (λ (v : Line). k ≤ v .made) (line-of l lo hi) (q13 .1) in
-        (subst (LetterOk items E h) (sym (down-is k low high)) (down-ok k low high), down-bytes k low high ∙ ap letterBytes (sym (down-is k low high)))
+        (subst (MessageOk n items E h) (sym (down-is k low high)) (down-ok k low high), down-bytes k low high ∙ ap messageBytes (sym (down-is k low high)))
 
-    server-tells : LetterOk items E h (ackLetter h 0 l) × (bytesOf (message.Ack l 1 (lineOf S l .taken)) ≡ letterBytes (ackLetter h 0 l))
+    server-tells : MessageOk n items E h (ackMessage h 0 l) × (bytesOf (message.Ack l 1 (lineOf S l .taken)) ≡ messageBytes (ackMessage h 0 l))
     server-tells =
-        let is = server-ack-letter h l (E .lines l .taken) (sym (sim .inv .lines l .v-count)) in (
-          subst (LetterOk items E h) (sym is) (le-refl (E .lines l .taken), down-ack-range l (E .lines l .taken) lo (omega (arith, G .n .1)) (K .taken)),
-          ap (λ (v : Line). bytesOf (message.Ack l 1 (v .taken))) (line-of l lo hi) ∙ ap letterBytes (sym is),
+        let is = server-ack-message h l (E .lines l .taken) (sym (sim .inv .lines l .v-count)) in (
+          subst (MessageOk n items E h) (sym is) (le-refl (E .lines l .taken), down-ack-range l (E .lines l .taken) lo (omega (arith, G .n .1)) (K .taken), (lo, hi)),
+          ap (λ (v : Line). bytesOf (message.Ack l 1 (v .taken))) (line-of l lo hi) ∙ ap messageBytes (sym is),
         )
 
-  server-posts : (line k : ℕ) (lent : List ℕ) → Sim n items (written ours s (send 0 line k lent) (sendServer S line k lent))
+  server-posts : (line k : ℕ) (lent : List ℕ) → Sim n items from (written ours s (send 0 line k lent) (sendServer S line k lent))
   unfolding sendServer logged refusedLog
   server-posts line k lent =
-      post (send 0 line k lent) (asks (sendServerQuestions S line k lent)) (bytesOf (serverMessage S line k)) lent (editLetter h 0 line k) refl refl
+      post (send 0 line k lent) (asks (sendServerQuestions S line k lent)) (bytesOf (serverMessage S line k)) lent (editMessage h 0 line k) refl refl
       (λ z.
       let there = between-true 1 n line (yes-all (sendServerQuestions S line k lent) (omega arith) z .1 .0) in
       server-sends line (there .0) (there .1) k lent z)
       (sendServer S line k lent) (posted (asks (sendServerQuestions S line k lent)) (bytesOf (serverMessage S line k)) lent)
 
-  server-acks : (line : ℕ) (lent : List ℕ) → Sim n items (written ours s (tell 0 line lent) (tellServer S line lent))
+  server-acks : (line : ℕ) (lent : List ℕ) → Sim n items from (written ours s (tell 0 line lent) (tellServer S line lent))
   unfolding tellServer logged refusedLog
   server-acks line lent =
-      post (tell 0 line lent) (asks (tellServerQuestions S line lent)) (bytesOf (message.Ack line 1 (lineOf S line .taken))) lent (ackLetter h 0 line) refl refl
+      post (tell 0 line lent) (asks (tellServerQuestions S line lent)) (bytesOf (message.Ack line 1 (lineOf S line .taken))) lent (ackMessage h 0 line) refl refl
       (λ z.
       let there = between-true 1 n line (yes-all (tellServerQuestions S line lent) (omega arith) z .1 .0) in
       server-tells line (there .0) (there .1))
@@ -414,92 +413,92 @@ module _ (n : ℕ) (items : List ℕ) (s : State ours) (sim : Sim n items s) whe
 
 -- ---- any call
 
--- a message of the list of messages is that of a letter
+-- a message of the list of messages is that of a message
 some-eq : (x y : List ℕ) → some x ≡ some y → x ≡ y
 some-eq x y e = cc
 
-pub lettered : (xs : List (Letter edits)) (i : ℕ) (b : List ℕ) → getElem? (map letterBytes xs) i ≡ some b → (P : Letter edits → Type 0) → All P xs
-    → (x : Letter edits) × (getElem? xs i ≡ some x) × (b ≡ letterBytes x) × P x
-lettered [] i b e P a = absurd (let z : _≡_ {A = ℕ} 0 1 = cc in omega arith)
-lettered (x ∷ xs) zero b e P a = (x, refl, some-eq b (letterBytes x) (sym e), a .0)
-lettered (x ∷ xs) (suc i) b e P a = lettered xs i b e P (a .1)
+pub written-as : (xs : List (Message edits)) (i : ℕ) (b : List ℕ) → getElem? (map messageBytes xs) i ≡ some b → (P : Message edits → Type 0) → All P xs
+    → (x : Message edits) × (getElem? xs i ≡ some x) × (b ≡ messageBytes x) × P x
+written-as [] i b e P a = absurd (let z : _≡_ {A = ℕ} 0 1 = cc in omega arith)
+written-as (x ∷ xs) zero b e P a = (x, refl, some-eq b (messageBytes x) (sym e), a .0)
+written-as (x ∷ xs) (suc i) b e P a = written-as xs i b e P (a .1)
 
-module _ (n : ℕ) (items : List ℕ) (s : State ours) (sim : Sim n items s) where
+pub unread : (r : Read) → unreadable r ≡ true → r ≡ read.Refused
+unread read.Refused e = refl
+unread (read.Message m) e = never e
+
+module _ (n : ℕ) (items : List ℕ) {from : Moment} (s : State ours) (sim : Sim n items from s) where
   -- a message taken at end a
-  takes-at : (a i : ℕ) → a ≤ n → (b : List ℕ) → getElem? (s .messages) i ≡ some b → Sim n items (answered ours s a (receive a i) (takeAt (s .ends a) b))
+  takes-at : (a i : ℕ) → a ≤ n → (b : List ℕ) → getElem? (s .messages) i ≡ some b → Sim n items from (answered ours s a (receive a i) (ours .take (s .ends a) b))
   unfolding takeClient takeServer logged refusedLog
   takes-at a i hi b e =
-      let m = lettered (s .recorded .letters) i b (ap (λ (ms : List (List ℕ)). getElem? ms i) (sym (sim .messages)) ∙ e) (LetterOk items (sim .E) (s .recorded .history)) (sim .letters) in
+      let m = written-as (s .recorded .messages) i b (ap (λ (ms : List (List ℕ)). getElem? ms i) (sym (sim .messages)) ∙ e) (MessageOk n items (sim .E) (s .recorded .history)) (sim .written) in
       go a hi (m .0) (m .1) (m .2) (m .3)
     where
-      go : (a : ℕ) → a ≤ n → (x : Letter edits) → getElem? (s .recorded .letters) i ≡ some x → b ≡ letterBytes x → LetterOk items (sim .E) (s .recorded .history) x
-          → Sim n items (answered ours s a (receive a i) (takeAt (s .ends a) b))
+      go : (a : ℕ) → a ≤ n → (x : Message edits) → getElem? (s .recorded .messages) i ≡ some x → b ≡ messageBytes x → MessageOk n items (sim .E) (s .recorded .history) x
+          → Sim n items from (answered ours s a (receive a i) (ours .take (s .ends a) b))
       go zero hi x is same ok =
           let S = serverFrom n (length items) (sim .E .doc) (sim .E .lines) (sim .si) in
-          subst (λ (e : End). Sim n items (answered ours s 0 (receive 0 i) (takeAt e b))) (sym (sim .server-is))
-          (subst (λ (r : Read). Sim n items (answered ours s 0 (receive 0 i) (answerAs server (serverReads S r)))) (sym (ap parsed same ∙ codec .written-read (letterMessage x) (ok .1)))
-          (serve-letter n items s sim (receive 0 i) x ok (ap (took (s .recorded) 0) is) refl))
+          subst (λ (e : End). Sim n items from (answered ours s 0 (receive 0 i) (ours .take e b))) (sym (sim .server-is))
+          (subst (λ (r : Read). Sim n items from (answered ours s 0 (receive 0 i) (answerAs server (serverReads S r)))) (sym (ap parsed same ∙ codec .written-read (wireMessage x) (ok .1)))
+          (serve-message n items s sim (receive 0 i) x ok (ap (took (s .recorded) 0) is) refl))
       go (suc a) hi x is same ok =
           let C = clientFrom n (suc a) (sim .E .clients (suc a)) (sim .E .docs (suc a)) (sim .ci (suc a)) in
-          subst (λ (e : End). Sim n items (answered ours s (suc a) (receive (suc a) i) (takeAt e b))) (sym (sim .client-is (suc a) (omega arith) hi))
-          (subst (λ (r : Read). Sim n items (answered ours s (suc a) (receive (suc a) i) (answerAs client (clientReads C r)))) (sym (ap parsed same ∙ codec .written-read (letterMessage x) (ok .1)))
-          (take-letter n items s sim (suc a) (omega arith) hi (receive (suc a) i) x ok (ap (took (s .recorded) (suc a)) is) refl))
+          subst (λ (e : End). Sim n items from (answered ours s (suc a) (receive (suc a) i) (ours .take e b))) (sym (sim .client-is (suc a) (omega arith) hi))
+          (subst (λ (r : Read). Sim n items from (answered ours s (suc a) (receive (suc a) i) (answerAs client (clientReads C r)))) (sym (ap parsed same ∙ codec .written-read (wireMessage x) (ok .1)))
+          (take-message n items s sim (suc a) (omega arith) hi (receive (suc a) i) x ok (ap (took (s .recorded) (suc a)) is) refl))
 
-  unread : (r : Read) → unreadable r ≡ true → r ≡ read.Refused
-  unread read.Refused e = refl
-  unread (read.Message m) e = never e
-
-  junks-at : (a : ℕ) (bytes : List ℕ) → a ≤ n → parsed bytes ≡ read.Refused → Sim n items (answered ours s a (junk a bytes) (takeAt (s .ends a) bytes))
+  junks-at : (a : ℕ) (bytes : List ℕ) → a ≤ n → parsed bytes ≡ read.Refused → Sim n items from (answered ours s a (junk a bytes) (ours .take (s .ends a) bytes))
   unfolding takeClient takeServer refusedLog
   junks-at zero bytes hi e =
       let S = serverFrom n (length items) (sim .E .doc) (sim .E .lines) (sim .si) in
-      subst (λ (d : End). Sim n items (answered ours s 0 (junk 0 bytes) (takeAt d bytes))) (sym (sim .server-is))
-      (subst (λ (r : Read). Sim n items (answered ours s 0 (junk 0 bytes) (answerAs server (serverReads S r)))) (sym e)
+      subst (λ (d : End). Sim n items from (answered ours s 0 (junk 0 bytes) (ours .take d bytes))) (sym (sim .server-is))
+      (subst (λ (r : Read). Sim n items from (answered ours s 0 (junk 0 bytes) (answerAs server (serverReads S r)))) (sym e)
       (serve-junk n items s sim (junk 0 bytes) (answer (asks (ask 2 (soundServer S) ∷ ask 3 false ∷ [])) S S 0) (outcome (asks (ask 2 (soundServer S) ∷ ask 3 false ∷ [])) S S 0) refl))
   junks-at (suc a) bytes hi e =
       let C = clientFrom n (suc a) (sim .E .clients (suc a)) (sim .E .docs (suc a)) (sim .ci (suc a)) in
-      subst (λ (d : End). Sim n items (answered ours s (suc a) (junk (suc a) bytes) (takeAt d bytes))) (sym (sim .client-is (suc a) (omega arith) hi))
-      (subst (λ (r : Read). Sim n items (answered ours s (suc a) (junk (suc a) bytes) (answerAs client (clientReads C r)))) (sym e)
+      subst (λ (d : End). Sim n items from (answered ours s (suc a) (junk (suc a) bytes) (ours .take d bytes))) (sym (sim .client-is (suc a) (omega arith) hi))
+      (subst (λ (r : Read). Sim n items from (answered ours s (suc a) (junk (suc a) bytes) (answerAs client (clientReads C r)))) (sym e)
       (take-junk n items s sim (suc a) (omega arith) hi (junk (suc a) bytes) (answer (asks (ask 2 (soundClient C) ∷ ask 3 false ∷ [])) C C 0)
       (outcome (asks (ask 2 (soundClient C) ∷ ask 3 false ∷ [])) C C 0) refl))
 
-  sends-at : (a l k : ℕ) (lent : List ℕ) → a ≤ n → Sim n items (written ours s (send a l k lent) (sendAt (s .ends a) l k lent))
-  sends-at zero l k lent hi = subst (λ (e : End). Sim n items (written ours s (send 0 l k lent) (sendAt e l k lent))) (sym (sim .server-is)) (server-posts n items s sim l k lent)
+  sends-at : (a l k : ℕ) (lent : List ℕ) → a ≤ n → Sim n items from (written ours s (send a l k lent) (ours .send (s .ends a) l k lent))
+  sends-at zero l k lent hi = subst (λ (e : End). Sim n items from (written ours s (send 0 l k lent) (ours .send e l k lent))) (sym (sim .server-is)) (server-posts n items s sim l k lent)
   sends-at (suc a) l k lent hi =
-      subst (λ (e : End). Sim n items (written ours s (send (suc a) l k lent) (sendAt e l k lent))) (sym (sim .client-is (suc a) (omega arith) hi))
+      subst (λ (e : End). Sim n items from (written ours s (send (suc a) l k lent) (ours .send e l k lent))) (sym (sim .client-is (suc a) (omega arith) hi))
       (client-sends n items s sim (suc a) (omega arith) hi l k lent)
 
-  tells-at : (a l : ℕ) (lent : List ℕ) → a ≤ n → Sim n items (written ours s (tell a l lent) (tellAt (s .ends a) l lent))
-  tells-at zero l lent hi = subst (λ (e : End). Sim n items (written ours s (tell 0 l lent) (tellAt e l lent))) (sym (sim .server-is)) (server-acks n items s sim l lent)
+  tells-at : (a l : ℕ) (lent : List ℕ) → a ≤ n → Sim n items from (written ours s (tell a l lent) (ours .tell (s .ends a) l lent))
+  tells-at zero l lent hi = subst (λ (e : End). Sim n items from (written ours s (tell 0 l lent) (ours .tell e l lent))) (sym (sim .server-is)) (server-acks n items s sim l lent)
   tells-at (suc a) l lent hi =
-      subst (λ (e : End). Sim n items (written ours s (tell (suc a) l lent) (tellAt e l lent))) (sym (sim .client-is (suc a) (omega arith) hi))
+      subst (λ (e : End). Sim n items from (written ours s (tell (suc a) l lent) (ours .tell e l lent))) (sym (sim .client-is (suc a) (omega arith) hi))
       (client-tells n items s sim (suc a) (omega arith) hi l lent)
 
   edits-at : (c : Call) (l : ℕ) (e : Edit) → 1 ≤ l → l ≤ n → priority (eqb l) e ≡ true → Small e → logged (s .recorded) c ≡ logs.edited (s .recorded) l e
       → refusedLog (s .recorded) c ≡ hears (s .recorded) (s .recorded .heard)
-      → Sim n items (answered ours s l c (answerAs client (editClient (clientFrom n l (sim .E .clients l) (sim .E .docs l) (sim .ci l)) e)))
+      → Sim n items from (answered ours s l c (answerAs client (editClient (clientFrom n l (sim .E .clients l) (sim .E .docs l) (sim .ci l)) e)))
   unfolding editClient
   edits-at c l e lo hi pr sm made quiet =
       let C = clientFrom n l (sim .E .clients l) (sim .E .docs l) (sim .ci l) in
       edit-call n items s sim l lo hi c e pr sm made quiet (editClient C e) (outcome (asks (editQuestions C e)) C (edited C e) 0) (edits-sound C e pr (sim .client-sound l lo hi))
 
-  pub called : (c : Call) → callable n c ≡ true → Sim n items (call ours s c)
+  pub called : (c : Call) → callable n c ≡ true → Sim n items from (call ours s c)
   unfolding call callable handed logged refusedLog
   called (insert l p x) ok =
       let t = three (between 1 n l) (ltb p 65536) (ltb x 4294967296) ok in
       let at-l = between-true 1 n l (t .0) in
-      subst (λ (e : End). Sim n items (answered ours s l (insert l p x) (insertAt e p x))) (sym (sim .client-is l (at-l .0) (at-l .1)))
+      subst (λ (e : End). Sim n items from (answered ours s l (insert l p x) (ours .insert e p x))) (sym (sim .client-is l (at-l .0) (at-l .1)))
       (edits-at (insert l p x) l (Insert p x l) (at-l .0) (at-l .1) (eq-eqb l l refl) (le-leb x 4294967295 (omega (arith, ltb-true x 4294967296 (t .2)))) refl refl)
   called (delete l p) ok =
       let at-l = between-true 1 n l (and-left (between 1 n l) (ltb p 65536) ok) in
-      subst (λ (e : End). Sim n items (answered ours s l (delete l p) (deleteAt e p))) (sym (sim .client-is l (at-l .0) (at-l .1)))
+      subst (λ (e : End). Sim n items from (answered ours s l (delete l p) (ours .delete e p))) (sym (sim .client-is l (at-l .0) (at-l .1)))
       (edits-at (delete l p) l (Delete p) (at-l .0) (at-l .1) refl refl refl refl)
   called (send a l k lent) ok =
       sends-at a l k lent (leb-true a n (three (leb a n) (ltb l 256) (ltb k 65536) (and-left (leb a n && ltb l 256 && ltb k 65536) (areBytes lent) ok) .0))
   called (tell a l lent) ok = tells-at a l lent (leb-true a n (three (leb a n) (ltb l 256) (areBytes lent) ok .0))
   called (receive a i) ok = go (getElem? (s .messages) i) refl
     where
-      go : (m : Option (List ℕ)) → getElem? (s .messages) i ≡ m → Sim n items (handed ours s a (receive a i) m)
+      go : (m : Option (List ℕ)) → getElem? (s .messages) i ≡ m → Sim n items from (handed ours s a (receive a i) m)
       go none e = sim
       go (some b) e = takes-at a i (leb-true a n ok) b e
   called (junk a bytes) ok =

@@ -3,65 +3,46 @@ use mathlib.Core.Path.{_≡_, refl, ap, sym, _∙_, subst}
 use mathlib.Core.Bool.{Bool, true, false, cond}
 use mathlib.Core.List.{List, [], _∷_}
 use Prim.Native.Nat.{ℕ, zero, suc, _+_, _-_, _≤_, _<_}
-use native.Mathlib.Nat.{zero-add}
 use native.Mathlib.Omega.{arith}
 use lib.Dec.{leb}
 use lib.ListN.{length}
 use borrow.Author.Tests.{leb-true}
-use Rattle.jupiter.specs.Made.{select, reject, mine, others}
+use Rattle.jupiter.specs.Made.{select, reject}
 use Rattle.jupiter.specs.Form.{replay}
-use Rattle.jupiter.specs.History.{History, order, madeBy, missing}
+use Rattle.jupiter.specs.History.{History, noHistory, order, missing}
 use Rattle.jupiter.specs.Ends as ends
 use Rattle.jupiter.specs.Ends.{Ends}
 use Rattle.jupiter.specs.Claims.{inserts, LineClaim}
-use Rattle.jupiter.proofs.Step.{opens}
-use Rattle.jupiter.proofs.World.{mine-served}
-use Rattle.jupiter.proofs.Start.{from-opening}
-use Rattle.jupiter.proofs.Theorem.{line-claim}
+use Rattle.jupiter.proofs.Step.{opens, later-refl}
 use Rattle.model.specs.Limits.{maxLines, maxPending, maxInitial}
 use Rattle.model.specs.Questions.{asks, between, Answer}
-use Rattle.model.specs.Client.{Client, openClient}
+use Rattle.model.specs.Client.{Client, noClient, openClientQuestions, openClient}
 use Rattle.model.specs.Server.{Line, Server, noLine, noServer, soundServer, openServerQuestions, openServer}
 use Rattle.model.specs.Edits.{edits}
 use Rattle.model.specs.Sheet.{Call}
-use Rattle.model.specs.Log.{madeAt, takenAt}
+use Rattle.model.specs.Log.{editMessage, messageBytes}
 use Rattle.model.specs.Run.{State, callable, call, run, start}
 use Rattle.model.specs.Claim.{Delivered, Full, OnLine, Holds, Converges}
 use Rattle.model.specs.Ours.{End, client, server, ours}
 use Rattle.model.proofs.Tests.{hold, yes-all, between-true}
 use Rattle.model.proofs.SoundServer.{server-facts, LineFacts, line-fact, takenSum}
 use Rattle.model.proofs.Sound.{accepted, opens-client, opens-server}
-use Rattle.model.proofs.Opens.{freshServer, client-opens, server-opens}
+use Rattle.model.proofs.Opens.{freshClient, freshServer, client-opens, server-opens}
 use Rattle.model.proofs.Table.{table-replicate}
-use Rattle.model.proofs.Sim.{clientFrom, serverFrom, line-from, Sim}
+use Rattle.model.proofs.Sim.{clientFrom, serverFrom, line-from, Moment, Sim}
+use Rattle.model.proofs.Counts as counts
 use Rattle.model.proofs.Calls.{called}
 use Rattle.model.proofs.Next.{delivers-down, delivers-up}
+use Rattle.model.proofs.Alone.{alone}
+use Rattle.model.proofs.Numbers.{refusal-is, numbered, reads-back}
 
 -- ---- from the theory's ends to the claim
-
-client-made-at : (h : History edits) (l : ℕ) → 1 ≤ l → madeAt h l l ≡ madeBy h l
-unfolding madeAt
-client-made-at h zero a = absurd (omega arith)
-client-made-at h (suc l) a = refl
-
-client-taken-at : (h : History edits) (l : ℕ) → 1 ≤ l → takenAt h l l ≡ length (others l (h .applied l))
-unfolding takenAt
-client-taken-at h zero a = absurd (omega arith)
-client-taken-at h (suc l) a = refl
-
-server-made-at : (h : History edits) (l : ℕ) → madeAt h 0 l ≡ length (others l (h .served))
-unfolding madeAt
-server-made-at h l = refl
-
-server-taken-at : (h : History edits) (l : ℕ) → takenAt h 0 l ≡ length (mine l (h .served))
-unfolding takenAt
-server-taken-at h l = refl
 
 some-left : {A : Type 0} (xs : List A) → (xs ≡ [] → ⊥) → 1 ≤ length xs
 some-left [] h = absurd (h refl)
 some-left (x ∷ xs) h = omega arith
 
-module _ (n : ℕ) (items : List ℕ) (s : State ours) (sim : Sim n items s) (few : length items ≤ maxInitial) where
+module _ (n : ℕ) (items : List ℕ) {from : Moment} (s : State ours) (sim : Sim n items from s) (few : length items ≤ maxInitial) where
   abbrev h : History edits
   h = s .recorded .history
 
@@ -75,31 +56,30 @@ module _ (n : ℕ) (items : List ℕ) (s : State ours) (sim : Sim n items s) (fe
   on-line : (l : ℕ) → 1 ≤ l → l ≤ n → OnLine ours n s l
   on-line l lo hi =
       let C = clientFrom n l (E .clients l) (E .docs l) (sim .ci l) in
-      let line : LineClaim items h l 0 (E .clients l) (E .lines l) (E .docs l) (E .doc) = line-claim items (λ k. 0) E h (from-opening items E h (sim .inv)) l in
+      let line : LineClaim items h l 0 (E .clients l) (E .lines l) (E .docs l) (E .doc) = counts.line n items s sim l in
       let same = line-from n (length items) (E .doc) (E .lines) (sim .si) l lo hi in
       let here : s .ends l ≡ client C = sim .client-is l lo hi in
-      let hub : s .ends 0 ≡ server S = sim .server-is in
+      let base : s .ends 0 ≡ server S = sim .server-is in
       let cm : ours .made (s .ends l) l ≡ E .clients l .made = ap (λ (e : End). ours .made e l) here in
       let ct : ours .taken (s .ends l) l ≡ E .clients l .taken = ap (λ (e : End). ours .taken e l) here in
-      let sm : ours .made (s .ends 0) l ≡ E .lines l .made = ap (λ (e : End). ours .made e l) hub ∙ ap (λ (v : Line). v .made) same in
-      let st : ours .taken (s .ends 0) l ≡ E .lines l .taken = ap (λ (e : End). ours .taken e l) hub ∙ ap (λ (v : Line). v .taken) same in
+      let sm : ours .made (s .ends 0) l ≡ E .lines l .made = ap (λ (e : End). ours .made e l) base ∙ ap (λ (v : Line). v .made) same in
+      let st : ours .taken (s .ends 0) l ≡ E .lines l .taken = ap (λ (e : End). ours .taken e l) base ∙ ap (λ (v : Line). v .taken) same in
       record {
-        client-made = cm ∙ line .client-made ∙ ap length (mine-served l (h .served) (h .untaken l) (sim .inv .lines l .untaken-own)) ∙ lib.ListN.length-append (mine l (h .served)) (h .untaken l)
-            ∙ sym (client-made-at h l lo);
-        client-taken = ct ∙ sym (sim .taken l) ∙ sym (client-taken-at h l lo);
-        server-made = sm ∙ sym (zero-add (E .lines l .made)) ∙ line .server-made ∙ sym (server-made-at h l);
-        server-taken = st ∙ line .server-taken ∙ sym (server-taken-at h l);
+        client-made = cm ∙ counts.client-made n items s sim l lo;
+        client-taken = ct ∙ counts.client-taken n items s sim l lo;
+        server-made = sm ∙ counts.server-made n items s sim l;
+        server-taken = st ∙ counts.server-taken n items s sim l;
         meeting = ap (λ (e : End). replay (order h l) (h .applied l) (missing h l) (ours .items e)) here ∙ line .meets
-            ∙ ap (λ (e : End). replay (order h l) (h .served) (h .untaken l) (ours .items e)) (sym hub);
-        equal = λ p q. ap (λ (e : End). ours .items e) here ∙ line .equal (sym cm ∙ p ∙ st) (sym ct ∙ q ∙ sm) ∙ ap (λ (e : End). ours .items e) (sym hub);
-        next-down = λ lent bytes long more.
+            ∙ ap (λ (e : End). replay (order h l) (h .served) (h .untaken l) (ours .items e)) (sym base);
+        equal = λ p q. ap (λ (e : End). ours .items e) here ∙ line .equal (sym cm ∙ p ∙ st) (sym ct ∙ q ∙ sm) ∙ ap (λ (e : End). ours .items e) (sym base);
+        next-down = λ lent enough more.
             let left : E .clients l .taken < E .lines l .made = omega (arith, some-left (missing h l) more, line .count-missing) in
-            subst (λ (e : End). Delivered ours e (s .ends l) l (suc (ours .taken (s .ends l) l)) lent) (sym hub)
-            (subst (λ (e : End). Delivered ours (server S) e l (suc (ours .taken e l)) lent) (sym here) (delivers-down n items s sim few l lo hi left lent long));
-        next-up = λ lent bytes long more free.
+            subst (λ (e : End). Delivered ours e (s .ends l) l (suc (ours .taken (s .ends l) l)) lent) (sym base)
+            (subst (λ (e : End). Delivered ours (server S) e l (suc (ours .taken e l)) lent) (sym here) (delivers-down n items s sim few l lo hi left lent (subst (λ (k : ℕ). length (messageBytes (editMessage h 0 l (suc k))) ≤ length lent) ct (enough .1))));
+        next-up = λ lent enough more free.
             let left : E .lines l .taken < E .clients l .made = omega (arith, some-left (h .untaken l) more, line .count-untaken) in
             subst (λ (e : End). Delivered ours e (s .ends 0) l (suc (ours .taken (s .ends 0) l)) lent) (sym here)
-            (subst (λ (e : End). Delivered ours (client C) e l (suc (ours .taken e l)) lent) (sym hub) (delivers-up n items s sim few l lo hi left (room free) lent long));
+            (subst (λ (e : End). Delivered ours (client C) e l (suc (ours .taken e l)) lent) (sym base) (delivers-up n items s sim few l lo hi left (room free) lent (subst (λ (k : ℕ). length (messageBytes (editMessage h l l (suc k))) ≤ length lent) st (enough .1))));
       }
     where
       -- question 12 asks what "full" says: 64 above the last seen
@@ -109,7 +89,7 @@ module _ (n : ℕ) (items : List ℕ) (s : State ours) (sim : Sim n items s) (fe
           let facts = subst (λ (v : Line). LineFacts n (takenSum (S .lines)) j v) same (line-fact S (server-facts S (sim .server-sound)) j a b) in
           let made : ours .made (s .ends 0) j ≡ E .lines j .made = ap (λ (e : End). ours .made e j) (sim .server-is) ∙ ap (λ (v : Line). v .made) same in
           below (E .lines j .made) (E .lines j .acked) (facts .room) (facts .acked)
-          (λ e. free j a b d (made ∙ e ∙ ap (λ (k : ℕ). k + maxPending) (sym (sim .heard j))))
+          (λ e. free j a b d (made ∙ e ∙ ap (λ (k : ℕ). k + maxPending) (sym (sim .server-heard j))))
         where
           below : (m k : ℕ) → m - k ≤ maxPending → k ≤ m → (m ≡ k + maxPending → ⊥) → m - k < maxPending
           below m k r t f = omega arith
@@ -119,6 +99,8 @@ module _ (n : ℕ) (items : List ℕ) (s : State ours) (sim : Sim n items s) (fe
       record {
         lists = λ a b. shown a b;
         messages = sim .messages;
+        read-back = reads-back n items s sim few;
+        numbers = numbered n items s sim few;
         passed = sim .passed;
         lines = on-line;
       }
@@ -128,6 +110,9 @@ module _ (n : ℕ) (items : List ℕ) (s : State ours) (sim : Sim n items s) (fe
       shown (suc a) b = ap (λ (e : End). ours .items e) (sim .client-is (suc a) (omega arith) b) ∙ sym (sim .client-shown (suc a) (omega arith) b)
 
 -- ---- opening
+
+abbrev pub opening : List ℕ → Moment
+opening items = record { ends = ends.opened items; history = noHistory }
 
 module _ (n : ℕ) (items : List ℕ) (lo : 1 ≤ n) (hi : n ≤ maxLines) (few : length items ≤ maxInitial) where
   fresh : ends.End edits
@@ -141,7 +126,7 @@ module _ (n : ℕ) (items : List ℕ) (lo : 1 ≤ n) (hi : n ≤ maxLines) (few 
   client-starts : (l : ℕ) → 1 ≤ l → l ≤ n → openClient n l items .end ≡ clientFrom n l (record { made = 0; taken = 0; acked = 0; pending = [] }) items 0
   client-starts l a b = ap (λ (r : Answer Client). r .end) (client-opens n l items lo hi a b few)
 
-  pub starts : Sim n items (start ours n items)
+  pub starts : Sim n items (opening items) (start ours n items)
   unfolding select reject inserts
   starts =
       record {
@@ -149,15 +134,17 @@ module _ (n : ℕ) (items : List ℕ) (lo : 1 ≤ n) (hi : n ≤ maxLines) (few 
         ci = λ l. 0;
         si = λ l. 0;
         inv = opens items;
+        later = later-refl (ends.opened items) noHistory;
         server-is = ap server server-starts;
         client-is = opened;
         server-sound = ap soundServer (sym server-starts) ∙ opens-server n items (ap (λ (a : Answer Server). a .refusal) (server-opens n items lo hi few));
         client-sound = λ l a b. ap Rattle.model.specs.Client.soundClient (sym (client-starts l a b)) ∙ opens-client n l items (ap (λ (r : Answer Client). r .refusal) (client-opens n l items lo hi a b few));
         server-shown = refl;
         client-shown = λ l a b. refl;
-        heard = λ l. refl;
+        server-heard = λ l. refl;
+        client-heard = λ l a. refl;
         messages = refl;
-        letters = tt;
+        written = tt;
         passed = refl;
         taken = λ l. refl;
         served-lines = tt;
@@ -173,12 +160,12 @@ module _ (n : ℕ) (items : List ℕ) (lo : 1 ≤ n) (hi : n ≤ maxLines) (few 
 
 -- ---- every list of calls
 
-pub runs : (n : ℕ) (items : List ℕ) (calls : List Call) (s : State ours) → Sim n items s → Sim n items (run ours n s calls)
+pub runs : (n : ℕ) (items : List ℕ) {from : Moment} (calls : List Call) (s : State ours) → Sim n items from s → Sim n items from (run ours n s calls)
 unfolding run
-runs n items [] s sim = sim
-runs n items (c ∷ cs) s sim = runs n items cs (cond (callable n c) (call ours s c) s) (go (callable n c) refl)
+runs n items {from = from} [] s sim = sim
+runs n items {from = from} (c ∷ cs) s sim = runs n items cs (cond (callable n c) (call ours s c) s) (go (callable n c) refl)
   where
-    go : (b : Bool) → callable n c ≡ b → Sim n items (cond b (call ours s c) s)
+    go : (b : Bool) → callable n c ≡ b → Sim n items from (cond b (call ours s c) s)
     go true e = called n items s sim c e
     go false e = sim
 
@@ -194,9 +181,10 @@ server-asked n items e =
 pub converges : Converges ours
 converges =
     record {
-      opens-server = λ n items a b c d. ap (λ (r : Answer Server). r .refusal) (server-opens n items a b c);
-      opens-client = λ n l items a b c d e f. ap (λ (r : Answer Client). r .refusal) (client-opens n l items a b c d e);
-      holds = λ n items few opened others calls.
-          let asked = server-asked n items opened in
+      opens-server = λ n items a. unfold openServer in (refusal-is (asks (openServerQuestions n items)) noServer (freshServer n items) 0);
+      opens-client = λ n l items a. unfold openClient in (refusal-is (asks (openClientQuestions n l items)) noClient (freshClient n l items) 0);
+      alone = alone;
+      holds = λ n items opened calls.
+          let asked = server-asked n items (opened .server) in
           holds n items (run ours n (start ours n items) calls) (runs n items calls (start ours n items) (starts n items (asked .0) (asked .1) (asked .2))) (asked .2);
     }

@@ -86,20 +86,26 @@ inserts-transformed a b = stamp-inserts (transformed a b) ∙ ap counted (laws .
 pub priority-past : (good : ℕ → Bool) (e : Edit) (es : List Edit) → priority good (past e es) ≡ priority good e
 unfolding past
 priority-past good e [] = refl
-priority-past good e (p ∷ es) = priority-past good (transformed e p) es ∙ priority-transformed good e p
+priority-past good e (p ∷ es) =
+    let rest = priority-past good (transformed e p) es in
+    let one = priority-transformed good e p in
+    cc
 
 pub inserts-past : (e : Edit) (es : List Edit) → insertsOf (past e es) ≡ insertsOf e
 unfolding past
 inserts-past e [] = refl
-inserts-past e (p ∷ es) = inserts-past (transformed e p) es ∙ inserts-transformed e p
+inserts-past e (p ∷ es) =
+    let rest = inserts-past (transformed e p) es in
+    let one = inserts-transformed e p in
+    cc
 
 pub priorities-over : (good : ℕ → Bool) (e : Edit) (es : List Edit) → priorities good es ≡ true → priorities good (over e es) ≡ true
 unfolding over priorities
 priorities-over good e [] a = refl
 priorities-over good e (p ∷ es) a =
-    both (priority good (transformed p e)) (priorities good (over (transformed e p) es))
-    (priority-transformed good p e ∙ and-left (priority good p) (priorities good es) a)
-    (priorities-over good (transformed e p) es (and-right (priority good p) (priorities good es) a))
+    rw (priority-transformed good p)
+    (both (priority good p) (priorities good (over (transformed e p) es)) (and-left (priority good p) (priorities good es) a)
+    (priorities-over good (transformed e p) es (and-right (priority good p) (priorities good es) a)))
 
 pub length-over : (e : Edit) (es : List Edit) → length (over e es) ≡ length es
 unfolding over

@@ -15,15 +15,15 @@ use Rattle.jupiter.specs.Form.{form, inOrder}
 use Rattle.jupiter.specs.Point.{blank, own, oth, point}
 use Rattle.jupiter.specs.History.{History, at, order, madeBy, missing, newEdit, afterEdit, serves, applies, afterDown}
 use Rattle.jupiter.specs.Ends as ends
-use Rattle.jupiter.specs.Ends.{Ends, Message, keeps, acks, takes, arrived, editing, takingUp, takingDown, ackingUp, ackingDown}
-use Rattle.jupiter.specs.Run.{Letter}
+use Rattle.jupiter.specs.Ends.{Ends, EditMessage, keeps, acks, takes, arrived, editing, takingUp, takingDown, ackingUp, ackingDown}
+use Rattle.jupiter.specs.Run.{Message}
 use Rattle.jupiter.specs.Claims.{inserts}
 use Rattle.jupiter.proofs.Lists as L
 use Rattle.jupiter.proofs.Lists.{All, all-append, all-map}
 use Rattle.jupiter.proofs.Forms.{form-made}
 use Rattle.jupiter.proofs.Line.{LineAt, set-is, down-made, down-arrives}
 use Rattle.jupiter.proofs.World.{Inv, arrives, first-missing, first-untaken, mine-served, others-served}
-use Rattle.jupiter.proofs.Step.{Later, Step, step-edit, step-up, step-down, step-ack-up, step-ack-down, UpMessage, DownMessage}
+use Rattle.jupiter.proofs.Step.{Later, later-trans, Step, step-edit, step-up, step-down, step-ack-up, step-ack-down, UpMessage, DownMessage}
 use Rattle.jupiter.proofs.Size.{inserts-append, form-grows}
 use Rattle.jupiter.proofs.Runs.{fine-later}
 use Rattle.model.specs.Cross.{priority, insertsOf}
@@ -31,12 +31,12 @@ use Rattle.model.specs.Client.{Client, soundClient, edited, clientTaken,
 use Rattle.model.specs.Server.{Server, soundServer, serverTaken, serverAcked}
 use Rattle.model.specs.Edits.{edits}
 use Rattle.model.specs.Log as logs
-use Rattle.model.specs.Log.{Log, letterBytes, setOf, madeAt, hears, tookUp, tookDown, writes}
+use Rattle.model.specs.Log.{Log, messageBytes, setOf, madeAt, hears, tookUp, tookDown, writes}
 use Rattle.model.specs.Run.{State}
 use Rattle.model.specs.Ours.{End, client, server, ours}
 use Rattle.model.proofs.Instance.{to-T, edit-laws, past-same, over-same}
 use Rattle.model.proofs.Small.{Small, small-past, small-over, all-drop}
-use Rattle.model.proofs.Sim.{clientFrom, serverFrom, LetterOk, OfLines, Sim, at-line, at-other, edited-from, taken-from, server-taken-from, server-acked-from}
+use Rattle.model.proofs.Sim.{clientFrom, serverFrom, MessageOk, OfLines, Moment, Sim, at-line, at-other, edited-from, taken-from, server-taken-from, server-acked-from}
 
 -- what passes a test, passes it
 selected : (p : Made edits → Bool) (xs : List (Made edits)) → All (λ x. p x ≡ true) (select p xs)
@@ -80,17 +80,24 @@ client-count h zero made a e = absurd (omega arith)
 client-count h (suc l) made a e = e
 
 -- the pending edits of an end that takes an edit
-small-taken : (x : Message edits) (v : ends.End edits) → All Small (v .pending) → All Small (takes x v .pending)
+small-taken : (x : EditMessage edits) (v : ends.End edits) → All Small (v .pending) → All Small (takes x v .pending)
 small-taken x v a =
     subst (All Small) (over-same (x .edit) (drop (x .seen - v .acked) (v .pending))) (small-over (x .edit) (drop (x .seen - v .acked) (v .pending)) (all-drop Small (x .seen - v .acked) (v .pending) a))
 
--- every message stays one that can be taken
-letters-later : (items : List ℕ) (E E′ : Ends edits) (h h′ : History edits) → Inv items E h → Later E h E′ h′ → (xs : List (Letter edits))
-    → All (LetterOk items E h) xs → All (LetterOk items E′ h′) xs
-letters-later items E E′ h h′ inv f xs ok =
-    all-map (LetterOk items E h) (LetterOk items E′ h′) xs (λ x o. (fine-later items E h E′ h′ inv f x (o .0), o .1)) ok
+-- what was heard, at the line where it was and at another end
+at-here : (l k : ℕ) (f : ℕ → ℕ) → at l k f l ≡ k
+at-here l k f = rw (eq-eqb l l refl)
 
-module _ (n : ℕ) (items : List ℕ) (s : State ours) (sim : Sim n items s) where
+unheard : (a : ℕ) (f : ℕ → ℕ) (g : ℕ → ℕ → ℕ) (j i : ℕ) → (a ≡ j → ⊥) → at a f g j i ≡ g j i
+unheard a f g j i h = ap (λ (k : ℕ → ℕ). k i) (at-other a f g j h)
+
+-- every message stays one that can be taken
+messages-later : (n : ℕ) (items : List ℕ) (E E′ : Ends edits) (h h′ : History edits) → Inv items E h → Later E h E′ h′ → (xs : List (Message edits))
+    → All (MessageOk n items E h) xs → All (MessageOk n items E′ h′) xs
+messages-later n items E E′ h h′ inv f xs ok =
+    all-map (MessageOk n items E h) (MessageOk n items E′ h′) xs (λ x o. (fine-later items E h E′ h′ inv f x (o .0), o .1, o .2)) ok
+
+module _ (n : ℕ) (items : List ℕ) {from : Moment} (s : State ours) (sim : Sim n items from s) where
   abbrev w : Log
   w = s .recorded
 
@@ -100,22 +107,24 @@ module _ (n : ℕ) (items : List ℕ) (s : State ours) (sim : Sim n items s) whe
   -- ---- refused
 
   -- the end comes back as it was, and the count owed is 0
-  pub refused : (a : ℕ) → Sim n items (record { ends = at a (s .ends a) (s .ends); messages = s .messages; passed = s .passed ++ (0 ∷ []); recorded = hears w (w .heard) })
+  pub refused : (a : ℕ) → Sim n items from (record { ends = at a (s .ends a) (s .ends); messages = s .messages; passed = s .passed ++ (0 ∷ []); recorded = hears w (w .heard) })
   refused a =
       record {
         E = sim .E;
         ci = sim .ci;
         si = sim .si;
         inv = sim .inv;
+        later = sim .later;
         server-is = same 0 ∙ sim .server-is;
         client-is = λ l p q. same l ∙ sim .client-is l p q;
         server-sound = sim .server-sound;
         client-sound = sim .client-sound;
         server-shown = sim .server-shown;
         client-shown = sim .client-shown;
-        heard = sim .heard;
+        server-heard = sim .server-heard;
+        client-heard = sim .client-heard;
         messages = sim .messages;
-        letters = sim .letters;
+        written = sim .written;
         passed = ap (λ (ks : List ℕ). ks ++ (0 ∷ [])) (sim .passed);
         taken = sim .taken;
         served-lines = sim .served-lines;
@@ -153,7 +162,7 @@ module _ (n : ℕ) (items : List ℕ) (s : State ours) (sim : Sim n items s) whe
       unfolding inOrder
       made-form = form-made o (inOrder (order h l) (h .applied l)) (selected (λ x. holds (o .context) (x .name)) (order h l))
 
-      pub edits-on : Sim n items (record { ends = at l (client (edited C e)) (s .ends); messages = s .messages; passed = s .passed ++ (0 ∷ []); recorded = logs.edited w l e })
+      pub edits-on : Sim n items from (record { ends = at l (client (edited C e)) (s .ends); messages = s .messages; passed = s .passed ++ (0 ∷ []); recorded = logs.edited w l e })
       unfolding afterEdit
       edits-on =
           record {
@@ -161,6 +170,7 @@ module _ (n : ℕ) (items : List ℕ) (s : State ours) (sim : Sim n items s) whe
             ci = at l (sim .ci l + insertsOf e) (sim .ci);
             si = sim .si;
             inv = step .inv;
+            later = later-trans _ _ _ _ _ _ (sim .later) (step .later);
             server-is = at-other l (client (edited C e)) (s .ends) 0 (λ z. omega arith) ∙ sim .server-is;
             client-is = λ j a b.
                 at-line (λ i x v d k. x ≡ client (clientFrom n i v d k)) l (client (edited C e)) (keeps e (E .clients l)) (applied e (E .docs l)) (sim .ci l + insertsOf e)
@@ -174,9 +184,12 @@ module _ (n : ℕ) (items : List ℕ) (s : State ours) (sim : Sim n items s) whe
                 at-line (λ i x d (y : Unit {0}) (z : Unit {0}). x ≡ d) l (applied (form o (setOf h l)) (w .shown l)) (applied e (E .docs l)) tt tt
                 (w .shown) (E .docs) (λ i. tt) (λ i. tt) j
                 (ap₂ applied (client-set h l o e lo made-form) (sim .client-shown l lo hi)) (sim .client-shown j a b);
-            heard = sim .heard;
+            server-heard = sim .server-heard;
+            client-heard = λ j a.
+                at-line (λ i v (x : Unit {0}) (y : Unit {0}) (z : Unit {0}). w .heard i i ≡ v .acked) l (keeps e (E .clients l)) tt tt tt
+                (E .clients) (λ i. tt) (λ i. tt) (λ i. tt) j (sim .client-heard l lo) (sim .client-heard j a);
             messages = sim .messages;
-            letters = letters-later items E (editing l e E) h (afterEdit l e h) (sim .inv) (step .later) (w .letters) (sim .letters);
+            written = messages-later n items E (editing l e E) h (afterEdit l e h) (sim .inv) (step .later) (w .messages) (sim .written);
             passed = ap (λ (ks : List ℕ). ks ++ (0 ∷ [])) (sim .passed);
             taken = λ j.
                 at-line (λ i xs v (y : Unit {0}) (z : Unit {0}). length (others i xs) ≡ v .taken) l (h .applied l ++ (o ∷ [])) (keeps e (E .clients l)) tt tt
@@ -196,7 +209,7 @@ module _ (n : ℕ) (items : List ℕ) (s : State ours) (sim : Sim n items s) whe
 
     -- ---- a client takes its next edit
 
-    module _ (x : Message edits) (ok : DownMessage items E h l x) (next : x .number ≡ suc (E .clients l .taken)) (cur : E .clients l .acked ≤ x .seen) (sm : Small (x .edit))
+    module _ (x : EditMessage edits) (ok : DownMessage items E h l x) (next : x .number ≡ suc (E .clients l .taken)) (cur : E .clients l .acked ≤ x .seen) (sm : Small (x .edit))
         (sound : soundClient (clientTaken C (x .seen) (x .edit)) ≡ true) where
       down-step : Step items E h (takingDown l x E) (afterDown l h)
       down-step = step-down items E h (sim .inv) l x ok next cur
@@ -219,7 +232,7 @@ module _ (n : ℕ) (items : List ℕ) (s : State ours) (sim : Sim n items s) whe
       g-other : isBy l g ≡ false
       g-other = L.reject-fails (isBy l) blank (order h l) (E .clients l .taken) (down-made items l (order h l) (h .served) (h .applied l) (E .clients l) (E .lines l) (E .docs l) line x ok next cur)
 
-      pub takes-down : Sim n items (record {
+      pub takes-down : Sim n items from (record {
         ends = at l (client (clientTaken C (x .seen) (x .edit))) (s .ends);
         messages = s .messages;
         passed = s .passed ++ ((E .clients l .made - x .seen) ∷ []);
@@ -232,6 +245,7 @@ module _ (n : ℕ) (items : List ℕ) (s : State ours) (sim : Sim n items s) whe
             ci = sim .ci;
             si = sim .si;
             inv = down-step .inv;
+            later = later-trans _ _ _ _ _ _ (sim .later) (down-step .later);
             server-is = at-other l (client (clientTaken C (x .seen) (x .edit))) (s .ends) 0 (λ z. omega arith) ∙ sim .server-is;
             client-is = λ j a b.
                 at-line (λ i y v d (k : Unit {0}). y ≡ client (clientFrom n i v d (sim .ci i))) l (client (clientTaken C (x .seen) (x .edit))) (takes x (E .clients l))
@@ -248,9 +262,12 @@ module _ (n : ℕ) (items : List ℕ) (s : State ours) (sim : Sim n items s) whe
                 (applied (arrived x (E .clients l)) (E .docs l)) tt tt (w .shown) (E .docs) (λ i. tt) (λ i. tt) j
                 (ap₂ applied (ap (λ (es : List (Made edits)). form (logs.first es) (setOf h l)) missing-first ∙ client-set h l g (arrived x (E .clients l)) lo down-form) (sim .client-shown l lo hi))
                 (sim .client-shown j a b);
-            heard = sim .heard;
+            server-heard = λ j. unheard l (at l (x .seen) (w .heard l)) (w .heard) 0 j (λ z. omega arith) ∙ sim .server-heard j;
+            client-heard = λ j a.
+                at-line (λ i f v (y : Unit {0}) (z : Unit {0}). f i ≡ v .acked) l (at l (x .seen) (w .heard l)) (takes x (E .clients l)) tt tt
+                (w .heard) (E .clients) (λ i. tt) (λ i. tt) j (at-here l (x .seen) (w .heard l)) (sim .client-heard j a);
             messages = sim .messages;
-            letters = letters-later items E (takingDown l x E) h (afterDown l h) (sim .inv) (down-step .later) (w .letters) (sim .letters);
+            written = messages-later n items E (takingDown l x E) h (afterDown l h) (sim .inv) (down-step .later) (w .messages) (sim .written);
             passed = ap₂ (λ (ks : List ℕ) (k : ℕ). ks ++ ((k - x .seen) ∷ [])) (sim .passed) (client-count h l (E .clients l .made) lo (line .c-made ∙ ap length (mine-served l (h .served) (h .untaken l) (sim .inv .lines l .untaken-own)) ∙ length-append (mine l (h .served)) (h .untaken l)));
             taken = λ j.
                 subst (λ (es : List (Made edits)). length (others j (applies l es h .applied j)) ≡ at l (takes x (E .clients l)) (E .clients) j .taken) (sym missing-first)
@@ -272,7 +289,7 @@ module _ (n : ℕ) (items : List ℕ) (s : State ours) (sim : Sim n items s) whe
     S = serverFrom n (length items) (E .doc) (E .lines) (sim .si)
 
     -- the message's edit is the first that the server lacks
-    pub first-inserts : (x : Message edits) → UpMessage items E h l x → x .number ≡ suc (E .lines l .taken) → (o : Made edits) (us : List (Made edits)) → h .untaken l ≡ o ∷ us
+    pub first-inserts : (x : EditMessage edits) → UpMessage items E h l x → x .number ≡ suc (E .lines l .taken) → (o : Made edits) (us : List (Made edits)) → h .untaken l ≡ o ∷ us
         → insertsOf (x .edit) ≡ insertsOf (o .edit)
     first-inserts x ok next o us split =
         let o-by : isBy l o ≡ true = subst (λ (r : List (Made edits)). All (λ y. isBy l y ≡ true) r) split (sim .inv .lines l .untaken-own) .0 in
@@ -283,7 +300,7 @@ module _ (n : ℕ) (items : List ℕ) (s : State ours) (sim : Sim n items s) whe
         ∙ ap (λ (r : List (Made edits)). getD r (length (mine l (h .served))) blank) (L.select-in (isBy l) blank (h .served) o us o-by)
         ∙ getD-append-seam (mine l (h .served)) o (mine l us) blank)
 
-    module _ (x : Message edits) (ok : UpMessage items E h l x) (next : x .number ≡ suc (E .lines l .taken)) (cur : E .lines l .acked ≤ x .seen) (sm : Small (x .edit))
+    module _ (x : EditMessage edits) (ok : UpMessage items E h l x) (next : x .number ≡ suc (E .lines l .taken)) (cur : E .lines l .acked ≤ x .seen) (sm : Small (x .edit))
         (sound : soundServer (serverTaken S l (x .seen) (x .edit)) ≡ true) where
       abbrev up-line : LineAt items l (order h l) (h .served) (h .applied l) (E .clients l) (E .lines l) (E .docs l)
       up-line = sim .inv .lines l .line
@@ -312,15 +329,15 @@ module _ (n : ℕ) (items : List ℕ) (s : State ours) (sim : Sim n items s) whe
             differ : false ≡ true → ⊥
             differ q = let z : _≡_ {A = ℕ} 0 1 = cc in omega arith
 
-        takes-split : Sim n items (record {
+        takes-split : Sim n items from (record {
           ends = at 0 (server (serverTaken S l (x .seen) (x .edit))) (s .ends);
           messages = s .messages;
           passed = s .passed ++ ((E .lines l .made - x .seen) ∷ []);
           recorded = record {
             history = serves l (o ∷ us) h;
             shown = logs.shows w 0 (logs.first (o ∷ us));
-            heard = at l (x .seen) (w .heard);
-            letters = w .letters;
+            heard = logs.hearing w 0 l (x .seen);
+            messages = w .messages;
             passed = w .passed ++ ((madeAt h 0 l - x .seen) ∷ []);
           };
         })
@@ -331,17 +348,19 @@ module _ (n : ℕ) (items : List ℕ) (s : State ours) (sim : Sim n items s) whe
               ci = sim .ci;
               si = at l (sim .si l + insertsOf (x .edit)) (sim .si);
               inv = up-step .inv;
+              later = later-trans _ _ _ _ _ _ (sim .later) (up-step .later);
               server-is = ap server (server-taken-from n (length items) (E .doc) (E .lines) (sim .si) l lo hi x);
               client-is = λ j b c. at-other 0 (server (serverTaken S l (x .seen) (x .edit))) (s .ends) j (λ z. omega arith) ∙ sim .client-is j b c;
               server-sound = ap soundServer (sym (server-taken-from n (length items) (E .doc) (E .lines) (sim .si) l lo hi x)) ∙ sound;
               client-sound = sim .client-sound;
               server-shown = ap₂ applied (sym (arrives items edit-laws E h (sim .inv) l x ok next cur o us split)) (sim .server-shown);
               client-shown = λ j b c. at-other 0 (applied (form o (h .served)) (w .shown 0)) (w .shown) j (λ z. omega arith) ∙ sim .client-shown j b c;
-              heard = λ j.
-                  at-line (λ i k v (y : Unit {0}) (z : Unit {0}). k ≡ v .acked) l (x .seen) (takes x (E .lines l)) tt tt (w .heard) (λ k. keeps a (E .lines k)) (λ i. tt) (λ i. tt) j
-                  refl (sim .heard j);
+              client-heard = λ j b. unheard 0 (at l (x .seen) (w .heard 0)) (w .heard) j j (λ z. omega arith) ∙ sim .client-heard j b;
+              server-heard = λ j.
+                  at-line (λ i k v (y : Unit {0}) (z : Unit {0}). k ≡ v .acked) l (x .seen) (takes x (E .lines l)) tt tt (w .heard 0) (λ k. keeps a (E .lines k)) (λ i. tt) (λ i. tt) j
+                  refl (sim .server-heard j);
               messages = sim .messages;
-              letters = letters-later items E (takingUp l x E) h (serves l (o ∷ us) h) (sim .inv) (up-step .later) (w .letters) (sim .letters);
+              written = messages-later n items E (takingUp l x E) h (serves l (o ∷ us) h) (sim .inv) (up-step .later) (w .messages) (sim .written);
               passed =
                   ap₂ (λ (ks : List ℕ) (k : ℕ). ks ++ ((k - x .seen) ∷ [])) (sim .passed)
                   (up-line .v-made ∙ ap length (others-served l (h .served) (h .untaken l) (sim .inv .lines l .untaken-own)));
@@ -375,7 +394,7 @@ module _ (n : ℕ) (items : List ℕ) (s : State ours) (sim : Sim n items s) whe
             server-inserts j false e =
                 sim .si-is j ∙ ap (λ (r : List (Made edits)). inserts (mine j r)) (sym (append-nil (h .served))) ∙ ap inserts (sym (L.select-out (isBy j) blank (h .served) o [] (o-not j e)))
 
-      pub takes-up : Sim n items (record {
+      pub takes-up : Sim n items from (record {
         ends = at 0 (server (serverTaken S l (x .seen) (x .edit))) (s .ends);
         messages = s .messages;
         passed = s .passed ++ ((E .lines l .made - x .seen) ∷ []);
@@ -383,15 +402,15 @@ module _ (n : ℕ) (items : List ℕ) (s : State ours) (sim : Sim n items s) whe
       })
       takes-up =
           first-untaken items edit-laws E h (sim .inv) l x ok next cur (h .untaken l) refl
-          (λ r. Sim n items (record {
+          (λ r. Sim n items from (record {
             ends = at 0 (server (serverTaken S l (x .seen) (x .edit))) (s .ends);
             messages = s .messages;
             passed = s .passed ++ ((E .lines l .made - x .seen) ∷ []);
             recorded = record {
               history = serves l r h;
               shown = logs.shows w 0 (logs.first r);
-              heard = at l (x .seen) (w .heard);
-              letters = w .letters;
+              heard = logs.hearing w 0 l (x .seen);
+              messages = w .messages;
               passed = w .passed ++ ((madeAt h 0 l - x .seen) ∷ []);
             };
           }))
@@ -403,11 +422,11 @@ module _ (n : ℕ) (items : List ℕ) (s : State ours) (sim : Sim n items s) whe
       acked-down : Step items E h (ackingDown l seen E) h
       acked-down = step-ack-down items E h (sim .inv) l seen low made
 
-      pub acks-down : Sim n items (record {
+      pub acks-down : Sim n items from (record {
         ends = at l (client (clientAcked C seen)) (s .ends);
         messages = s .messages;
         passed = s .passed ++ (0 ∷ []);
-        recorded = hears w (w .heard);
+        recorded = hears w (logs.hearing w l l seen);
       })
       acks-down =
           record {
@@ -415,6 +434,7 @@ module _ (n : ℕ) (items : List ℕ) (s : State ours) (sim : Sim n items s) whe
             ci = sim .ci;
             si = sim .si;
             inv = acked-down .inv;
+            later = later-trans _ _ _ _ _ _ (sim .later) (acked-down .later);
             server-is = at-other l (client (clientAcked C seen)) (s .ends) 0 (λ z. omega arith) ∙ sim .server-is;
             client-is = λ j b c.
                 at-line (λ i y v (d : Unit {0}) (k : Unit {0}). y ≡ client (clientFrom n i v (E .docs i) (sim .ci i))) l (client (clientAcked C seen)) (acks seen (E .clients l)) tt tt
@@ -425,9 +445,12 @@ module _ (n : ℕ) (items : List ℕ) (s : State ours) (sim : Sim n items s) whe
                 (E .clients) (λ i. tt) (λ i. tt) (λ i. tt) j sound (sim .client-sound j b c);
             server-shown = sim .server-shown;
             client-shown = sim .client-shown;
-            heard = sim .heard;
+            server-heard = λ j. unheard l (at l seen (w .heard l)) (w .heard) 0 j (λ z. omega arith) ∙ sim .server-heard j;
+            client-heard = λ j a.
+                at-line (λ i f v (y : Unit {0}) (z : Unit {0}). f i ≡ v .acked) l (at l seen (w .heard l)) (acks seen (E .clients l)) tt tt
+                (w .heard) (E .clients) (λ i. tt) (λ i. tt) j (at-here l seen (w .heard l)) (sim .client-heard j a);
             messages = sim .messages;
-            letters = letters-later items E (ackingDown l seen E) h h (sim .inv) (acked-down .later) (w .letters) (sim .letters);
+            written = messages-later n items E (ackingDown l seen E) h h (sim .inv) (acked-down .later) (w .messages) (sim .written);
             passed = ap (λ (ks : List ℕ). ks ++ (0 ∷ [])) (sim .passed);
             taken = λ j.
                 at-line (λ i v (y : Unit {0}) (d : Unit {0}) (k : Unit {0}). length (others i (h .applied i)) ≡ v .taken) l (acks seen (E .clients l)) tt tt tt
@@ -445,11 +468,11 @@ module _ (n : ℕ) (items : List ℕ) (s : State ours) (sim : Sim n items s) whe
       acked-up : Step items E h (ackingUp l seen E) h
       acked-up = step-ack-up items E h (sim .inv) l seen low made
 
-      pub acks-up : Sim n items (record {
+      pub acks-up : Sim n items from (record {
         ends = at 0 (server (serverAcked S l seen)) (s .ends);
         messages = s .messages;
         passed = s .passed ++ (0 ∷ []);
-        recorded = hears w (at l seen (w .heard));
+        recorded = hears w (logs.hearing w 0 l seen);
       })
       acks-up =
           record {
@@ -457,16 +480,18 @@ module _ (n : ℕ) (items : List ℕ) (s : State ours) (sim : Sim n items s) whe
             ci = sim .ci;
             si = sim .si;
             inv = acked-up .inv;
+            later = later-trans _ _ _ _ _ _ (sim .later) (acked-up .later);
             server-is = ap server (server-acked-from n (length items) (E .doc) (E .lines) (sim .si) l lo hi seen);
             client-is = λ j b c. at-other 0 (server (serverAcked S l seen)) (s .ends) j (λ z. omega arith) ∙ sim .client-is j b c;
             server-sound = ap soundServer (sym (server-acked-from n (length items) (E .doc) (E .lines) (sim .si) l lo hi seen)) ∙ sound;
             client-sound = sim .client-sound;
             server-shown = sim .server-shown;
             client-shown = sim .client-shown;
-            heard = λ j.
-                at-line (λ i k v (y : Unit {0}) (z : Unit {0}). k ≡ v .acked) l seen (acks seen (E .lines l)) tt tt (w .heard) (E .lines) (λ i. tt) (λ i. tt) j refl (sim .heard j);
+            client-heard = λ j b. unheard 0 (at l seen (w .heard 0)) (w .heard) j j (λ z. omega arith) ∙ sim .client-heard j b;
+            server-heard = λ j.
+                at-line (λ i k v (y : Unit {0}) (z : Unit {0}). k ≡ v .acked) l seen (acks seen (E .lines l)) tt tt (w .heard 0) (E .lines) (λ i. tt) (λ i. tt) j refl (sim .server-heard j);
             messages = sim .messages;
-            letters = letters-later items E (ackingUp l seen E) h h (sim .inv) (acked-up .later) (w .letters) (sim .letters);
+            written = messages-later n items E (ackingUp l seen E) h h (sim .inv) (acked-up .later) (w .messages) (sim .written);
             passed = ap (λ (ks : List ℕ). ks ++ (0 ∷ [])) (sim .passed);
             taken = sim .taken;
             served-lines = sim .served-lines;
@@ -479,23 +504,25 @@ module _ (n : ℕ) (items : List ℕ) (s : State ours) (sim : Sim n items s) whe
           }
 
   -- ---- a message is written
-  pub writes-on : (x : Letter edits) → LetterOk items (sim .E) h x
-      → Sim n items (record { ends = s .ends; messages = s .messages ++ (letterBytes x ∷ []); passed = s .passed; recorded = writes w x })
+  pub writes-on : (x : Message edits) → MessageOk n items (sim .E) h x
+      → Sim n items from (record { ends = s .ends; messages = s .messages ++ (messageBytes x ∷ []); passed = s .passed; recorded = writes w x })
   writes-on x ok =
       record {
         E = sim .E;
         ci = sim .ci;
         si = sim .si;
         inv = sim .inv;
+        later = sim .later;
         server-is = sim .server-is;
         client-is = sim .client-is;
         server-sound = sim .server-sound;
         client-sound = sim .client-sound;
         server-shown = sim .server-shown;
         client-shown = sim .client-shown;
-        heard = sim .heard;
-        messages = ap (λ (ms : List (List ℕ)). ms ++ (letterBytes x ∷ [])) (sim .messages) ∙ sym (map-append letterBytes (w .letters) (x ∷ []));
-        letters = all-append (LetterOk items (sim .E) h) (w .letters) (x ∷ []) (sim .letters) (ok, tt);
+        server-heard = sim .server-heard;
+        client-heard = sim .client-heard;
+        messages = ap (λ (ms : List (List ℕ)). ms ++ (messageBytes x ∷ [])) (sim .messages) ∙ sym (map-append messageBytes (w .messages) (x ∷ []));
+        written = all-append (MessageOk n items (sim .E) h) (w .messages) (x ∷ []) (sim .written) (ok, tt);
         passed = sim .passed;
         taken = sim .taken;
         served-lines = sim .served-lines;

@@ -10,12 +10,16 @@ pub mod Small
 pub mod Sim
 pub mod Follow
 pub mod Outcome
+pub mod Alone
 pub mod Ranges
 pub mod Calls
+pub mod Counts
+pub mod Rooms
 pub mod Bounds
 pub mod Next
+pub mod Numbers
 pub mod Converges
-pub mod Refusals
+pub mod Consequences
 pub mod Wrong
 pub mod Computing
 pub mod Marked

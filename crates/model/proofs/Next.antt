@@ -33,7 +33,7 @@ use Rattle.model.specs.Cross.{past, over, allPlaced, priority, insertsOf
 use Rattle.model.specs.Client.{Client, clientMessage, sendClientQuestions, sendClient, other, unacked, clientTaken, clientEditQuestions, clientTakesEdit, clientReads, takeClient}
 use Rattle.model.specs.Server.{Line, Server, lineOf, serverMessage, sendServerQuestions, sendServer, unackedOf, carried, serverTaken, othersRoomy, serverEditQuestions, serverTakesEdit, serverReads, takeServer}
 use Rattle.model.specs.Edits.{edits}
-use Rattle.model.specs.Log.{letterMessage}
+use Rattle.model.specs.Log.{wireMessage, messageBytes, editMessage}
 use Rattle.model.specs.Run.{State}
 use Rattle.model.specs.Ours.{End, client, server, ours}
 use Rattle.model.specs.Claim.{Delivered}
@@ -43,10 +43,10 @@ use Rattle.model.proofs.SoundServer.{server-facts, LineFacts, line-fact
 use Rattle.model.proofs.Sound.{new-end}
 use Rattle.model.proofs.Table.{table-roomy}
 use Rattle.model.proofs.Instance.{edit-laws, from-T, past-same, over-same}
-use Rattle.model.proofs.Ranges.{priority-get, short}
-use Rattle.model.proofs.Sim.{clientFrom, serverFrom, lineFrom, line-from, carried-from, server-taken-from, Sim}
+use Rattle.model.proofs.Ranges.{priority-get}
+use Rattle.model.proofs.Sim.{clientFrom, serverFrom, lineFrom, line-from, carried-from, server-taken-from, Moment, Sim}
 use Rattle.model.proofs.Follow.{first-inserts, inserts-cons}
-use Rattle.model.proofs.Calls.{client-message, server-message, up-bytes, up-ok, down-bytes, down-ok}
+use Rattle.model.proofs.Calls.{client-message, server-message, up-is, up-bytes, up-ok, down-is, down-bytes, down-ok}
 use Rattle.model.proofs.Bounds.{inserts-most, client-most, client-more, doc-most, client-placed, server-placed}
 
 -- a sending that no question refused
@@ -54,7 +54,7 @@ pub sent-all : (r : ℕ) (bytes lent : List ℕ) → r ≡ 0 → sent r bytes le
 unfolding sent
 sent-all r bytes lent e = rw e
 
-module _ (n : ℕ) (items : List ℕ) (s : State ours) (sim : Sim n items s) (few : length items ≤ 128) (l : ℕ) (lo : 1 ≤ l) (hi : l ≤ n) where
+module _ (n : ℕ) (items : List ℕ) {from : Moment} (s : State ours) (sim : Sim n items from s) (few : length items ≤ 128) (l : ℕ) (lo : 1 ≤ l) (hi : l ≤ n) where
   abbrev h : History edits
   h = s .recorded .history
 
@@ -86,7 +86,7 @@ module _ (n : ℕ) (items : List ℕ) (s : State ours) (sim : Sim n items s) (fe
   room = omega (arith, inserts-most n items s sim few l lo hi)
 
   -- ---- a message that goes down, whenever it was written: where questions 4 to 7 say yes, so do 8 and 9
-  module _ (x : ends.Message edits) (ok : DownMessage items E h l x) (next : x .number ≡ suc (c .taken)) (cur : c .acked ≤ x .seen) where
+  module _ (x : ends.EditMessage edits) (ok : DownMessage items E h l x) (next : x .number ≡ suc (c .taken)) (cur : c .acked ≤ x .seen) where
     -- the line once it is taken
     after : LineAt items l (order h l) (h .served) (h .applied l ++ (oth l (order h l) (c .taken) ∷ [])) (takes x c) v (applied (arrived x c) (E .docs l))
     after = line-down items l (order h l) (h .served) (h .applied l) c v (E .docs l) line x ok next cur
@@ -113,11 +113,11 @@ module _ (n : ℕ) (items : List ℕ) (s : State ours) (sim : Sim n items s) (fe
         (subst (λ (d : List ℕ). length d ≤ maxItems) (sym (after .c-doc)) (doc-most items (order h l) room l (length (mine l (order h l))) (suc (c .taken))))))
 
   -- ---- the next edit going down
-  module _ (more : c .taken < v .made) (lent : List ℕ) (long : 14 ≤ length lent) where
+  module _ (more : c .taken < v .made) (lent : List ℕ) (long : length (messageBytes (editMessage h 0 l (suc (c .taken)))) ≤ length lent) where
     abbrev k : ℕ
     k = suc (c .taken)
 
-    abbrev x : ends.Message edits
+    abbrev x : ends.EditMessage edits
     x = ends.message k v
 
     abbrev hd : Header
@@ -128,6 +128,10 @@ module _ (n : ℕ) (items : List ℕ) (s : State ours) (sim : Sim n items s) (fe
 
     ok : DownMessage items E h l x
     ok = down-message items E h (sim .inv) l k low more
+
+    -- it is what the definitions give
+    down-written : bytesOf (serverMessage S l k) ≡ messageBytes (editMessage h 0 l k)
+    down-written = down-bytes n items s sim l lo hi k low more ∙ ap messageBytes (sym (down-is n items s sim l lo hi k low more))
 
     down-sent : sendServer S l k lent
         ≡ record { refusal = 0; written = length (bytesOf (serverMessage S l k)); buffer = bytesOf (serverMessage S l k) ++ drop (length (bytesOf (serverMessage S l k))) lent }
@@ -140,7 +144,7 @@ module _ (n : ℕ) (items : List ℕ) (s : State ours) (sim : Sim n items s) (fe
             true-between 1 n l lo hi,
             (
               subst (λ (u : Line). between (u .acked + 1) (u .made) k ≡ true) (sym same-line) (true-between (v .acked + 1) (v .made) k (omega (arith, line .v-acked)) more),
-              (le-leb (length (bytesOf (serverMessage S l k))) (length lent) (omega (arith, short (serverMessage S l k))), tt),
+              (le-leb (length (bytesOf (serverMessage S l k))) (length lent) (subst (λ (b : List ℕ). length b ≤ length lent) (sym down-written) long), tt),
             ),
           ),
         ))
@@ -177,7 +181,7 @@ module _ (n : ℕ) (items : List ℕ) (s : State ours) (sim : Sim n items s) (fe
     down-taken =
         ap (λ (b : List ℕ). clientReads C (parsed b))
         (take-append-seam (bytesOf (serverMessage S l k)) (drop (length (bytesOf (serverMessage S l k))) lent) ∙ down-bytes n items s sim l lo hi k low more)
-        ∙ ap (clientReads C) (codec .written-read (letterMessage (down l x)) (down-ok n items s sim l lo hi k low more .1))
+        ∙ ap (clientReads C) (codec .written-read (wireMessage (down l x)) (down-ok n items s sim l lo hi k low more .1))
         ∙ client-message C hd (x .edit)
         ∙ new-end (asks (clientEditQuestions C hd (x .edit))) C (clientTaken C (v .taken) (x .edit)) (c .made - v .taken) down-asks
 
@@ -193,7 +197,7 @@ module _ (n : ℕ) (items : List ℕ) (s : State ours) (sim : Sim n items s) (fe
   on-line : (P : Line → Type 0) → P (lineFrom v (sim .si l)) → P (lineOf S l)
   on-line P p = subst P (sym same-line) p
 
-  module _ (y : ends.Message edits) (okay : UpMessage items E h l y) (following : y .number ≡ suc (v .taken)) (current : v .acked ≤ y .seen) where
+  module _ (y : ends.EditMessage edits) (okay : UpMessage items E h l y) (following : y .number ≡ suc (v .taken)) (current : v .acked ≤ y .seen) where
     up-after : LineAt items l (order h l) (h .served ++ (own l (order h l) (v .taken) ∷ [])) (h .applied l) c (takes y v) (E .docs l)
     up-after = line-up items l (order h l) (h .served) (h .applied l) c v (E .docs l) line y okay following current
 
@@ -240,11 +244,12 @@ module _ (n : ℕ) (items : List ℕ) (s : State ours) (sim : Sim n items s) (fe
     up-10 = on-line (λ u. leb (u .inserts + insertsOf (y .edit)) maxInserts ≡ true) (le-leb (sim .si l + insertsOf (y .edit)) maxInserts up-inserts)
 
   -- ---- the next edit going up
-  module _ (more : v .taken < c .made) (roomy-others : (j : ℕ) → 1 ≤ j → j ≤ n → (j ≡ l → ⊥) → E .lines j .made - E .lines j .acked < maxPending) (lent : List ℕ) (long : 14 ≤ length lent) where
+  module _ (more : v .taken < c .made) (roomy-others : (j : ℕ) → 1 ≤ j → j ≤ n → (j ≡ l → ⊥) → E .lines j .made - E .lines j .acked < maxPending) (lent : List ℕ)
+      (long : length (messageBytes (editMessage h l l (suc (v .taken)))) ≤ length lent) where
     abbrev up-k : ℕ
     up-k = suc (v .taken)
 
-    abbrev y : ends.Message edits
+    abbrev y : ends.EditMessage edits
     y = ends.message up-k c
 
     abbrev up-hd : Header
@@ -259,6 +264,9 @@ module _ (n : ℕ) (items : List ℕ) (s : State ours) (sim : Sim n items s) (fe
     okay : UpMessage items E h l y
     okay = up-message items E h (sim .inv) l up-k up-low more
 
+    up-written : bytesOf (clientMessage C up-k) ≡ messageBytes (editMessage h l l up-k)
+    up-written = up-bytes n items s sim l lo hi up-k up-low more ∙ ap messageBytes (sym (up-is n items s sim l lo hi up-k up-low more l))
+
     up-sent : sendClient C l up-k lent
         ≡ record { refusal = 0; written = length (bytesOf (clientMessage C up-k)); buffer = bytesOf (clientMessage C up-k) ++ drop (length (bytesOf (clientMessage C up-k))) lent }
     unfolding sendClient
@@ -270,7 +278,7 @@ module _ (n : ℕ) (items : List ℕ) (s : State ours) (sim : Sim n items s) (fe
             eq-eqb l l refl,
             (
               true-between (c .acked + 1) (c .made) up-k (omega (arith, line .c-acked)) more,
-              (le-leb (length (bytesOf (clientMessage C up-k))) (length lent) (omega (arith, short (clientMessage C up-k))), tt),
+              (le-leb (length (bytesOf (clientMessage C up-k))) (length lent) (subst (λ (b : List ℕ). length b ≤ length lent) (sym up-written) long), tt),
             ),
           ),
         ))
@@ -315,7 +323,7 @@ module _ (n : ℕ) (items : List ℕ) (s : State ours) (sim : Sim n items s) (fe
     up-taken =
         ap (λ (b : List ℕ). serverReads S (parsed b))
         (take-append-seam (bytesOf (clientMessage C up-k)) (drop (length (bytesOf (clientMessage C up-k))) lent) ∙ up-bytes n items s sim l lo hi up-k up-low more)
-        ∙ ap (serverReads S) (codec .written-read (letterMessage (up l y)) (up-ok n items s sim l lo hi up-k up-low more .1))
+        ∙ ap (serverReads S) (codec .written-read (wireMessage (up l y)) (up-ok n items s sim l lo hi up-k up-low more .1))
         ∙ server-message S up-hd (y .edit)
         ∙ new-end (asks (serverEditQuestions S up-hd (y .edit))) S (serverTaken S l (c .taken) (y .edit)) (lineOf S l .made - c .taken) up-asks
 

@@ -18,24 +18,28 @@ freshClient n l items = record { n = n; line = l; made = 0; taken = 0; acked = 0
 abbrev pub freshServer : ℕ → List ℕ → Server
 freshServer n items = record { n = n; initial = length items; items = items; lines = replicate n noLine }
 
-pub client-opens : (n l : ℕ) (items : List ℕ) → 1 ≤ n → n ≤ maxLines → 1 ≤ l → l ≤ n → length items ≤ maxInitial
-    → openClient n l items ≡ record { refusal = 0; end = freshClient n l items; passed = 0 }
-unfolding openClient
-client-opens n l items a b c d e =
-    new-end (asks (openClientQuestions n l items)) noClient (freshClient n l items) 0
-    (all-yes (openClientQuestions n l items) (
+pub client-asks : (n l : ℕ) (items : List ℕ) → 1 ≤ n → n ≤ maxLines → 1 ≤ l → l ≤ n → length items ≤ maxInitial → asks (openClientQuestions n l items) ≡ 0
+client-asks n l items a b c d e =
+    all-yes (openClientQuestions n l items) (
       held (between 1 maxLines n ∷ between 1 n l ∷ leb (length items) maxInitial ∷ [])
           (true-between 1 maxLines n a b, (true-between 1 n l c d, (le-leb (length items) maxInitial e, tt))),
       tt,
-    ))
+    )
+
+pub server-asks : (n : ℕ) (items : List ℕ) → 1 ≤ n → n ≤ maxLines → length items ≤ maxInitial → asks (openServerQuestions n items) ≡ 0
+server-asks n items a b e =
+    all-yes (openServerQuestions n items) (
+      held (between 1 maxLines n ∷ leb (length items) maxInitial ∷ [])
+          (true-between 1 maxLines n a b, (le-leb (length items) maxInitial e, tt)),
+      tt,
+    )
+
+pub client-opens : (n l : ℕ) (items : List ℕ) → 1 ≤ n → n ≤ maxLines → 1 ≤ l → l ≤ n → length items ≤ maxInitial
+    → openClient n l items ≡ record { refusal = 0; end = freshClient n l items; passed = 0 }
+unfolding openClient
+client-opens n l items a b c d e = new-end (asks (openClientQuestions n l items)) noClient (freshClient n l items) 0 (client-asks n l items a b c d e)
 
 pub server-opens : (n : ℕ) (items : List ℕ) → 1 ≤ n → n ≤ maxLines → length items ≤ maxInitial
     → openServer n items ≡ record { refusal = 0; end = freshServer n items; passed = 0 }
 unfolding openServer
-server-opens n items a b e =
-    new-end (asks (openServerQuestions n items)) noServer (freshServer n items) 0
-    (all-yes (openServerQuestions n items) (
-      held (between 1 maxLines n ∷ leb (length items) maxInitial ∷ [])
-          (true-between 1 maxLines n a b, (le-leb (length items) maxInitial e, tt)),
-      tt,
-    ))
+server-opens n items a b e = new-end (asks (openServerQuestions n items)) noServer (freshServer n items) 0 (server-asks n items a b e)

@@ -90,7 +90,7 @@ three a b d e = (and-left a b (and-left (a && b) d e), and-right a b (and-left (
 pub client-takes-edit : (c : Client) (h : Header) (e : Edit) → headerInRange h ≡ true → soundClient c ≡ true → soundClient (clientTakesEdit c h e .end) ≡ true
 unfolding clientTakesEdit
 client-takes-edit c h e range s =
-    answer-keeps (λ d. soundClient d ≡ true) (asks (clientEditQuestions c h e)) c (clientTaken c (h .seen) e) (c .made - h .seen) s
+    answer-keeps (λ d. soundClient d ≡ true) (asks (clientEditQuestions c h e)) c (clientTaken c (h .seen) e) _ s
     (λ z.
     let y = yes-all (clientEditQuestions c h e) (omega arith) z in
     let number : h .number ≡ c .taken + 1 = eqb-true (h .number) (c .taken + 1) (y .1 .1 .1 .0) in

@@ -95,7 +95,7 @@ edited-sound c e f p q9 q9′ q10 q11 q12 one =
     record {
       lines = f .lines;
       line = f .line;
-      items = q9′;
+      items = omega (arith, q9′, f .items);
       made = omega arith;
       taken = f .taken;
       acked = omega (arith, f .acked);

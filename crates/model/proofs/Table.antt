@@ -1,16 +1,16 @@
 -- Tables: the values of a function at l, l + 1, and on. The server's lines are one.
-use mathlib.Core.Path.{_≡_, refl, ap, ap₂, sym, _∙_}
-use mathlib.Core.Bool.{true, cond}
+use mathlib.Core.Path.{_≡_, refl, ap, ap₂, sym, _∙_, subst}
+use mathlib.Core.Bool.{Bool, true, false, cond}
 use mathlib.Core.List.{List, [], _∷_, map}
 use Prim.Native.Nat.{ℕ, zero, suc, _+_, _≤_, _<_}
 use native.Mathlib.Nat.{add-zero}
 use native.Mathlib.Omega.{arith}
 use lib.Dec.{eqb}
 use lib.ListN.{length, getD, replicate}
-use borrow.Author.Tests.{eq-eqb, ne-eqb}
+use borrow.Author.Tests.{eq-eqb, ne-eqb, eqb-true, eqb-false}
 use Rattle.model.specs.Questions.{every}
 use Rattle.model.specs.Server.{Line, atPlace, roomy, othersRoomy, total}
-use Rattle.model.proofs.Tests.{both}
+use Rattle.model.proofs.Tests.{both, and-left, and-right}
 
 abbrev pub table : {A : Type 0} → (ℕ → A) → ℕ → ℕ → List A
 table f l zero = []
@@ -68,6 +68,28 @@ table-roomy h l (suc k) zero r = rest (suc l) k (λ j a b. r j (omega arith) (om
 table-roomy h l (suc k) (suc i) r =
     both (roomy (h l)) (othersRoomy i (table h (suc l) k)) (r l (omega arith) (omega arith) (λ e. omega arith))
     (table-roomy h (suc l) k i (λ j a b c. r j (omega arith) (omega arith) (λ e. c (omega arith))))
+
+-- a place is the first or a later one
+here-or-later : (P : ℕ → Type 0) (m j : ℕ) → m ≤ j → P m → (m < j → P j) → P j
+here-or-later P m j le here later = go (eqb m j) refl
+  where
+    go : (t : Bool) → eqb m j ≡ t → P j
+    go true e = subst P (eqb-true m j e) here
+    go false e = later (omega (arith, eqb-false m j e))
+
+pub roomy-table : (h : ℕ → Line) (l k i : ℕ) → othersRoomy i (table h l k) ≡ true → (j : ℕ) → l ≤ j → j < l + k → (j ≡ l + i → ⊥) → roomy (h j) ≡ true
+unfolding othersRoomy
+roomy-table h l zero i r j a b d = absurd (omega arith)
+roomy-table h l (suc k) zero r j a b d = rest (suc l) k r j (omega (arith, d)) (omega arith)
+  where
+    rest : (m c : ℕ) → every (map roomy (table h m c)) ≡ true → (j : ℕ) → m ≤ j → j < m + c → roomy (h j) ≡ true
+    rest m zero q j a b = absurd (omega arith)
+    rest m (suc c) q j a b =
+        here-or-later (λ i. roomy (h i) ≡ true) m j a (and-left (roomy (h m)) (every (map roomy (table h (suc m) c))) q)
+        (λ lt. rest (suc m) c (and-right (roomy (h m)) (every (map roomy (table h (suc m) c))) q) j lt (omega arith))
+roomy-table h l (suc k) (suc i) r j a b d =
+    here-or-later (λ i. roomy (h i) ≡ true) l j a (and-left (roomy (h l)) (othersRoomy i (table h (suc l) k)) r)
+    (λ lt. roomy-table h (suc l) k i (and-right (roomy (h l)) (othersRoomy i (table h (suc l) k)) r) j lt (omega arith) (λ z. d (omega arith)))
 
 -- a number of each entry, added up, is at most k times its bound
 pub table-total : (f : Line → ℕ) (h : ℕ → Line) (most l k : ℕ) → ((j : ℕ) → l ≤ j → j < l + k → f (h j) ≤ most) → total f (table h l k) ≤ Prim.Native.Nat._*_ k most

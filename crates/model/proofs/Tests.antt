@@ -1,12 +1,13 @@
 -- Lists of tests and questions as facts, and back.
-use mathlib.Core.Path.{_≡_, refl, sym}
+use mathlib.Core.Path.{_≡_, refl, ap, sym, _∙_}
 use mathlib.Core.Bool.{Bool, true, false, _&&_, cond}
 use mathlib.Core.List.{List, [], _∷_}
 use Prim.Native.Nat.{ℕ, _≤_}
+use native.Mathlib.Omega.{arith}
 use lib.Dec.{leb, eqb}
 use borrow.Author.Tests.{leb-true, le-leb, eqb-true}
 pub use Rattle.ot.proofs.Fits.{and-left, and-right}
-use Rattle.model.specs.Questions.{Question, asks, every, between, Answer, answer}
+use Rattle.model.specs.Questions.{Question, ask, asks, every, between, Answer, answer}
 
 -- two tests that say the same
 pub bool-ext : (a b : Bool) → (a ≡ true → b ≡ true) → (b ≡ true → a ≡ true) → a ≡ b
@@ -52,6 +53,25 @@ yes-all (q ∷ qs) n e = go (q .yes) refl (yes-all qs (n .1)) e
 pub all-yes : (qs : List Question) → Yes qs → asks qs ≡ 0
 all-yes [] y = refl
 all-yes (q ∷ qs) y = rw (y .0) (all-yes qs (y .1))
+
+-- Two lists of questions with the same first no: some of the first list say yes and are not in the second, and the others are asked in both.
+-- A question is looked at only where those before it said yes.
+pub data Alike : List Question → List Question → Type 0 where
+  done : Alike [] []
+  over : {q : Question} {qs ps : List Question} → q .yes ≡ true → Alike qs ps → Alike (q ∷ qs) ps
+  same : {k : ℕ} {a b : Bool} {qs ps : List Question} → a ≡ b → (a ≡ true → Alike qs ps) → Alike (ask k a ∷ qs) (ask k b ∷ ps)
+
+pub alike : (qs ps : List Question) → Alike qs ps → asks qs ≡ asks ps
+alike qs ps Alike.done = refl
+alike qs′ ps′ (Alike.over {q} {qs} {ps} e r) = ap (λ (b : Bool). cond b (asks qs) (q .number)) e ∙ alike qs ps r
+alike qs′ ps′ (Alike.same {k} {a} {b} {qs} {ps} e r) = ap (λ (t : Bool). cond t (asks qs) k) e ∙ go b refl (λ y. alike qs ps (r (e ∙ y)))
+  where
+    go : (t : Bool) → b ≡ t → (b ≡ true → asks qs ≡ asks ps) → cond t (asks qs) k ≡ cond t (asks ps) k
+    go true y f = f y
+    go false y f = refl
+
+pub never : {A : Type 0} → false ≡ true → A
+never e = absurd (let z : _≡_ {A = ℕ} 0 1 = cc in omega arith)
 
 -- What holds of the end as it came, and of the new end where nothing was refused, holds of the end that is answered.
 pub answer-keeps : {E : Type 0} (P : E → Type 0) (r : ℕ) (old new : E) (k : ℕ) → P old → (r ≡ 0 → P new) → P ((answer r old new k) .end)

@@ -1,24 +1,38 @@
--- The wrong sheets are refuted, each by a short list of calls that antt runs.
-use mathlib.Core.Path.{_≡_, refl, ap, sym}
+-- The wrong sheets are refuted, each by a list of calls that antt runs.
+use mathlib.Core.Path.{_≡_, refl, sym, _∙_, subst}
+use mathlib.Core.Bool.{true}
 use mathlib.Core.List.{List, [], _∷_}
-use Prim.Native.Nat.{ℕ, _≤_}
+use Prim.Native.Nat.{ℕ, zero, suc, _+_, _≤_}
 use native.Mathlib.Omega.{arith}
-use Rattle.model.specs.Questions.{Answer}
-use Rattle.model.specs.Sheet.{Call, insert, send, receive}
-use Rattle.model.specs.Run.{run, start}
-use Rattle.model.specs.Claim.{Converges, Full}
-use Rattle.model.specs.Ours.{ours}
+use lib.Dec.{ltb}
+use lib.ListN.{take}
+use borrow.Author.Tests.{ltb-true}
+use Rattle.model.specs.Questions.{Sent}
+use Rattle.model.specs.Log.{wireMessage, editMessage}
+use Rattle.model.specs.Sheet.{Sheet, Call, insert, delete, send, tell, receive, junk}
+use Rattle.model.specs.Run.{State, run, start}
+use Rattle.model.specs.Claim.{Delivered, Enough, Opened, Holds, Converges, Full}
 use Rattle.model.specs.Marked.{lent}
-use Rattle.model.specs.Wrong.{leaving, repeating, firstOnly, refusing, miscounting, early, Refuted}
-use Rattle.model.proofs.Opens.{client-opens, server-opens}
+use Rattle.model.specs.Wrong.{leaving, repeating, firstOnly, refusing, miscounting, forgiving, listening, early, frozen, Refuted}
+use Rattle.model.proofs.Ranges.{short}
+use Rattle.model.proofs.Opens.{client-asks, server-asks}
 use Rattle.model.proofs.Computing.{computing}
 
--- All of them open as ours does.
-server-opened : (n : ℕ) → 1 ≤ n → n ≤ 8 → ours .openServer n [] .refusal ≡ 0
-server-opened n a b = ap (λ (x : Answer _). x .refusal) (server-opens n [] a b (omega arith))
+-- A sheet that converges opens with one or two clients and an empty list.
+opened : (S : Sheet) → Converges S → (n : ℕ) → 1 ≤ n → n ≤ 8 → Opened S n []
+opened S c n a b =
+    record {
+      numbers = unfold computing in refl;
+      server = c .opens-server n [] (unfold computing in refl) ∙ server-asks n [] a b (omega arith);
+      clients = λ l lo hi. c .opens-client n l [] (unfold computing in refl) ∙ client-asks n l [] a b lo hi (omega arith);
+    }
 
-client-opened : (n : ℕ) → 1 ≤ n → n ≤ 8 → (l : ℕ) → 1 ≤ l → l ≤ n → ours .openClient n l [] .refusal ≡ 0
-client-opened n a b l c d = ap (λ (x : Answer _). x .refusal) (client-opens n l [] a b c d (omega arith))
+-- what it then claims of a list of calls at a sheet with one client, or with two
+one : (S : Sheet) → Converges S → (calls : List Call) → Holds S 1 (run S 1 (start S 1 []) calls)
+one S c calls = c .holds 1 [] (opened S c 1 (omega arith) (omega arith)) calls
+
+two : (S : Sheet) → Converges S → (calls : List Call) → Holds S 2 (run S 2 (start S 2 []) calls)
+two S c calls = c .holds 2 [] (opened S c 2 (omega arith) (omega arith)) calls
 
 nil-cons : {A : Type 0} {x : A} {xs : List A} → [] ≡ x ∷ xs → ⊥
 nil-cons e = let z : _≡_ {A = ℕ} 0 1 = cc in omega arith
@@ -31,14 +45,11 @@ tails e = cc
 
 leaving-fails : Converges leaving → ⊥
 unfolding computing
-leaving-fails c =
-    nil-cons (c .holds 1 [] refl (server-opened 1 (omega arith) (omega arith)) (client-opened 1 (omega arith) (omega arith)) (insert 1 1 7 ∷ []) .lists 1 (omega arith))
+leaving-fails c = nil-cons (one leaving c (insert 1 1 7 ∷ []) .lists 1 (omega arith))
 
 repeating-fails : Converges repeating → ⊥
 unfolding computing
-repeating-fails c =
-    nil-cons
-    (c .holds 1 [] refl (server-opened 1 (omega arith) (omega arith)) (client-opened 1 (omega arith) (omega arith)) (insert 1 1 7 ∷ insert 1 1 8 ∷ []) .lists 1 (omega arith))
+repeating-fails c = nil-cons (one repeating c (insert 1 1 7 ∷ []) .lists 1 (omega arith))
 
 -- Client 1 has two edits pending when client 2's arrives: its place is 3, and 2 past the first alone.
 crossed : List Call
@@ -47,34 +58,68 @@ crossed = insert 1 1 1 ∷ insert 1 1 2 ∷ insert 2 1 9 ∷ send 2 2 1 lent ∷
 first-only-fails : Converges firstOnly → ⊥
 unfolding crossed computing
 first-only-fails c =
-    let e =
-    heads (tails (c .holds 2 [] refl (server-opened 2 (omega arith) (omega arith)) (client-opened 2 (omega arith) (omega arith)) crossed .lists 1 (omega arith))) in
+    let e = heads (tails (two firstOnly c crossed .lists 1 (omega arith))) in
     nine-one e
   where
     nine-one : _≡_ {A = ℕ} 9 1 → ⊥
     nine-one e = omega arith
 
+-- two numbers that are not the same
+differ : (a b : ℕ) → ltb a b ≡ true → a ≡ b → ⊥
+differ a b l e = omega (arith, ltb-true a b l)
+
+-- 14 bytes are enough for any message
+enough : (S : Sheet) (n : ℕ) (s : State S) (a l k : ℕ) → Enough S n s a l k lent
+unfolding computing
+enough S n s a l k = (refl, short (wireMessage (editMessage (s .recorded .history) a l k)))
+
 refusing-fails : Converges refusing → ⊥
 unfolding computing
 refusing-fails c =
-    let h = c .holds 1 [] refl (server-opened 1 (omega arith) (omega arith)) (client-opened 1 (omega arith) (omega arith)) (insert 1 1 7 ∷ []) in
-    four-zero
-    (h .lines 1 (omega arith) (omega arith) .next-up lent refl (omega arith) (λ e. nil-cons (sym e)) (λ j a b o f. o (omega arith)) .takes)
-  where
-    four-zero : _≡_ {A = ℕ} 4 0 → ⊥
-    four-zero e = omega arith
+    differ 0 4 refl
+    (sym (one refusing c (insert 1 1 7 ∷ []) .lines 1 (omega arith) (omega arith) .next-up lent (enough refusing 1 (run refusing 1 (start refusing 1 []) (insert 1 1 7 ∷ [])) 1 1 1) (λ e. nil-cons (sym e)) (λ j a b o f. o (omega arith)) .takes))
 
 miscounting-fails : Converges miscounting → ⊥
 unfolding computing
-miscounting-fails c =
-    one-zero
-    (heads
-    (tails
-    (c .holds 1 [] refl (server-opened 1 (omega arith) (omega arith)) (client-opened 1 (omega arith) (omega arith)) (insert 1 1 7 ∷ send 1 1 1 lent ∷ receive 0 0 ∷ [])
-    .passed)))
-  where
-    one-zero : _≡_ {A = ℕ} 1 0 → ⊥
-    one-zero e = omega arith
+miscounting-fails c = differ 0 1 refl (sym (heads (tails (one miscounting c (insert 1 1 7 ∷ send 1 1 1 lent ∷ receive 0 0 ∷ []) .passed))))
+
+junk-taken-fails : Converges (forgiving 3) → ⊥
+unfolding computing
+junk-taken-fails c = differ 0 3 refl (one (forgiving 3) c [] .numbers (junk 1 []) refl)
+
+-- a client takes its own message
+misdirected-taken-fails : Converges (forgiving 4) → ⊥
+unfolding computing
+misdirected-taken-fails c = differ 0 4 refl (one (forgiving 4) c (insert 1 1 7 ∷ send 1 1 1 lent ∷ []) .numbers (receive 1 0) refl)
+
+repeat-taken-fails : Converges (forgiving 5) → ⊥
+unfolding computing
+repeat-taken-fails c = differ 0 5 refl (one (forgiving 5) c (insert 1 1 7 ∷ send 1 1 1 lent ∷ receive 0 0 ∷ []) .numbers (receive 0 0) refl)
+
+-- the second edit before the first
+gap-taken-fails : Converges (forgiving 6) → ⊥
+unfolding computing
+gap-taken-fails c = differ 0 6 refl (one (forgiving 6) c (insert 1 1 7 ∷ insert 1 1 8 ∷ send 1 1 2 lent ∷ []) .numbers (receive 0 0) refl)
+
+-- Client 1's edit is sent before client 2's is taken, and acknowledged, there.
+overtaken : List Call
+overtaken = insert 1 1 7 ∷ send 1 1 1 lent ∷ insert 2 1 8 ∷ send 2 2 1 lent ∷ receive 0 1 ∷ send 0 1 1 lent ∷ receive 1 2 ∷ tell 1 1 lent ∷ receive 0 3 ∷ []
+
+overtaken-taken-fails : Converges (forgiving 7) → ⊥
+unfolding overtaken computing
+overtaken-taken-fails c = differ 0 7 refl (two (forgiving 7) c overtaken .numbers (receive 0 0) refl)
+
+-- Client 2's edit reaches client 1 twice, the second time with client 1's own edit seen: that one is pending still.
+twice : List Call
+twice = insert 1 1 7 ∷ send 1 1 1 lent ∷ insert 2 1 8 ∷ send 2 2 1 lent ∷ receive 0 1 ∷ send 0 1 1 lent ∷ receive 1 2 ∷ receive 0 0 ∷ send 0 1 1 lent ∷ receive 1 3 ∷ []
+
+listening-fails : Converges listening → ⊥
+unfolding twice computing
+listening-fails c = differ 0 13 refl (sym (two listening c twice .numbers (send 1 1 1 lent) refl))
+
+frozen-fails : Converges frozen → ⊥
+unfolding computing
+frozen-fails c = differ 0 9 refl (sym (one frozen c [] .numbers (insert 1 1 7) refl))
 
 -- One edit is pending for client 2 when client 1's second goes up.
 pendingOne : List Call
@@ -82,20 +127,55 @@ pendingOne = insert 1 1 7 ∷ send 1 1 1 lent ∷ receive 0 0 ∷ insert 1 1 8 �
 
 early-full : (j : ℕ) → j ≡ 2 → Full (early 1) 2 (run (early 1) 2 (start (early 1) 2 []) pendingOne) j → ⊥
 unfolding pendingOne computing
-early-full j e f = one-more (rw e at f)
-  where
-    one-more : _≡_ {A = ℕ} 1 64 → ⊥
-    one-more z = omega arith
+early-full j e f = differ 1 64 refl (rw e at f)
 
 early-fails : Converges (early 1) → ⊥
 unfolding pendingOne computing
 early-fails c =
-    let h = c .holds 2 [] refl (server-opened 2 (omega arith) (omega arith)) (client-opened 2 (omega arith) (omega arith)) pendingOne in
-    twelve-zero
-    (h .lines 1 (omega arith) (omega arith) .next-up lent refl (omega arith) (λ e. nil-cons (sym e)) (λ j a b o f. early-full j (omega arith) f) .takes)
-  where
-    twelve-zero : _≡_ {A = ℕ} 12 0 → ⊥
-    twelve-zero e = omega arith
+    differ 0 12 refl
+    (sym (two (early 1) c pendingOne .lines 1 (omega arith) (omega arith) .next-up lent (enough (early 1) 2 (run (early 1) 2 (start (early 1) 2 []) pendingOne) 1 1 2) (λ e. nil-cons (sym e)) (λ j a b o f. early-full j (omega arith) f) .takes))
+
+-- Client 1 inserts and deletes in turn, and the server takes each edit: 63 are pending for client 2 when the next goes up.
+turns : ℕ → ℕ → List Call → List Call
+turns zero i rest = rest
+turns (suc k) i rest =
+    insert 1 1 7 ∷ send 1 1 (i + 1) lent ∷ receive 0 i ∷ delete 1 1 ∷ send 1 1 (i + 2) lent ∷ receive 0 (i + 1) ∷ turns k (i + 2) rest
+
+pending63 : List Call
+unfolding turns
+pending63 = turns 31 0 (insert 1 1 7 ∷ send 1 1 63 lent ∷ receive 0 62 ∷ delete 1 1 ∷ [])
+
+-- where the calls leave it
+after63 : State (early 63)
+after63 = run (early 63) 2 (start (early 63) 2 []) pending63
+
+nearly-full : Full (early 63) 2 after63 2 → ⊥
+unfolding after63 pending63 computing
+nearly-full f = differ 63 64 refl f
+
+nearly-untaken : after63 .recorded .history .untaken 1 ≡ [] → ⊥
+unfolding after63 pending63 computing
+nearly-untaken e = nil-cons (sym e)
+
+abbrev posted63 : Sent
+posted63 = early 63 .send (after63 .ends 1) 1 64 lent
+
+nearly-refused : early 63 .take (after63 .ends 0) (take (posted63 .written) (posted63 .buffer)) .refusal ≡ 12
+unfolding after63 pending63 computing
+nearly-refused = refl
+
+nearly-taken : early 63 .taken (after63 .ends 0) 1 ≡ 63
+unfolding after63 pending63 computing
+nearly-taken = refl
+
+nearly-fails : Converges (early 63) → ⊥
+unfolding after63
+nearly-fails c =
+    let line = two (early 63) c pending63 .lines 1 (omega arith) (omega arith) in
+    let taken =
+    line .next-up lent (enough (early 63) 2 after63 1 1 (suc (early 63 .taken (after63 .ends 0) 1))) nearly-untaken
+    (λ j a b o. subst (λ (i : ℕ). Full (early 63) 2 after63 i → ⊥) {x = 2} {y = j} (omega arith) nearly-full) in
+    differ 0 12 refl (sym (subst (λ (k : ℕ). Delivered (early 63) (after63 .ends 1) (after63 .ends 0) 1 (suc k) lent) nearly-taken taken .takes) ∙ nearly-refused)
 
 pub refuted : Refuted
 refuted =
@@ -105,5 +185,13 @@ refuted =
       first-only-fails = first-only-fails;
       refusing-fails = refusing-fails;
       miscounting-fails = miscounting-fails;
+      junk-taken-fails = junk-taken-fails;
+      misdirected-taken-fails = misdirected-taken-fails;
+      repeat-taken-fails = repeat-taken-fails;
+      gap-taken-fails = gap-taken-fails;
+      overtaken-taken-fails = overtaken-taken-fails;
+      listening-fails = listening-fails;
       early-fails = early-fails;
+      nearly-fails = nearly-fails;
+      frozen-fails = frozen-fails;
     }

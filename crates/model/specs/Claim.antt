@@ -3,18 +3,35 @@ use Prim.Native.Nat.{ℕ, suc, _+_, _≤_}
 use mathlib.Core.Path.{_≡_}
 use mathlib.Core.Bool.{true}
 use mathlib.Core.List.{List, [], map}
-use lib.ListN.{length, take}
+use lib.ListN.{length, take, drop}
+use Rattle.wire.specs.declared.Read.the-variants as read
+use Rattle.wire.specs.Bytes.{parsed}
 use Rattle.jupiter.specs.Form.{replay}
 use Rattle.jupiter.specs.History.{History, order, missing}
-use Rattle.model.specs.Limits.{maxLines, maxPending, maxInitial}
+use Rattle.model.specs.Limits.{maxPending}
+use Rattle.model.specs.Questions.{asks, Answer, Sent}
+use Rattle.model.specs.Client.{openClientQuestions}
+use Rattle.model.specs.Server.{openServerQuestions}
 use Rattle.model.specs.Edits.{edits}
 use Rattle.model.specs.Sheet.{Sheet, Call}
-use Rattle.model.specs.Log.{madeAt, takenAt, letterBytes}
-use Rattle.model.specs.Run.{State, areItems, areBytes, run, start}
+use Rattle.model.specs.Log.{madeAt, takenAt, editMessage, wireMessage, messageBytes}
+use Rattle.model.specs.Numbers.{number}
+use Rattle.model.specs.Run.{State, areItems, areBytes, callable, numberOf, run, start}
+
+-- A refusal hands back the end as it came, and its count is 0; a refused sending changes no lent byte, and its length is 0.
+abbrev pub Back : {E : Type 0} → E → Answer E → Type 0
+Back e a = (a .refusal ≡ 0 → ⊥) → (a .end ≡ e) × (a .passed ≡ 0)
+
+abbrev pub Unwritten : List ℕ → Sent → Type 0
+Unwritten lent r = (r .refusal ≡ 0 → ⊥) → (r .written ≡ 0) × (r .buffer ≡ lent)
+
+-- bytes past the message stay
+abbrev pub PastStays : List ℕ → Sent → Type 0
+PastStays lent r = drop (r .written) (r .buffer) ≡ drop (r .written) lent
 
 module _ (S : Sheet) where
   -- An edit message from one end to another is taken: the sending is not refused, the taking of what it wrote is not refused, and the
-  -- receiver has taken one edit more on that line. However the bytes were lent, if they are enough for any message.
+  -- receiver has taken one edit more on that line.
   pub record Delivered (from to : S .End) (line number : ℕ) (lent : List ℕ) : Type 0 where
     pub sends : S .send from line number lent .refusal ≡ 0
     pub takes : S .take to (take (S .send from line number lent .written) (S .send from line number lent .buffer)) .refusal ≡ 0
@@ -27,7 +44,11 @@ module _ (S : Sheet) where
 
     -- 01: the line's buffer is full: made there is 64 above the last seen that the server took there
     abbrev pub Full : ℕ → Type 0
-    Full j = S .made (s .ends 0) j ≡ s .recorded .heard j + maxPending
+    Full j = S .made (s .ends 0) j ≡ s .recorded .heard 0 j + maxPending
+
+    -- the lent bytes are enough for the message that Sending writes at end a for edit number k of line l
+    abbrev pub Enough : ℕ → ℕ → ℕ → List ℕ → Type 0
+    Enough a l k lent = (areBytes lent ≡ true) × (length (messageBytes (editMessage history a l k)) ≤ length lent)
 
     pub record OnLine (l : ℕ) : Type 0 where
       -- the counts of both ends are those of the history
@@ -42,9 +63,9 @@ module _ (S : Sheet) where
       pub equal : S .made (s .ends l) l ≡ S .taken (s .ends 0) l → S .taken (s .ends l) l ≡ S .made (s .ends 0) l
           → S .items (s .ends l) ≡ S .items (s .ends 0)
       -- the next missing edit going down, and going up unless another line is full
-      pub next-down : (lent : List ℕ) → areBytes lent ≡ true → 14 ≤ length lent → (missing history l ≡ [] → ⊥)
+      pub next-down : (lent : List ℕ) → Enough 0 l (suc (S .taken (s .ends l) l)) lent → (missing history l ≡ [] → ⊥)
           → Delivered (s .ends 0) (s .ends l) l (suc (S .taken (s .ends l) l)) lent
-      pub next-up : (lent : List ℕ) → areBytes lent ≡ true → 14 ≤ length lent → (history .untaken l ≡ [] → ⊥)
+      pub next-up : (lent : List ℕ) → Enough l l (suc (S .taken (s .ends 0) l)) lent → (history .untaken l ≡ [] → ⊥)
           → ((j : ℕ) → 1 ≤ j → j ≤ n → (j ≡ l → ⊥) → Full j → ⊥)
           → Delivered (s .ends l) (s .ends 0) l (suc (S .taken (s .ends 0) l)) lent
 
@@ -52,16 +73,33 @@ module _ (S : Sheet) where
       -- each end's list is the initial list with its edits applied, each in its form at what the end had applied
       pub lists : (a : ℕ) → a ≤ n → S .items (s .ends a) ≡ s .recorded .shown a
       -- each message written is the one that the definitions give, byte for byte
-      pub messages : s .messages ≡ map letterBytes (s .recorded .letters)
+      pub messages : s .messages ≡ map messageBytes (s .recorded .messages)
+      -- and is read back as what was written
+      pub read-back : map parsed (s .messages) ≡ map (λ x. read.Message (wireMessage x)) (s .recorded .messages)
+      -- Whatever is called next is answered with the number of the first question that says no. So bytes that no message has give 3, and a
+      -- message that is not refused goes to that end and is the next one there.
+      pub numbers : (c : Call) → callable n c ≡ true → numberOf S s c ≡ number n (s .recorded) c
       -- each count of pending edits passed is made less seen
       pub passed : s .passed ≡ s .recorded .passed
       pub lines : (l : ℕ) → 1 ≤ l → l ≤ n → OnLine l
 
-  -- Openings that question 1 lets through are not refused, and after them every list of calls leaves what is claimed.
+  -- what a call leaves alone, whatever end it is handed
+  pub record LeavesAlone : Type 0 where
+    pub inserts : (e : S .End) (p x : ℕ) → Back e (S .insert e p x)
+    pub deletes : (e : S .End) (p : ℕ) → Back e (S .delete e p)
+    pub takes : (e : S .End) (bytes : List ℕ) → Back e (S .take e bytes)
+    pub sends : (e : S .End) (l k : ℕ) (lent : List ℕ) → Unwritten lent (S .send e l k lent) × PastStays lent (S .send e l k lent)
+    pub tells : (e : S .End) (l : ℕ) (lent : List ℕ) → Unwritten lent (S .tell e l lent) × PastStays lent (S .tell e l lent)
+
+  -- the server and the clients as openings, not refused, returned them
+  pub record Opened (n : ℕ) (items : List ℕ) : Type 0 where
+    pub numbers : areItems items ≡ true
+    pub server : S .openServer n items .refusal ≡ 0
+    pub clients : (l : ℕ) → 1 ≤ l → l ≤ n → S .openClient n l items .refusal ≡ 0
+
+  -- Opening is answered by question 1, and after openings that were not refused every list of calls leaves what is claimed.
   pub record Converges : Type 0 where
-    pub opens-server : (n : ℕ) (items : List ℕ) → 1 ≤ n → n ≤ maxLines → length items ≤ maxInitial → areItems items ≡ true
-        → S .openServer n items .refusal ≡ 0
-    pub opens-client : (n l : ℕ) (items : List ℕ) → 1 ≤ n → n ≤ maxLines → 1 ≤ l → l ≤ n → length items ≤ maxInitial → areItems items ≡ true
-        → S .openClient n l items .refusal ≡ 0
-    pub holds : (n : ℕ) (items : List ℕ) → areItems items ≡ true → S .openServer n items .refusal ≡ 0
-        → ((l : ℕ) → 1 ≤ l → l ≤ n → S .openClient n l items .refusal ≡ 0) → (calls : List Call) → Holds n (run S n (start S n items) calls)
+    pub opens-server : (n : ℕ) (items : List ℕ) → areItems items ≡ true → S .openServer n items .refusal ≡ asks (openServerQuestions n items)
+    pub opens-client : (n l : ℕ) (items : List ℕ) → areItems items ≡ true → S .openClient n l items .refusal ≡ asks (openClientQuestions n l items)
+    pub alone : LeavesAlone
+    pub holds : (n : ℕ) (items : List ℕ) → Opened n items → (calls : List Call) → Holds n (run S n (start S n items) calls)

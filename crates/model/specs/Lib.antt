@@ -5,11 +5,13 @@ pub mod Client
 pub mod Server
 pub mod Edits
 pub mod Sheet
+pub mod SheetOf
 pub mod Log
+pub mod Numbers
 pub mod Run
 pub mod Claim
 pub mod Ours
 pub mod Sound
 pub mod Wrong
-pub mod Refusals
+pub mod Consequences
 pub mod Marked

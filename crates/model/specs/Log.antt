@@ -1,6 +1,6 @@
 -- What a list of calls leaves by the definitions (01: "What an edit becomes", "Meeting"). It is computed from the calls and from which of
 -- them were refused, and from nothing else that a sheet answers.
-use Prim.Native.Nat.{ℕ, zero, suc, _+_, _-_}
+use Prim.Native.Nat.{ℕ, zero, suc, _-_}
 use mathlib.Core.Bool.{cond}
 use mathlib.Core.Option.{Option, none, some}
 use mathlib.Core.List.{List, [], _∷_, _++_}
@@ -9,41 +9,41 @@ use lib.ListN.{length, getD, getElem?}
 use Rattle.ot.specs.declared.Edit.{Edit}
 use Rattle.ot.specs.declared.Edit.the-variants as edit
 use Rattle.ot.specs.Edit.{applied}
-use Rattle.wire.specs.declared.Message.{Message}
+use Rattle.wire.specs.declared.Message as wire
 use Rattle.wire.specs.declared.Message.the-variants as message
 use Rattle.wire.specs.Message.{messageOf}
 use Rattle.wire.specs.Bytes.{bytesOf}
 use Rattle.jupiter.specs.Made.{Made, mine, others}
 use Rattle.jupiter.specs.Form.{form, inOrder}
 use Rattle.jupiter.specs.Point.{blank, ownForm, othForm}
-use Rattle.jupiter.specs.Run.{Letter, up, down, upAck, downAck}
+use Rattle.jupiter.specs.Run.{Message, up, down, upAck, downAck}
 use Rattle.jupiter.specs.History.{History, noHistory, at, order, madeBy, missing, afterEdit, afterUp, afterDown, newEdit}
 use Rattle.model.specs.Edits.{edits}
 use Rattle.model.specs.Sheet.{Call, insert, delete, send, tell, receive, junk}
 
--- a letter of the theory as a message; direction 0 goes up to the server, 1 down
-abbrev pub letterMessage : Letter edits → Message
-letterMessage (up l m) = messageOf (record { line = l; direction = 0; number = m .number; seen = m .seen }) (m .edit)
-letterMessage (down l m) = messageOf (record { line = l; direction = 1; number = m .number; seen = m .seen }) (m .edit)
-letterMessage (upAck l seen) = message.Ack l 0 seen
-letterMessage (downAck l seen) = message.Ack l 1 seen
+-- a message of the theory as one with its fields; direction 0 goes up to the server, 1 down
+abbrev pub wireMessage : Message edits → wire.Message
+wireMessage (up l m) = messageOf (record { line = l; direction = 0; number = m .number; seen = m .seen }) (m .edit)
+wireMessage (down l m) = messageOf (record { line = l; direction = 1; number = m .number; seen = m .seen }) (m .edit)
+wireMessage (upAck l seen) = message.Ack l 0 seen
+wireMessage (downAck l seen) = message.Ack l 1 seen
 
-abbrev pub letterBytes : Letter edits → List ℕ
-letterBytes x = bytesOf (letterMessage x)
+abbrev pub messageBytes : Message edits → List ℕ
+messageBytes x = bytesOf (wireMessage x)
 
 pub record Log : Type 0 where
   -- which edits were made, served and applied
   pub history : History edits
   -- the list of each end: the initial list with each edit applied in its form at what the end had applied (0: the server's)
   pub shown : ℕ → List ℕ
-  -- the last seen that the server took on each line, 0 before any
-  pub heard : ℕ → ℕ
+  -- the last seen that end a took on line l, 0 before any
+  pub heard : ℕ → ℕ → ℕ
   -- the messages written, and the count of pending edits passed that each editing and taking owes
-  pub letters : List (Letter edits)
+  pub messages : List (Message edits)
   pub passed : List ℕ
 
 abbrev pub noLog : List ℕ → Log
-noLog initial = record { history = noHistory; shown = λ a. initial; heard = λ l. 0; letters = []; passed = [] }
+noLog initial = record { history = noHistory; shown = λ a. initial; heard = λ a l. 0; messages = []; passed = [] }
 
 -- the edits that end a has applied, in the order of the definition
 unfoldable pub setOf : History edits → ℕ → List (Made edits)
@@ -61,30 +61,34 @@ takenAt h (suc a) l = length (others (suc a) (h .applied (suc a)))
 
 -- Number k goes out in its form at what its sender has applied, less the edits that go out on that line from number k on: at the client
 -- the first k - 1 of its own and all that it took; at the server all that it took on the line and the first k - 1 of the others.
-unfoldable pub editLetter : History edits → ℕ → ℕ → ℕ → Letter edits
-editLetter h zero l k =
+unfoldable pub editMessage : History edits → ℕ → ℕ → ℕ → Message edits
+editMessage h zero l k =
     let seen = takenAt h zero l in
     down l (record { number = k; seen = seen; edit = othForm l (order h l) seen (k - 1) })
-editLetter h (suc a) l k =
+editMessage h (suc a) l k =
     let seen = takenAt h (suc a) (suc a) in
     up (suc a) (record { number = k; seen = seen; edit = ownForm (suc a) (order h (suc a)) (k - 1) seen })
 
-unfoldable pub ackLetter : History edits → ℕ → ℕ → Letter edits
-ackLetter h zero l = downAck l (takenAt h zero l)
-ackLetter h (suc a) l = upAck (suc a) (takenAt h (suc a) (suc a))
+unfoldable pub ackMessage : History edits → ℕ → ℕ → Message edits
+ackMessage h zero l = downAck l (takenAt h zero l)
+ackMessage h (suc a) l = upAck (suc a) (takenAt h (suc a) (suc a))
 
 -- an end applies an edit in its form at what it has applied
 abbrev pub shows : Log → ℕ → Made edits → ℕ → List ℕ
 shows w a e = at a (applied (form e (setOf (w .history) a)) (w .shown a)) (w .shown)
 
-abbrev pub writes : Log → Letter edits → Log
+abbrev pub writes : Log → Message edits → Log
 writes w m =
-    record { history = w .history; shown = w .shown; heard = w .heard; letters = w .letters ++ (m ∷ []); passed = w .passed }
+    record { history = w .history; shown = w .shown; heard = w .heard; messages = w .messages ++ (m ∷ []); passed = w .passed }
+
+-- end a took a message with this seen on line l
+abbrev pub hearing : Log → ℕ → ℕ → ℕ → ℕ → ℕ → ℕ
+hearing w a l seen = at a (at l seen (w .heard a)) (w .heard)
 
 -- an editing or taking that changes nothing, or only what was heard
-abbrev pub hears : Log → (ℕ → ℕ) → Log
+abbrev pub hears : Log → (ℕ → ℕ → ℕ) → Log
 hears w heard =
-    record { history = w .history; shown = w .shown; heard = heard; letters = w .letters; passed = w .passed ++ (0 ∷ []) }
+    record { history = w .history; shown = w .shown; heard = heard; messages = w .messages; passed = w .passed ++ (0 ∷ []) }
 
 abbrev pub edited : Log → ℕ → Edit → Log
 edited w l e =
@@ -92,7 +96,7 @@ edited w l e =
       history = afterEdit l e (w .history);
       shown = shows w l (newEdit (w .history) l e);
       heard = w .heard;
-      letters = w .letters;
+      messages = w .messages;
       passed = w .passed ++ (0 ∷ []);
     }
 
@@ -106,8 +110,8 @@ tookUp w l seen =
     record {
       history = afterUp l (w .history);
       shown = shows w 0 (first (w .history .untaken l));
-      heard = at l seen (w .heard);
-      letters = w .letters;
+      heard = hearing w 0 l seen;
+      messages = w .messages;
       passed = w .passed ++ ((madeAt (w .history) 0 l - seen) ∷ []);
     }
 
@@ -116,27 +120,27 @@ tookDown w l seen =
     record {
       history = afterDown l (w .history);
       shown = shows w l (first (missing (w .history) l));
-      heard = w .heard;
-      letters = w .letters;
+      heard = hearing w l l seen;
+      messages = w .messages;
       passed = w .passed ++ ((madeAt (w .history) l l - seen) ∷ []);
     }
 
 -- The message is known from the sending that wrote it. One that an end had no right to take (another line's, or going the other way)
 -- leaves the log as it is, whatever the end answered.
-unfoldable pub took : Log → ℕ → Option (Letter edits) → Log
+unfoldable pub took : Log → ℕ → Option (Message edits) → Log
 took w a none = hears w (w .heard)
 took w a (some (up l m)) = cond (eqb a 0) (tookUp w l (m .seen)) (hears w (w .heard))
 took w a (some (down l m)) = cond (eqb a l) (tookDown w l (m .seen)) (hears w (w .heard))
-took w a (some (upAck l seen)) = cond (eqb a 0) (hears w (at l seen (w .heard))) (hears w (w .heard))
-took w a (some (downAck l seen)) = hears w (w .heard)
+took w a (some (upAck l seen)) = cond (eqb a 0) (hears w (hearing w 0 l seen)) (hears w (w .heard))
+took w a (some (downAck l seen)) = cond (eqb a l) (hears w (hearing w l l seen)) (hears w (w .heard))
 
 -- a call that was not refused
 unfoldable pub logged : Log → Call → Log
 logged w (insert l p x) = edited w l (edit.Insert p x l)
 logged w (delete l p) = edited w l (edit.Delete p)
-logged w (send a l k lent) = writes w (editLetter (w .history) a l k)
-logged w (tell a l lent) = writes w (ackLetter (w .history) a l)
-logged w (receive a i) = took w a (getElem? (w .letters) i)
+logged w (send a l k lent) = writes w (editMessage (w .history) a l k)
+logged w (tell a l lent) = writes w (ackMessage (w .history) a l)
+logged w (receive a i) = took w a (getElem? (w .messages) i)
 logged w (junk a bytes) = hears w (w .heard)
 
 -- a call that was refused: an editing or taking owes the count 0

@@ -7,7 +7,7 @@ use Rattle.ot.specs.Cases.{TransformCases}
 use Rattle.wire.specs.Cases as bytes
 use Rattle.model.specs.Sheet.{Call, insert, delete, send, receive}
 use Rattle.model.specs.Run.{run, start}
-use Rattle.model.specs.Ours.{ours, itemsOf}
+use Rattle.model.specs.Ours.{ours}
 
 -- 14 bytes, enough for any message
 abbrev pub lent : List ℕ
@@ -17,7 +17,7 @@ lent = replicate 14 0
 abbrev pub listsAfter : List ℕ → List Call → List (List ℕ)
 listsAfter items calls =
     let s = run ours 2 (start ours 2 items) calls in
-    map (λ a. itemsOf (s .ends a)) (0 ∷ 1 ∷ 2 ∷ [])
+    map (λ a. ours .items (s .ends a)) (0 ∷ 1 ∷ 2 ∷ [])
 
 -- P11: line by line, each `up` and `down` a sending and a taking
 abbrev pub p11 : List Call

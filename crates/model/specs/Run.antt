@@ -1,5 +1,5 @@
 -- Lists of calls on the ends of a sheet (01: "Meeting").
-use Prim.Native.Nat.{ℕ, zero, suc, _+_}
+use Prim.Native.Nat.{ℕ, zero, suc}
 use mathlib.Core.Bool.{Bool, true, false, _&&_, cond}
 use mathlib.Core.Option.{Option, none, some}
 use mathlib.Core.List.{List, [], _∷_, _++_}
@@ -77,6 +77,19 @@ module _ (S : Sheet) where
   call s (tell a l lent) = written s (tell a l lent) (S .tell (s .ends a) l lent)
   call s (receive a i) = handed s a (receive a i) (getElem? (s .messages) i)
   call s (junk a bytes) = answered s a (junk a bytes) (S .take (s .ends a) bytes)
+
+  -- the number that it is answered with
+  abbrev pub handedNumber : State → ℕ → Option (List ℕ) → ℕ
+  handedNumber s a none = 0
+  handedNumber s a (some bytes) = S .take (s .ends a) bytes .refusal
+
+  unfoldable pub numberOf : State → Call → ℕ
+  numberOf s (insert l p x) = S .insert (s .ends l) p x .refusal
+  numberOf s (delete l p) = S .delete (s .ends l) p .refusal
+  numberOf s (send a l k lent) = S .send (s .ends a) l k lent .refusal
+  numberOf s (tell a l lent) = S .tell (s .ends a) l lent .refusal
+  numberOf s (receive a i) = handedNumber s a (getElem? (s .messages) i)
+  numberOf s (junk a bytes) = S .take (s .ends a) bytes .refusal
 
   unfoldable pub run : ℕ → State → List Call → State
   run n s [] = s

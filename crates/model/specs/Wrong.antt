@@ -1,87 +1,111 @@
--- Sheets that must not pass (01: promise c). Each is ours with one fault.
+-- Sheets that must not pass (01: promise c, and the slips at the bench). Each is ours with one fault.
 use Prim.Native.Nat.{ℕ, suc, _+_, _-_}
-use mathlib.Core.Bool.{Bool, true, false, cond}
+use mathlib.Core.Bool.{not, _&&_, cond}
 use mathlib.Core.List.{List, [], _∷_}
-use lib.Dec.{leb, eqb}
+use lib.Dec.{ltb, eqb}
 use Rattle.ot.specs.declared.Edit.{Edit}
 use Rattle.ot.specs.declared.Edit.the-variants.{Nothing, Delete, Insert}
 use Rattle.ot.specs.Edit.{applied, transformed}
 use Rattle.wire.specs.declared.Header.{Header}
-use Rattle.wire.specs.declared.Message.{Message}
 use Rattle.wire.specs.declared.Message.the-variants as message
 use Rattle.wire.specs.declared.Read.{Read}
 use Rattle.wire.specs.declared.Read.the-variants as read
 use Rattle.wire.specs.Bytes.{parsed}
 use Rattle.model.specs.Questions.{asks, Answer, answer}
-use Rattle.model.specs.Client.{Client, unacked, clientTakesAck, clientEditQuestions}
-use Rattle.model.specs.Server.{Line, takeServer}
+use Rattle.model.specs.Client.{Client, unacked, insertClient, clientAcked, clientTakesAck, clientEditQuestions, takeClient}
+use Rattle.model.specs.Server.{Server, lineOf, serverReads, takeServer}
+use Rattle.model.specs.Numbers.{allBut}
 use Rattle.model.specs.Sheet.{Sheet}
+use Rattle.model.specs.SheetOf.{ClientCalls, ServerCalls, sheetOf, answerAs}
 use Rattle.model.specs.Claim.{Converges}
-use Rattle.model.specs.Ours.{End, client, server, itemsOf, insertAt, answerAs, takeAt, ours}
+use Rattle.model.specs.Ours.{clientCalls, serverCalls}
 
--- ours with another editing, reading of the list, or taking
-abbrev pub withInsert : (End → ℕ → ℕ → Answer End) → Sheet
-withInsert insert =
+-- ours, but a client inserts and takes in another way
+abbrev pub clientAs : (Client → ℕ → ℕ → Answer Client) → (Client → List ℕ → Answer Client) → ClientCalls
+clientAs insert take =
     record {
-      End = End;
-      items = itemsOf;
-      made = ours .made;
-      taken = ours .taken;
-      openServer = ours .openServer;
-      openClient = ours .openClient;
+      Client = Client;
+      items = clientCalls .items;
+      made = clientCalls .made;
+      taken = clientCalls .taken;
+      opens = clientCalls .opens;
       insert = insert;
-      delete = ours .delete;
-      send = ours .send;
-      tell = ours .tell;
-      take = ours .take;
-    }
-
-abbrev pub withTake : (End → List ℕ → Answer End) → Sheet
-withTake take =
-    record {
-      End = End;
-      items = itemsOf;
-      made = ours .made;
-      taken = ours .taken;
-      openServer = ours .openServer;
-      openClient = ours .openClient;
-      insert = ours .insert;
-      delete = ours .delete;
-      send = ours .send;
-      tell = ours .tell;
+      delete = clientCalls .delete;
+      send = clientCalls .send;
+      tell = clientCalls .tell;
       take = take;
     }
 
--- a client's list replaced
-abbrev pub showing : List ℕ → End → End
-showing l (client c) =
-    client
-    (record {
-      n = c .n;
-      line = c .line;
-      made = c .made;
-      taken = c .taken;
-      acked = c .acked;
-      inserts = c .inserts;
-      items = l;
-      pending = c .pending;
-    })
-showing l (server s) = server s
+abbrev pub serverAs : (Server → List ℕ → Answer Server) → ServerCalls
+serverAs take =
+    record {
+      Server = Server;
+      items = serverCalls .items;
+      made = serverCalls .made;
+      taken = serverCalls .taken;
+      opens = serverCalls .opens;
+      send = serverCalls .send;
+      tell = serverCalls .tell;
+      take = take;
+    }
 
-abbrev pub endAs : (End → End) → Answer End → Answer End
-endAs f a = record { refusal = a .refusal; end = f (a .end); passed = a .passed }
+abbrev pub insertingAs : (Client → ℕ → ℕ → Answer Client) → Sheet
+insertingAs insert = sheetOf (clientAs insert takeClient) serverCalls
+
+-- both ends take in another way
+abbrev pub takingAs : (Client → List ℕ → Answer Client) → (Server → List ℕ → Answer Server) → Sheet
+takingAs client server = sheetOf (clientAs insertClient client) (serverAs server)
+
+-- ---- the list
 
 -- The list is left be while the counts rise.
 abbrev pub leaving : Sheet
-leaving = withInsert (λ e p x. endAs (showing (itemsOf e)) (insertAt e p x))
-
--- An earlier list is shown again: the list without its first item, as it was before the insert at the front.
-abbrev pub repeating : Sheet
-repeating = withInsert (λ e p x. endAs (again (itemsOf e)) (insertAt e p x))
+leaving = insertingAs (λ c p x. answerAs (showing (c .items)) (insertClient c p x))
   where
-    again : List ℕ → End → End
-    again [] e = e
-    again (y ∷ ys) e = showing ys e
+    showing : List ℕ → Client → Client
+    showing l c =
+        record {
+          n = c .n;
+          line = c .line;
+          made = c .made;
+          taken = c .taken;
+          acked = c .acked;
+          inserts = c .inserts;
+          items = l;
+          pending = c .pending;
+        }
+
+-- An earlier list is shown again: after an insert a client shows the list that it showed before.
+pub record Repeating : Type 0 where
+  pub now : Client
+  pub shown : List ℕ
+
+-- it shows its own list
+abbrev pub shows : Client → Repeating
+shows c = record { now = c; shown = c .items }
+
+-- the end after an answer
+abbrev pub repeats : Repeating → (Client → Repeating) → Answer Client → Answer Repeating
+repeats e f a = record { refusal = a .refusal; end = cond (eqb (a .refusal) 0) (f (a .end)) e; passed = a .passed }
+
+abbrev pub repeating : Sheet
+repeating =
+    sheetOf
+    (record {
+      Client = Repeating;
+      items = λ e. e .shown;
+      made = λ e. e .now .made;
+      taken = λ e. e .now .taken;
+      opens = λ n l items. answerAs shows (clientCalls .opens n l items);
+      insert = λ e p x. repeats e (λ c. record { now = c; shown = e .shown }) (insertClient (e .now) p x);
+      delete = λ e p. repeats e shows (clientCalls .delete (e .now) p);
+      send = λ e. clientCalls .send (e .now);
+      tell = λ e. clientCalls .tell (e .now);
+      take = λ e bytes. repeats e shows (takeClient (e .now) bytes);
+    })
+    serverCalls
+
+-- ---- taking
 
 -- The arriving edit is transformed past the first pending edit only, and the rest is copied.
 abbrev pub pastFirst : Edit → List Edit → Edit
@@ -114,35 +138,62 @@ readsFirst c (read.Message (message.Delete h p)) = takesFirst c h (Delete p)
 readsFirst c (read.Message (message.Nothing h)) = takesFirst c h Nothing
 readsFirst c (read.Message (message.Ack l d s)) = clientTakesAck c l d s
 
-abbrev pub takeFirst : End → List ℕ → Answer End
-takeFirst (client c) bytes = answerAs client (readsFirst c (parsed bytes))
-takeFirst (server s) bytes = answerAs server (takeServer s bytes)
-
 abbrev pub firstOnly : Sheet
-firstOnly = withTake takeFirst
+firstOnly = takingAs (λ c bytes. readsFirst c (parsed bytes)) takeServer
 
 -- Every message is turned down.
 abbrev pub refusing : Sheet
-refusing = withTake (λ e bytes. record { refusal = 4; end = e; passed = 0 })
+refusing = takingAs (λ c bytes. record { refusal = 4; end = c; passed = 0 }) (λ s bytes. record { refusal = 4; end = s; passed = 0 })
 
 -- The count of pending edits passed is made up: one too many.
 abbrev pub miscounting : Sheet
-miscounting = withTake (λ e bytes. one (takeAt e bytes))
+miscounting = takingAs (λ c bytes. one (takeClient c bytes)) (λ s bytes. one (takeServer s bytes))
   where
-    one : Answer End → Answer End
+    one : {A : Type 0} → Answer A → Answer A
     one a = record { refusal = a .refusal; end = a .end; passed = cond (eqb (a .refusal) 0) (suc (a .passed)) 0 }
 
--- The server says 12 where some line has `room` pending edits, which is below 64.
-abbrev pub fullAt : ℕ → End → Bool
-fullAt room (client c) = false
-fullAt room (server s) = anyFull (s .lines)
+-- A taking that is refused with number r is answered 0 instead, and changes nothing. With 3 that is: bytes that no message has are taken; with
+-- 4 a message that goes elsewhere, with 5 a repeated one, with 6 one that comes too early, with 7 one whose seen is overtaken.
+abbrev pub forgiving : ℕ → Sheet
+forgiving r = takingAs (λ c bytes. forgive (takeClient c bytes)) (λ s bytes. forgive (takeServer s bytes))
   where
-    anyFull : List Line → Bool
-    anyFull [] = false
-    anyFull (v ∷ vs) = cond (leb room (v .made - v .acked)) true (anyFull vs)
+    forgive : {A : Type 0} → Answer A → Answer A
+    forgive a = record { refusal = cond (eqb (a .refusal) r) 0 (a .refusal); end = a .end; passed = a .passed }
+
+-- The seen of a repeated message is used to drop pending edits.
+abbrev pub usesSeen : Client → Answer Client → Read → Answer Client
+usesSeen c a (read.Message (message.Delete h p)) = cond (eqb (a .refusal) 5) (record { refusal = 5; end = clientAcked c (h .seen); passed = 0 }) a
+usesSeen c a (read.Message (message.Insert h p x r)) = cond (eqb (a .refusal) 5) (record { refusal = 5; end = clientAcked c (h .seen); passed = 0 }) a
+usesSeen c a (read.Message (message.Nothing h)) = cond (eqb (a .refusal) 5) (record { refusal = 5; end = clientAcked c (h .seen); passed = 0 }) a
+usesSeen c a (read.Message (message.Ack l d s)) = a
+usesSeen c a read.Refused = a
+
+abbrev pub listening : Sheet
+listening = takingAs (λ c bytes. usesSeen c (takeClient c bytes) (parsed bytes)) takeServer
+
+-- ---- room
+
+-- Question 12 of the server with another bound: it says no where some other line has `room` pending edits.
+abbrev pub roomBelow : ℕ → Server → ℕ → Answer Server → Answer Server
+roomBelow room s line a =
+    cond (eqb (a .refusal) 0 && not (allBut (λ j. ltb (lineOf s j .made - lineOf s j .acked) room) line (s .n)))
+    (record { refusal = 12; end = s; passed = 0 }) a
+
+abbrev pub takesBelow : ℕ → Server → Read → Answer Server
+takesBelow room s (read.Message (message.Insert h p x r)) = roomBelow room s (h .line) (serverReads s (read.Message (message.Insert h p x r)))
+takesBelow room s (read.Message (message.Delete h p)) = roomBelow room s (h .line) (serverReads s (read.Message (message.Delete h p)))
+takesBelow room s (read.Message (message.Nothing h)) = roomBelow room s (h .line) (serverReads s (read.Message (message.Nothing h)))
+takesBelow room s (read.Message (message.Ack l d seen)) = serverReads s (read.Message (message.Ack l d seen))
+takesBelow room s read.Refused = serverReads s read.Refused
 
 abbrev pub early : ℕ → Sheet
-early room = withTake (λ e bytes. cond (fullAt room e) (record { refusal = 12; end = e; passed = 0 }) (takeAt e bytes))
+early room = takingAs takeClient (λ s bytes. takesBelow room s (parsed bytes))
+
+-- ---- editing
+
+-- Every insert is turned down.
+abbrev pub frozen : Sheet
+frozen = insertingAs (λ c p x. record { refusal = 9; end = c; passed = 0 })
 
 -- None of them has what is claimed.
 pub record Refuted : Type 0 where
@@ -151,4 +202,13 @@ pub record Refuted : Type 0 where
   pub first-only-fails : Converges firstOnly → ⊥
   pub refusing-fails : Converges refusing → ⊥
   pub miscounting-fails : Converges miscounting → ⊥
+  pub junk-taken-fails : Converges (forgiving 3) → ⊥
+  pub misdirected-taken-fails : Converges (forgiving 4) → ⊥
+  pub repeat-taken-fails : Converges (forgiving 5) → ⊥
+  pub gap-taken-fails : Converges (forgiving 6) → ⊥
+  pub overtaken-taken-fails : Converges (forgiving 7) → ⊥
+  pub listening-fails : Converges listening → ⊥
   pub early-fails : Converges (early 1) → ⊥
+  -- one below the limit
+  pub nearly-fails : Converges (early 63) → ⊥
+  pub frozen-fails : Converges frozen → ⊥

@@ -1,2 +1,2 @@
 // The two ends as definitions over lists, and what is proved of them. There is no code here: what runs stands in the
-// crate replica, whose contracts cite these definitions.
+// crates client and server, whose contracts cite these definitions.

@@ -1,0 +1,16 @@
+use mathlib.Core.Path.{ap}
+use borrow.Author.Needs.{needs}
+use Rattle.convergence.proofs.server_open.Statement.{statement}
+use Rattle.convergence.specs.Built.{fromServer}
+use Rattle.convergence.proofs.server_open.Tie as tie
+
+-- src/lib.rt:53:5
+open-requires : tie.Need-open-requires
+open-requires c κs = search needs
+
+-- src/lib.rt:50:1
+returns : tie.Need-returns
+returns c = ap fromServer (c .«open» .ensures)
+
+pub server-open-spec : {M : Type 1} → statement M
+server-open-spec = tie.close (tie.spec open-requires returns)

@@ -1,0 +1,128 @@
+-- What a call leaves alone: the end that a refusal hands back, and lent bytes.
+use mathlib.Core.Path.{refl, ap}
+use mathlib.Core.List.{List}
+use Prim.Native.Nat.{ℕ}
+use lib.ListN.{length, drop}
+use lib.Seq.{drop-append-seam}
+use Rattle.ot.specs.declared.Edit.{Edit}
+use Rattle.ot.specs.declared.Edit.the-variants.{Delete, Insert}
+use Rattle.wire.specs.declared.Message.the-variants as message
+use Rattle.wire.specs.declared.Read.{Read}
+use Rattle.wire.specs.declared.Read.the-variants as read
+use Rattle.wire.specs.Bytes.{bytesOf, parsed}
+use Rattle.model.specs.Questions.{asks, Answer, answer, Sent, sent}
+use Rattle.model.specs.Client.{Client, editClient, clientMessage, sendClientQuestions, sendClient, tellClientQuestions, tellClient, clientTakesEdit, clientTakesAck, clientReads, takeClient}
+use Rattle.model.specs.Server.{Server, lineOf, serverMessage, sendServerQuestions, sendServer, tellServerQuestions, tellServer, serverTakesEdit, serverTakesAck, serverReads, takeServer}
+use Rattle.model.specs.Claim.{Back, Unwritten, PastStays, LeavesAlone}
+use Rattle.model.specs.SheetOf.{ClientCalls, ServerCalls, End, client, server, answerAs, sheetOf}
+use Rattle.model.specs.Ours.{clientCalls, serverCalls, ours}
+use Rattle.model.proofs.Outcome as outcomes
+use Rattle.model.proofs.Outcome.{Outcome, outcome, Posted, posted}
+
+back : {E : Type 0} (r : ℕ) (old new : E) (k : ℕ) → Back old (answer r old new k)
+back r old new k = go (answer r old new k) (outcome r old new k)
+  where
+    go : (a : Answer _) → Outcome r old new k a → Back old a
+    go a (outcomes.Outcome.no d) h = (refl, refl)
+    go a (outcomes.Outcome.yes e) h = absurd (h refl)
+
+pub sent-alone : (r : ℕ) (bytes lent : List ℕ) → Unwritten lent (sent r bytes lent) × PastStays lent (sent r bytes lent)
+sent-alone r bytes lent = go (sent r bytes lent) (posted r bytes lent)
+  where
+    go : (a : Sent) → Posted r bytes lent a → Unwritten lent a × PastStays lent a
+    go a (outcomes.Posted.no d) = (λ h. (refl, refl), refl)
+    go a (outcomes.Posted.yes e) = (λ h. absurd (h refl), drop-append-seam bytes (drop (length bytes) lent))
+
+pub edit-back : (m : Client) (e : Edit) → Back m (editClient m e)
+unfolding editClient
+edit-back m e = back _ m _ 0
+
+client-reads : (m : Client) (r : Read) → Back m (clientReads m r)
+unfolding clientTakesEdit clientTakesAck
+client-reads m read.Refused = back _ m m 0
+client-reads m (read.Message (message.Insert h p x q)) = back _ m _ _
+client-reads m (read.Message (message.Delete h p)) = back _ m _ _
+client-reads m (read.Message (message.Nothing h)) = back _ m _ _
+client-reads m (read.Message (message.Ack l d s)) = back _ m _ _
+
+pub client-back : (m : Client) (bytes : List ℕ) → Back m (takeClient m bytes)
+unfolding takeClient
+client-back m bytes = client-reads m (parsed bytes)
+
+server-reads : (m : Server) (r : Read) → Back m (serverReads m r)
+unfolding serverTakesEdit serverTakesAck
+server-reads m read.Refused = back _ m m 0
+server-reads m (read.Message (message.Insert h p x q)) = back _ m _ _
+server-reads m (read.Message (message.Delete h p)) = back _ m _ _
+server-reads m (read.Message (message.Nothing h)) = back _ m _ _
+server-reads m (read.Message (message.Ack l d s)) = back _ m _ _
+
+pub server-back : (m : Server) (bytes : List ℕ) → Back m (takeServer m bytes)
+unfolding takeServer
+server-back m bytes = server-reads m (parsed bytes)
+
+-- ---- a sheet made of a client and a server
+
+pub record ClientAlone (c : ClientCalls) : Type 0 where
+  pub inserts : (e : c .Client) (p x : ℕ) → Back e (c .insert e p x)
+  pub deletes : (e : c .Client) (p : ℕ) → Back e (c .delete e p)
+  pub takes : (e : c .Client) (bytes : List ℕ) → Back e (c .take e bytes)
+  pub sends : (e : c .Client) (l k : ℕ) (lent : List ℕ) → Unwritten lent (c .send e l k lent) × PastStays lent (c .send e l k lent)
+  pub tells : (e : c .Client) (l : ℕ) (lent : List ℕ) → Unwritten lent (c .tell e l lent) × PastStays lent (c .tell e l lent)
+
+pub record ServerAlone (v : ServerCalls) : Type 0 where
+  pub takes : (e : v .Server) (bytes : List ℕ) → Back e (v .take e bytes)
+  pub sends : (e : v .Server) (l k : ℕ) (lent : List ℕ) → Unwritten lent (v .send e l k lent) × PastStays lent (v .send e l k lent)
+  pub tells : (e : v .Server) (l : ℕ) (lent : List ℕ) → Unwritten lent (v .tell e l lent) × PastStays lent (v .tell e l lent)
+
+-- an answer about the one kind of end, as one about an end
+as-end : {A B : Type 0} (f : A → B) (e : A) (a : Answer A) → Back e a → Back (f e) (answerAs f a)
+as-end f e a b h = (ap f (b h .0), b h .1)
+
+pub both-alone : (c : ClientCalls) (v : ServerCalls) → ClientAlone c → ServerAlone v → LeavesAlone (sheetOf c v)
+both-alone c v f g = record { inserts = inserts; deletes = deletes; takes = takes; sends = sends; tells = tells }
+  where
+    inserts : (e : End (c .Client) (v .Server)) (p x : ℕ) → Back e (sheetOf c v .insert e p x)
+    inserts (client e) p x = as-end client e (c .insert e p x) (f .inserts e p x)
+    inserts (server e) p x = λ h. (refl, refl)
+
+    deletes : (e : End (c .Client) (v .Server)) (p : ℕ) → Back e (sheetOf c v .delete e p)
+    deletes (client e) p = as-end client e (c .delete e p) (f .deletes e p)
+    deletes (server e) p = λ h. (refl, refl)
+
+    takes : (e : End (c .Client) (v .Server)) (bytes : List ℕ) → Back e (sheetOf c v .take e bytes)
+    takes (client e) bytes = as-end client e (c .take e bytes) (f .takes e bytes)
+    takes (server e) bytes = as-end server e (v .take e bytes) (g .takes e bytes)
+
+    sends : (e : End (c .Client) (v .Server)) (l k : ℕ) (lent : List ℕ) → Unwritten lent (sheetOf c v .send e l k lent) × PastStays lent (sheetOf c v .send e l k lent)
+    sends (client e) = f .sends e
+    sends (server e) = g .sends e
+
+    tells : (e : End (c .Client) (v .Server)) (l : ℕ) (lent : List ℕ) → Unwritten lent (sheetOf c v .tell e l lent) × PastStays lent (sheetOf c v .tell e l lent)
+    tells (client e) = f .tells e
+    tells (server e) = g .tells e
+
+-- ---- ours
+
+pub client-alone : ClientAlone clientCalls
+unfolding sendClient tellClient
+client-alone =
+    record {
+      inserts = λ m p x. edit-back m (Insert p x (m .line));
+      deletes = λ m p. edit-back m (Delete p);
+      takes = client-back;
+      sends = λ m l k lent. sent-alone (asks (sendClientQuestions m l k lent)) (bytesOf (clientMessage m k)) lent;
+      tells = λ m l lent. sent-alone (asks (tellClientQuestions m l lent)) (bytesOf (message.Ack (m .line) 0 (m .taken))) lent;
+    }
+
+pub server-alone : ServerAlone serverCalls
+unfolding sendServer tellServer
+server-alone =
+    record {
+      takes = server-back;
+      sends = λ m l k lent. sent-alone (asks (sendServerQuestions m l k lent)) (bytesOf (serverMessage m l k)) lent;
+      tells = λ m l lent. sent-alone (asks (tellServerQuestions m l lent)) (bytesOf (message.Ack l 1 (lineOf m l .taken))) lent;
+    }
+
+pub alone : LeavesAlone ours
+alone = both-alone clientCalls serverCalls client-alone server-alone

@@ -1,0 +1,299 @@
+-- Every call of a list is answered with the number that the questions give, asked of the log.
+use mathlib.Core.Path.{_≡_, refl, ap, ap₂, sym, _∙_, subst}
+use mathlib.Core.Bool.{Bool, true, false, _&&_, cond}
+use mathlib.Core.List.{List, [], _∷_, _++_, map}
+use Prim.Native.Nat.{ℕ, zero, suc, _+_, _-_, _≤_, _<_}
+use native.Mathlib.Numerals.{add-one}
+use native.Mathlib.Omega.{arith}
+use lib.Dec.{eqb, leb, ltb}
+use lib.ListN.{length, drop, getElem?}
+use borrow.Author.Tests.{eqb-true, leb-true, le-leb}
+use Rattle.ot.specs.declared.Edit.{Edit}
+use Rattle.ot.specs.declared.Edit.the-variants.{Delete, Insert}
+use Rattle.ot.specs.Edit.{applied, fits}
+use Rattle.wire.specs.declared.Header.{Header}
+use Rattle.wire.specs.declared.Message.the-variants as message
+use Rattle.wire.specs.declared.Read.{Read}
+use Rattle.wire.specs.declared.Read.the-variants as read
+use Rattle.wire.specs.Message.{between}
+use Rattle.wire.specs.Bytes.{bytesOf, parsed}
+use Rattle.wire.proofs.Codec.{codec}
+use Rattle.jupiter.specs.Made.{mine}
+use Rattle.jupiter.specs.History.{History, order}
+use Rattle.jupiter.specs.Ends as ends
+use Rattle.jupiter.specs.Ends.{Ends}
+use Rattle.jupiter.specs.Run.{Message, up, down, upAck, downAck}
+use Rattle.jupiter.specs.Claims.{inserts}
+use Rattle.jupiter.proofs.Lists.{All}
+use Rattle.jupiter.proofs.Step.{DownMessage}
+use Rattle.model.specs.Limits.{maxInserts, maxEdits, maxPending, maxItems}
+use Rattle.model.specs.Questions.{ask, asks, Answer, answer, Sent, sent}
+use Rattle.model.specs.Cross.{priority, insertsOf}
+use Rattle.model.specs.Client.{Client, soundClient, edited, editQuestions, editClient, clientMessage, sendClientQuestions, sendClient, tellClientQuestions, tellClient, other, clientTaken, clientAcked, clientEditQuestions, clientTakesEdit, clientAckQuestions, clientTakesAck, clientTakes, clientReads, takeClient}
+use Rattle.model.specs.Server.{Line, Server, lineOf, soundServer, serverMessage, sendServerQuestions, sendServer, tellServerQuestions, tellServer, serverTaken, serverAcked, othersRoomy, serverEditQuestions, serverTakesEdit, serverAckQuestions, serverTakesAck, serverTakes, serverReads, takeServer}
+use Rattle.model.specs.Edits.{edits}
+use Rattle.model.specs.Sheet.{Call, insert, delete, send, tell, receive, junk}
+use Rattle.model.specs.Log.{Log, wireMessage, messageBytes, madeAt, takenAt}
+use Rattle.model.specs.Numbers.{roomOn, allBut, editing, sending, telling, taking, handing, number}
+use Rattle.model.specs.Run.{State, callable, areBytes, unreadable, handedNumber, numberOf}
+use Rattle.model.specs.Ours.{End, ours}
+use Rattle.model.proofs.Tests.{Alike, alike, never, both, and-left, between-true, true-between}
+use Rattle.model.proofs.Sound.{three}
+use Rattle.model.proofs.Sim.{clientFrom, serverFrom, lineFrom, line-from, Lined, MessageOk, Moment, Sim}
+use Rattle.model.proofs.Counts.{client-made, client-taken, server-made, server-taken}
+use Rattle.model.proofs.Rooms.{same-room}
+use Rattle.model.proofs.Calls.{client-message, server-message, unread, up-is, up-bytes, down-is, down-bytes}
+use Rattle.model.proofs.Next.{down-8, down-9, up-8, up-9, up-10}
+
+-- the number of an answer
+pub refusal-is : {E : Type 0} (r : ℕ) (old new : E) (k : ℕ) → answer r old new k .refusal ≡ r
+unfolding answer
+refusal-is {E} r old new k = go (eqb r 0) refl
+  where
+    go : (b : Bool) → eqb r 0 ≡ b → (cond {A = Answer E} b (record { refusal = 0; end = new; passed = k }) (record { refusal = r; end = old; passed = 0 })) .refusal ≡ r
+    go true e = sym (eqb-true r 0 e)
+    go false e = refl
+
+sent-is : (r : ℕ) (bytes lent : List ℕ) → sent r bytes lent .refusal ≡ r
+unfolding sent
+sent-is r bytes lent = go (eqb r 0) refl
+  where
+    go : (b : Bool) → eqb r 0 ≡ b → (cond {A = Sent} b (record { refusal = 0; written = length bytes; buffer = bytes ++ drop (length bytes) lent }) (record { refusal = r; written = 0; buffer = lent })) .refusal ≡ r
+    go true e = sym (eqb-true r 0 e)
+    go false e = refl
+
+module _ (n : ℕ) (items : List ℕ) {from : Moment} (s : State ours) (sim : Sim n items from s) (few : length items ≤ 128) where
+  abbrev w : Log
+  w = s .recorded
+
+  abbrev h : History edits
+  h = s .recorded .history
+
+  abbrev E : Ends edits
+  E = sim .E
+
+  -- ---- at client l
+  module _ (a : ℕ) (hi : suc a ≤ n) where
+    abbrev l : ℕ
+    l = suc a
+
+    abbrev c : ends.End edits
+    c = E .clients l
+
+    abbrev C : Client
+    C = clientFrom n l c (E .docs l) (sim .ci l)
+
+    lo : 1 ≤ l
+    lo = omega arith
+
+    made-is : c .made ≡ madeAt h l l
+    made-is = client-made n items s sim l lo
+
+    taken-is : c .taken ≡ takenAt h l l
+    taken-is = client-taken n items s sim l lo
+
+    acked-is : c .acked ≡ w .heard l l
+    acked-is = sym (sim .client-heard l lo)
+
+    edit-number : (e : Edit) → asks (editQuestions C e) ≡ asks (editing w l e)
+    edit-number e =
+        let shown : E .docs l ≡ w .shown l = sym (sim .client-shown l lo hi) in
+        let count : sim .ci l ≡ inserts (mine l (order h l)) = sim .ci-is l in
+        alike (editQuestions C e) (editing w l e) (Alike.over (sim .client-sound l lo hi) (Alike.same (ap (λ (d : List ℕ). fits e (length d) && leb (length (applied e d)) maxItems) shown)
+        (λ y9. Alike.same (ap (λ (i : ℕ). leb (i + insertsOf e) maxInserts) count)
+        (λ y10. Alike.same (ap (λ (m : ℕ). ltb m maxEdits) made-is)
+        (λ y11. Alike.same (λ i. ltb (made-is i - acked-is i) maxPending) (λ y12. Alike.done))))))
+
+    -- a line that is this client's own
+    heard-on : (k : ℕ) → k ≡ l → c .acked ≡ w .heard l k
+    heard-on k e = acked-is ∙ ap (w .heard l) (sym e)
+
+    client-sends : (k number : ℕ) (lent : List ℕ) → asks (sendClientQuestions C k number lent) ≡ asks (sending n w l k number lent)
+    unfolding madeAt
+    client-sends k number lent =
+        alike (sendClientQuestions C k number lent) (sending n w l k number lent) (Alike.over (sim .client-sound l lo hi) (Alike.same refl (λ y4.
+        let own : k ≡ l = eqb-true k l y4 in
+        Alike.same (λ i. between (heard-on k own i + 1) (made-is i) number) (λ y13.
+        let in-it = between-true (c .acked + 1) (c .made) number y13 in
+        let low : c .acked < number = omega arith in
+        Alike.same (ap (λ (b : List ℕ). leb (length b) (length lent)) (up-bytes n items s sim l lo hi number low (in-it .1) ∙ ap messageBytes (sym (up-is n items s sim l lo hi number low (in-it .1) k))))
+        (λ y14. Alike.done)))))
+
+    client-tells : (k : ℕ) (lent : List ℕ) → asks (tellClientQuestions C k lent) ≡ asks (telling n l k lent)
+    client-tells k lent = alike (tellClientQuestions C k lent) (telling n l k lent) (Alike.over (sim .client-sound l lo hi) (Alike.same refl (λ y4. Alike.same refl (λ y14. Alike.done))))
+
+    -- question 4: an edit that goes down on this line is another client's
+    own-edit : (k : ℕ) (m : ends.EditMessage edits) → Lined n (down k m) → (eqb k l && priority (other n l) (m .edit)) ≡ eqb k l
+    own-edit k m ok = go (eqb k l) refl
+      where
+        go : (b : Bool) → eqb k l ≡ b → (b && priority (other n l) (m .edit)) ≡ b
+        go true e = subst (λ (i : ℕ). priority (other n i) (m .edit) ≡ true) (eqb-true k l e) (ok .2)
+        go false e = refl
+
+    client-takes : (x : Message edits) → MessageOk n items E h x → clientTakes C (wireMessage x) .refusal ≡ asks (taking n w l x)
+    unfolding clientTakesEdit clientTakesAck takenAt
+    client-takes (up k m) ok =
+        let hd : Header = record { line = k; direction = 0; number = m .number; seen = m .seen } in
+        ap (λ (r : Answer Client). r .refusal) (client-message C hd (m .edit)) ∙ refusal-is (asks (clientEditQuestions C hd (m .edit))) C (clientTaken C (m .seen) (m .edit)) (c .made - m .seen)
+        ∙ alike (clientEditQuestions C hd (m .edit)) (taking n w l (up k m)) (Alike.over (sim .client-sound l lo hi) (Alike.same refl (λ y4. never y4)))
+    client-takes (down k m) ok =
+        let hd : Header = record { line = k; direction = 1; number = m .number; seen = m .seen } in
+        ap (λ (r : Answer Client). r .refusal) (client-message C hd (m .edit)) ∙ refusal-is (asks (clientEditQuestions C hd (m .edit))) C (clientTaken C (m .seen) (m .edit)) (c .made - m .seen)
+        ∙ alike (clientEditQuestions C hd (m .edit)) (taking n w l (down k m)) (Alike.over (sim .client-sound l lo hi) (Alike.same (own-edit k m (ok .2)) (λ y4.
+        let own : k ≡ l = eqb-true k l (and-left (eqb k l) (priority (other n l) (m .edit)) y4) in
+        Alike.same (ap (λ (i : ℕ). ltb i (m .number)) taken-is) (λ y5.
+        Alike.same (ap (λ (i : ℕ). eqb (m .number) (i + 1)) taken-is) (λ y6.
+        Alike.same (ap (λ (i : ℕ). leb i (m .seen)) (heard-on k own)) (λ y7.
+        let here = subst (λ (i : ℕ). DownMessage items E h i m) own (ok .0) in
+        let next : m .number ≡ suc (c .taken) = eqb-true (m .number) (c .taken + 1) y6 ∙ add-one (c .taken) in
+        let cur = leb-true (c .acked) (m .seen) y7 in
+        Alike.over (down-8 n items s sim few l lo hi m here next cur) (Alike.over (down-9 n items s sim few l lo hi m here next cur) Alike.done)))))))
+    client-takes (upAck k seen) ok = refusal-is (asks (clientAckQuestions C k 0 seen)) C (clientAcked C seen) 0 ∙ alike (clientAckQuestions C k 0 seen) (taking n w l (upAck k seen)) (Alike.over (sim .client-sound l lo hi) (Alike.same refl (λ y4. never y4)))
+    client-takes (downAck k seen) ok =
+        refusal-is (asks (clientAckQuestions C k 1 seen)) C (clientAcked C seen) 0
+        ∙ alike (clientAckQuestions C k 1 seen) (taking n w l (downAck k seen)) (Alike.over (sim .client-sound l lo hi) (Alike.same refl (λ y4.
+        let own : k ≡ l = eqb-true k l y4 in
+        Alike.same (ap (λ (i : ℕ). leb i seen) (heard-on k own)) (λ y7.
+        let most : seen ≤ E .lines l .taken = subst (λ (i : ℕ). seen ≤ E .lines i .taken) own (ok .0) in
+        Alike.over (le-leb seen (c .made) (omega (arith, sim .inv .lines l .line .v-taken, sim .inv .lines l .line .c-made))) Alike.done))))
+
+  -- ---- at the server
+  abbrev S : Server
+  S = serverFrom n (length items) (E .doc) (E .lines) (sim .si)
+
+  -- the counts of a line
+  module _ (k : ℕ) (lo : 1 ≤ k) (hi : k ≤ n) where
+    line-is : lineOf S k ≡ lineFrom (E .lines k) (sim .si k)
+    line-is = line-from n (length items) (E .doc) (E .lines) (sim .si) k lo hi
+
+    server-made-is : lineOf S k .made ≡ madeAt h 0 k
+    server-made-is = ap (λ (v : Line). v .made) line-is ∙ server-made n items s sim k
+
+    server-taken-is : lineOf S k .taken ≡ takenAt h 0 k
+    server-taken-is = ap (λ (v : Line). v .taken) line-is ∙ server-taken n items s sim k
+
+    server-acked-is : lineOf S k .acked ≡ w .heard 0 k
+    server-acked-is = ap (λ (v : Line). v .acked) line-is ∙ sym (sim .server-heard k)
+
+    room-is : othersRoomy (k - 1) (S .lines) ≡ allBut (roomOn w) k n
+    room-is =
+        same-room (λ j. lineFrom (E .lines j) (sim .si j)) (roomOn w) n k lo
+        (λ j i. ltb (server-made n items s sim j i - sym (sim .server-heard j) i) maxPending)
+
+  server-sends : (k number : ℕ) (lent : List ℕ) → asks (sendServerQuestions S k number lent) ≡ asks (sending n w 0 k number lent)
+  server-sends k number lent =
+      alike (sendServerQuestions S k number lent) (sending n w 0 k number lent) (Alike.over (sim .server-sound) (Alike.same refl (λ y4.
+      let there = between-true 1 n k y4 in
+      let same = line-is k (there .0) (there .1) in
+      Alike.same (λ i. between (server-acked-is k (there .0) (there .1) i + 1) (server-made-is k (there .0) (there .1) i) number) (λ y13.
+      let in-it = between-true (lineOf S k .acked + 1) (lineOf S k .made) number y13 in
+      let low : E .lines k .acked < number = subst (λ (v : Line). v .acked < number) same (omega arith) in
+      let high : number ≤ E .lines k .made = subst (λ (v : Line). number ≤ v .made) same (in-it .1) in
+      Alike.same (ap (λ (b : List ℕ). leb (length b) (length lent))
+      (down-bytes n items s sim k (there .0) (there .1) number low high ∙ ap messageBytes (sym (down-is n items s sim k (there .0) (there .1) number low high))))
+      (λ y14. Alike.done)))))
+
+  server-tells : (k : ℕ) (lent : List ℕ) → asks (tellServerQuestions S k lent) ≡ asks (telling n 0 k lent)
+  server-tells k lent = alike (tellServerQuestions S k lent) (telling n 0 k lent) (Alike.over (sim .server-sound) (Alike.same refl (λ y4. Alike.same refl (λ y14. Alike.done))))
+
+  server-takes : (x : Message edits) → MessageOk n items E h x → serverTakes S (wireMessage x) .refusal ≡ asks (taking n w 0 x)
+  unfolding serverTakesEdit serverTakesAck
+  server-takes (up k m) ok =
+      let hd : Header = record { line = k; direction = 0; number = m .number; seen = m .seen } in
+      let lo = ok .2 .0 in
+      let hi = ok .2 .1 in
+      let same = line-is k lo hi in
+      ap (λ (r : Answer Server). r .refusal) (server-message S hd (m .edit)) ∙ refusal-is (asks (serverEditQuestions S hd (m .edit))) S (serverTaken S k (m .seen) (m .edit)) (lineOf S k .made - m .seen)
+      ∙ alike (serverEditQuestions S hd (m .edit)) (taking n w 0 (up k m)) (Alike.over (sim .server-sound) (Alike.same (both (between 1 n k) (priority (eqb k) (m .edit)) (true-between 1 n k lo hi) (ok .2 .2) ∙ sym (true-between 1 n k lo hi)) (λ y4.
+      Alike.same (ap (λ (i : ℕ). ltb i (m .number)) (server-taken-is k lo hi)) (λ y5.
+      Alike.same (ap (λ (i : ℕ). eqb (m .number) (i + 1)) (server-taken-is k lo hi)) (λ y6.
+      Alike.same (ap (λ (i : ℕ). leb i (m .seen)) (server-acked-is k lo hi)) (λ y7.
+      let next : m .number ≡ suc (E .lines k .taken) = eqb-true (m .number) (lineOf S k .taken + 1) y6 ∙ add-one (lineOf S k .taken) ∙ ap (λ (v : Line). suc (v .taken)) same in
+      let cur : E .lines k .acked ≤ m .seen = subst (λ (v : Line). v .acked ≤ m .seen) same (leb-true (lineOf S k .acked) (m .seen) y7) in
+      Alike.over (up-8 n items s sim few k lo hi m (ok .0) next cur) (Alike.over (up-9 n items s sim few k lo hi m (ok .0) next cur)
+      (Alike.over (up-10 n items s sim few k lo hi m (ok .0) next cur) (Alike.same (room-is k lo hi) (λ y12. Alike.done))))))))))
+  server-takes (down k m) ok =
+      let hd : Header = record { line = k; direction = 1; number = m .number; seen = m .seen } in
+      ap (λ (r : Answer Server). r .refusal) (server-message S hd (m .edit)) ∙ refusal-is (asks (serverEditQuestions S hd (m .edit))) S (serverTaken S k (m .seen) (m .edit)) (lineOf S k .made - m .seen)
+      ∙ alike (serverEditQuestions S hd (m .edit)) (taking n w 0 (down k m)) (Alike.over (sim .server-sound) (Alike.same refl (λ y4. never y4)))
+  server-takes (upAck k seen) ok =
+      let lo = ok .2 .0 in
+      let hi = ok .2 .1 in
+      refusal-is (asks (serverAckQuestions S k 0 seen)) S (serverAcked S k seen) 0
+      ∙ alike (serverAckQuestions S k 0 seen) (taking n w 0 (upAck k seen)) (Alike.over (sim .server-sound) (Alike.same refl (λ y4.
+      Alike.same (ap (λ (i : ℕ). leb i seen) (server-acked-is k lo hi)) (λ y7.
+      Alike.over (subst (λ (v : Line). leb seen (v .made) ≡ true) (sym (line-is k lo hi))
+      (le-leb seen (E .lines k .made) (omega (arith, ok .0, sim .inv .lines k .line .c-taken, sim .inv .lines k .line .v-made)))) Alike.done))))
+  server-takes (downAck k seen) ok = refusal-is (asks (serverAckQuestions S k 1 seen)) S (serverAcked S k seen) 0 ∙ alike (serverAckQuestions S k 1 seen) (taking n w 0 (downAck k seen)) (Alike.over (sim .server-sound) (Alike.same refl (λ y4. never y4)))
+
+  -- ---- at any end
+  edits-at : (l : ℕ) → 1 ≤ l → l ≤ n → (e : Edit) → editClient (clientFrom n l (E .clients l) (E .docs l) (sim .ci l)) e .refusal ≡ asks (editing w l e)
+  unfolding editClient
+  edits-at zero lo hi e = absurd (omega arith)
+  edits-at (suc a) lo hi e = refusal-is (asks (editQuestions (C a hi) e)) (C a hi) (edited (C a hi) e) 0 ∙ edit-number a hi e
+
+  sends-at : (a l k : ℕ) (lent : List ℕ) → a ≤ n → ours .send (s .ends a) l k lent .refusal ≡ asks (sending n w a l k lent)
+  unfolding sendClient sendServer
+  sends-at zero l k lent hi =
+      ap (λ (e : End). ours .send e l k lent .refusal) (sim .server-is) ∙ sent-is (asks (sendServerQuestions S l k lent)) (bytesOf (serverMessage S l k)) lent ∙ server-sends l k lent
+  sends-at (suc a) l k lent hi =
+      ap (λ (e : End). ours .send e l k lent .refusal) (sim .client-is (suc a) (omega arith) hi)
+      ∙ sent-is (asks (sendClientQuestions (C a hi) l k lent)) (bytesOf (clientMessage (C a hi) k)) lent ∙ client-sends a hi l k lent
+
+  tells-at : (a l : ℕ) (lent : List ℕ) → a ≤ n → ours .tell (s .ends a) l lent .refusal ≡ asks (telling n a l lent)
+  unfolding tellClient tellServer
+  tells-at zero l lent hi =
+      ap (λ (e : End). ours .tell e l lent .refusal) (sim .server-is) ∙ sent-is (asks (tellServerQuestions S l lent)) (bytesOf (message.Ack l 1 (lineOf S l .taken))) lent ∙ server-tells l lent
+  tells-at (suc a) l lent hi =
+      ap (λ (e : End). ours .tell e l lent .refusal) (sim .client-is (suc a) (omega arith) hi)
+      ∙ sent-is (asks (tellClientQuestions (C a hi) l lent)) (bytesOf (message.Ack (suc a) 0 (E .clients (suc a) .taken))) lent ∙ client-tells a hi l lent
+
+  takes-at : (a : ℕ) → a ≤ n → (x : Message edits) → MessageOk n items E h x → ours .take (s .ends a) (messageBytes x) .refusal ≡ asks (taking n w a x)
+  unfolding takeClient takeServer
+  takes-at zero hi x ok =
+      ap (λ (e : End). ours .take e (messageBytes x) .refusal) (sim .server-is) ∙ ap (λ (r : Read). serverReads S r .refusal) (codec .written-read (wireMessage x) (ok .1)) ∙ server-takes x ok
+  takes-at (suc a) hi x ok =
+      ap (λ (e : End). ours .take e (messageBytes x) .refusal) (sim .client-is (suc a) (omega arith) hi)
+      ∙ ap (λ (r : Read). clientReads (C a hi) r .refusal) (codec .written-read (wireMessage x) (ok .1)) ∙ client-takes a hi x ok
+
+  junk-at : (a : ℕ) (bytes : List ℕ) → a ≤ n → parsed bytes ≡ read.Refused → ours .take (s .ends a) bytes .refusal ≡ 3
+  unfolding takeClient takeServer
+  junk-at zero bytes hi e =
+      ap (λ (d : End). ours .take d bytes .refusal) (sim .server-is) ∙ ap (λ (r : Read). serverReads S r .refusal) e
+      ∙ refusal-is (asks (ask 2 (soundServer S) ∷ ask 3 false ∷ [])) S S 0 ∙ rw (sim .server-sound)
+  junk-at (suc a) bytes hi e =
+      ap (λ (d : End). ours .take d bytes .refusal) (sim .client-is (suc a) (omega arith) hi) ∙ ap (λ (r : Read). clientReads (C a hi) r .refusal) e
+      ∙ refusal-is (asks (ask 2 (soundClient (C a hi)) ∷ ask 3 false ∷ [])) (C a hi) (C a hi) 0 ∙ rw (sim .client-sound (suc a) (omega arith) hi)
+
+  -- a message of the list, and the message that it is of
+  hands-at : (a i : ℕ) → a ≤ n → handedNumber ours s a (getElem? (s .messages) i) ≡ handing n w a (getElem? (w .messages) i)
+  hands-at a i hi =
+      ap (λ (ms : List (List ℕ)). handedNumber ours s a (getElem? ms i)) (sim .messages) ∙ go (w .messages) i (sim .written)
+    where
+      go : (xs : List (Message edits)) (i : ℕ) → All (MessageOk n items E h) xs → handedNumber ours s a (getElem? (map messageBytes xs) i) ≡ handing n w a (getElem? xs i)
+      go [] i ok = refl
+      go (x ∷ xs) zero ok = takes-at a hi x (ok .0)
+      go (x ∷ xs) (suc i) ok = go xs i (ok .1)
+
+  pub numbered : (c : Call) → callable n c ≡ true → numberOf ours s c ≡ number n w c
+  unfolding numberOf number callable
+  numbered (insert l p x) ok =
+      let there = between-true 1 n l (three (between 1 n l) (ltb p 65536) (ltb x 4294967296) ok .0) in
+      ap (λ (e : End). ours .insert e p x .refusal) (sim .client-is l (there .0) (there .1)) ∙ edits-at l (there .0) (there .1) (Insert p x l)
+  numbered (delete l p) ok =
+      let there = between-true 1 n l (and-left (between 1 n l) (ltb p 65536) ok) in
+      ap (λ (e : End). ours .delete e p .refusal) (sim .client-is l (there .0) (there .1)) ∙ edits-at l (there .0) (there .1) (Delete p)
+  numbered (send a l k lent) ok =
+      sends-at a l k lent (leb-true a n (three (leb a n) (ltb l 256) (ltb k 65536) (and-left (leb a n && ltb l 256 && ltb k 65536) (areBytes lent) ok) .0))
+  numbered (tell a l lent) ok = tells-at a l lent (leb-true a n (three (leb a n) (ltb l 256) (areBytes lent) ok .0))
+  numbered (receive a i) ok = hands-at a i (leb-true a n ok)
+  numbered (junk a bytes) ok =
+      let t = three (leb a n) (areBytes bytes) (unreadable (parsed bytes)) ok in
+      junk-at a bytes (leb-true a n (t .0)) (unread (parsed bytes) (t .2))
+
+  pub reads-back : map parsed (s .messages) ≡ map (λ x. read.Message (wireMessage x)) (w .messages)
+  reads-back = ap (map parsed) (sim .messages) ∙ go (w .messages) (sim .written)
+    where
+      go : (xs : List (Message edits)) → All (MessageOk n items E h) xs → map parsed (map messageBytes xs) ≡ map (λ x. read.Message (wireMessage x)) xs
+      go [] ok = refl
+      go (x ∷ xs) ok = ap₂ _∷_ (codec .written-read (wireMessage x) (ok .0 .1)) (go xs (ok .1))

@@ -1,0 +1,95 @@
+-- The number that each call of a list is answered with (01: "The questions, in order"): the questions, asked of what the accepted calls
+-- before it left. Question 2 says yes to every end of such a list, and 8 to 10 to every message that 4 to 7 let through, so they are not here.
+use Prim.Native.Nat.{ℕ, zero, suc, _+_, _-_}
+use mathlib.Core.Bool.{Bool, true, false, _&&_, _||_}
+use mathlib.Core.Option.{Option, none, some}
+use mathlib.Core.List.{List, [], _∷_}
+use lib.Dec.{leb, ltb, eqb}
+use lib.ListN.{length, getElem?}
+use Rattle.ot.specs.declared.Edit.{Edit}
+use Rattle.ot.specs.declared.Edit.the-variants as edit
+use Rattle.ot.specs.Edit.{applied, fits}
+use Rattle.jupiter.specs.Made.{mine}
+use Rattle.jupiter.specs.Ends.{EditMessage}
+use Rattle.jupiter.specs.Run.{Message, up, down, upAck, downAck}
+use Rattle.jupiter.specs.History.{order}
+use Rattle.jupiter.specs.Claims.{inserts}
+use Rattle.model.specs.Limits.{maxInserts, maxEdits, maxPending, maxItems}
+use Rattle.model.specs.Questions.{Question, ask, asks, between}
+use Rattle.model.specs.Cross.{insertsOf}
+use Rattle.model.specs.Edits.{edits}
+use Rattle.model.specs.Sheet.{Call, insert, delete, send, tell, receive, junk}
+use Rattle.model.specs.Log.{Log, madeAt, takenAt, editMessage, messageBytes}
+
+-- Line l is end a's own: the server has lines 1 to n.
+abbrev pub owns : ℕ → ℕ → ℕ → Bool
+owns n zero l = between 1 n l
+owns n (suc a) l = eqb l (suc a)
+
+-- What goes up on line l goes to the server, what goes down to the client on that line.
+abbrev pub upTo : ℕ → ℕ → ℕ → Bool
+upTo n zero l = owns n zero l
+upTo n (suc a) l = false
+
+abbrev pub downTo : ℕ → ℕ → ℕ → Bool
+downTo n zero l = false
+downTo n (suc a) l = owns n (suc a) l
+
+-- how many edits are pending at end a for line l: made there, less the last seen that came
+abbrev pub pendingAt : Log → ℕ → ℕ → ℕ
+pendingAt w a l = madeAt (w .history) a l - w .heard a l
+
+abbrev pub editing : Log → ℕ → Edit → List Question
+editing w l e =
+    ask 9 (fits e (length (w .shown l)) && leb (length (applied e (w .shown l))) maxItems)
+    ∷ ask 10 (leb (inserts (mine l (order (w .history) l)) + insertsOf e) maxInserts)
+    ∷ ask 11 (ltb (madeAt (w .history) l l) maxEdits)
+    ∷ ask 12 (ltb (pendingAt w l l) maxPending)
+    ∷ []
+
+abbrev pub sending : ℕ → Log → ℕ → ℕ → ℕ → List ℕ → List Question
+sending n w a l k lent =
+    ask 4 (owns n a l)
+    ∷ ask 13 (between (w .heard a l + 1) (madeAt (w .history) a l) k)
+    ∷ ask 14 (leb (length (messageBytes (editMessage (w .history) a l k))) (length lent))
+    ∷ []
+
+abbrev pub telling : ℕ → ℕ → ℕ → List ℕ → List Question
+telling n a l lent = ask 4 (owns n a l) ∷ ask 14 (leb 5 (length lent)) ∷ []
+
+-- each of the lines 1 to k but l passes the test
+unfoldable pub allBut : (ℕ → Bool) → ℕ → ℕ → Bool
+allBut test l zero = true
+allBut test l (suc k) = (eqb l (suc k) || test (suc k)) && allBut test l k
+
+-- the server has room for one more pending edit on line l
+abbrev pub roomOn : Log → ℕ → Bool
+roomOn w l = ltb (pendingAt w 0 l) maxPending
+
+-- an edit message that goes to end a on line l: it is the next one, and its seen is not overtaken
+abbrev pub next : Log → ℕ → ℕ → EditMessage edits → List Question → List Question
+next w a l m more =
+    ask 5 (ltb (takenAt (w .history) a l) (m .number))
+    ∷ ask 6 (eqb (m .number) (takenAt (w .history) a l + 1))
+    ∷ ask 7 (leb (w .heard a l) (m .seen))
+    ∷ more
+
+-- end a takes a message that was written
+abbrev pub taking : ℕ → Log → ℕ → Message edits → List Question
+taking n w a (up l m) = ask 4 (upTo n a l) ∷ next w a l m (ask 12 (allBut (roomOn w) l n) ∷ [])
+taking n w a (down l m) = ask 4 (downTo n a l) ∷ next w a l m []
+taking n w a (upAck l seen) = ask 4 (upTo n a l) ∷ ask 7 (leb (w .heard a l) seen) ∷ []
+taking n w a (downAck l seen) = ask 4 (downTo n a l) ∷ ask 7 (leb (w .heard a l) seen) ∷ []
+
+-- no such message was written: no call
+abbrev pub handing : ℕ → Log → ℕ → Option (Message edits) → ℕ
+handing n w a none = 0
+handing n w a (some x) = asks (taking n w a x)
+
+unfoldable pub number : ℕ → Log → Call → ℕ
+number n w (insert l p x) = asks (editing w l (edit.Insert p x l))
+number n w (delete l p) = asks (editing w l (edit.Delete p))
+number n w (send a l k lent) = asks (sending n w a l k lent)
+number n w (tell a l lent) = asks (telling n a l lent)
+number n w (receive a i) = handing n w a (getElem? (w .messages) i)
+number n w (junk a bytes) = 3
