@@ -127,6 +127,49 @@ fn nothing() {
     io::write_all(1, b"\n");
 }
 
+// The bits of all words together.
+fn gathered(words: &[u32]) -> u32 {
+    let mut all = 0u32;
+    for i in 0..words.len() {
+        all = all | words[i];
+    }
+    all
+}
+
+// The same of counts.
+fn gathered_counts(counts: &[u16]) -> u16 {
+    let mut all = 0u16;
+    for i in 0..counts.len() {
+        all = all | counts[i];
+    }
+    all
+}
+
+// A refused opening hands back an end that is all zeros.
+fn refused_client() {
+    io::write_all(1, b"refused client");
+    let a = Client::open(9, 1, &[10u32, 20]);
+    number(a.refusal as u64);
+    let c = a.client;
+    item(gathered(&c.items) | gathered(&c.pending_places) | gathered(&c.pending_items));
+    number((c.made | c.taken | c.acked | c.inserts | c.len) as u64);
+    byte(c.n | c.line);
+    io::write_all(1, b"\n");
+}
+
+fn refused_server() {
+    io::write_all(1, b"refused server");
+    let a = Server::open(9, &[10u32, 20]);
+    number(a.refusal as u64);
+    let s = a.server;
+    item(gathered(&s.items) | gathered(&s.pending_places) | gathered(&s.pending_items));
+    number((gathered_counts(&s.made) | gathered_counts(&s.taken)) as u64);
+    number((gathered_counts(&s.acked) | gathered_counts(&s.inserts)) as u64);
+    number((s.initial | s.len) as u64);
+    byte(s.n);
+    io::write_all(1, b"\n");
+}
+
 fn main() {
     let items = [10u32];
     let a = Client::open(2, 1, &items);
@@ -139,4 +182,6 @@ fn main() {
     let e = d.client.insert(3, 30);
     kept(e.client);
     nothing();
+    refused_client();
+    refused_server();
 }
