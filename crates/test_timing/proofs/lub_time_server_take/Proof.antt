@@ -1,0 +1,58 @@
+use Prim.Native.Nat.{_-_, _≤_}
+use mathlib.Core.Path.{ap, _∙_}
+use native.Mathlib.Omega.{arith}
+use borrow.Author.Needs.{needs}
+use denote.Ref.{now}
+use Rattle.server.specs.declared.Server.{Server}
+use Rattle.server.specs.Calls.{takes}
+use Rattle.test_timing.specs.Opened.{serverAnswered}
+use Rattle.test_timing.proofs.lub_time_server_take.Statement.{statement}
+use Rattle.test_timing.proofs.lub_time_server_take.Tie as tie
+
+abbrev Inv-loop : tie.InvT-loop
+Inv-loop count message times s i₀ i = 1 ≤ i
+
+abbrev μ-loop : tie.MeasureT-loop
+μ-loop count message times s i₀ i = times - i
+
+server-with-requires : tie.Need-server-with-requires Inv-loop μ-loop
+server-with-requires c κs = search needs
+
+loop-holds : tie.Need-loop-holds Inv-loop μ-loop
+loop-holds c = omega arith
+
+take-requires : tie.Need-take-requires Inv-loop μ-loop
+take-requires c κs = search needs
+
+answer-requires : tie.Need-answer-requires Inv-loop μ-loop
+answer-requires c κs = search needs
+
+returns : tie.Need-returns Inv-loop μ-loop
+returns c =
+    let s = c .before .before .before .before .before .before in
+    c .answer .ensures
+    ∙ ap serverAnswered (c .before .before .take .ensures ∙ ap (λ (e : Server). takes e (now (s .args .message))) (c .before .before .before .before .server-with .ensures))
+
+add-i : tie.Need-add-i Inv-loop μ-loop
+add-i c = omega arith
+
+loop-less : tie.Need-loop-less Inv-loop μ-loop
+loop-less c = omega arith
+
+loop-again : tie.Need-loop-again Inv-loop μ-loop
+loop-again c = omega arith
+
+pub lub-time-server-take-spec : {M : Type 1} → statement M
+lub-time-server-take-spec =
+    tie.close
+    (tie.spec
+    Inv-loop
+    μ-loop
+    server-with-requires
+    loop-holds
+    take-requires
+    answer-requires
+    returns
+    add-i
+    loop-less
+    loop-again)
