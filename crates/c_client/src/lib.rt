@@ -8,7 +8,8 @@ ghost use Rattle.client.specs.declared.editing.Change.the-variants.{Insert, Del
 ghost use Rattle.client.specs.Store.{clientOf, Sizes};
 ghost use Rattle.client.specs.Answers.{answerOf, opened};
 ghost use Rattle.c_layout.specs.Words.{wordsOf, itemsOf};
-ghost use Rattle.c_client.specs.Layout.{size, writtenAt, bytesIn, endIn, countsIn, capped, cappedEnd, cappedCounts};
+ghost use Rattle.c_client.specs.Layout.{size, bytesIn, endIn, countsIn};
+ghost use Rattle.c_client.specs.Reading.{writtenAt, capped, cappedEnd, cappedCounts};
 ghost use Rattle.c_client.specs.Calls.{returned, answered, openedIn, changedIn, insertedIn, deletedIn, takenIn, sentIn, acknowledgedIn};
 use client::Changed;
 use client::Client;
