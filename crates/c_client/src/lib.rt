@@ -4,7 +4,6 @@ ghost use mathlib.Core.Path.{_≡_};
 ghost use mathlib.Core.List.{_++_};
 ghost use Prim.Native.Nat.{_+_, _*_, _≤_};
 ghost use lib.ListN.{length, take, drop};
-ghost use Rattle.client.specs.declared.editing.Change.the-variants.{Insert, Delete};
 ghost use Rattle.client.specs.Store.{clientOf, Sizes};
 ghost use Rattle.client.specs.Answers.{answerOf, opened};
 ghost use Rattle.c_layout.specs.Words.{wordsOf, itemsOf};
