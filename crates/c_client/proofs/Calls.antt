@@ -1,11 +1,11 @@
 -- The ways in which a call over lent bytes ends.
-use Prim.Native.Nat.{ℕ, _+_, _*_, _/_, _%_, _≤_, _<_}
+use Prim.Native.Nat.{ℕ, _+_, _/_, _%_, _≤_, _<_}
 use native.Mathlib.Omega.{arith}
 use mathlib.Core.Path.{_≡_, refl, ap, ap₂, sym, _∙_, subst}
 use mathlib.Core.Bool.{Bool, true, false, cond, _&&_}
 use mathlib.Core.List.{List, _++_}
-use lib.Dec.{eqb, leb}
-use lib.ListN.{length, take, drop}
+use lib.Dec.{eqb}
+use lib.ListN.{length, drop}
 use borrow.Author.Tests.{le-ltb, lt-ltb, ne-eqb, eq-eqb, lt-leb}
 use Rattle.wire.specs.declared.Message.{Message}
 use Rattle.wire.specs.declared.Message.the-variants.{Insert, Delete, Nothing, Ack}
@@ -26,7 +26,8 @@ use Rattle.client.proofs.Messages.{unsound-sending}
 use Rattle.c_layout.specs.Words.{highFirst, itemsOf}
 use Rattle.c_layout.specs.Called.{Called, packed, called, laidOut}
 use Rattle.c_layout.proofs.Words.{words-length}
-use Rattle.c_client.specs.Layout.{size, bytesIn, endIn, cappedEnd}
+use Rattle.c_client.specs.Layout.{size, bytesIn, endIn}
+use Rattle.c_client.specs.Reading.{cappedEnd}
 use Rattle.c_client.specs.Calls as calls
 use Rattle.c_client.specs.Calls.{returned, answered, openedIn}
 use Rattle.c_client.proofs.Capped.{sound-same, sound-capped}
@@ -85,7 +86,8 @@ sending-same c f lent = go (sound c) refl
 
 module _ (bytes : List ℕ) (long : size ≤ length bytes) (c : Client) (is : c ≡ cappedEnd (endIn bytes)) where
   pub call-sent : (f : client.Client → model.Sent) (s : Sent) (r : ℕ) (lent after : List ℕ) → sending.answered s after ≡ guardedSending c (f (view c)) lent
-      → r ≡ packed (s .refusal) (s .written) → returned r after ≡ laidOut size bytes lent (calls.sending (guardedSending (endIn bytes) (f (view (endIn bytes))) lent))
+      → r ≡ packed (s .refusal) (s .written) → returned r after ≡ laidOut size bytes lent
+      (calls.sending (guardedSending (endIn bytes) (f (view (endIn bytes))) lent))
   call-sent f s r lent after es er =
       ap (λ (n : ℕ). returned n after) er
       ∙ ap calls.sending (es ∙ ap (λ (d : Client). guardedSending d (f (view d)) lent) is ∙ sending-same (endIn bytes) f lent)
@@ -170,7 +172,9 @@ module _ (bytes : List ℕ) (n line : ℕ) (items : List ℕ) (long : size ≤ l
 pub open-answered : (bytes : List ℕ) (n line : ℕ) (items l : List ℕ) (a : Answer) (k : Counts) (r : ℕ) (after : List ℕ) → l ≡ itemsOf items → a ≡ opened n line l
     → k ≡ counts (a .client)
     → returned r after
-    ≡ answered (answerOf (record { refusal = a .refusal; passed = a .passed; counts = k }) (a .client .items) (a .client .«pending_places») (a .client .«pending_items»)) bytes
+    ≡ answered
+    (answerOf (record { refusal = a .refusal; passed = a .passed; counts = k }) (a .client .items) (a .client .«pending_places») (a .client .«pending_items»))
+    bytes
     → returned r after ≡ answered (opened n line (itemsOf items)) bytes
 open-answered bytes n line items l a k r after el ea ek er =
     er

@@ -7,10 +7,10 @@ use lib.Dec.{leb}
 use borrow.Author.Tests.{leb-true, leb-false, le-leb, lt-leb}
 use Rattle.model.specs.Client as model
 use Rattle.model.proofs.Tests.{hold, bool-ext}
-use Rattle.model.proofs.SoundClient.{ClientFacts, client-facts}
+use Rattle.model.proofs.SoundClient.{client-facts}
 use Rattle.client.specs.declared.Client.{Client}
 use Rattle.client.specs.Store.{countsOf, clientOf, view, sound, soundTests}
-use Rattle.c_client.specs.Layout.{capped, cappedEnd}
+use Rattle.c_client.specs.Reading.{capped, cappedEnd}
 
 module _ (most x : ℕ) where
   pub in-field : x ≤ most → capped most x ≡ x

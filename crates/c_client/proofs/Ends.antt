@@ -12,7 +12,8 @@ use Rattle.client.specs.Store.{counts, countsOf, clientOf, Sizes}
 use Rattle.c_layout.specs.Words.{lowFirst, wordsOf, bytesOf, Bytes}
 use Rattle.c_layout.proofs.Words.{read-back, written-back, words-length, bytes-length}
 use Rattle.c_layout.proofs.Parts.{words-part, bytes-front, bytes-append, written-behind}
-use Rattle.c_client.specs.Layout.{size, part, countsIn, clientIn, wordsIn, bytesIn, endIn, RoundTrips, writtenAt, capped, cappedCounts, cappedEnd}
+use Rattle.c_client.specs.Layout.{size, part, countsIn, clientIn, wordsIn, bytesIn, endIn, RoundTrips}
+use Rattle.c_client.specs.Reading.{writtenAt, capped, cappedCounts, cappedEnd}
 
 -- ---- words
 

@@ -1,14 +1,12 @@
 -- A client (01: bay) as lent bytes: where each part stands, and both round trips.
-use Prim.Native.Nat.{ℕ, _+_, _*_, _≤_}
+use Prim.Native.Nat.{ℕ, _≤_}
 use mathlib.Core.Path.{_≡_}
-use mathlib.Core.Bool.{cond}
 use mathlib.Core.List.{List, _∷_, _++_}
-use lib.Dec.{leb}
 use lib.ListN.{length, getD, take, drop}
 use Rattle.model.specs.Limits.{maxItems, maxPending}
 use Rattle.line.specs.declared.Counts.{Counts}
 use Rattle.client.specs.declared.Client.{Client}
-use Rattle.client.specs.Store.{counts, countsOf, clientOf, Sizes}
+use Rattle.client.specs.Store.{countsOf, clientOf, Sizes}
 use Rattle.c_layout.specs.Words.{wordsOf, bytesOf, Bytes}
 
 -- the bytes of a client: 647 words
@@ -42,21 +40,3 @@ endIn bytes = clientIn (wordsOf (take size bytes))
 pub record RoundTrips : Type 0 where
   pub read-back : (c : Client) (rest : List ℕ) → Sizes (c .items) (c .«pending_places») (c .«pending_items») → endIn (bytesIn c ++ rest) ≡ c
   pub written-back : (bytes : List ℕ) → size ≤ length bytes → Bytes bytes → bytesIn (endIn bytes) ++ drop size bytes ≡ bytes
-
--- ---- what the code reads and writes
-
--- the words' bytes from a place on; the others stay
-abbrev pub writtenAt : ℕ → List ℕ → List ℕ → List ℕ
-writtenAt from ws bytes = take from bytes ++ (bytesOf ws ++ drop (from + 4 * length ws) bytes)
-
--- A number too wide for its field becomes the widest, which no sound end has.
-abbrev pub capped : ℕ → ℕ → ℕ
-capped most x = cond (leb x most) x most
-
-abbrev pub cappedCounts : Counts → Counts
-cappedCounts k =
-    countsOf (capped 255 (k .n)) (capped 255 (k .line)) (capped 65535 (k .made)) (capped 65535 (k .taken)) (capped 65535 (k .acked)) (capped 65535 (k .inserts))
-    (capped 65535 (k .len))
-
-abbrev pub cappedEnd : Client → Client
-cappedEnd c = clientOf (cappedCounts (counts c)) (c .items) (c .«pending_places») (c .«pending_items»)

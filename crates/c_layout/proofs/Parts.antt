@@ -3,7 +3,7 @@ use Prim.Native.Nat.{ℕ, zero, suc, _+_, _-_, _*_, _/_, _%_, _≤_}
 use native.Mathlib.Omega.{arith}
 use mathlib.Core.Path.{_≡_, refl, ap, ap₂, sym, _∙_}
 use mathlib.Core.List.{List, [], _∷_, _++_, append-assoc}
-use lib.ListN.{length, getD, take, drop, take-append-drop}
+use lib.ListN.{length, take, drop}
 use lib.Seq.{take-at, drop-at, take-take, drop-drop, take-nil, drop-nil}
 use Rattle.c_layout.specs.Words.{Order, wordsBy, bytesOf, Bytes}
 

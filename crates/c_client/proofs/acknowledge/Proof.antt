@@ -27,7 +27,8 @@ answer-requires c κs = search needs
 returns : tie.Need-returns
 returns c =
     let s = c .before .before .before .before in
-    too-short (now (s .args .end)) (now (s .args .out)) (sending (sentAck (endIn (now (s .args .end))) (s .args .line) (now (s .args .out)))) (c .answer .result) (omega (arith, c .before .if1 .taken)) (c .answer .ensures)
+    too-short (now (s .args .end)) (now (s .args .out)) (sending (sentAck (endIn (now (s .args .end))) (s .args .line) (now (s .args .out))))
+    (c .answer .result) (omega (arith, c .before .if1 .taken)) (c .answer .ensures)
 
 slice-aggregate-read : tie.Need-slice-aggregate-read
 slice-aggregate-read c = search needs
@@ -69,7 +70,9 @@ returns-2 c =
     let d = c .before .before .before .before in
     let r = got d in
     let s = long r .before .before .before in
-    call-sent (now (s .args .end)) (omega (arith, long r .if1 .left)) (whole r) (r .read .ensures) (λ m. tellClient m (s .args .line) (now (s .args .out))) (d .tell-lent .result) (c .answer2 .result) (now (s .args .out)) (d .tell-lent .last .1 .1 .1 .1 .1 .0) (d .tell-lent .ensures) (c .answer2 .ensures)
+    call-sent (now (s .args .end)) (omega (arith, long r .if1 .left)) (whole r) (r .read .ensures)
+    (λ m. tellClient m (s .args .line) (now (s .args .out))) (d .tell-lent .result) (c .answer2 .result) (now (s .args .out))
+    (d .tell-lent .last .1 .1 .1 .1 .1 .0) (d .tell-lent .ensures) (c .answer2 .ensures)
 
 pub acknowledge-spec : {M : Type 1} → statement M
 acknowledge-spec =

@@ -30,7 +30,8 @@ answer-requires c κs = search needs
 returns : tie.Need-returns
 returns c =
     let s = c .before .before .before in
-    too-short (now (s .args .end)) (now (s .args .end)) (answered (changed (endIn (now (s .args .end))) (s .args .change)) (now (s .args .end))) (c .answer .result) (omega (arith, c .before .if1 .taken)) (c .answer .ensures)
+    too-short (now (s .args .end)) (now (s .args .end)) (answered (changed (endIn (now (s .args .end))) (s .args .change)) (now (s .args .end)))
+    (c .answer .result) (omega (arith, c .before .if1 .taken)) (c .answer .ensures)
 
 slice-aggregate-read : tie.Need-slice-aggregate-read
 slice-aggregate-read c = search needs
@@ -77,7 +78,10 @@ returns-2 c =
     let d = done f in
     let r = got d in
     let s = long r .before .before in
-    call-answered (now (s .args .end)) (omega (arith, long r .if1 .left)) (whole r) (r .read .ensures) (λ m. editClient m (madeAs (m .line) (s .args .change))) (answerOf (d .edit-lent .result) (d .edit-lent .last .1 .0) (d .edit-lent .last .1 .1 .0) (d .edit-lent .last .1 .1 .1 .0)) (f .finish .result) (f .finish .last .0) (d .edit-lent .ensures) (f .finish .ensures)
+    call-answered (now (s .args .end)) (omega (arith, long r .if1 .left)) (whole r) (r .read .ensures)
+    (λ m. editClient m (madeAs (m .line) (s .args .change)))
+    (answerOf (d .edit-lent .result) (d .edit-lent .last .1 .0) (d .edit-lent .last .1 .1 .0) (d .edit-lent .last .1 .1 .1 .0)) (f .finish .result)
+    (f .finish .last .0) (d .edit-lent .ensures) (f .finish .ensures)
 
 pub edit-spec : {M : Type 1} → statement M
 edit-spec =

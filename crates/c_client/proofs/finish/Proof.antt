@@ -30,7 +30,8 @@ returns-2 c =
     let w = c .before .before .before in
     let e = w .before .before in
     let a = start (e .before) .args in
-    end-done (a .a) (now (a .items)) (now (a .places)) (now (a .pending)) (now (a .bytes)) (c .answer2 .result) (w .write .last .0) (e .if1 .left) (c .answer2 .ensures) (w .write .ensures)
+    end-done (a .a) (now (a .items)) (now (a .places)) (now (a .pending)) (now (a .bytes)) (c .answer2 .result) (w .write .last .0) (e .if1 .left)
+    (c .answer2 .ensures) (w .write .ensures)
 
 pub finish-spec : {M : Type 1} → statement M
 finish-spec =

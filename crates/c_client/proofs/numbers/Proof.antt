@@ -58,7 +58,12 @@ in-16-requires-5 c κs = search needs
 returns : tie.Need-returns
 returns c =
     let w = got c in
-    numbers-read (now (w .before .before .before .args .bytes)) (w .get .last .1 .1 .0) (c .before .before .before .before .before .before .in-8 .result) (c .before .before .before .before .before .in-82 .result) (c .before .before .before .before .in-16 .result) (c .before .before .before .in-162 .result) (c .before .before .in-163 .result) (c .before .in-164 .result) (c .in-165 .result) (w .get .ensures) (c .before .before .before .before .before .before .in-8 .ensures) (c .before .before .before .before .before .in-82 .ensures) (c .before .before .before .before .in-16 .ensures) (c .before .before .before .in-162 .ensures) (c .before .before .in-163 .ensures) (c .before .in-164 .ensures) (c .in-165 .ensures)
+    numbers-read (now (w .before .before .before .args .bytes)) (w .get .last .1 .1 .0)
+    (c .before .before .before .before .before .before .in-8 .result) (c .before .before .before .before .before .in-82 .result)
+    (c .before .before .before .before .in-16 .result) (c .before .before .before .in-162 .result) (c .before .before .in-163 .result)
+    (c .before .in-164 .result) (c .in-165 .result) (w .get .ensures) (c .before .before .before .before .before .before .in-8 .ensures)
+    (c .before .before .before .before .before .in-82 .ensures) (c .before .before .before .before .in-16 .ensures)
+    (c .before .before .before .in-162 .ensures) (c .before .before .in-163 .ensures) (c .before .in-164 .ensures) (c .in-165 .ensures)
 
 pub numbers-spec : {M : Type 1} → statement M
 numbers-spec =

@@ -37,7 +37,8 @@ returns-2 : tie.Need-returns-2
 returns-2 c =
     let e = c .before .before in
     let s = start (e .before) in
-    open-cut (now (s .args .end)) (s .args .n) (s .args .line) (now (s .args .items)) (omega (arith, e .if1 .left)) (c .answer2 .result) (c .before .if2 .taken) (c .answer2 .ensures)
+    open-cut (now (s .args .end)) (s .args .n) (s .args .line) (now (s .args .items)) (omega (arith, e .if1 .left)) (c .answer2 .result)
+    (c .before .if2 .taken) (c .answer2 .ensures)
 
 answer-requires-3 : tie.Need-answer-requires-3
 answer-requires-3 c κs = search needs
@@ -46,7 +47,8 @@ returns-3 : tie.Need-returns-3
 returns-3 c =
     let w = c .before .before in
     let s = start (w .before .before) in
-    open-long (now (s .args .end)) (s .args .n) (s .args .line) (now (s .args .items)) (omega (arith, w .before .if1 .left)) (omega (arith, w .if2 .left)) (c .answer3 .result) (omega (arith, c .before .if3 .taken)) (c .answer3 .ensures)
+    open-long (now (s .args .end)) (s .args .n) (s .args .line) (now (s .args .items)) (omega (arith, w .before .if1 .left))
+    (omega (arith, w .if2 .left)) (c .answer3 .result) (omega (arith, c .before .if3 .taken)) (c .answer3 .ensures)
 
 sub-open-with : tie.Need-sub-open-with
 sub-open-with c = search needs
@@ -68,7 +70,8 @@ returns-4 c =
     let o = c .before .before .before in
     let w = o .before .before .before .before in
     let s = start (w .before .before) in
-    open-done (now (s .args .end)) (s .args .n) (s .args .line) (now (s .args .items)) (omega (arith, w .before .if1 .left)) (omega (arith, w .if2 .left)) (o .open-with .result) (o .open-with .last .0) (o .open-with .ensures)
+    open-done (now (s .args .end)) (s .args .n) (s .args .line) (now (s .args .items)) (omega (arith, w .before .if1 .left))
+    (omega (arith, w .if2 .left)) (o .open-with .result) (o .open-with .last .0) (o .open-with .ensures)
 
 pub open-spec : {M : Type 1} → statement M
 open-spec =

@@ -41,7 +41,8 @@ returns c =
     let o = opened k in
     let g = got o in
     let a = start g .args in
-    open-answered (now (a .end)) (a .n) (a .line) (now (a .items)) (g .decode-items .last .1 .0) (o .«open» .result) (k .counts .result) (f .finish .result) (f .finish .last .0) (g .decode-items .ensures) (o .«open» .ensures) (k .counts .ensures) (f .finish .ensures)
+    open-answered (now (a .end)) (a .n) (a .line) (now (a .items)) (g .decode-items .last .1 .0) (o .«open» .result) (k .counts .result)
+    (f .finish .result) (f .finish .last .0) (g .decode-items .ensures) (o .«open» .ensures) (k .counts .ensures) (f .finish .ensures)
 
 pub open-with-spec : {M : Type 1} → statement M
 open-with-spec =

@@ -43,7 +43,9 @@ returns c =
     let r₂ = second r₃ in
     let r₁ = first r₂ in
     let a = start r₁ .args in
-    end-read (now (a .bytes)) (c .numbers .result) (now (a .items)) (now (a .places)) (now (a .pending)) (r₁ .get .last .1 .1 .0) (r₂ .get2 .last .1 .1 .0) (r₃ .get3 .last .1 .1 .0) (start r₁ .pre .1) (c .numbers .ensures) (r₁ .get .ensures) (r₂ .get2 .ensures) (r₃ .get3 .ensures)
+    end-read (now (a .bytes)) (c .numbers .result) (now (a .items)) (now (a .places)) (now (a .pending)) (r₁ .get .last .1 .1 .0)
+    (r₂ .get2 .last .1 .1 .0) (r₃ .get3 .last .1 .1 .0) (start r₁ .pre .1) (c .numbers .ensures) (r₁ .get .ensures) (r₂ .get2 .ensures)
+    (r₃ .get3 .ensures)
 
 pub read-spec : {M : Type 1} → statement M
 read-spec =

@@ -27,7 +27,9 @@ answer-requires c κs = search needs
 returns : tie.Need-returns
 returns c =
     let s = c .before .before .before .before in
-    too-short (now (s .args .end)) (now (s .args .out)) (sending (sentEdit (endIn (now (s .args .end))) (s .args .line) (s .args .number) (now (s .args .out)))) (c .answer .result) (omega (arith, c .before .if1 .taken)) (c .answer .ensures)
+    too-short (now (s .args .end)) (now (s .args .out))
+    (sending (sentEdit (endIn (now (s .args .end))) (s .args .line) (s .args .number) (now (s .args .out)))) (c .answer .result)
+    (omega (arith, c .before .if1 .taken)) (c .answer .ensures)
 
 slice-aggregate-read : tie.Need-slice-aggregate-read
 slice-aggregate-read c = search needs
@@ -69,7 +71,9 @@ returns-2 c =
     let d = c .before .before .before .before in
     let r = got d in
     let s = long r .before .before .before in
-    call-sent (now (s .args .end)) (omega (arith, long r .if1 .left)) (whole r) (r .read .ensures) (λ m. sendClient m (s .args .line) (s .args .number) (now (s .args .out))) (d .send-lent .result) (c .answer2 .result) (now (s .args .out)) (d .send-lent .last .1 .1 .1 .1 .1 .1 .0) (d .send-lent .ensures) (c .answer2 .ensures)
+    call-sent (now (s .args .end)) (omega (arith, long r .if1 .left)) (whole r) (r .read .ensures)
+    (λ m. sendClient m (s .args .line) (s .args .number) (now (s .args .out))) (d .send-lent .result) (c .answer2 .result) (now (s .args .out))
+    (d .send-lent .last .1 .1 .1 .1 .1 .1 .0) (d .send-lent .ensures) (c .answer2 .ensures)
 
 pub send-spec : {M : Type 1} → statement M
 send-spec =

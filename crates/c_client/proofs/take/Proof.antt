@@ -30,7 +30,8 @@ answer-requires c κs = search needs
 returns : tie.Need-returns
 returns c =
     let s = c .before .before .before .before in
-    too-short (now (s .args .end)) (now (s .args .end)) (answered (taken (endIn (now (s .args .end))) (now (s .args .message))) (now (s .args .end))) (c .answer .result) (omega (arith, c .before .if1 .taken)) (c .answer .ensures)
+    too-short (now (s .args .end)) (now (s .args .end)) (answered (taken (endIn (now (s .args .end))) (now (s .args .message))) (now (s .args .end)))
+    (c .answer .result) (omega (arith, c .before .if1 .taken)) (c .answer .ensures)
 
 slice-aggregate-read : tie.Need-slice-aggregate-read
 slice-aggregate-read c = search needs
@@ -77,7 +78,9 @@ returns-2 c =
     let d = done f in
     let r = got d in
     let s = long r .before .before .before in
-    call-answered (now (s .args .end)) (omega (arith, long r .if1 .left)) (whole r) (r .read .ensures) (λ m. takeClient m (now (s .args .message))) (answerOf (d .take-lent .result) (d .take-lent .last .1 .0) (d .take-lent .last .1 .1 .0) (d .take-lent .last .1 .1 .1 .0)) (f .finish .result) (f .finish .last .0) (d .take-lent .ensures) (f .finish .ensures)
+    call-answered (now (s .args .end)) (omega (arith, long r .if1 .left)) (whole r) (r .read .ensures) (λ m. takeClient m (now (s .args .message)))
+    (answerOf (d .take-lent .result) (d .take-lent .last .1 .0) (d .take-lent .last .1 .1 .0) (d .take-lent .last .1 .1 .1 .0)) (f .finish .result)
+    (f .finish .last .0) (d .take-lent .ensures) (f .finish .ensures)
 
 pub take-spec : {M : Type 1} → statement M
 take-spec =

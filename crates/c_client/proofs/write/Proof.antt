@@ -72,7 +72,8 @@ returns c =
     let p₂ = second p₃ in
     let p₁ = first p₂ in
     let a = start p₁ .args in
-    end-written (a .k) (now (a .items)) (now (a .places)) (now (a .pending)) (start p₁ .pre .1) (now (a .bytes)) (p₁ .put .last .0) (p₂ .put2 .last .0) (p₃ .put3 .last .0) (p₄ .put4 .last .0) (p₁ .put .ensures) (p₂ .put2 .ensures) (p₃ .put3 .ensures) (p₄ .put4 .ensures)
+    end-written (a .k) (now (a .items)) (now (a .places)) (now (a .pending)) (start p₁ .pre .1) (now (a .bytes)) (p₁ .put .last .0)
+    (p₂ .put2 .last .0) (p₃ .put3 .last .0) (p₄ .put4 .last .0) (p₁ .put .ensures) (p₂ .put2 .ensures) (p₃ .put3 .ensures) (p₄ .put4 .ensures)
 
 pub write-spec : {M : Type 1} → statement M
 write-spec =
