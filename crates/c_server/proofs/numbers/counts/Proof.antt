@@ -95,7 +95,8 @@ returns c =
     let a = acked i in
     let t = taken a in
     let m = made t in
-    counts-are (c .before .before .before .before .before .before .before .before .before .before .before .before .before .before .before .args .words .now) (m .eight .result) (t .eight2 .result) (a .eight3 .result) (i .eight4 .result) (n .narrow-n .result)
+    counts-are (c .before .before .before .before .before .before .before .before .before .before .before .before .before .before .before .args .words .now)
+    (m .eight .result) (t .eight2 .result) (a .eight3 .result) (i .eight4 .result) (n .narrow-n .result)
     (c .before .before .narrow .result) (c .narrow2 .result) (n .narrow-n .ensures) (c .before .before .narrow .ensures) (c .narrow2 .ensures)
     (m .eight .ensures) (t .eight2 .ensures) (a .eight3 .ensures) (i .eight4 .ensures)
 
