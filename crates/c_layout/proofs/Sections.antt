@@ -5,7 +5,7 @@ use native.Mathlib.Omega.{arith}
 use mathlib.Core.Path.{_≡_, refl, ap, ap₂, sym, _∙_, subst}
 use mathlib.Core.List.{List, [], _∷_, _++_, append-assoc}
 use lib.ListN.{length, getD, take, drop, length-append, length-take, length-drop}
-use lib.Seq.{take-all, take-at, drop-at, take-take, getD-drop}
+use lib.Seq.{take-all, take-at, drop-at, getD-drop}
 use borrow.Rule.Slice.PartMut.{putMid}
 use Rattle.c_layout.specs.Words.{Order, wordsBy, fourOf, bytesOf}
 use Rattle.c_layout.proofs.Words.{bytes-length}
@@ -49,14 +49,6 @@ section-at p x r at n e k = ap (take n) (drop-at p (x ++ r) at e) ∙ take-at x 
 
 pub section-last : (p x : List ℕ) (at n : ℕ) → length p ≡ at → length x ≡ n → take n (drop at (p ++ x)) ≡ x
 section-last p x at n e k = ap (take n) (drop-at p x at e) ∙ take-all n x (omega arith)
-
--- a section that ends within the first m is one of these
-pub section-within : (l : List ℕ) (at n m : ℕ) → at + n ≤ m → take n (drop at (take m l)) ≡ take n (drop at l)
-section-within l zero n m h = take-take n m l (omega arith)
-section-within [] (suc at) n zero h = refl
-section-within [] (suc at) n (suc m) h = refl
-section-within (x ∷ l) (suc at) n zero h = absurd (omega arith)
-section-within (x ∷ l) (suc at) n (suc m) h = section-within l at n m (omega arith)
 
 -- ---- writing
 

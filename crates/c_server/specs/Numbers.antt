@@ -1,5 +1,5 @@
--- The numbers and arrays that an end is read into. A word may be larger than its number's field holds; then it is read as the largest that the field
--- holds, and neither is a number of a sound end.
+-- The numbers and arrays that an end is read into; no promise of a public function cites this. A word may be larger than its number's field
+-- holds. It is then read as the largest number of the field, and no sound end has either.
 use Prim.Native.Nat.{ℕ, min}
 use mathlib.Core.Path.{_≡_}
 use mathlib.Core.Bool.{true}

@@ -110,7 +110,8 @@ returns-2 c = let t = c .before .before .before .before .before .before .before 
     let d = done t in
     let r = read d .read in
     take-done (bytes d) (whole d) (r .result) (r .last .1 .0) (r .last .1 .1 .0) (r .last .1 .1 .1 .0) (r .ensures) (start d .args .message .now)
-    (d .take-lent .result) (d .take-lent .last .1 .0) (d .take-lent .last .1 .1 .0) (d .take-lent .last .1 .1 .1 .0) (d .take-lent .ensures) (c .before .before .before .write .last .1 .1 .1 .1 .0) (c .answer2 .result) (t .if2 .taken) (c .before .before .before .write .ensures) (c .answer2 .ensures)
+    (d .take-lent .result) (d .take-lent .last .1 .0) (d .take-lent .last .1 .1 .0) (d .take-lent .last .1 .1 .1 .0) (d .take-lent .ensures)
+    (c .before .before .before .write .last .1 .1 .1 .1 .0) (c .answer2 .result) (t .if2 .taken) (c .before .before .before .write .ensures) (c .answer2 .ensures)
 
 answer-requires-3 : tie.Need-answer-requires-3
 answer-requires-3 c κs = omega arith

@@ -3,6 +3,25 @@ use native.Mathlib.Omega.{arith}
 use Rattle.c_server.proofs.numbers.counts.Statement.{statement}
 use Rattle.c_server.proofs.numbers.counts.Tie as tie
 
+-- ---- where each part was read
+
+abbrev named : tie.After-narrow2 → tie.After-narrow-n
+named c = c .before .before .before .before
+
+abbrev inserts : tie.After-narrow-n → tie.After-eight4
+inserts c = c .before .before
+
+abbrev acked : tie.After-eight4 → tie.After-eight3
+acked c = c .before .before
+
+abbrev taken : tie.After-eight3 → tie.After-eight2
+taken c = c .before .before
+
+abbrev made : tie.After-eight2 → tie.After-eight
+made c = c .before .before
+
+-- ---- the needs
+
 sub-eight : tie.Need-sub-eight
 sub-eight c = omega arith
 
@@ -71,10 +90,15 @@ narrow-requires-2 c κs = omega arith
 
 returns : tie.Need-returns
 returns c =
-    let w = c .before .before .before .before .before .before .before .before .before .before .before .before .before .before .before .args .words .now in
-    counts-are w (c .before .before .before .before .before .before .before .before .before .before .before .before .eight .result) (c .before .before .before .before .before .before .before .before .before .before .eight2 .result) (c .before .before .before .before .before .before .before .before .eight3 .result) (c .before .before .before .before .before .before .eight4 .result) (c .before .before .before .before .narrow-n .result)
-    (c .before .before .narrow .result) (c .narrow2 .result) (c .before .before .before .before .narrow-n .ensures) (c .before .before .narrow .ensures) (c .narrow2 .ensures)
-    (c .before .before .before .before .before .before .before .before .before .before .before .before .eight .ensures) (c .before .before .before .before .before .before .before .before .before .before .eight2 .ensures) (c .before .before .before .before .before .before .before .before .eight3 .ensures) (c .before .before .before .before .before .before .eight4 .ensures)
+    let n = named c in
+    let i = inserts n in
+    let a = acked i in
+    let t = taken a in
+    let m = made t in
+    counts-are (c .before .before .before .before .before .before .before .before .before .before .before .before .before .before .before .args .words .now)
+    (m .eight .result) (t .eight2 .result) (a .eight3 .result) (i .eight4 .result) (n .narrow-n .result)
+    (c .before .before .narrow .result) (c .narrow2 .result) (n .narrow-n .ensures) (c .before .before .narrow .ensures) (c .narrow2 .ensures)
+    (m .eight .ensures) (t .eight2 .ensures) (a .eight3 .ensures) (i .eight4 .ensures)
 
 pub counts-spec : {M : Type 1} → statement M
 counts-spec =
