@@ -1,7 +1,8 @@
-// Links the proved library, target/staticlib/liblubdranit.a of the repository, when the feature `proved` is on.
+// Links the proved library, target/staticlib/liblubdranit.a of the repository, when the feature `proved` is on, and libtest_timing.a beside it
+// when `timing` is.
 // LUBDRANIT_DIR names another folder to look in.
 
-use std::path::PathBuf;
+use std::path::{Path, PathBuf};
 
 fn main() {
     println!("cargo::rerun-if-env-changed=LUBDRANIT_DIR");
@@ -12,12 +13,19 @@ fn main() {
         Some(folder) => PathBuf::from(folder),
         None => PathBuf::from(std::env::var_os("CARGO_MANIFEST_DIR").unwrap()).join("../target/staticlib"),
     };
-    let library = folder.join("liblubdranit.a");
+    println!("cargo::rustc-link-search=native={}", folder.display());
+    link(&folder, "lubdranit");
+    if std::env::var_os("CARGO_FEATURE_TIMING").is_some() {
+        link(&folder, "test_timing");
+    }
+}
+
+fn link(folder: &Path, name: &str) {
+    let library = folder.join(format!("lib{name}.a"));
     println!("cargo::rerun-if-changed={}", library.display());
     if !library.is_file() {
-        println!("cargo::error=liblubdranit.a is not in {}: build it with `rt staticlib lubdranit`", folder.display());
+        println!("cargo::error=lib{name}.a is not in {}: build it with `rt staticlib {name}`", folder.display());
         return;
     }
-    println!("cargo::rustc-link-search=native={}", folder.display());
-    println!("cargo::rustc-link-lib=static=lubdranit");
+    println!("cargo::rustc-link-lib=static={name}");
 }

@@ -19,9 +19,6 @@ extern "C" {
     fn lub_run(input: *const u8, input_bytes: usize, out: *mut u8, out_bytes: usize) -> u64;
 }
 
-// Methods by value, `lub_time_*`, are timed through a library of their own: its declarations go here, behind a feature of their own, and
-// its rows into bench/calls.rs.
-
 pub struct Proved;
 
 // SAFETY, of every call below: pointer and length are those of one slice, which outlives the call

@@ -3,6 +3,8 @@
 //! Subjects take turns within one run, so that what else the machine does falls on all of them; a ratio is taken within each turn, and
 //! the middle one of all turns is given with the lowest and the highest.
 
+#[cfg(feature = "timing")]
+mod by_value;
 mod codec;
 mod growth;
 mod plot;
@@ -49,14 +51,29 @@ fn turns(subjects: &[&dyn Calls], one: impl Fn(&dyn Calls) -> f64) -> Vec<Vec<f6
 
 /// The first two lines of a table of times, in Markdown.
 fn head(what: &str, subjects: &[&dyn Calls]) -> String {
+    head_of(what, &subjects.iter().map(|subject| subject.name()).collect::<Vec<&str>>())
+}
+
+fn head_of(what: &str, names: &[&str]) -> String {
     let mut table = format!("| {what} |");
-    for subject in subjects {
-        write!(table, " {} |", subject.name()).unwrap();
+    for name in names {
+        write!(table, " {name} |").unwrap();
     }
-    for subject in &subjects[1..] {
-        write!(table, " {} / {} (lowest to highest) |", subject.name(), subjects[0].name()).unwrap();
+    for name in &names[1..] {
+        write!(table, " {name} / {} (lowest to highest) |", names[0]).unwrap();
     }
-    table + "\n|---|" + &"--:|".repeat(2 * subjects.len() - 1) + "\n"
+    table + "\n|---|" + &"--:|".repeat(2 * names.len() - 1) + "\n"
+}
+
+/// The methods by value, where their library is linked (build.rs).
+fn by_value() -> String {
+    #[cfg(feature = "timing")]
+    return format!(
+        "## Methods by value\n\nAn end goes in and a new one comes back, on both sides: a row includes a copy of the end. Middle of {TURNS} turns.\n\n{}\n",
+        by_value::table()
+    );
+    #[cfg(not(feature = "timing"))]
+    String::new()
 }
 
 /// A line of it: each subject's times, and their ratios to the first one's.
@@ -77,6 +94,7 @@ fn row(name: &str, turns: &[Vec<f64>]) -> String {
 pub fn run(folder: &Path, subjects: &[&dyn Calls]) -> bool {
     let calls = single::table(subjects);
     let codec = codec::table();
+    let by_value = by_value();
     let scripts = scripts::table(subjects);
     let rows = growth::rows(subjects);
     let growth = growth::table(&rows, subjects);
@@ -86,7 +104,7 @@ pub fn run(folder: &Path, subjects: &[&dyn Calls]) -> bool {
         "## Single calls\n\nOver lent bytes: the end is read from its bytes, does the call and is written back unless the call is refused. A call that changes the end\n\
          gets fresh bytes, {burst} edits in a row get them once; the time of copying them is measured by itself and taken off. Processor\n\
          time of one call, middle of {TURNS} turns, lowest to highest in brackets.\n\n{calls}\n\
-         ## What the bytes cost plain\n\nReading an end from its bytes and writing it back, without a call. Middle of {TURNS} turns.\n\n{codec}\n\
+         ## What the bytes cost plain\n\nReading an end from its bytes and writing it back, without a call. Middle of {TURNS} turns.\n\n{codec}\n{by_value}\
          ## As a script grows\n\nThe script of the run program's row above, cut after a part of its lines, less the time of its first line alone, which opens the ends\n\
          and has their lists printed. Middle of {TURNS} turns.\n\n{scripts}\n\
          ## As edits grow\n\nA whole sheet of eight, all editing at once: every edit is made, sent, taken by the server, sent on and taken by\n\

@@ -159,8 +159,6 @@ fn sendings() -> Vec<Task> {
     tasks
 }
 
-// Rows of methods by value (`lub_time_*`, proved.rs) would be further tasks here: their subjects are given no bytes, but an end.
-
 pub fn table(subjects: &[&dyn Calls]) -> String {
     let mut table = head("call", subjects);
     for task in [openings(), edits(), takings(), sendings()].into_iter().flatten() {
