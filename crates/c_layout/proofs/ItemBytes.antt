@@ -1,10 +1,10 @@
 -- Opening items read back as they were.
-use Prim.Native.Nat.{ℕ, _*_, _/_, _%_}
+use Prim.Native.Nat.{ℕ, zero, suc, _*_, _/_, _%_, _<_}
 use native.Mathlib.Omega.{arith}
 use mathlib.Core.Path.{_≡_, refl, ap₂}
 use mathlib.Core.List.{List, [], _∷_}
-use lib.ListN.{length}
-use Rattle.c_layout.specs.Words.{highFirst, wordsBy, itemsOf}
+use lib.ListN.{length, getD}
+use Rattle.c_layout.specs.Words.{highFirst, wordsBy, itemsOf, Bytes}
 use Rattle.c_layout.specs.ItemBytes.{itemBytes, ItemsReadBack}
 
 four-each : (items : List ℕ) → length (itemBytes items) ≡ 4 * length items
@@ -20,5 +20,14 @@ unfolding itemBytes wordsBy
 read-items [] = refl
 read-items (x ∷ xs) = ap₂ (λ (y : ℕ) (l : List ℕ). y ∷ l) (read-one x) (read-items xs)
 
+are-bytes : (items : List ℕ) → ((i : ℕ) → getD items i 0 < 4294967296) → Bytes (itemBytes items)
+unfolding itemBytes
+are-bytes [] h i = omega arith
+are-bytes (x ∷ xs) h zero = omega (arith, h 0)
+are-bytes (x ∷ xs) h (suc zero) = omega arith
+are-bytes (x ∷ xs) h (suc (suc zero)) = omega arith
+are-bytes (x ∷ xs) h (suc (suc (suc zero))) = omega arith
+are-bytes (x ∷ xs) h (suc (suc (suc (suc i)))) = are-bytes xs (λ j. h (suc j)) i
+
 pub items-read-back : ItemsReadBack
-items-read-back = record { whole = λ items. omega (arith, four-each items); read-back = read-items }
+items-read-back = record { whole = λ items. omega (arith, four-each items); read-back = read-items; bytes = are-bytes }

@@ -53,7 +53,7 @@ sending l k out = record { little = λ c. send-little c l k out; alone = λ c. s
 telling : (l : ℕ) (out : List ℕ) → Sending clientForm out (λ c. clientCalls .tell c l out)
 telling l out = record { little = λ c. tell-little c l out; alone = λ c. struct-client-alone .tells c l out }
 
-lent-client-alone : (b : List ℕ) → ClientAlone (clientsLent b)
+lent-client-alone : (b : ℕ → List ℕ) → ClientAlone (clientsLent b)
 lent-client-alone b =
     record {
       inserts = λ e p x. call-back clientForm _ (inserting p x) e;
@@ -63,7 +63,7 @@ lent-client-alone b =
       tells = λ e l out. sending-alone clientForm out _ (telling l out) e;
     }
 
-client-follows : (b : List ℕ) → clients.size ≤ length b → ClientFollows (clientsLent b) clientCalls (Are clientForm)
+client-follows : (b : ℕ → List ℕ) → ((l : ℕ) → clients.size ≤ length (b l)) → ClientFollows (clientsLent b) clientCalls (Are clientForm)
 client-follows b h =
     record {
       items = λ e c r. ap (clientCalls .items) (r .0);
@@ -71,10 +71,10 @@ client-follows b h =
       taken = λ e c r. ap (clientCalls .taken) (r .0);
       opens-refusal = λ n l xs.
           let a = clientCalls .opens n l xs in
-          open-same clientForm b h (clientCalls .opens n l) (λ k. answerOf k .refusal ≡ a .refusal) xs (same-refusal clientForm a b (client-open-fits n l xs));
+          open-same clientForm (b l) (h l) (clientCalls .opens n l) (λ k. answerOf k .refusal ≡ a .refusal) xs (same-refusal clientForm a (b l) (client-open-fits n l xs));
       opens = λ n l xs z.
           let a = clientCalls .opens n l xs in
-          open-same clientForm b h (clientCalls .opens n l) (λ k. Are clientForm (k .bytes) (a .end)) xs (accepted clientForm a b (client-open-fits n l xs) z);
+          open-same clientForm (b l) (h l) (clientCalls .opens n l) (λ k. Are clientForm (k .bytes) (a .end)) xs (accepted clientForm a (b l) (client-open-fits n l xs) z);
       inserts = λ e c r p x. call-same clientForm _ (inserting p x) e c r;
       deletes = λ e c r p. call-same clientForm _ (deleting p) e c r;
       takes = λ e c r m. call-same clientForm _ (taking m) e c r;
@@ -142,18 +142,18 @@ server-follows b h =
 
 -- ---- the claim
 
-module _ (forClient forServer : List ℕ) (h : clients.size ≤ length forClient) (k : servers.size ≤ length forServer) where
-  lent-claimed : Converges (lent forClient forServer)
+module _ (cs : ℕ → List ℕ) (ss : List ℕ) (h : (l : ℕ) → clients.size ≤ length (cs l)) (k : servers.size ≤ length ss) where
+  lent-claimed : Converges (lent cs ss)
   lent-claimed =
-      carries (lent forClient forServer) built (Both (clientsLent forClient) clientCalls (serverLent forServer) serverCalls (Are clientForm) (Are serverForm))
-      (follows (clientsLent forClient) clientCalls (serverLent forServer) serverCalls (Are clientForm) (Are serverForm) (client-follows forClient h) (server-follows forServer k)) claimed
+      carries (lent cs ss) built (Both (clientsLent cs) clientCalls (serverLent ss) serverCalls (Are clientForm) (Are serverForm))
+      (follows (clientsLent cs) clientCalls (serverLent ss) serverCalls (Are clientForm) (Are serverForm) (client-follows cs h) (server-follows ss k)) claimed
 
 pub lent-carried : LentCarried
-lent-carried c s h k =
-    let holds = lent-claimed c s h k in
+lent-carried cs ss h k =
+    let holds = lent-claimed cs ss h k in
     record {
       claimed = holds;
-      consistent = consequences .consistent (lent c s) holds;
-      refusals = consequences .refusals (lent c s) holds;
-      agree = consequences .agree (lent c s) built holds claimed;
+      consistent = consequences .consistent (lent cs ss) holds;
+      refusals = consequences .refusals (lent cs ss) holds;
+      agree = consequences .agree (lent cs ss) built holds claimed;
     }

@@ -26,15 +26,15 @@ answerOf k = record { refusal = refusalOf k; end = k .bytes; passed = countOf k 
 abbrev pub sentOf : Called → Sent
 sentOf k = record { refusal = refusalOf k; written = countOf k; buffer = k .bytes }
 
--- These bytes are lent to an opening. Lists and counts are those of the end that the bytes are.
-abbrev pub clientsLent : List ℕ → ClientCalls
+-- An opening gets the bytes lent for its line. Lists and counts are those of the end that the bytes are.
+abbrev pub clientsLent : (ℕ → List ℕ) → ClientCalls
 clientsLent lent =
     record {
       Client = List ℕ;
       items = λ b. clientCalls .items (clients.endIn b);
       made = λ b. clientCalls .made (clients.endIn b);
       taken = λ b. clientCalls .taken (clients.endIn b);
-      opens = λ n l items. answerOf (client.openedIn lent n l (itemBytes items));
+      opens = λ n l items. answerOf (client.openedIn (lent l) n l (itemBytes items));
       insert = λ b p x. answerOf (client.insertedIn b p x);
       delete = λ b p. answerOf (client.deletedIn b p);
       send = λ b l k out. sentOf (client.sentIn b l k out);
@@ -55,10 +55,13 @@ serverLent lent =
       take = λ b message. answerOf (server.takenIn b message);
     }
 
--- the bytes lent for each client, and for the server
-abbrev pub lent : List ℕ → List ℕ → Sheet
-lent forClient forServer = sheetOf (clientsLent forClient) (serverLent forServer)
+-- the bytes lent for the client on each line, and for the server
+abbrev pub lent : (ℕ → List ℕ) → List ℕ → Sheet
+lent forClients forServer = sheetOf (clientsLent forClients) (serverLent forServer)
 
--- Demands 2 and 3 of the lent bytes, whatever stood in them, and whatever stands past the layouts; no list of calls tells them from the structs.
+-- Demands 2 and 3 of the lent bytes, if they are at least as many as the layouts have, whatever stood in them. No list of calls tells
+-- them from the structs.
 abbrev pub LentCarried : Type 0
-LentCarried = (forClient forServer : List ℕ) → clients.size ≤ length forClient → servers.size ≤ length forServer → Carried (lent forClient forServer) built
+LentCarried =
+    (forClients : ℕ → List ℕ) (forServer : List ℕ) → ((l : ℕ) → clients.size ≤ length (forClients l)) → servers.size ≤ length forServer
+    → Carried (lent forClients forServer) built
