@@ -3,3 +3,4 @@ pub mod Loops
 pub mod Called
 pub mod Parts
 pub mod Sections
+pub mod ItemBytes

@@ -24,7 +24,7 @@ use Rattle.server.specs.declared.Answer as servers
 use Rattle.server.specs.View as view
 use Rattle.server.specs.Sound.{soundStruct}
 use Rattle.server.specs.Calls as server
-use Rattle.convergence.specs.Built.{clientAnswer, serverAnswer, clientCalls, serverCalls, built, Claimed, Carried}
+use Rattle.convergence.specs.Built.{clientAnswer, serverAnswer, clientCalls, serverCalls, built, Claimed, BuiltCarried}
 use Rattle.convergence.proofs.Carry.{Alike, carries}
 use Rattle.convergence.proofs.Pairs.{ClientFollows, ServerFollows, Both, follows}
 use Rattle.server.proofs.Stored.{view-store, store-sound}
@@ -74,7 +74,7 @@ guarded-back c a k = go (store.sound c)
     go true h = (rw (ne-eqb (a .refusal) 0 h), k h .1)
     go false h = (refl, refl)
 
-abbrev Alone : List ℕ → Sent → Type 0
+abbrev pub Alone : List ℕ → Sent → Type 0
 Alone lent r = Unwritten lent r × PastStays lent r
 
 guarded-alone : (c : Client) (lent : List ℕ) (a : Sent) → Alone lent a → Alone lent (client.guardedSending c a lent)
@@ -85,7 +85,7 @@ guarded-alone c lent a k = go (store.sound c)
     go true = k
     go false = (λ h. (refl, refl), refl)
 
-struct-client-alone : ClientAlone clientCalls
+pub struct-client-alone : ClientAlone clientCalls
 struct-client-alone =
     record {
       inserts = λ c p x. guarded-back c (model.insertClient (store.view c) p x) (edit-back (store.view c) _);
@@ -125,7 +125,7 @@ server-takes s m r bytes =
     ∙ ap (λ (v : models.Server). server.answered (view.store m) (models.takeServer v bytes)) (view-store m (r .1))))
     (record { refusal = refl; passed = refl; ends = (stored-end view.store m (models.takeServer m bytes) (server-back m bytes), keeps-sound .server-takes m bytes (r .1)) }))
 
-struct-server-alone : ServerAlone serverCalls
+pub struct-server-alone : ServerAlone serverCalls
 unfolding server.takes server.answered server.sends server.tells
 struct-server-alone =
     record {
@@ -175,7 +175,7 @@ claimed =
     carries built ours.ours (Both clientCalls ours.clientCalls serverCalls ours.serverCalls StandsClient StandsServer)
     (follows clientCalls ours.clientCalls serverCalls ours.serverCalls StandsClient StandsServer client-follows server-follows) model-converges.converges
 
-pub carried : Carried
+pub carried : BuiltCarried
 carried =
     record {
       claimed = claimed;

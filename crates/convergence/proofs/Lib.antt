@@ -1,3 +1,6 @@
 pub mod Carry
 pub mod Pairs
 pub mod Built
+pub mod Unpack
+pub mod Small
+pub mod Lent

@@ -71,9 +71,12 @@ fromServer a = answerAs sheets.server (serverAnswer a)
 abbrev pub Claimed : Type 0
 Claimed = Converges built
 
--- and what the claim gives: no list of calls tells the structs from the model
-pub record Carried : Type 0 where
-  pub claimed : Claimed
-  pub consistent : Consistent built
-  pub refusals : TakingRefusals built
-  pub agree : Agree built ours
+-- The claim of a sheet, and what it gives: no list of calls tells it from another that the claim holds of.
+pub record Carried (S T : Sheet) : Type 0 where
+  pub claimed : Converges S
+  pub consistent : Consistent S
+  pub refusals : TakingRefusals S
+  pub agree : Agree S T
+
+abbrev pub BuiltCarried : Type 0
+BuiltCarried = Carried built ours

@@ -1,0 +1,67 @@
+-- The sheet of the exported calls: an end is the bytes that were lent for it, as the last call on that end left them.
+use Prim.Native.Nat.{ℕ, _/_, _%_, _≤_}
+use mathlib.Core.List.{List}
+use lib.ListN.{length}
+use Rattle.model.specs.Questions.{Answer, Sent}
+use Rattle.model.specs.Sheet.{Sheet}
+use Rattle.model.specs.SheetOf.{ClientCalls, ServerCalls, sheetOf}
+use Rattle.c_layout.specs.Called.{Called}
+use Rattle.c_layout.specs.ItemBytes.{itemBytes}
+use Rattle.c_client.specs.Layout as clients
+use Rattle.c_client.specs.Calls as client
+use Rattle.c_server.specs.Layout as servers
+use Rattle.c_server.specs.Calls as server
+use Rattle.convergence.specs.Built.{clientCalls, serverCalls, built, Carried}
+
+-- An answer, taken apart: the refusal in bits 0 to 7, the count or length in bits 8 to 23.
+abbrev pub refusalOf : Called → ℕ
+refusalOf k = k .answer % 256
+
+abbrev pub countOf : Called → ℕ
+countOf k = k .answer / 256 % 65536
+
+abbrev pub answerOf : Called → Answer (List ℕ)
+answerOf k = record { refusal = refusalOf k; end = k .bytes; passed = countOf k }
+
+abbrev pub sentOf : Called → Sent
+sentOf k = record { refusal = refusalOf k; written = countOf k; buffer = k .bytes }
+
+-- An opening gets the bytes lent for its line. Lists and counts are those of the end that the bytes are.
+abbrev pub clientsLent : (ℕ → List ℕ) → ClientCalls
+clientsLent lent =
+    record {
+      Client = List ℕ;
+      items = λ b. clientCalls .items (clients.endIn b);
+      made = λ b. clientCalls .made (clients.endIn b);
+      taken = λ b. clientCalls .taken (clients.endIn b);
+      opens = λ n l items. answerOf (client.openedIn (lent l) n l (itemBytes items));
+      insert = λ b p x. answerOf (client.insertedIn b p x);
+      delete = λ b p. answerOf (client.deletedIn b p);
+      send = λ b l k out. sentOf (client.sentIn b l k out);
+      tell = λ b l out. sentOf (client.acknowledgedIn b l out);
+      take = λ b message. answerOf (client.takenIn b message);
+    }
+
+abbrev pub serverLent : List ℕ → ServerCalls
+serverLent lent =
+    record {
+      Server = List ℕ;
+      items = λ b. serverCalls .items (servers.endIn b);
+      made = λ b. serverCalls .made (servers.endIn b);
+      taken = λ b. serverCalls .taken (servers.endIn b);
+      opens = λ n items. answerOf (server.openedIn lent n (itemBytes items));
+      send = λ b l k out. sentOf (server.sentIn b l k out);
+      tell = λ b l out. sentOf (server.acknowledgedIn b l out);
+      take = λ b message. answerOf (server.takenIn b message);
+    }
+
+-- the bytes lent for the client on each line, and for the server
+abbrev pub lent : (ℕ → List ℕ) → List ℕ → Sheet
+lent forClients forServer = sheetOf (clientsLent forClients) (serverLent forServer)
+
+-- Demands 2 and 3 of the lent bytes, if they are at least as many as the layouts have, whatever stood in them. No list of calls tells
+-- them from the structs.
+abbrev pub LentCarried : Type 0
+LentCarried =
+    (forClients : ℕ → List ℕ) (forServer : List ℕ) → ((l : ℕ) → clients.size ≤ length (forClients l)) → servers.size ≤ length forServer
+    → Carried (lent forClients forServer) built
