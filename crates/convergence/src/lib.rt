@@ -1,5 +1,6 @@
-// The claim about all lists of calls, carried from the model to the structs that run. Below are the methods of both ends, each with the
-// call of the sheet `built` that it is for its contract: what is claimed of `built` is claimed of the methods.
+// The claim about all lists of calls, carried from the model to the structs that run, and from them to lent bytes. Below are the methods of
+// both ends, each with the call of the sheet `built` that it is for its contract: what is claimed of `built` is claimed of the methods. The
+// calls of the sheet `lent` are the contracts of the exported calls themselves.
 ghost use mathlib.Core.Path.{_≡_};
 ghost use Rattle.endpoint.specs.Sending.{answered};
 ghost use Rattle.convergence.specs.Built.{ofClient, ofServer, fromClient, fromServer, built};
