@@ -19,6 +19,10 @@ fn item(x: u32) {
     number(x as u64);
 }
 
+fn count(x: u16) {
+    number(x as u64);
+}
+
 // Client 1 takes an insert of client 2 at the front.
 fn take_insert(c: Client, k: u8, seen: u8) -> client::Answer
     ensures { λ r. ⌜ r ≡ taken c (1 ∷ 1 ∷ 1 ∷ 0 ∷ k ∷ 0 ∷ seen ∷ 0 ∷ 1 ∷ 0 ∷ 0 ∷ 0 ∷ 9 ∷ 2 ∷ []) ⌝ }
@@ -152,7 +156,7 @@ fn refused_client() {
     number(a.refusal as u64);
     let c = a.client;
     item(gathered(&c.items) | gathered(&c.pending_places) | gathered(&c.pending_items));
-    number((c.made | c.taken | c.acked | c.inserts | c.len) as u64);
+    count(c.made | c.taken | c.acked | c.inserts | c.len);
     byte(c.n | c.line);
     io::write_all(1, b"\n");
 }
@@ -163,9 +167,9 @@ fn refused_server() {
     number(a.refusal as u64);
     let s = a.server;
     item(gathered(&s.items) | gathered(&s.pending_places) | gathered(&s.pending_items));
-    number((gathered_counts(&s.made) | gathered_counts(&s.taken)) as u64);
-    number((gathered_counts(&s.acked) | gathered_counts(&s.inserts)) as u64);
-    number((s.initial | s.len) as u64);
+    count(gathered_counts(&s.made) | gathered_counts(&s.taken));
+    count(gathered_counts(&s.acked) | gathered_counts(&s.inserts));
+    count(s.initial | s.len);
     byte(s.n);
     io::write_all(1, b"\n");
 }
