@@ -2,3 +2,4 @@ pub mod Copy
 pub mod Parts
 pub mod Fitting
 pub mod Answering
+pub mod Filling

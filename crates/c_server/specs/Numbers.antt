@@ -4,7 +4,7 @@ use Prim.Native.Nat.{ℕ, min}
 use mathlib.Core.Path.{_≡_}
 use mathlib.Core.Bool.{true}
 use mathlib.Core.List.{List, map}
-use lib.ListN.{length, getD}
+use lib.ListN.{length, getD, take, drop}
 use Rattle.c_layout.specs.Words.{wordsOf}
 use Rattle.lines.specs.declared.Counts.{Counts}
 use Rattle.lines.specs.Lines.{counts}
@@ -30,6 +30,12 @@ pub record Alike (s t : Server) : Type 0 where
 pub record Reads (bytes : List ℕ) (k : Counts) (items ps xs : List ℕ) : Type 0 where
   pub sizes : Sizes k items ps xs
   pub alike : Alike (serverOf k items ps xs) (serverIn (wordsOf bytes))
+
+-- the arrays that stand in an end's bytes
+pub record Filled (bytes items ps xs : List ℕ) : Type 0 where
+  pub list : items ≡ wordsOf (take 2048 (drop 140 bytes))
+  pub places : ps ≡ wordsOf (take 2048 (drop 2188 bytes))
+  pub pending : xs ≡ wordsOf (take 2048 (drop 4236 bytes))
 
 -- a count of each of the eight lines
 pub record Eights (k : Counts) : Type 0 where

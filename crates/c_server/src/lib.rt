@@ -51,7 +51,8 @@ pub fn send(end: &[u8], line: u8, number: u16, out: &mut [u8]) -> u64
     let mut items = [0u32; Server::ITEMS];
     let mut places = [0u32; SLOTS];
     let mut pending = [0u32; SLOTS];
-    let k = layout::read(&end[0..SIZE], &mut items, &mut places, &mut pending);
+    layout::fill(&end[0..SIZE], &mut items, &mut places, &mut pending);
+    let k = layout::counts(&end[0..SIZE]);
     let s = server::sending::send_lent(k, &items, &places, &pending, line, number, out);
     answer(s.refusal, s.written as u16)
 }
@@ -66,7 +67,8 @@ pub fn acknowledge(end: &[u8], line: u8, out: &mut [u8]) -> u64
     let mut items = [0u32; Server::ITEMS];
     let mut places = [0u32; SLOTS];
     let mut pending = [0u32; SLOTS];
-    let k = layout::read(&end[0..SIZE], &mut items, &mut places, &mut pending);
+    layout::fill(&end[0..SIZE], &mut items, &mut places, &mut pending);
+    let k = layout::counts(&end[0..SIZE]);
     let s = server::sending::tell_lent(k, &items, &places, &pending, line, out);
     answer(s.refusal, s.written as u16)
 }
@@ -81,7 +83,8 @@ pub fn take(end: &mut [u8], message: &[u8]) -> u64
     let mut items = [0u32; Server::ITEMS];
     let mut places = [0u32; SLOTS];
     let mut pending = [0u32; SLOTS];
-    let k = layout::read(&end[0..SIZE], &mut items, &mut places, &mut pending);
+    layout::fill(&end[0..SIZE], &mut items, &mut places, &mut pending);
+    let k = layout::counts(&end[0..SIZE]);
     let a = server::taking::take_lent(k, &mut items, &mut places, &mut pending, message);
     if a.refusal == 0 {
         layout::write(a.counts, &items, &places, &pending, &mut end[0..SIZE]);
