@@ -5,27 +5,27 @@ use native.Mathlib.Omega.{arith}
 use mathlib.Core.List.{List, _∷_, _++_}
 use lib.ListN.{length, take, drop, replicate, take-append-drop, length-take, length-drop}
 use lib.Seq.{take-append-seam, drop-append-seam, drop-drop}
-use Rattle.ot.specs.declared.Edit.{Edit}
-use Rattle.ot.specs.declared.Edit.the-variants.{Nothing, Delete, Insert}
-use Rattle.ot.specs.Edit.{insertedAt, deletedAt, applied, sizeAfter, fits}
+use Rattle.ot.specs.declared.Form.{Form}
+use Rattle.ot.specs.declared.Form.the-variants as form
+use Rattle.ot.specs.Edit.{Edit, Nothing, Delete, Insert, edit, insertedAt, deletedAt, applied, sizeAfter, fits}
 use Rattle.list.specs.Items.{padded, behind, Room, Edited, StaysPadded}
 use borrow.Rule.Slice.PartMut.{putMid}
 use Rattle.list.proofs.Sweep.{raised, lowered, part-raised, part-lowered}
 use Rattle.ot.proofs.Fits.{between-true, length-inserted, length-deleted}
 
--- ---- by the kind of the edit, which the code knows by an equation
+-- ---- by the form of the edit, which the code knows by an equation
 
-pub room-delete : {e : Edit} {p n m : ℕ} → e ≡ Delete p → Room e n m → (1 ≤ p) × (p ≤ n) × (n ≤ m)
+pub room-delete : {f : Form} {p n m : ℕ} (x : ℕ) → f ≡ form.Delete p → Room (edit f x) n m → (1 ≤ p) × (p ≤ n) × (n ≤ m)
 unfolding fits
-room-delete {n = n} {m = m} q r =
-    let v = subst (λ (d : Edit). Room d n m) q r in
+room-delete {n = n} {m = m} x q r =
+    let v = subst (λ (g : Form). Room (edit g x) n m) q r in
     let h = between-true 1 _ n (v .fitting) in
     (h .0, h .1, v .before)
 
-pub room-insert : {e : Edit} {p x s n m : ℕ} → e ≡ Insert p x s → Room e n m → (1 ≤ p) × (p ≤ n + 1) × (n + 1 ≤ m)
+pub room-insert : {f : Form} {p s n m : ℕ} (x : ℕ) → f ≡ form.Insert p s → Room (edit f x) n m → (1 ≤ p) × (p ≤ n + 1) × (n + 1 ≤ m)
 unfolding fits sizeAfter
-room-insert {n = n} {m = m} q r =
-    let v = subst (λ (d : Edit). Room d n m) q r in
+room-insert {n = n} {m = m} x q r =
+    let v = subst (λ (g : Form). Room (edit g x) n m) q r in
     let h = between-true 1 _ (n + 1) (v .fitting) in
     (h .0, h .1, v .after)
 
@@ -53,19 +53,19 @@ part-inserted k n x a b h l e =
     ∙ part-raised k (n - k) n x a (omega arith) l
     ∙ ap (λ (j : ℕ). insertedAt k x (take n a) ++ drop j a) (let j : suc n ≡ n + 1 = omega arith in j)
 
-pub edited-nothing : {e : Edit} {n : ℕ} {a : List ℕ} → e ≡ Nothing → Edited e n a a n
+pub edited-nothing : {f : Form} {n : ℕ} {a : List ℕ} (x : ℕ) → f ≡ form.Nothing → Edited (edit f x) n a a n
 unfolding applied behind sizeAfter
-edited-nothing {n = n} {a = a} q =
-    subst (λ (d : Edit). Edited d n a a n) (sym q) (record { items = sym (take-append-drop n a); length = refl })
+edited-nothing {n = n} {a = a} x q =
+    subst (λ (g : Form). Edited (edit g x) n a a n) (sym q) (record { items = sym (take-append-drop n a); length = refl })
 
-pub edited-delete : {e : Edit} {p n : ℕ} {a b : List ℕ} → e ≡ Delete p → b ≡ deletedAt (p - 1) (take n a) ++ 0 ∷ drop n a → Edited e n a b (n - 1)
+pub edited-delete : {f : Form} {p n : ℕ} {a b : List ℕ} (x : ℕ) → f ≡ form.Delete p → b ≡ deletedAt (p - 1) (take n a) ++ 0 ∷ drop n a → Edited (edit f x) n a b (n - 1)
 unfolding applied behind sizeAfter
-edited-delete {n = n} {a = a} {b = b} q h = subst (λ (d : Edit). Edited d n a b (n - 1)) (sym q) (record { items = h; length = refl })
+edited-delete {n = n} {a = a} {b = b} x q h = subst (λ (g : Form). Edited (edit g x) n a b (n - 1)) (sym q) (record { items = h; length = refl })
 
-pub edited-insert : {e : Edit} {p x s n : ℕ} {a b : List ℕ} → e ≡ Insert p x s → b ≡ insertedAt (p - 1) x (take n a) ++ drop (n + 1) a → Edited e n a b (n + 1)
+pub edited-insert : {f : Form} {p s n : ℕ} {a b : List ℕ} (x : ℕ) → f ≡ form.Insert p s → b ≡ insertedAt (p - 1) x (take n a) ++ drop (n + 1) a → Edited (edit f x) n a b (n + 1)
 unfolding applied behind sizeAfter
-edited-insert {p = p} {x = x} {n = n} {a = a} {b = b} q h =
-    subst (λ (d : Edit). Edited d n a b (n + 1)) (sym q) (record { items = h ∙ ap (λ (t : List ℕ). insertedAt (p - 1) x (take n a) ++ t) (sym (drop-drop 1 n a)); length = refl })
+edited-insert {p = p} {n = n} {a = a} {b = b} x q h =
+    subst (λ (g : Form). Edited (edit g x) n a b (n + 1)) (sym q) (record { items = h ∙ ap (λ (t : List ℕ). insertedAt (p - 1) x (take n a) ++ t) (sym (drop-drop 1 n a)); length = refl })
 
 -- ---- unused places
 
@@ -74,11 +74,11 @@ behind-padded : (m : ℕ) (e : Edit) (l : List ℕ) → Room e (length l) m → 
 unfolding behind applied
 behind-padded m Nothing l r = refl
 behind-padded m (Delete p) l r =
-    let h = room-delete refl r in
+    let h = room-delete {f = form.Delete p} 0 refl r in
     let e : suc (m - length l) ≡ m - length (deletedAt (p - 1) l) = omega (arith, length-deleted (p - 1) l (omega arith)) in
     ap (λ (k : ℕ). replicate k 0) e
 behind-padded m (Insert p x s) l r =
-    let h = room-insert refl r in
+    let h = room-insert {f = form.Insert p s} x refl r in
     let e : m - length l ≡ suc (m - length (insertedAt (p - 1) x l)) = omega (arith, length-inserted (p - 1) x l) in
     ap (λ (k : ℕ). drop 1 (replicate k 0)) e
 

@@ -2,3 +2,5 @@ pub mod Sweep
 pub mod Array
 pub mod Pad
 pub mod Zero
+pub mod Parts
+pub mod Items

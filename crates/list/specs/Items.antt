@@ -1,13 +1,12 @@
 -- A list in the first places of an array, and the array after an edit of the list.
 use Prim.Native.Nat.{ℕ, _+_, _-_, _≤_}
 use mathlib.Core.Path.{_≡_}
-use mathlib.Core.Bool.{true}
-use mathlib.Core.List.{List, _∷_, _++_}
+use mathlib.Core.Bool.{Bool, true, _&&_}
+use mathlib.Core.List.{List, [], _∷_, _++_}
+use lib.Dec.{eqb}
 use lib.ListN.{length, take, drop, replicate}
-use Rattle.limits.specs.Limits.{maxItems}
-use Rattle.ot.specs.declared.Edit.{Edit}
-use Rattle.ot.specs.declared.Edit.the-variants.{Nothing, Delete, Insert}
-use Rattle.ot.specs.Edit.{applied, fits, sizeAfter}
+use Rattle.limits.specs.Limits.{maxItems, maxInitial}
+use Rattle.ot.specs.Edit.{Edit, Nothing, Delete, Insert, applied, fits, sizeAfter}
 
 -- how many items a list can have
 abbrev pub capacity : ℕ
@@ -16,6 +15,18 @@ capacity = maxItems
 -- an array of n places that holds the list l: the unused places hold z
 abbrev pub padded : {A : Type 0} → A → ℕ → List A → List A
 padded z n l = l ++ replicate (n - length l) z
+
+-- a list of items in the array of an end
+abbrev pub stored : List ℕ → List ℕ
+stored l = padded 0 capacity l
+
+-- a longer initial list is cut, so that any list has an answer
+abbrev pub initialItems : List ℕ → List ℕ
+initialItems l = stored (take maxInitial l)
+
+unfoldable pub allZero : List ℕ → Bool
+allZero [] = true
+allZero (x ∷ l) = eqb x 0 && allZero l
 
 -- the places behind the list after an edit: an insert takes the first of them, a delete puts one more in front of them, which is 0
 unfoldable pub behind : Edit → List ℕ → List ℕ

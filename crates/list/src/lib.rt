@@ -1,10 +1,12 @@
-// A list in the first places of an array, and an edit applied to it in place.
+// A list in the first places of an array: the initial list, an edit applied in place, and the test that unused places are zero.
 ghost use mathlib.Core.Path.{_≡_};
 ghost use Prim.Native.Nat.{_-_, _<_};
 ghost use mathlib.Core.List.{[], _∷_, _++_};
-ghost use lib.ListN.{length, take, drop};
-ghost use Rattle.list.specs.Items.{capacity, Room, Edited};
-use ot::Edit;
+ghost use lib.ListN.{length, getD, take, drop, replicate};
+ghost use Rattle.ot.specs.Edit.{edit};
+ghost use Rattle.list.specs.Items.{capacity, initialItems, allZero, Room, Edited};
+use limits::INITIAL;
+use ot::Form;
 
 // Puts x in front of a part of a list whose last place is not in use; what stands there moves up by one. The part begins where x goes,
 // so that the compiler makes the loop one move of memory.
@@ -34,24 +36,54 @@ fn delete_front(part: &mut [u32])
     part[last] = 0;
 }
 
-// Applies e to the list that the first len places hold, and gives its new length.
-pub fn apply(items: &mut [u32], len: u16, e: Edit) -> u16
-    requires { ⌜ (length (now items) ≡ capacity) × Room e len capacity ⌝ }
-    ensures { λ r. ⌜ Edited e len (now (items .entry)) (now (items .exit)) r ⌝ }
+// Applies the edit of form f and item x to the list that the first len places hold, and gives its new length.
+pub fn apply(items: &mut [u32], len: u16, f: Form, x: u32) -> u16
+    requires { ⌜ (length (now items) ≡ capacity) × Room (edit f x) len capacity ⌝ }
+    ensures { λ r. ⌜ Edited (edit f x) len (now (items .entry)) (now (items .exit)) r ⌝ }
 {
-    match e {
-        Edit::Nothing => len,
-        Edit::Delete(p) => {
+    match f {
+        Form::Nothing => len,
+        Form::Delete(p) => {
             let from = (p - 1) as usize;
             let to = len as usize;
             delete_front(&mut items[from..to]);
             len - 1
         }
-        Edit::Insert(p, x, _) => {
+        Form::Insert(p, _) => {
             let from = (p - 1) as usize;
             let to = len as usize + 1;
             insert_front(&mut items[from..to], x);
             len + 1
         }
     }
+}
+
+// The item at place i, counted from 0; 0 past the end.
+fn item_at(items: &[u32], i: usize) -> u32
+    ensures { λ r. ⌜ r ≡ getD (now (items .entry)) i 0 ⌝ }
+{
+    if i < items.len() { items[i] } else { 0 }
+}
+
+// Puts the first 128 items into the array of an end, whose places are zero.
+pub fn initial(items: &[u32], list: &mut [u32])
+    requires { ⌜ now list ≡ replicate capacity 0 ⌝ }
+    ensures { λ _. ⌜ now (list .exit) ≡ initialItems (now (items .entry)) ⌝ }
+{
+    for i in 0..INITIAL {
+        list[i] = item_at(items, i);
+    }
+}
+
+// Are the places from len on zero? ORs all words together and compares once, so that the loop has no branch.
+pub fn zero_from(items: &[u32], len: usize) -> bool
+    ensures { λ r. ⌜ r ≡ allZero (drop len (now (items .entry))) ⌝ }
+{
+    let mut all = 0u32;
+    let mut i = len;
+    while i < items.len() {
+        all = all | items[i];
+        i += 1;
+    }
+    all == 0
 }

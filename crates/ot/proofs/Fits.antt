@@ -7,9 +7,7 @@ use mathlib.Core.List.{List}
 use lib.Dec.{leb, ltb}
 use lib.ListN.{length, length-append, length-take, length-drop}
 use borrow.Author.Tests.{ltb-true, ltb-false, leb-true, le-leb}
-use Rattle.ot.specs.declared.Edit.{Edit}
-use Rattle.ot.specs.declared.Edit.the-variants.{Nothing, Delete, Insert}
-use Rattle.ot.specs.Edit.{insertedAt, deletedAt, applied, sizeAfter, fits}
+use Rattle.ot.specs.Edit.{Edit, Nothing, Delete, Insert, insertedAt, deletedAt, applied, sizeAfter, fits}
 
 -- ---- tests
 

@@ -8,6 +8,10 @@ pub laws : Laws
 laws =
     record {
       square = square.square;
+      form-of = keeps.form-of;
+      whole = keeps.whole;
+      form-moves = keeps.form-moves;
+      item-stays = keeps.item-stays;
       keeps = keeps.keeps;
       moves = keeps.moves;
       stays = keeps.stays;

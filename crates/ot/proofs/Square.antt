@@ -7,13 +7,12 @@ use mathlib.Core.List.{List}
 use lib.Dec.{leb, ltb, eqb}
 use lib.ListN.{length}
 use borrow.Author.Tests.{ltb-true, leb-true, leb-false, eqb-false, lt-ltb, le-ltb, le-leb, lt-leb, not-true}
-use Rattle.ot.specs.declared.Edit.{Edit}
-use Rattle.ot.specs.declared.Edit.the-variants.{Nothing, Delete, Insert}
-use Rattle.ot.specs.Edit.{deletedAt, applied, sizeAfter, fits, transformed}
+use Rattle.ot.specs.declared.Form.the-variants as form
+use Rattle.ot.specs.Edit.{Edit, Nothing, Delete, Insert, edit, deletedAt, applied, sizeAfter, fits, transformed}
 use Rattle.ot.specs.Laws.{distinct, Closes}
 use Rattle.ot.proofs.Exchange.{swap-insert-insert, swap-insert-delete, swap-delete-insert, swap-delete-delete}
 use Rattle.ot.proofs.Fits.{between-true, true-between, Order, below, level, above, order, size}
-use Rattle.ot.proofs.Keeps.{either}
+use Rattle.ot.proofs.Keeps.{either, insert-forms}
 
 -- ---- the transformed edit fits
 
@@ -24,28 +23,26 @@ fits-after (Delete p) Nothing n f g = f
 fits-after (Delete p) (Delete q) n f g =
     let h = between-true 1 p n f in
     let k = between-true 1 q n g in
-    either (λ e. fits e (n - 1) ≡ true) (ltb p q) (Delete p) (cond (ltb q p) (Delete (p - 1)) Nothing)
+    either (λ e. fits (edit e 0) (n - 1) ≡ true) (ltb p q) (form.Delete p) (cond (ltb q p) (form.Delete (p - 1)) form.Nothing)
     (λ t. true-between 1 p (n - 1) (omega arith) (omega (arith, ltb-true p q t)))
-    (λ _. either (λ e. fits e (n - 1) ≡ true) (ltb q p) (Delete (p - 1)) Nothing
+    (λ _. either (λ e. fits (edit e 0) (n - 1) ≡ true) (ltb q p) (form.Delete (p - 1)) form.Nothing
     (λ t. true-between 1 (p - 1) (n - 1) (omega (arith, ltb-true q p t)) (omega arith)) (λ _. refl))
 fits-after (Delete p) (Insert q y s) n f g =
     let h = between-true 1 p n f in
-    either (λ e. fits e (n + 1) ≡ true) (ltb p q) (Delete p) (Delete (p + 1)) (λ _. true-between 1 p (n + 1) (omega arith) (omega arith))
+    either (λ e. fits (edit e 0) (n + 1) ≡ true) (ltb p q) (form.Delete p) (form.Delete (p + 1)) (λ _. true-between 1 p (n + 1) (omega arith) (omega arith))
     (λ _. true-between 1 (p + 1) (n + 1) (omega arith) (omega arith))
 fits-after (Insert p x r) Nothing n f g = f
 fits-after (Insert p x r) (Delete q) n f g =
     let h = between-true 1 p (n + 1) f in
     let k = between-true 1 q n g in
-    either (λ e. fits e (n - 1) ≡ true) (leb p q) (Insert p x r) (Insert (p - 1) x r)
+    either (λ e. fits (edit e x) (n - 1) ≡ true) (leb p q) (form.Insert p r) (form.Insert (p - 1) r)
     (λ t. true-between 1 p (n - 1 + 1) (omega arith) (omega (arith, leb-true p q t)))
     (λ t. true-between 1 (p - 1) (n - 1 + 1) (omega (arith, leb-false p q t)) (omega arith))
 fits-after (Insert p x r) (Insert q y s) n f g =
     let h = between-true 1 p (n + 1) f in
     let same = true-between 1 p (n + 1 + 1) (omega arith) (omega arith) in
     let up = true-between 1 (p + 1) (n + 1 + 1) (omega arith) (omega arith) in
-    either (λ e. fits e (n + 1) ≡ true) (ltb p q) (Insert p x r) (cond (ltb q p) (Insert (p + 1) x r) (cond (ltb s r) (Insert (p + 1) x r) (Insert p x r))) (λ _. same)
-    (λ _. either (λ e. fits e (n + 1) ≡ true) (ltb q p) (Insert (p + 1) x r) (cond (ltb s r) (Insert (p + 1) x r) (Insert p x r)) (λ _. up)
-    (λ _. either (λ e. fits e (n + 1) ≡ true) (ltb s r) (Insert (p + 1) x r) (Insert p x r) (λ _. up) (λ _. same)))
+    insert-forms (λ e. fits (edit e x) (n + 1) ≡ true) p r (form.Insert q s) same up (λ i e k. absurd (let z : _≡_ {A = ℕ} 0 1 = cc in omega arith))
 
 -- ---- both orders give one list
 

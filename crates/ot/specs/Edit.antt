@@ -1,17 +1,40 @@
--- What an edit does to a list, and its form after another edit (01: "Edits and carrying").
+-- An edit: its form and, where it is an insert, the item that it brings; and what it does to a list.
 use Prim.Native.Nat.{ℕ, suc, _+_, _-_}
-use mathlib.Core.Bool.{Bool, true, _&&_, cond}
+use mathlib.Core.Bool.{Bool, true, _&&_}
 use mathlib.Core.List.{List, _∷_, _++_}
-use lib.Dec.{ltb, leb}
+use lib.Dec.{leb}
 use lib.ListN.{take, drop}
-use Rattle.ot.specs.declared.Edit.{Edit}
-use Rattle.ot.specs.declared.Edit.the-variants.{Nothing, Delete, Insert}
+use Rattle.ot.specs.declared.Form.{Form}
+use Rattle.ot.specs.declared.Form.the-variants as form
+use Rattle.ot.specs.Form.{moved}
 
--- 0 for nothing, which has no position
-abbrev pub positionOf : Edit → ℕ
-positionOf Nothing = 0
-positionOf (Delete p) = p
-positionOf (Insert p x r) = p
+-- 01: an insert (position, item, priority), a delete (position) or nothing
+pub data Edit : Type 0 where
+  Nothing : Edit
+  Delete : (p : ℕ) → Edit
+  Insert : (p x r : ℕ) → Edit
+
+-- The code has form and item side by side. An edit that inserts nothing has item 0.
+abbrev pub formOf : Edit → Form
+formOf Nothing = form.Nothing
+formOf (Delete p) = form.Delete p
+formOf (Insert p x r) = form.Insert p r
+
+abbrev pub itemOf : Edit → ℕ
+itemOf Nothing = 0
+itemOf (Delete p) = 0
+itemOf (Insert p x r) = x
+
+-- the edit of a form, with the item beside it
+abbrev pub edit : Form → ℕ → Edit
+edit form.Nothing x = Nothing
+edit (form.Delete p) x = Delete p
+edit (form.Insert p r) x = Insert p x r
+
+-- The form changes, the item stays.
+unfoldable pub transformed : Edit → Edit → Edit
+unfolding moved
+transformed a b = edit (moved (formOf a) (formOf b)) (itemOf a)
 
 -- The place i, counted from 0, of a list of any items: put in before it, taken out.
 abbrev pub insertedAt : {A : Type 0} → ℕ → A → List A → List A
@@ -36,14 +59,3 @@ unfoldable pub fits : Edit → ℕ → Bool
 fits Nothing n = true
 fits (Delete p) n = leb 1 p && leb p n
 fits (Insert p x r) n = leb 1 p && leb p (n + 1)
-
--- 01's word: A carried past B. At equal positions the smaller priority stays; equal priorities leave A.
-unfoldable pub transformed : Edit → Edit → Edit
-transformed Nothing b = Nothing
-transformed (Delete p) Nothing = Delete p
-transformed (Delete p) (Delete q) = cond (ltb p q) (Delete p) (cond (ltb q p) (Delete (p - 1)) Nothing)
-transformed (Delete p) (Insert q y s) = cond (ltb p q) (Delete p) (Delete (p + 1))
-transformed (Insert p x r) Nothing = Insert p x r
-transformed (Insert p x r) (Delete q) = cond (leb p q) (Insert p x r) (Insert (p - 1) x r)
-transformed (Insert p x r) (Insert q y s) =
-    cond (ltb p q) (Insert p x r) (cond (ltb q p) (Insert (p + 1) x r) (cond (ltb s r) (Insert (p + 1) x r) (Insert p x r)))

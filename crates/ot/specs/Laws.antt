@@ -6,9 +6,9 @@ use mathlib.Core.Option.{Option, none, some}
 use mathlib.Core.List.{List}
 use lib.Dec.{leb, eqb}
 use lib.ListN.{length}
-use Rattle.ot.specs.declared.Edit.{Edit}
-use Rattle.ot.specs.declared.Edit.the-variants.{Nothing, Delete, Insert}
-use Rattle.ot.specs.Edit.{positionOf, applied, sizeAfter, fits, transformed}
+use Rattle.ot.specs.Form.{positionOf, moved}
+use Rattle.ot.specs.declared.Form.{Form}
+use Rattle.ot.specs.Edit.{Edit, Nothing, Delete, Insert, formOf, itemOf, edit, applied, sizeAfter, fits, transformed}
 
 -- what an insert brings with it: item and priority
 unfoldable pub stamp : Edit → Option (ℕ × ℕ)
@@ -39,10 +39,15 @@ pub record Closes (a b : Edit) (l : List ℕ) : Type 0 where
 pub record Laws : Type 0 where
   -- the square (TP1)
   pub square : (a b : Edit) (l : List ℕ) → fits a (length l) ≡ true → fits b (length l) ≡ true → distinct a b ≡ true → Closes a b l
+  -- an edit is its form with its item; transforming moves the form and leaves the item
+  pub form-of : (f : Form) (x : ℕ) → formOf (edit f x) ≡ f
+  pub whole : (e : Edit) → edit (formOf e) (itemOf e) ≡ e
+  pub form-moves : (a b : Edit) → formOf (transformed a b) ≡ moved (formOf a) (formOf b)
+  pub item-stays : (a b : Edit) → itemOf (transformed a b) ≡ itemOf a
   -- no item and no priority changes, appears or goes
   pub keeps : (a b : Edit) → stamp (transformed a b) ≡ stamp a
   -- a position moves up by one place at most, and never to 0
-  pub moves : (a b : Edit) → positionOf (transformed a b) ≤ positionOf a + 1
+  pub moves : (a b : Form) → positionOf (moved a b) ≤ positionOf a + 1
   pub stays : (n m : ℕ) (a b : Edit) → within n a ≡ true → within m b ≡ true → within (n + 1) (transformed a b) ≡ true
   -- an edit that fits changes the length as its kind says; no edit adds more than one item
   pub size : (e : Edit) (l : List ℕ) → fits e (length l) ≡ true → length (applied e l) ≡ sizeAfter e (length l)

@@ -1,3 +1,4 @@
+pub mod Form
 pub mod Edit
 pub mod Cases
 pub mod Laws

@@ -1,58 +1,60 @@
-// Edits of a list, and operational transformation: the form of one edit after another.
+// Operational transformation: the form of one edit after another.
 ghost use mathlib.Core.Path.{_≡_};
-ghost use Prim.Native.Nat.{_<_};
-ghost use Rattle.ot.specs.Edit.{positionOf, fits, transformed};
+ghost use Prim.Native.Nat.{ℕ, _<_};
+ghost use Rattle.ot.specs.Form.{positionOf, moved};
+ghost use Rattle.ot.specs.Edit.{edit, fits};
 
-// An edit. Positions count from 1.
+// The form of an edit: what it does, and where. Positions count from 1. The item that an insert brings stands beside the form: no
+// transformation looks at it.
 // Nothing stands first: an unused place of an array then holds it, and no second value for "empty" is needed.
-pub enum Edit {
+pub enum Form {
     // what became of a delete whose item another edit had deleted already
     Nothing,
     // position
     Delete(u16),
-    // position, item, priority
-    Insert(u16, u32, u8),
+    // position, priority
+    Insert(u16, u8),
 }
 
 // The form of a delete at p after b.
-fn transform_delete(p: u16, b: Edit) -> Edit
+fn delete_moved(p: u16, b: Form) -> Form
     requires { ⌜ p < 65535 ⌝ }
-    ensures { λ r. ⌜ r ≡ transformed (Edit.Delete p) b ⌝ }
+    ensures { λ r. ⌜ r ≡ moved (Form.Delete p) b ⌝ }
 {
     match b {
-        Edit::Nothing => Edit::Delete(p),
-        Edit::Delete(q) => {
+        Form::Nothing => Form::Delete(p),
+        Form::Delete(q) => {
             if p < q {
-                return Edit::Delete(p);
+                return Form::Delete(p);
             }
             if q < p {
-                return Edit::Delete(p - 1);
+                return Form::Delete(p - 1);
             }
-            Edit::Nothing
+            Form::Nothing
         }
-        Edit::Insert(q, _, _) => {
+        Form::Insert(q, _) => {
             if p < q {
-                return Edit::Delete(p);
+                return Form::Delete(p);
             }
-            Edit::Delete(p + 1)
+            Form::Delete(p + 1)
         }
     }
 }
 
-// The position after b of an insert at p with priority r; its item plays no part.
-fn insert_moved(p: u16, r: u8, b: Edit) -> u16
+// The position after b of an insert at p with priority r.
+fn insert_moved(p: u16, r: u8, b: Form) -> u16
     requires { ⌜ p < 65535 ⌝ }
-    ensures { λ n. ⌜ n ≡ positionOf (transformed (Edit.Insert p 0 r) b) ⌝ }
+    ensures { λ n. ⌜ n ≡ positionOf (moved (Form.Insert p r) b) ⌝ }
 {
     match b {
-        Edit::Nothing => p,
-        Edit::Delete(q) => {
+        Form::Nothing => p,
+        Form::Delete(q) => {
             if p <= q {
                 return p;
             }
             p - 1
         }
-        Edit::Insert(q, _, s) => {
+        Form::Insert(q, s) => {
             if p < q {
                 return p;
             }
@@ -65,24 +67,24 @@ fn insert_moved(p: u16, r: u8, b: Edit) -> u16
 }
 
 // The form of a after b. The bound leaves room for the one place that a position can move up.
-pub fn transform(a: Edit, b: Edit) -> Edit
+pub fn transform(a: Form, b: Form) -> Form
     requires { ⌜ positionOf a < 65535 ⌝ }
-    ensures { λ r. ⌜ r ≡ transformed a b ⌝ }
+    ensures { λ r. ⌜ r ≡ moved a b ⌝ }
 {
     match a {
-        Edit::Nothing => Edit::Nothing,
-        Edit::Delete(p) => transform_delete(p, b),
-        Edit::Insert(p, x, r) => Edit::Insert(insert_moved(p, r, b), x, r),
+        Form::Nothing => Form::Nothing,
+        Form::Delete(p) => delete_moved(p, b),
+        Form::Insert(p, r) => Form::Insert(insert_moved(p, r, b), r),
     }
 }
 
-// Whether the position of e fits a list of len items.
-pub fn fit(e: Edit, len: u16) -> bool
-    ensures { λ r. ⌜ r ≡ fits e len ⌝ }
+// Whether an edit of this form, whatever item it brings, fits a list of len items.
+pub fn fit(f: Form, len: u16) -> bool
+    ensures { λ r. ⌜ ((x : ℕ) → r ≡ fits (edit f x) len) ⌝ }
 {
-    match e {
-        Edit::Nothing => true,
-        Edit::Delete(p) => (1 <= p) & (p <= len),
-        Edit::Insert(p, _, _) => (1 <= p) & (p as u32 <= len as u32 + 1),
+    match f {
+        Form::Nothing => true,
+        Form::Delete(p) => (1 <= p) & (p <= len),
+        Form::Insert(p, _) => (1 <= p) & (p as u32 <= len as u32 + 1),
     }
 }

@@ -1,7 +1,8 @@
 // Messages between a client and the server. specs/Bytes.antt says what their bytes are.
 ghost use mathlib.Core.Path.{_≡_};
+ghost use Rattle.ot.specs.Edit.{edit};
 ghost use Rattle.wire.specs.Message.{messageOf};
-use ot::Edit;
+use ot::Form;
 
 // What every edit message begins with. Direction 0 goes up to the server, 1 down to a client.
 pub struct Header {
@@ -28,13 +29,13 @@ pub enum Read {
     Message(Message),
 }
 
-// The message of an edit.
-pub fn of_edit(h: Header, e: Edit) -> Message
-    ensures { λ r. ⌜ r ≡ messageOf h e ⌝ }
+// The message of an edit, of form f and item x.
+pub fn of_edit(h: Header, f: Form, x: u32) -> Message
+    ensures { λ r. ⌜ r ≡ messageOf h (edit f x) ⌝ }
 {
-    match e {
-        Edit::Nothing => Message::Nothing(h),
-        Edit::Delete(p) => Message::Delete(h, p),
-        Edit::Insert(p, x, r) => Message::Insert(h, p, x, r),
+    match f {
+        Form::Nothing => Message::Nothing(h),
+        Form::Delete(p) => Message::Delete(h, p),
+        Form::Insert(p, r) => Message::Insert(h, p, x, r),
     }
 }

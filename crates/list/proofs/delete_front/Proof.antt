@@ -40,7 +40,9 @@ loop-less : tie.Need-loop-less Inv-loop μ-loop
 loop-less c = omega arith
 
 loop-again : tie.Need-loop-again Inv-loop μ-loop
-loop-again c = falling-turn 0 0 (c .before .before .before .args .part .now) (c .before .before .before .pre) (c .before .before .loop .part) (c .before .before .loop .i) (omega arith) (c .before .before .loop .inv)
+loop-again c =
+    let at = c .before .before in
+    falling-turn 0 0 (at .before .args .part .now) (at .before .pre) (at .loop .part) (at .loop .i) (omega arith) (at .loop .inv)
 
 mul-part-3 : tie.Need-mul-part-3 Inv-loop μ-loop
 mul-part-3 c = search needs
@@ -52,7 +54,9 @@ same-length : tie.Need-same-length Inv-loop μ-loop
 same-length c = search needs
 
 returns : tie.Need-returns Inv-loop μ-loop
-returns c = falling-end 0 0 (c .before .before .args .part .now) (c .before .before .pre) (c .before .loop .part) (c .before .loop .i) _ (omega arith) (omega arith) (c .before .loop .inv)
+returns c =
+    let at = c .before in
+    falling-end 0 0 (at .before .args .part .now) (at .before .pre) (at .loop .part) (at .loop .i) _ (omega arith) (omega arith) (at .loop .inv)
 
 pub delete-front-spec : {M : Type 1} → statement M
 delete-front-spec =

@@ -40,7 +40,10 @@ loop-less : tie.Need-loop-less Inv-loop μ-loop
 loop-less c = omega arith
 
 loop-again : tie.Need-loop-again Inv-loop μ-loop
-loop-again c = rising-turn 0 (c .before .before .before .args .part .now) (c .before .before .before .args .x) (c .before .before .before .pre) (c .before .before .loop .part) (c .before .before .loop .i) (c .before .before .loop .i - 1) (omega arith) (c .before .before .loop .inv)
+loop-again c =
+    let at = c .before .before in
+    let s = at .before in
+    rising-turn 0 (s .args .part .now) (s .args .x) (s .pre) (at .loop .part) (at .loop .i) (at .loop .i - 1) (omega arith) (at .loop .inv)
 
 slice-write-part-2 : tie.Need-slice-write-part-2 Inv-loop μ-loop
 slice-write-part-2 c = omega arith
@@ -49,7 +52,10 @@ same-length : tie.Need-same-length Inv-loop μ-loop
 same-length c = search needs
 
 returns : tie.Need-returns Inv-loop μ-loop
-returns c = rising-end 0 (c .before .before .args .part .now) (c .before .before .args .x) (c .before .before .pre) (c .before .loop .part) (c .before .loop .i) (omega arith) (c .before .loop .inv)
+returns c =
+    let at = c .before in
+    let s = at .before in
+    rising-end 0 (s .args .part .now) (s .args .x) (s .pre) (at .loop .part) (at .loop .i) (omega arith) (at .loop .inv)
 
 pub insert-front-spec : {M : Type 1} → statement M
 insert-front-spec =

@@ -7,11 +7,11 @@ use Rattle.ot.proofs.fit.Tie as tie
 enum-told : tie.Need-enum-told
 enum-told c = search needs
 
-enum-known-e : tie.Need-enum-known-e
-enum-known-e c = search needs
+enum-known-f : tie.Need-enum-known-f
+enum-known-f c = search needs
 
-enum-known-e-2 : tie.Need-enum-known-e-2
-enum-known-e-2 c = search needs
+enum-known-f-2 : tie.Need-enum-known-f-2
+enum-known-f-2 c = search needs
 
 cast-result : tie.Need-cast-result
 cast-result c = search needs
@@ -21,23 +21,23 @@ add-result c = search needs
 
 returns : tie.Need-returns
 unfolding fits
-returns c = simp (c .enum-told .given .1)
+returns c x = simp (c .enum-told .given .1)
 
 returns-2 : tie.Need-returns-2
 unfolding fits
-returns-2 c = simp (c .before .e .given .1)
+returns-2 c x = simp (c .before .f .given .1)
 
 returns-3 : tie.Need-returns-3
 unfolding fits
-returns-3 c = simp (c .before .e2 .given .1)
+returns-3 c x = simp (c .before .f2 .given .1)
 
 pub fit-spec : {M : Type 1} → statement M
 fit-spec =
     tie.close
     (tie.spec
     enum-told
-    enum-known-e
-    enum-known-e-2
+    enum-known-f
+    enum-known-f-2
     cast-result
     add-result
     returns

@@ -4,6 +4,13 @@ use borrow.Author.Needs.{needs}
 use Rattle.ot.proofs.insert_moved.Statement.{statement}
 use Rattle.ot.proofs.insert_moved.Tie as tie
 
+-- the start, where b is a delete and where it is an insert
+abbrev deleting : tie.After-known-told → tie.Start
+deleting c = c .before .before .before
+
+abbrev inserting : tie.After-known-told2 → tie.Start
+inserting c = c .before .before .before
+
 enum-told : tie.Need-enum-told
 enum-told c = search needs
 
@@ -11,7 +18,7 @@ enum-known-b : tie.Need-enum-known-b
 enum-known-b c = search needs
 
 returns : tie.Need-returns
-returns c = before-delete (c .before .before .before .before .args .p) (c .before .before .before .before .args .r) (c .before .before .b .given .1) (c .if1 .taken)
+returns c = let s = deleting (c .before) in before-delete (s .args .p) (s .args .r) (c .before .before .b .given .1) (c .if1 .taken)
 
 sub-result : tie.Need-sub-result
 sub-result c = search needs
@@ -20,22 +27,28 @@ enum-known-b-2 : tie.Need-enum-known-b-2
 enum-known-b-2 c = search needs
 
 returns-2 : tie.Need-returns-2
-returns-2 c = before-insert (c .before .before .before .before .args .p) (c .before .before .before .before .args .r) (c .before .before .b2 .given .1) (c .if2 .taken)
+returns-2 c = let s = inserting (c .before) in before-insert (s .args .p) (s .args .r) (c .before .before .b2 .given .1) (c .if2 .taken)
 
 add-result : tie.Need-add-result
 add-result c = search needs
 
 returns-3 : tie.Need-returns-3
-returns-3 c = behind-insert (c .before .before .before .before .before .args .p) (c .before .before .before .before .before .args .r) (c .before .before .before .b2 .given .1) (c .before .if2 .left) (c .if3 .taken)
+returns-3 c =
+    let told = c .before .before in
+    let s = inserting told in
+    behind-insert (s .args .p) (s .args .r) (told .before .b2 .given .1) (c .before .if2 .left) (c .if3 .taken)
 
 returns-4 : tie.Need-returns-4
 returns-4 c = past-nothing (c .before .before .args .p) (c .before .before .args .r) (c .enum-told .given .1)
 
 returns-5 : tie.Need-returns-5
-returns-5 c = behind-delete (c .before .before .before .before .args .p) (c .before .before .before .before .args .r) (c .before .before .b .given .1) (c .if1 .left)
+returns-5 c = let s = deleting (c .before) in behind-delete (s .args .p) (s .args .r) (c .before .before .b .given .1) (c .if1 .left)
 
 returns-6 : tie.Need-returns-6
-returns-6 c = stays-at-insert (c .before .before .before .before .before .args .p) (c .before .before .before .before .before .args .r) (c .before .before .before .b2 .given .1) (c .before .if2 .left) (c .if3 .left)
+returns-6 c =
+    let told = c .before .before in
+    let s = inserting told in
+    stays-at-insert (s .args .p) (s .args .r) (told .before .b2 .given .1) (c .before .if2 .left) (c .if3 .left)
 
 pub insert-moved-spec : {M : Type 1} → statement M
 insert-moved-spec =

@@ -1,0 +1,72 @@
+-- Laws of the array that holds a list: the loop that fills it with the initial list, and what it is once the test of its unused places has passed.
+use Prim.Native.Nat.{ℕ, suc, _+_, _-_, _≤_, _<_}
+use native.Mathlib.Numerals.{add-one}
+use native.Mathlib.Omega.{arith}
+use mathlib.Core.Path.{_≡_, refl, ap, _∙_, sym}
+use mathlib.Core.Bool.{Bool, true, _&&_, and-true, and-assoc}
+use mathlib.Core.List.{List, [], _∷_}
+use lib.Dec.{eqb}
+use lib.ListN.{length, getD, take, drop, set, replicate, length-take, length-drop, length-set, length-replicate, drop-of-length-le}
+use lib.Seq.{drop-cons, getD-take}
+use lib.Bits.{bitOr}
+use borrow.Author.Tests.{eqb-true}
+use Rattle.ot.proofs.Fits.{and-left, and-right}
+use Rattle.list.proofs.Pad.{pad-of, fill-turn, fill-end}
+use Rattle.list.proofs.Zero.{or-zero}
+use Rattle.list.proofs.Sweep.{swept}
+use Rattle.list.specs.Items.{capacity, padded, stored, allZero}
+
+-- ---- unused places
+
+-- What the loop has gathered after i turns, with what is still to be looked at, is the answer.
+pub zero-turn : (l : List ℕ) (i all : ℕ) → i < length l
+    → (eqb (bitOr all (getD l i 0)) 0 && allZero (drop (i + 1) l)) ≡ (eqb all 0 && allZero (drop i l))
+unfolding allZero
+zero-turn l i all h =
+    ap (λ (b : Bool). b && allZero (drop (i + 1) l)) (or-zero all (getD l i 0))
+    ∙ ap (λ (k : ℕ). (eqb all 0 && eqb (getD l i 0) 0) && allZero (drop k l)) (add-one i)
+    ∙ and-assoc (eqb all 0) (eqb (getD l i 0) 0) (allZero (drop (suc i) l))
+    ∙ ap (λ (r : List ℕ). eqb all 0 && allZero r) (sym (drop-cons l i 0 h))
+
+pub zero-end : (l : List ℕ) (i : ℕ) (flag : Bool) → length l ≤ i → flag ≡ (flag && allZero (drop i l))
+unfolding allZero
+zero-end l i flag h =
+    sym (and-true flag) ∙ ap (λ (r : List ℕ). flag && allZero r) (sym (drop-of-length-le l {i = i} h))
+
+zeros : (l : List ℕ) → allZero l ≡ true → l ≡ replicate (length l) 0
+unfolding allZero
+zeros [] h = refl
+zeros (x ∷ l) h =
+    ap (λ (y : ℕ). y ∷ l) (eqb-true x 0 (and-left (eqb x 0) (allZero l) h))
+    ∙ ap (λ (r : List ℕ). 0 ∷ r) (zeros l (and-right (eqb x 0) (allZero l) h))
+
+-- An array whose places from len on are zero is the store of its first len items.
+pub stored-of : (a : List ℕ) (len : ℕ) → length a ≡ capacity → len ≤ capacity → allZero (drop len a) ≡ true → a ≡ stored (take len a)
+stored-of a len e h z =
+    pad-of capacity 0 a len e h
+    (zeros (drop len a) z ∙ ap (λ (n : ℕ). replicate n 0) (length-drop len a ∙ ap (λ (n : ℕ). n - len) e))
+
+-- ---- the loop that puts the first m items of l into an array of n zeros, after i turns
+
+pub record Filling (n m : ℕ) (l a : List ℕ) (i : ℕ) : Type 0 where
+  pub to : i ≤ m
+  pub items : a ≡ swept (padded 0 n (take m l)) (replicate n 0) i
+  pub size : length a ≡ n
+
+module _ (n m : ℕ) (l : List ℕ) (room : m ≤ n) where
+  short : length (take m l) ≤ n
+  short = simp length-take (omega arith)
+
+  pub filling-start : (a : List ℕ) → a ≡ replicate n 0 → Filling n m l a 0
+  filling-start a e = record { to = omega arith; items = e; size = ap length e ∙ length-replicate n 0 }
+
+  pub filling-turn : (i v : ℕ) (a : List ℕ) → i < m → v ≡ getD l i 0 → Filling n m l a i → Filling n m l (set a i v) (i + 1)
+  filling-turn i v a h w f =
+      record {
+        to = omega arith;
+        items = fill-turn n 0 (take m l) short i v a (omega arith) (f .items) (w ∙ sym (getD-take m l i 0 h));
+        size = length-set a i v ∙ f .size;
+      }
+
+  pub filling-end : (i : ℕ) (a : List ℕ) → m ≤ i → Filling n m l a i → a ≡ padded 0 n (take m l)
+  filling-end i a h f = fill-end n 0 (take m l) short i a (simp length-take (omega arith)) (f .items)

@@ -1,0 +1,110 @@
+-- What reading finds, kind by kind, in the words of `fieldsOf`, `inRange` and `parsed`.
+use Prim.Native.Nat.{ℕ, zero, suc, _≤_}
+use native.Mathlib.Omega.{arith}
+use mathlib.Core.Path.{_≡_, refl, ap, sym, _∙_}
+use mathlib.Core.Bool.{Bool, true, false, _&&_, cond, and-true, and-false, false≢true}
+use mathlib.Core.List.{List}
+use lib.Dec.{leb, eqb}
+use lib.ListN.{length, getD}
+use borrow.Author.Tests.{le-leb, eq-eqb, ne-eqb}
+use Rattle.wire.specs.declared.Header.{Header}
+use Rattle.wire.specs.declared.Message.{Message}
+use Rattle.wire.specs.declared.Message.the-variants.{Insert, Delete, Nothing, Ack}
+use Rattle.wire.specs.declared.Read.the-variants as read
+use Rattle.wire.specs.Message.{between, headerInRange, inRange}
+use Rattle.wire.specs.Bytes.{sizeOfKind, twoAt, fourAt, headerAt, fieldsOf, parsed}
+use Rattle.wire.specs.Codec.{AreBytes}
+use Rattle.wire_read.specs.declared.Size.{Size}
+use Rattle.wire_read.specs.declared.Size.the-variants as size
+use Rattle.wire_read.specs.Size.{sizeOf}
+
+-- no kind that stands in front of the last
+abbrev Other : ℕ → Type 0
+Other k = (k ≡ 1 → ⊥) × (k ≡ 2 → ⊥) × (k ≡ 3 → ⊥)
+
+-- ---- the fields, read one by one
+
+module _ (s : List ℕ) {k : ℕ} {h : Header} (header-read : h ≡ headerAt s) where
+  pub insert-fields : {p x r : ℕ} → k ≡ 1 → p ≡ twoAt s 7 → x ≡ fourAt s 9 → r ≡ getD s 13 0 → Insert h p x r ≡ fieldsOf k s
+  insert-fields e p x r = simp (e, header-read, p, x, r)
+
+  pub delete-fields : {p : ℕ} → k ≡ 2 → p ≡ twoAt s 7 → Delete h p ≡ fieldsOf k s
+  delete-fields e p = simp (e, header-read, p)
+
+  pub nothing-fields : k ≡ 3 → Nothing h ≡ fieldsOf k s
+  nothing-fields e = simp (e, header-read)
+
+  pub ack-fields : Other k → Ack (h .line) (h .direction) (h .number) ≡ fieldsOf k s
+  ack-fields o = simp (ne-eqb _ _ (o .0), ne-eqb _ _ (o .1), ne-eqb _ _ (o .2), header-read)
+
+-- ---- their ranges; a number that a kind does not have was given as 1, and drops out of the tests
+
+abbrev tests : Header → ℕ → ℕ → Bool
+tests h p r = headerInRange h && between 1 512 p && between 1 8 r
+
+module _ (s : List ℕ) {k : ℕ} {h : Header} {b : Bool} (header-read : h ≡ headerAt s) where
+  pub insert-range : {p r : ℕ} → AreBytes s → k ≡ 1 → p ≡ twoAt s 7 → r ≡ getD s 13 0 → b ≡ tests h p r → b ≡ inRange (fieldsOf k s)
+  unfolding inRange
+  insert-range bytes e p r t =
+      let fits : fourAt s 9 ≤ 4294967295 = omega (arith, bytes 9, bytes 10, bytes 11, bytes 12) in
+      simp (t, e, header-read, p, r, le-leb _ _ fits, and-true)
+
+  pub delete-range : {p : ℕ} → k ≡ 2 → p ≡ twoAt s 7 → b ≡ tests h p 1 → b ≡ inRange (fieldsOf k s)
+  unfolding inRange
+  delete-range e p t = simp (t, e, header-read, p, and-true)
+
+  pub nothing-range : k ≡ 3 → b ≡ tests h 1 1 → b ≡ inRange (fieldsOf k s)
+  unfolding inRange
+  nothing-range e t = simp (t, e, header-read, and-true)
+
+  pub ack-range : Other k → b ≡ tests (record { line = h .line; direction = h .direction; number = 1; seen = h .number }) 1 1 → b ≡ inRange (fieldsOf k s)
+  unfolding inRange
+  ack-range o t = simp (t, ne-eqb _ _ (o .0), ne-eqb _ _ (o .1), ne-eqb _ _ (o .2), header-read, and-true)
+
+-- ---- what the kind byte decides
+
+abbrev lengthIn : Size → ℕ
+lengthIn size.Refused = 0
+lengthIn (size.Bytes n) = n
+
+length-in : (m : ℕ) → lengthIn (cond (eqb m 0) size.Refused (size.Bytes m)) ≡ m
+length-in zero = refl
+length-in (suc m) = rw (ne-eqb (suc m) 0 (λ e. omega (arith, e))) refl
+
+-- ---- the whole
+
+module _ (s : List ℕ) {kind : ℕ} (first : kind ≡ getD s 0 0) where
+  -- the length that the kind fixes; 0 where it is none
+  sized : (z : Size) → sizeOf kind ≡ z → sizeOfKind kind ≡ lengthIn z
+  sized z e = sym (length-in (sizeOfKind kind)) ∙ ap lengthIn e
+
+  pub no-kind : sizeOf kind ≡ size.Refused → read.Refused ≡ parsed s
+  unfolding parsed
+  no-kind e = simp (← first, sized size.Refused e) (go (length s))
+    where
+      go : (n : ℕ) → read.Refused ≡ cond (leb 1 n && eqb n 0 && inRange (fieldsOf kind s)) (read.Message (fieldsOf kind s)) read.Refused
+      go zero = refl
+      go (suc n) = simp (ne-eqb (suc n) 0 (λ e. omega (arith, e)), and-false)
+
+  module _ (n : ℕ) (kind-size : sizeOf kind ≡ size.Bytes n) where
+    pub other-length : (length s ≡ n → ⊥) → read.Refused ≡ parsed s
+    unfolding parsed
+    other-length h = simp (← first, sized (size.Bytes n) kind-size, ne-eqb _ _ h, and-false)
+
+    module _ {ranged : Bool} (whole : length s ≡ n) (tested : ranged ≡ inRange (fieldsOf kind s)) where
+      pub out-of-range : ranged ≡ false → read.Refused ≡ parsed s
+      unfolding parsed
+      out-of-range h = simp (← first, ← tested, h, and-false)
+
+      -- a kind's length is not 0
+      some : (m : ℕ) → cond (eqb m 0) size.Refused (size.Bytes m) ≡ size.Bytes n → 1 ≤ n
+      some zero e = absurd (false≢true (ap isBytes e))
+        where
+          isBytes : Size → Bool
+          isBytes size.Refused = false
+          isBytes (size.Bytes k) = true
+      some (suc m) e = omega (arith, sym (length-in (suc m)) ∙ ap lengthIn e)
+
+      pub accepted : {m : Message} → ranged ≡ true → m ≡ fieldsOf kind s → read.Message m ≡ parsed s
+      unfolding parsed
+      accepted h e = simp (← first, sized (size.Bytes n) kind-size, whole, le-leb _ _ (some (sizeOfKind kind) kind-size), eq-eqb n n refl, ← tested, h, e)

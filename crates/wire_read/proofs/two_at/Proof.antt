@@ -1,0 +1,41 @@
+-- `wire_read::two_at` meets its contract: the two bytes are those of the definition.
+use borrow.Author.Needs.{needs}
+use Rattle.wire_read.proofs.two_at.Statement.{statement}
+use Rattle.wire_read.proofs.two_at.Tie as tie
+
+byte-at-requires : tie.Need-byte-at-requires
+byte-at-requires c κs = search needs
+
+add-byte-at : tie.Need-add-byte-at
+add-byte-at c = search needs
+
+byte-at-requires-2 : tie.Need-byte-at-requires-2
+byte-at-requires-2 c κs = search needs
+
+cast-result : tie.Need-cast-result
+cast-result c = search needs
+
+mul-result : tie.Need-mul-result
+mul-result c = search needs
+
+cast-result-2 : tie.Need-cast-result-2
+cast-result-2 c = search needs
+
+add-result : tie.Need-add-result
+add-result c = search needs
+
+returns : tie.Need-returns
+returns c = simp (c .before .byte-at .ensures, c .byte-at2 .ensures)
+
+pub two-at-spec : {M : Type 1} → statement M
+two-at-spec =
+    tie.close
+    (tie.spec
+    byte-at-requires
+    add-byte-at
+    byte-at-requires-2
+    cast-result
+    mul-result
+    cast-result-2
+    add-result
+    returns)
