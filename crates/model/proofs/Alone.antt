@@ -4,8 +4,7 @@ use mathlib.Core.List.{List}
 use Prim.Native.Nat.{ℕ}
 use lib.ListN.{length, drop}
 use lib.Seq.{drop-append-seam}
-use Rattle.ot.specs.declared.Edit.{Edit}
-use Rattle.ot.specs.declared.Edit.the-variants.{Delete, Insert}
+use Rattle.ot.specs.Edit.{Edit, Delete, Insert}
 use Rattle.wire.specs.declared.Message.the-variants as message
 use Rattle.wire.specs.declared.Read.{Read}
 use Rattle.wire.specs.declared.Read.the-variants as read
@@ -67,12 +66,12 @@ pub record ClientAlone (c : ClientCalls) : Type 0 where
   pub inserts : (e : c .Client) (p x : ℕ) → Back e (c .insert e p x)
   pub deletes : (e : c .Client) (p : ℕ) → Back e (c .delete e p)
   pub takes : (e : c .Client) (bytes : List ℕ) → Back e (c .take e bytes)
-  pub sends : (e : c .Client) (l k : ℕ) (lent : List ℕ) → Unwritten lent (c .send e l k lent) × PastStays lent (c .send e l k lent)
+  pub sends : (e : c .Client) (l number : ℕ) (lent : List ℕ) → Unwritten lent (c .send e l number lent) × PastStays lent (c .send e l number lent)
   pub tells : (e : c .Client) (l : ℕ) (lent : List ℕ) → Unwritten lent (c .tell e l lent) × PastStays lent (c .tell e l lent)
 
 pub record ServerAlone (v : ServerCalls) : Type 0 where
   pub takes : (e : v .Server) (bytes : List ℕ) → Back e (v .take e bytes)
-  pub sends : (e : v .Server) (l k : ℕ) (lent : List ℕ) → Unwritten lent (v .send e l k lent) × PastStays lent (v .send e l k lent)
+  pub sends : (e : v .Server) (l number : ℕ) (lent : List ℕ) → Unwritten lent (v .send e l number lent) × PastStays lent (v .send e l number lent)
   pub tells : (e : v .Server) (l : ℕ) (lent : List ℕ) → Unwritten lent (v .tell e l lent) × PastStays lent (v .tell e l lent)
 
 -- an answer about the one kind of end, as one about an end
@@ -94,7 +93,7 @@ both-alone c v f g = record { inserts = inserts; deletes = deletes; takes = take
     takes (client e) bytes = as-end client e (c .take e bytes) (f .takes e bytes)
     takes (server e) bytes = as-end server e (v .take e bytes) (g .takes e bytes)
 
-    sends : (e : End (c .Client) (v .Server)) (l k : ℕ) (lent : List ℕ) → Unwritten lent (sheetOf c v .send e l k lent) × PastStays lent (sheetOf c v .send e l k lent)
+    sends : (e : End (c .Client) (v .Server)) (l number : ℕ) (lent : List ℕ) → Unwritten lent (sheetOf c v .send e l number lent) × PastStays lent (sheetOf c v .send e l number lent)
     sends (client e) = f .sends e
     sends (server e) = g .sends e
 
@@ -111,8 +110,8 @@ client-alone =
       inserts = λ m p x. edit-back m (Insert p x (m .line));
       deletes = λ m p. edit-back m (Delete p);
       takes = client-back;
-      sends = λ m l k lent. sent-alone (asks (sendClientQuestions m l k lent)) (bytesOf (clientMessage m k)) lent;
-      tells = λ m l lent. sent-alone (asks (tellClientQuestions m l lent)) (bytesOf (message.Ack (m .line) 0 (m .taken))) lent;
+      sends = λ m l number lent. sent-alone (asks (sendClientQuestions m l number lent)) (bytesOf (clientMessage m number)) lent;
+      tells = λ m l lent. sent-alone (asks (tellClientQuestions m l lent)) (bytesOf (message.Ack (m .line) 0 (m .own .taken))) lent;
     }
 
 pub server-alone : ServerAlone serverCalls
@@ -120,7 +119,7 @@ unfolding sendServer tellServer
 server-alone =
     record {
       takes = server-back;
-      sends = λ m l k lent. sent-alone (asks (sendServerQuestions m l k lent)) (bytesOf (serverMessage m l k)) lent;
+      sends = λ m l number lent. sent-alone (asks (sendServerQuestions m l number lent)) (bytesOf (serverMessage m l number)) lent;
       tells = λ m l lent. sent-alone (asks (tellServerQuestions m l lent)) (bytesOf (message.Ack l 1 (lineOf m l .taken))) lent;
     }
 

@@ -7,9 +7,7 @@ use native.Mathlib.Omega.{arith}
 use lib.Dec.{eqb}
 use lib.ListN.{length, getD}
 use borrow.Author.Tests.{eqb-true, eqb-false, ne-eqb}
-use Rattle.ot.specs.declared.Edit.{Edit}
-use Rattle.ot.specs.declared.Edit.the-variants.{Nothing}
-use Rattle.ot.specs.Edit.{fits}
+use Rattle.ot.specs.Edit.{Edit, Nothing, fits}
 use Rattle.jupiter.specs.Made.{Made, select, isBy, mine, others}
 use Rattle.jupiter.specs.Point.{blank, point, ownForm, othForm}
 use Rattle.jupiter.specs.History.{History, order}
@@ -50,10 +48,10 @@ module _ (n : ℕ) (items : List ℕ) {from : Moment} (s : State ours) (sim : Si
   server-most : (j : ℕ) → 1 ≤ j → j ≤ n → sim .si j ≤ maxInserts
   server-most j a b =
       let S = serverFrom n (length items) (sim .E .doc) (sim .E .lines) (sim .si) in
-      omega (arith, line-fact S (server-facts S (sim .server-sound)) j a b .inserts, ap (λ v. v .inserts) (line-from n (length items) (sim .E .doc) (sim .E .lines) (sim .si) j a b))
+      omega (arith, line-fact S (server-facts S (sim .server-sound)) j a b .line .inserts, ap (λ v. v .inserts) (line-from n (length items) (sim .E .doc) (sim .E .lines) (sim .si) j a b))
 
   pub client-most : (l : ℕ) → 1 ≤ l → l ≤ n → sim .ci l ≤ maxInserts
-  client-most l a b = client-facts (clientFrom n l (sim .E .clients l) (sim .E .docs l) (sim .ci l)) (sim .client-sound l a b) .inserts
+  client-most l a b = client-facts (clientFrom n l (sim .E .clients l) (sim .E .docs l) (sim .ci l)) (sim .client-sound l a b) .own .inserts
 
   -- a client counts what the server counts of it and what the server has not taken
   pub client-more : (l : ℕ) → sim .ci l ≡ sim .si l + inserts (h .untaken l)

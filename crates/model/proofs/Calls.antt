@@ -8,12 +8,10 @@ use native.Mathlib.Numerals.{add-one}
 use native.Mathlib.Omega.{arith}
 use native.Mathlib.Nat.{le-refl}
 use lib.Dec.{eqb, leb, ltb}
-use lib.ListN.{length, getD, take, drop, getElem?}
+use lib.ListN.{length, take, drop, getElem?}
 use lib.Seq.{take-append-seam}
 use borrow.Author.Tests.{eqb-true, ne-eqb, eq-eqb, leb-true, ltb-true, le-leb}
-use Rattle.ot.specs.declared.Edit.{Edit}
-use Rattle.ot.specs.declared.Edit.the-variants.{Nothing, Delete, Insert}
-use Rattle.ot.specs.Edit.{applied, fits}
+use Rattle.ot.specs.Edit.{Edit, Nothing, Delete, Insert, applied, fits}
 use Rattle.wire.specs.declared.Header.{Header}
 use Rattle.wire.specs.declared.Message.the-variants as message
 use Rattle.wire.specs.declared.Read.{Read}
@@ -33,8 +31,9 @@ use Rattle.jupiter.proofs.Step.{UpMessage, DownMessage, up-message, down-messag
 use Rattle.model.specs.Limits.{maxItems}
 use Rattle.model.specs.Questions.{ask, asks, Answer, answer, Sent}
 use Rattle.model.specs.Cross.{priority}
-use Rattle.model.specs.Client.{Client, soundClient, edited, editQuestions, editClient, pendingAt, clientMessage, sendClientQuestions, sendClient, tellClientQuestions, tellClient, other, clientTaken, clientAcked, clientEditQuestions, clientTakesEdit, clientAckQuestions, clientTakesAck, clientTakes, clientReads, takeClient}
-use Rattle.model.specs.Server.{Line, Server, lineOf, soundServer, serverMessage, sendServerQuestions, sendServer, tellServerQuestions, tellServer, serverTaken, serverAcked, serverEditQuestions, serverTakesEdit, serverAckQuestions, serverTakesAck, serverTakes, serverReads, takeServer}
+use Rattle.model.specs.Line.{Line, other, lineMessage}
+use Rattle.model.specs.Client.{Client, soundClient, edited, editQuestions, editClient, clientMessage, sendClientQuestions, sendClient, tellClientQuestions, tellClient, clientTaken, clientAcked, clientEditQuestions, clientTakesEdit, clientAckQuestions, clientTakesAck, clientTakes, clientReads, takeClient}
+use Rattle.model.specs.Server.{Server, lineOf, soundServer, serverMessage, sendServerQuestions, sendServer, tellServerQuestions, tellServer, serverTaken, serverAcked, serverEditQuestions, serverTakesEdit, serverAckQuestions, serverTakesAck, serverTakes, serverReads, takeServer}
 use Rattle.model.specs.Edits.{edits}
 use Rattle.model.specs.Sheet.{Call, insert, delete, send, tell, receive, junk}
 use Rattle.model.specs.Log as logs
@@ -42,14 +41,15 @@ use Rattle.model.specs.Log.{Log, wireMessage, messageBytes, takenAt, edi
 use Rattle.model.specs.Run.{State, answered, written, handed, call, callable, unreadable, areBytes}
 use Rattle.model.specs.Ours.{End, client, server, answerAs, ours}
 use Rattle.model.proofs.Tests.{never, and-left, and-right, yes-all, between-true}
+use Rattle.model.proofs.SoundLine.{Asked, asked}
 use Rattle.model.proofs.SoundClient.{ClientFacts, client-facts}
-use Rattle.model.proofs.SoundServer.{ServerFacts, server-facts, LineFacts, line-fact, made-most, takenSum}
+use Rattle.model.proofs.SoundServer.{ServerFacts, server-facts, ServerLine, line-fact, made-most, takenSum, lastQuestions}
 use Rattle.model.proofs.Sound.{three, edits-sound, client-takes-edit, client-takes-ack, server-takes-edit, server-takes-ack}
-use Rattle.model.proofs.Small.{Small, all-get}
+use Rattle.model.proofs.Small.{Small}
 use Rattle.model.proofs.Outcome as outcomes
 use Rattle.model.proofs.Outcome.{Outcome, outcome, Posted, posted}
-use Rattle.model.proofs.Ranges.{fits-range, placed-get, priority-get, up-range, down-range, up-ack-range, down-ack-range}
-use Rattle.model.proofs.Sim.{clientFrom, serverFrom, lineFrom, line-from, MessageOk, Moment, Sim}
+use Rattle.model.proofs.Ranges.{line-bytes, line-priority, line-range, up-range, down-range, up-ack-range, down-ack-range}
+use Rattle.model.proofs.Sim.{clientFrom, serverFrom, lineFrom, headerOf, line-from, MessageOk, Moment, Sim}
 use Rattle.model.proofs.Follow.{refused, edits-on, takes-down, takes-up, acks-down, acks-up, writes-on}
 
 -- the log of a refused call, and of one that was not
@@ -80,21 +80,21 @@ small-range h (Delete p) r = refl
 small-range h (Insert p x q) r = le-leb x 4294967295 (insert-bounds h p x q r .item-high)
 
 -- the messages of a client's and of the server's sending
-client-edit-message : (h : History edits) (l line k t : ℕ) → 1 ≤ l → length (others l (h .applied l)) ≡ t
-    → editMessage h l line k ≡ up l (record { number = k; seen = t; edit = ownForm l (order h l) (k - 1) t })
+client-edit-message : (h : History edits) (l line number t : ℕ) → 1 ≤ l → length (others l (h .applied l)) ≡ t
+    → editMessage h l line number ≡ up l (record { number = number; seen = t; edit = ownForm l (order h l) (number - 1) t })
 unfolding editMessage takenAt
-client-edit-message h zero line k t a e = absurd (omega arith)
-client-edit-message h (suc l) line k t a e = ap (λ (i : ℕ). up (suc l) (record { number = k; seen = i; edit = ownForm (suc l) (order h (suc l)) (k - 1) i })) e
+client-edit-message h zero line number t a e = absurd (omega arith)
+client-edit-message h (suc l) line number t a e = ap (λ (i : ℕ). up (suc l) (record { number = number; seen = i; edit = ownForm (suc l) (order h (suc l)) (number - 1) i })) e
 
 client-ack-message : (h : History edits) (l line t : ℕ) → 1 ≤ l → length (others l (h .applied l)) ≡ t → ackMessage h l line ≡ upAck l t
 unfolding ackMessage takenAt
 client-ack-message h zero line t a e = absurd (omega arith)
 client-ack-message h (suc l) line t a e = ap (upAck (suc l)) e
 
-server-edit-message : (h : History edits) (line k t : ℕ) → length (mine line (h .served)) ≡ t
-    → editMessage h 0 line k ≡ down line (record { number = k; seen = t; edit = othForm line (order h line) t (k - 1) })
+server-edit-message : (h : History edits) (line number t : ℕ) → length (mine line (h .served)) ≡ t
+    → editMessage h 0 line number ≡ down line (record { number = number; seen = t; edit = othForm line (order h line) t (number - 1) })
 unfolding editMessage takenAt
-server-edit-message h line k t e = ap (λ (i : ℕ). down line (record { number = k; seen = i; edit = othForm line (order h line) i (k - 1) })) e
+server-edit-message h line number t e = ap (λ (i : ℕ). down line (record { number = number; seen = i; edit = othForm line (order h line) i (number - 1) })) e
 
 server-ack-message : (h : History edits) (line t : ℕ) → length (mine line (h .served)) ≡ t → ackMessage h 0 line ≡ downAck line t
 unfolding ackMessage takenAt
@@ -140,25 +140,25 @@ module _ (n : ℕ) (items : List ℕ) {from : Moment} (s : State ours) (sim : Si
         (edits-on n items s sim l lo hi e pr sm q9 ok)
 
     -- an edit message
-    take-edit : (c : Call) (m : ends.EditMessage edits) (k : ℕ) (direction : ℕ) → inRange (messageOf (record { line = k; direction = direction; number = m .number; seen = m .seen }) (m .edit)) ≡ true
+    take-edit : (c : Call) (m : ends.EditMessage edits) (k : ℕ) (direction : ℕ) → inRange (messageOf (headerOf k direction m) (m .edit)) ≡ true
         → (direction ≡ 1 → DownMessage items E h k m) → (direction ≡ 1 → logged w c ≡ cond (eqb l k) (tookDown w k (m .seen)) (hears w (w .heard)))
         → refusedLog w c ≡ hears w (w .heard)
         → (a : Answer Client)
-        → Outcome (asks (clientEditQuestions C (record { line = k; direction = direction; number = m .number; seen = m .seen }) (m .edit))) C (clientTaken C (m .seen) (m .edit)) (E .clients l .made - m .seen) a
+        → Outcome (asks (clientEditQuestions C (headerOf k direction m) (m .edit))) C (clientTaken C (m .seen) (m .edit)) (E .clients l .made - m .seen) a
         → soundClient (a .end) ≡ true → Sim n items from (answered ours s l c (answerAs client a))
     unfolding log
     take-edit c m k direction range fine made quiet a (outcomes.Outcome.no r) ok =
-        turned-down l c (asks (clientEditQuestions C (record { line = k; direction = direction; number = m .number; seen = m .seen }) (m .edit))) (client C) r (sim .client-is l lo hi) quiet
+        turned-down l c (asks (clientEditQuestions C (headerOf k direction m) (m .edit))) (client C) r (sim .client-is l lo hi) quiet
     take-edit c m k direction range fine made quiet a (outcomes.Outcome.yes r) ok =
-        let hd : Header = record { line = k; direction = direction; number = m .number; seen = m .seen } in
+        let hd : Header = headerOf k direction m in
         let y = yes-all (clientEditQuestions C hd (m .edit)) (omega arith) r in
         let q4 = three (eqb direction 1) (eqb k l) (priority (other n l) (m .edit)) (y .1 .0) in
         let down-way : direction ≡ 1 = eqb-true direction 1 (q4 .0) in
         let mine-way : k ≡ l = eqb-true k l (q4 .1) in
-        let number : m .number ≡ suc (E .clients l .taken) = eqb-true (m .number) (E .clients l .taken + 1) (y .1 .1 .1 .0) ∙ add-one (E .clients l .taken) in
+        let q = asked (C .own) (E .docs l) hd (m .edit) [] (y .1 .1) in
         subst (λ (z : Log). Sim n items from (record { ends = at l (client (clientTaken C (m .seen) (m .edit))) (s .ends); messages = s .messages; passed = s .passed ++ ((E .clients l .made - m .seen) ∷ []); recorded = z }))
         (sym (made down-way ∙ ap (λ (i : ℕ). cond (eqb l i) (tookDown w i (m .seen)) (hears w (w .heard))) mine-way ∙ rw (eq-eqb l l refl)))
-        (takes-down n items s sim l lo hi m (subst (λ (i : ℕ). DownMessage items E h i m) mine-way (fine down-way)) number (leb-true (E .clients l .acked) (m .seen) (y .1 .1 .1 .1 .0))
+        (takes-down n items s sim l lo hi m (subst (λ (i : ℕ). DownMessage items E h i m) mine-way (fine down-way)) (q .next ∙ add-one (E .clients l .taken)) (q .low)
         (small-range hd (m .edit) range) ok)
 
     -- an acknowledgement
@@ -180,13 +180,13 @@ module _ (n : ℕ) (items : List ℕ) {from : Moment} (s : State ours) (sim : Si
         → Sim n items from (answered ours s l c (answerAs client (clientTakes C (wireMessage x))))
     unfolding took clientTakesEdit clientTakesAck
     take-message c (up k m) ok made quiet =
-        let hd : Header = record { line = k; direction = 0; number = m .number; seen = m .seen } in
+        let hd : Header = headerOf k 0 m in
         subst (λ (a : Answer Client). Sim n items from (answered ours s l c (answerAs client a))) (sym (client-message C hd (m .edit)))
         (take-edit c m k 0 (ok .1) (λ e. absurd (omega arith)) (λ e. absurd (omega arith)) quiet (clientTakesEdit C hd (m .edit))
         (outcome (asks (clientEditQuestions C hd (m .edit))) C (clientTaken C (m .seen) (m .edit)) (E .clients l .made - m .seen))
         (client-takes-edit C hd (m .edit) (header-range hd (m .edit) (ok .1)) sound))
     take-message c (down k m) ok made quiet =
-        let hd : Header = record { line = k; direction = 1; number = m .number; seen = m .seen } in
+        let hd : Header = headerOf k 1 m in
         subst (λ (a : Answer Client). Sim n items from (answered ours s l c (answerAs client a))) (sym (client-message C hd (m .edit)))
         (take-edit c m k 1 (ok .1) (λ e. ok .0) (λ e. made) quiet (clientTakesEdit C hd (m .edit))
         (outcome (asks (clientEditQuestions C hd (m .edit))) C (clientTaken C (m .seen) (m .edit)) (E .clients l .made - m .seen))
@@ -210,30 +210,28 @@ module _ (n : ℕ) (items : List ℕ) {from : Moment} (s : State ours) (sim : Si
   line-of : (k : ℕ) → 1 ≤ k → k ≤ n → lineOf S k ≡ lineFrom (E .lines k) (sim .si k)
   line-of k a b = line-from n (length items) (E .doc) (E .lines) (sim .si) k a b
 
-  serve-edit : (c : Call) (m : ends.EditMessage edits) (k : ℕ) (direction : ℕ) → inRange (messageOf (record { line = k; direction = direction; number = m .number; seen = m .seen }) (m .edit)) ≡ true
+  serve-edit : (c : Call) (m : ends.EditMessage edits) (k : ℕ) (direction : ℕ) → inRange (messageOf (headerOf k direction m) (m .edit)) ≡ true
       → (direction ≡ 0 → UpMessage items E h k m) → (direction ≡ 0 → logged w c ≡ tookUp w k (m .seen))
       → refusedLog w c ≡ hears w (w .heard)
       → (a : Answer Server)
-      → Outcome (asks (serverEditQuestions S (record { line = k; direction = direction; number = m .number; seen = m .seen }) (m .edit))) S (serverTaken S k (m .seen) (m .edit)) (lineOf S k .made - m .seen) a
+      → Outcome (asks (serverEditQuestions S (headerOf k direction m) (m .edit))) S (serverTaken S k (m .seen) (m .edit)) (lineOf S k .made - m .seen) a
       → soundServer (a .end) ≡ true → Sim n items from (answered ours s 0 c (answerAs server a))
   unfolding log
   serve-edit c m k direction range fine made quiet a (outcomes.Outcome.no r) ok =
-      turned-down 0 c (asks (serverEditQuestions S (record { line = k; direction = direction; number = m .number; seen = m .seen }) (m .edit))) (server S) r (sim .server-is) quiet
+      turned-down 0 c (asks (serverEditQuestions S (headerOf k direction m) (m .edit))) (server S) r (sim .server-is) quiet
   serve-edit c m k direction range fine made quiet a (outcomes.Outcome.yes r) ok =
-      let hd : Header = record { line = k; direction = direction; number = m .number; seen = m .seen } in
+      let hd : Header = headerOf k direction m in
       let y = yes-all (serverEditQuestions S hd (m .edit)) (omega arith) r in
       let q4 = three (eqb direction 0) (between 1 n k) (priority (eqb k) (m .edit)) (y .1 .0) in
       let up-way : direction ≡ 0 = eqb-true direction 0 (q4 .0) in
       let there = between-true 1 n k (q4 .1) in
       let same = line-of k (there .0) (there .1) in
-      let number : m .number ≡ suc (E .lines k .taken) =
-      eqb-true (m .number) (lineOf S k .taken + 1) (y .1 .1 .1 .0) ∙ add-one (lineOf S k .taken) ∙ ap (λ (v : Line). suc (v .taken)) same in
-      let low : E .lines k .acked ≤ m .seen = subst (λ (v : Line). v .acked ≤ m .seen) same (leb-true (lineOf S k .acked) (m .seen) (y .1 .1 .1 .1 .0)) in
+      let q = subst (λ (v : Line). Asked v (E .doc) hd (m .edit)) same (asked (lineOf S k) (E .doc) hd (m .edit) (lastQuestions S hd (m .edit)) (y .1 .1)) in
       subst (λ (v : Line). Sim n items from (record { ends = at 0 (server (serverTaken S k (m .seen) (m .edit))) (s .ends); messages = s .messages; passed = s .passed ++ ((v .made - m .seen) ∷ []); recorded = logged w c }))
       (sym same)
       (subst (λ (z : Log). Sim n items from (record { ends = at 0 (server (serverTaken S k (m .seen) (m .edit))) (s .ends); messages = s .messages; passed = s .passed ++ ((E .lines k .made - m .seen) ∷ []); recorded = z }))
       (sym (made up-way))
-      (takes-up n items s sim k (there .0) (there .1) m (fine up-way) number low (small-range hd (m .edit) range) ok))
+      (takes-up n items s sim k (there .0) (there .1) m (fine up-way) (q .next ∙ add-one (E .lines k .taken)) (q .low) (small-range hd (m .edit) range) ok))
 
   serve-ack : (c : Call) (k direction seen : ℕ) → (direction ≡ 0 → seen ≤ E .clients k .taken) → (direction ≡ 0 → logged w c ≡ hears w (logs.hearing w 0 k seen)) → refusedLog w c ≡ hears w (w .heard)
       → (a : Answer Server) → Outcome (asks (serverAckQuestions S k direction seen)) S (serverAcked S k seen) 0 a → soundServer (a .end) ≡ true
@@ -252,13 +250,13 @@ module _ (n : ℕ) (items : List ℕ) {from : Moment} (s : State ours) (sim : Si
       → Sim n items from (answered ours s 0 c (answerAs server (serverTakes S (wireMessage x))))
   unfolding took serverTakesEdit serverTakesAck
   serve-message c (up k m) ok made quiet =
-      let hd : Header = record { line = k; direction = 0; number = m .number; seen = m .seen } in
+      let hd : Header = headerOf k 0 m in
       subst (λ (a : Answer Server). Sim n items from (answered ours s 0 c (answerAs server a))) (sym (server-message S hd (m .edit)))
       (serve-edit c m k 0 (ok .1) (λ e. ok .0) (λ e. made) quiet (serverTakesEdit S hd (m .edit))
       (outcome (asks (serverEditQuestions S hd (m .edit))) S (serverTaken S k (m .seen) (m .edit)) (lineOf S k .made - m .seen))
       (server-takes-edit S hd (m .edit) (header-range hd (m .edit) (ok .1)) (sim .server-sound)))
   serve-message c (down k m) ok made quiet =
-      let hd : Header = record { line = k; direction = 1; number = m .number; seen = m .seen } in
+      let hd : Header = headerOf k 1 m in
       subst (λ (a : Answer Server). Sim n items from (answered ours s 0 c (answerAs server a))) (sym (server-message S hd (m .edit)))
       (serve-edit c m k 1 (ok .1) (λ e. absurd (omega arith)) (λ e. absurd (omega arith)) quiet (serverTakesEdit S hd (m .edit))
       (outcome (asks (serverEditQuestions S hd (m .edit))) S (serverTaken S k (m .seen) (m .edit)) (lineOf S k .made - m .seen))
@@ -290,47 +288,43 @@ module _ (n : ℕ) (items : List ℕ) {from : Moment} (s : State ours) (sim : Si
       (subst (λ (b : List ℕ). Sim n items from (record { ends = s .ends; messages = s .messages ++ (b ∷ []); passed = s .passed; recorded = writes w x }))
       (sym (take-append-seam bytes (drop (length bytes) lent) ∙ ok z .1)) (writes-on n items s sim x (ok z .0)))
 
-  -- client l sends edit number k
+  -- client l sends the edit of a number
   module _ (l : ℕ) (lo : 1 ≤ l) (hi : l ≤ n) where
     abbrev F : ClientFacts (clientFrom n l (E .clients l) (E .docs l) (sim .ci l))
     F = client-facts (clientFrom n l (E .clients l) (E .docs l) (sim .ci l)) (sim .client-sound l lo hi)
 
-    module _ (k : ℕ) (low : E .clients l .acked < k) (high : k ≤ E .clients l .made) where
-      pub up-is : (line : ℕ) → editMessage h l line k ≡ up l (ends.message k (E .clients l))
+    module _ (number : ℕ) (low : E .clients l .acked < number) (high : number ≤ E .clients l .made) where
+      pub up-is : (line : ℕ) → editMessage h l line number ≡ up l (ends.message number (E .clients l))
       up-is line =
-          let ok = up-message items E h (sim .inv) l k low high in
-          client-edit-message h l line k (E .clients l .taken) lo (sim .taken l)
-          ∙ ap (λ (e : Edit). up l (record { number = k; seen = E .clients l .taken; edit = e }))
+          let ok = up-message items E h (sim .inv) l number low high in
+          client-edit-message h l line number (E .clients l .taken) lo (sim .taken l)
+          ∙ ap (λ (e : Edit). up l (record { number = number; seen = E .clients l .taken; edit = e }))
           (ap (λ (i : ℕ). ownForm l (order h l) i (E .clients l .taken)) (omega (arith, ok .number)) ∙ sym (ok .edit))
 
-      pub up-bytes : bytesOf (clientMessage (clientFrom n l (E .clients l) (E .docs l) (sim .ci l)) k) ≡ messageBytes (up l (ends.message k (E .clients l)))
-      up-bytes =
-          ap (λ (i : ℕ). bytesOf (messageOf (record { line = l; direction = 0; number = k; seen = E .clients l .taken }) (getD (E .clients l .pending) (k - i) Nothing))) (add-one (E .clients l .acked))
+      pub up-bytes : bytesOf (clientMessage (clientFrom n l (E .clients l) (E .docs l) (sim .ci l)) number) ≡ messageBytes (up l (ends.message number (E .clients l)))
+      up-bytes = line-bytes (E .clients l) (sim .ci l) number l 0
 
-      pub up-ok : MessageOk n items E h (up l (ends.message k (E .clients l)))
-      up-ok =
-          let place : k - suc (E .clients l .acked) < length (E .clients l .pending) = omega (arith, F .count) in (
-            up-message items E h (sim .inv) l k low high,
-            fits-range (record { line = l; direction = 0; number = k; seen = E .clients l .taken }) (getD (E .clients l .pending) (k - suc (E .clients l .acked)) Nothing) (eqb l)
-                (up-range l k (E .clients l .taken) lo (omega (arith, F .lines .1)) (omega arith) (omega (arith, F .made)) (F .taken))
-                (placed-get (E .clients l .pending) (k - suc (E .clients l .acked)) place (F .placed))
-                (priority-get (eqb l) (E .clients l .pending) (k - suc (E .clients l .acked)) place (F .priorities))
-                (λ r e. let z : l ≡ r = eqb-true l r e in (omega arith, omega (arith, F .lines .1)))
-                (all-get Small (E .clients l .pending) (k - suc (E .clients l .acked)) Nothing place (sim .client-small l)),
-            (lo, hi, priority-get (eqb l) (E .clients l .pending) (k - suc (E .clients l .acked)) place (F .priorities)),
-          )
+      pub up-ok : MessageOk n items E h (up l (ends.message number (E .clients l)))
+      up-ok = (
+        up-message items E h (sim .inv) l number low high,
+        line-range (E .clients l) (sim .ci l) number (E .clients l .made) (eqb l) (F .own) low high (headerOf l 0 (ends.message number (E .clients l)))
+            (up-range l number (E .clients l .taken) lo (omega (arith, F .lines .1)) (omega arith) (omega (arith, F .own .edits)) (F .taken))
+            (λ r e. let z : l ≡ r = eqb-true l r e in (omega arith, omega (arith, F .lines .1)))
+            (sim .client-small l),
+        (lo, hi, line-priority (E .clients l) (sim .ci l) number (E .clients l .made) (eqb l) (F .own) low high),
+      )
 
-    client-sends : (line k : ℕ) (lent : List ℕ) → Sim n items from (written ours s (send l line k lent) (sendClient (clientFrom n l (E .clients l) (E .docs l) (sim .ci l)) line k lent))
+    client-sends : (line number : ℕ) (lent : List ℕ) → Sim n items from (written ours s (send l line number lent) (sendClient (clientFrom n l (E .clients l) (E .docs l) (sim .ci l)) line number lent))
     unfolding sendClient logged refusedLog
-    client-sends line k lent =
+    client-sends line number lent =
         let C = clientFrom n l (E .clients l) (E .docs l) (sim .ci l) in
-        post (send l line k lent) (asks (sendClientQuestions C line k lent)) (bytesOf (clientMessage C k)) lent (editMessage h l line k) refl refl
+        post (send l line number lent) (asks (sendClientQuestions C line number lent)) (bytesOf (clientMessage C number)) lent (editMessage h l line number) refl refl
         (λ z.
-        let y = yes-all (sendClientQuestions C line k lent) (omega arith) z in
-        let q13 = between-true (E .clients l .acked + 1) (E .clients l .made) k (y .1 .1 .0) in
-        let low : E .clients l .acked < k = omega arith in
-        (subst (MessageOk n items E h) (sym (up-is k low (q13 .1) line)) (up-ok k low (q13 .1)), up-bytes k low (q13 .1) ∙ ap messageBytes (sym (up-is k low (q13 .1) line))))
-        (sendClient C line k lent) (posted (asks (sendClientQuestions C line k lent)) (bytesOf (clientMessage C k)) lent)
+        let y = yes-all (sendClientQuestions C line number lent) (omega arith) z in
+        let q13 = between-true (E .clients l .acked + 1) (E .clients l .made) number (y .1 .1 .0) in
+        let low : E .clients l .acked < number = omega arith in
+        (subst (MessageOk n items E h) (sym (up-is number low (q13 .1) line)) (up-ok number low (q13 .1)), up-bytes number low (q13 .1) ∙ ap messageBytes (sym (up-is number low (q13 .1) line))))
+        (sendClient C line number lent) (posted (asks (sendClientQuestions C line number lent)) (bytesOf (clientMessage C number)) lent)
 
     client-tells : (line : ℕ) (lent : List ℕ) → Sim n items from (written ours s (tell l line lent) (tellClient (clientFrom n l (E .clients l) (E .docs l) (sim .ci l)) line lent))
     unfolding tellClient logged refusedLog
@@ -344,63 +338,58 @@ module _ (n : ℕ) (items : List ℕ) {from : Moment} (s : State ours) (sim : Si
         ))
         (tellClient C line lent) (posted (asks (tellClientQuestions C line lent)) (bytesOf (message.Ack l 0 (E .clients l .taken))) lent)
 
-  -- the server sends edit number k to client l
+  -- the server sends the edit of a number to client l
   module _ (l : ℕ) (lo : 1 ≤ l) (hi : l ≤ n) where
     abbrev G : ServerFacts S
     G = server-facts S (sim .server-sound)
 
-    abbrev K : LineFacts n (takenSum (S .lines)) l (lineFrom (E .lines l) (sim .si l))
-    K = subst (λ (v : Line). LineFacts n (takenSum (S .lines)) l v) (line-of l lo hi) (line-fact S G l lo hi)
+    abbrev K : ServerLine n (takenSum (S .lines)) l (lineFrom (E .lines l) (sim .si l))
+    K = subst (λ (v : Line). ServerLine n (takenSum (S .lines)) l v) (line-of l lo hi) (line-fact S G l lo hi)
 
-    module _ (k : ℕ) (low : E .lines l .acked < k) (high : k ≤ E .lines l .made) where
-      pub down-is : editMessage h 0 l k ≡ down l (ends.message k (E .lines l))
+    module _ (number : ℕ) (low : E .lines l .acked < number) (high : number ≤ E .lines l .made) where
+      pub down-is : editMessage h 0 l number ≡ down l (ends.message number (E .lines l))
       down-is =
-          let ok = down-message items E h (sim .inv) l k low high in
-          server-edit-message h l k (E .lines l .taken) (sym (sim .inv .lines l .v-count))
-          ∙ ap (λ (e : Edit). down l (record { number = k; seen = E .lines l .taken; edit = e }))
+          let ok = down-message items E h (sim .inv) l number low high in
+          server-edit-message h l number (E .lines l .taken) (sym (sim .inv .lines l .v-count))
+          ∙ ap (λ (e : Edit). down l (record { number = number; seen = E .lines l .taken; edit = e }))
           (ap (othForm l (order h l) (E .lines l .taken)) (omega (arith, ok .number)) ∙ sym (ok .edit))
 
-      pub down-bytes : bytesOf (serverMessage S l k) ≡ messageBytes (down l (ends.message k (E .lines l)))
-      down-bytes =
-          ap (λ (v : Line). bytesOf (messageOf (record { line = l; direction = 1; number = k; seen = v .taken }) (pendingAt (v .acked) (v .pending) k))) (line-of l lo hi)
-          ∙ ap (λ (i : ℕ). bytesOf (messageOf (record { line = l; direction = 1; number = k; seen = E .lines l .taken }) (getD (E .lines l .pending) (k - i) Nothing))) (add-one (E .lines l .acked))
+      pub down-bytes : bytesOf (serverMessage S l number) ≡ messageBytes (down l (ends.message number (E .lines l)))
+      down-bytes = ap (λ (v : Line). bytesOf (lineMessage l 1 v number)) (line-of l lo hi) ∙ line-bytes (E .lines l) (sim .si l) number l 1
 
-      pub down-ok : MessageOk n items E h (down l (ends.message k (E .lines l)))
-      down-ok =
-          let place : k - suc (E .lines l .acked) < length (E .lines l .pending) = omega (arith, K .count) in (
-            down-message items E h (sim .inv) l k low high,
-            fits-range (record { line = l; direction = 1; number = k; seen = E .lines l .taken }) (getD (E .lines l .pending) (k - suc (E .lines l .acked)) Nothing) (other n l)
-                (down-range l k (E .lines l .taken) lo (omega (arith, G .n .1)) (omega arith) (omega (arith, subst (λ (v : Line). v .made ≤ 2800) (line-of l lo hi) (made-most S G l lo hi))) (K .taken))
-                (placed-get (E .lines l .pending) (k - suc (E .lines l .acked)) place (K .placed))
-                (priority-get (other n l) (E .lines l .pending) (k - suc (E .lines l .acked)) place (K .priorities))
-                (λ r e. let z = between-true 1 n r (and-left (between 1 n r) (not (eqb r l)) e) in (z .0, omega (arith, G .n .1)))
-                (all-get Small (E .lines l .pending) (k - suc (E .lines l .acked)) Nothing place (sim .server-small l)),
-            (lo, hi, priority-get (other n l) (E .lines l .pending) (k - suc (E .lines l .acked)) place (K .priorities)),
-          )
+      pub down-ok : MessageOk n items E h (down l (ends.message number (E .lines l)))
+      down-ok = (
+        down-message items E h (sim .inv) l number low high,
+        line-range (E .lines l) (sim .si l) number (E .lines l .taken) (other n l) (K .line) low high (headerOf l 1 (ends.message number (E .lines l)))
+            (down-range l number (E .lines l .taken) lo (omega (arith, G .n .1)) (omega arith) (omega (arith, subst (λ (v : Line). v .made ≤ 2800) (line-of l lo hi) (made-most S G l lo hi))) (K .line .edits))
+            (λ r e. let z = between-true 1 n r (and-left (between 1 n r) (not (eqb r l)) e) in (z .0, omega (arith, G .n .1)))
+            (sim .server-small l),
+        (lo, hi, line-priority (E .lines l) (sim .si l) number (E .lines l .taken) (other n l) (K .line) low high),
+      )
 
-    server-sends : (k : ℕ) (lent : List ℕ) → asks (sendServerQuestions S l k lent) ≡ 0 → MessageOk n items E h (editMessage h 0 l k) × (bytesOf (serverMessage S l k) ≡ messageBytes (editMessage h 0 l k))
-    server-sends k lent z =
-        let y = yes-all (sendServerQuestions S l k lent) (omega arith) z in
-        let q13 = between-true (lineOf S l .acked + 1) (lineOf S l .made) k (y .1 .1 .0) in
-        let low : E .lines l .acked < k = subst (λ (v : Line). v .acked < k) (line-of l lo hi) (omega arith) in
-        let high : k ≤ E .lines l .made = subst (λ (v : Line). k ≤ v .made) (line-of l lo hi) (q13 .1) in
-        (subst (MessageOk n items E h) (sym (down-is k low high)) (down-ok k low high), down-bytes k low high ∙ ap messageBytes (sym (down-is k low high)))
+    server-sends : (number : ℕ) (lent : List ℕ) → asks (sendServerQuestions S l number lent) ≡ 0 → MessageOk n items E h (editMessage h 0 l number) × (bytesOf (serverMessage S l number) ≡ messageBytes (editMessage h 0 l number))
+    server-sends number lent z =
+        let y = yes-all (sendServerQuestions S l number lent) (omega arith) z in
+        let q13 = between-true (lineOf S l .acked + 1) (lineOf S l .made) number (y .1 .1 .0) in
+        let low : E .lines l .acked < number = subst (λ (v : Line). v .acked < number) (line-of l lo hi) (omega arith) in
+        let high : number ≤ E .lines l .made = subst (λ (v : Line). number ≤ v .made) (line-of l lo hi) (q13 .1) in
+        (subst (MessageOk n items E h) (sym (down-is number low high)) (down-ok number low high), down-bytes number low high ∙ ap messageBytes (sym (down-is number low high)))
 
     server-tells : MessageOk n items E h (ackMessage h 0 l) × (bytesOf (message.Ack l 1 (lineOf S l .taken)) ≡ messageBytes (ackMessage h 0 l))
     server-tells =
         let is = server-ack-message h l (E .lines l .taken) (sym (sim .inv .lines l .v-count)) in (
-          subst (MessageOk n items E h) (sym is) (le-refl (E .lines l .taken), down-ack-range l (E .lines l .taken) lo (omega (arith, G .n .1)) (K .taken), (lo, hi)),
+          subst (MessageOk n items E h) (sym is) (le-refl (E .lines l .taken), down-ack-range l (E .lines l .taken) lo (omega (arith, G .n .1)) (K .line .edits), (lo, hi)),
           ap (λ (v : Line). bytesOf (message.Ack l 1 (v .taken))) (line-of l lo hi) ∙ ap messageBytes (sym is),
         )
 
-  server-posts : (line k : ℕ) (lent : List ℕ) → Sim n items from (written ours s (send 0 line k lent) (sendServer S line k lent))
+  server-posts : (line number : ℕ) (lent : List ℕ) → Sim n items from (written ours s (send 0 line number lent) (sendServer S line number lent))
   unfolding sendServer logged refusedLog
-  server-posts line k lent =
-      post (send 0 line k lent) (asks (sendServerQuestions S line k lent)) (bytesOf (serverMessage S line k)) lent (editMessage h 0 line k) refl refl
+  server-posts line number lent =
+      post (send 0 line number lent) (asks (sendServerQuestions S line number lent)) (bytesOf (serverMessage S line number)) lent (editMessage h 0 line number) refl refl
       (λ z.
-      let there = between-true 1 n line (yes-all (sendServerQuestions S line k lent) (omega arith) z .1 .0) in
-      server-sends line (there .0) (there .1) k lent z)
-      (sendServer S line k lent) (posted (asks (sendServerQuestions S line k lent)) (bytesOf (serverMessage S line k)) lent)
+      let there = between-true 1 n line (yes-all (sendServerQuestions S line number lent) (omega arith) z .1 .0) in
+      server-sends line (there .0) (there .1) number lent z)
+      (sendServer S line number lent) (posted (asks (sendServerQuestions S line number lent)) (bytesOf (serverMessage S line number)) lent)
 
   server-acks : (line : ℕ) (lent : List ℕ) → Sim n items from (written ours s (tell 0 line lent) (tellServer S line lent))
   unfolding tellServer logged refusedLog
@@ -462,11 +451,11 @@ module _ (n : ℕ) (items : List ℕ) {from : Moment} (s : State ours) (sim : Si
       (take-junk n items s sim (suc a) (omega arith) hi (junk (suc a) bytes) (answer (asks (ask 2 (soundClient C) ∷ ask 3 false ∷ [])) C C 0)
       (outcome (asks (ask 2 (soundClient C) ∷ ask 3 false ∷ [])) C C 0) refl))
 
-  sends-at : (a l k : ℕ) (lent : List ℕ) → a ≤ n → Sim n items from (written ours s (send a l k lent) (ours .send (s .ends a) l k lent))
-  sends-at zero l k lent hi = subst (λ (e : End). Sim n items from (written ours s (send 0 l k lent) (ours .send e l k lent))) (sym (sim .server-is)) (server-posts n items s sim l k lent)
-  sends-at (suc a) l k lent hi =
-      subst (λ (e : End). Sim n items from (written ours s (send (suc a) l k lent) (ours .send e l k lent))) (sym (sim .client-is (suc a) (omega arith) hi))
-      (client-sends n items s sim (suc a) (omega arith) hi l k lent)
+  sends-at : (a l number : ℕ) (lent : List ℕ) → a ≤ n → Sim n items from (written ours s (send a l number lent) (ours .send (s .ends a) l number lent))
+  sends-at zero l number lent hi = subst (λ (e : End). Sim n items from (written ours s (send 0 l number lent) (ours .send e l number lent))) (sym (sim .server-is)) (server-posts n items s sim l number lent)
+  sends-at (suc a) l number lent hi =
+      subst (λ (e : End). Sim n items from (written ours s (send (suc a) l number lent) (ours .send e l number lent))) (sym (sim .client-is (suc a) (omega arith) hi))
+      (client-sends n items s sim (suc a) (omega arith) hi l number lent)
 
   tells-at : (a l : ℕ) (lent : List ℕ) → a ≤ n → Sim n items from (written ours s (tell a l lent) (ours .tell (s .ends a) l lent))
   tells-at zero l lent hi = subst (λ (e : End). Sim n items from (written ours s (tell 0 l lent) (ours .tell e l lent))) (sym (sim .server-is)) (server-acks n items s sim l lent)
@@ -493,8 +482,8 @@ module _ (n : ℕ) (items : List ℕ) {from : Moment} (s : State ours) (sim : Si
       let at-l = between-true 1 n l (and-left (between 1 n l) (ltb p 65536) ok) in
       subst (λ (e : End). Sim n items from (answered ours s l (delete l p) (ours .delete e p))) (sym (sim .client-is l (at-l .0) (at-l .1)))
       (edits-at (delete l p) l (Delete p) (at-l .0) (at-l .1) refl refl refl refl)
-  called (send a l k lent) ok =
-      sends-at a l k lent (leb-true a n (three (leb a n) (ltb l 256) (ltb k 65536) (and-left (leb a n && ltb l 256 && ltb k 65536) (areBytes lent) ok) .0))
+  called (send a l number lent) ok =
+      sends-at a l number lent (leb-true a n (three (leb a n) (ltb l 256) (ltb number 65536) (and-left (leb a n && ltb l 256 && ltb number 65536) (areBytes lent) ok) .0))
   called (tell a l lent) ok = tells-at a l lent (leb-true a n (three (leb a n) (ltb l 256) (areBytes lent) ok .0))
   called (receive a i) ok = go (getElem? (s .messages) i) refl
     where

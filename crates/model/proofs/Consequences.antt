@@ -24,7 +24,7 @@ use Rattle.model.specs.Log.{Log, log, madeAt, takenAt, messageBytes}
 use Rattle.model.specs.Numbers.{taking, handing, number}
 use Rattle.model.specs.Run.{State, callable, handed, handedNumber, call, numberOf, run, start}
 use Rattle.model.specs.Claim.{Holds, Opened, Converges}
-use Rattle.model.specs.Ours.{End, client, server, ours}
+use Rattle.model.specs.Ours.{End, server, ours}
 use Rattle.model.specs.Consequences.{among, appliedAt, after, Consistent, TakingRefusals, Agree, Consequences}
 use Rattle.model.proofs.Sim.{Moment, Sim, present, from-here}
 use Rattle.model.proofs.Converges.{opening, starts, runs, server-asked, converges}

@@ -16,8 +16,9 @@ use Rattle.jupiter.specs.Claims.{inserts, LineClaim}
 use Rattle.jupiter.proofs.Step.{opens, later-refl}
 use Rattle.model.specs.Limits.{maxLines, maxPending, maxInitial}
 use Rattle.model.specs.Questions.{asks, between, Answer}
+use Rattle.model.specs.Line.{Line, noLine}
 use Rattle.model.specs.Client.{Client, noClient, openClientQuestions, openClient}
-use Rattle.model.specs.Server.{Line, Server, noLine, noServer, soundServer, openServerQuestions, openServer}
+use Rattle.model.specs.Server.{Server, noServer, soundServer, openServerQuestions, openServer}
 use Rattle.model.specs.Edits.{edits}
 use Rattle.model.specs.Sheet.{Call}
 use Rattle.model.specs.Log.{editMessage, messageBytes}
@@ -25,7 +26,7 @@ use Rattle.model.specs.Run.{State, callable, call, run, start}
 use Rattle.model.specs.Claim.{Delivered, Full, OnLine, Holds, Converges}
 use Rattle.model.specs.Ours.{End, client, server, ours}
 use Rattle.model.proofs.Tests.{hold, yes-all, between-true}
-use Rattle.model.proofs.SoundServer.{server-facts, LineFacts, line-fact, takenSum}
+use Rattle.model.proofs.SoundServer.{server-facts, ServerLine, line-fact, takenSum}
 use Rattle.model.proofs.Sound.{accepted, opens-client, opens-server}
 use Rattle.model.proofs.Opens.{freshClient, freshServer, client-opens, server-opens}
 use Rattle.model.proofs.Table.{table-replicate}
@@ -86,9 +87,9 @@ module _ (n : ℕ) (items : List ℕ) {from : Moment} (s : State ours) (sim : Si
       room : ((j : ℕ) → 1 ≤ j → j ≤ n → (j ≡ l → ⊥) → Full ours n s j → ⊥) → (j : ℕ) → 1 ≤ j → j ≤ n → (j ≡ l → ⊥) → E .lines j .made - E .lines j .acked < maxPending
       room free j a b d =
           let same = line-from n (length items) (E .doc) (E .lines) (sim .si) j a b in
-          let facts = subst (λ (v : Line). LineFacts n (takenSum (S .lines)) j v) same (line-fact S (server-facts S (sim .server-sound)) j a b) in
+          let facts = subst (λ (v : Line). ServerLine n (takenSum (S .lines)) j v) same (line-fact S (server-facts S (sim .server-sound)) j a b) in
           let made : ours .made (s .ends 0) j ≡ E .lines j .made = ap (λ (e : End). ours .made e j) (sim .server-is) ∙ ap (λ (v : Line). v .made) same in
-          below (E .lines j .made) (E .lines j .acked) (facts .room) (facts .acked)
+          below (E .lines j .made) (E .lines j .acked) (facts .line .room) (facts .line .acked)
           (λ e. free j a b d (made ∙ e ∙ ap (λ (k : ℕ). k + maxPending) (sym (sim .server-heard j))))
         where
           below : (m k : ℕ) → m - k ≤ maxPending → k ≤ m → (m ≡ k + maxPending → ⊥) → m - k < maxPending

@@ -6,9 +6,7 @@ use mathlib.Core.List.{List, [], _∷_, _++_}
 use Prim.Native.Nat.{ℕ, zero, suc, _+_, _≤_}
 use native.Mathlib.Omega.{arith}
 use lib.ListN.{length, drop}
-use Rattle.ot.specs.declared.Edit.{Edit}
-use Rattle.ot.specs.declared.Edit.the-variants.{Nothing, Delete, Insert}
-use Rattle.ot.specs.Edit.{applied, sizeAfter, fits, transformed}
+use Rattle.ot.specs.Edit.{Edit, Nothing, Delete, Insert, applied, sizeAfter, fits, transformed}
 use Rattle.ot.specs.Laws.{stamp, within}
 use Rattle.ot.proofs.Laws.{laws}
 use Rattle.model.specs.Limits.{maxItems}

@@ -8,8 +8,7 @@ use lib.Dec.{eqb}
 use lib.ListN.{length, getD, drop, length-append}
 use lib.Seq.{getD-append-seam}
 use borrow.Author.Tests.{eqb-true, ne-eqb, eq-eqb}
-use Rattle.ot.specs.declared.Edit.{Edit}
-use Rattle.ot.specs.Edit.{applied, fits}
+use Rattle.ot.specs.Edit.{Edit, applied, fits}
 use Rattle.jupiter.specs.Made.{Made, holds, select, reject, isBy, mine, others}
 use Rattle.jupiter.specs.Form.{form, inOrder}
 use Rattle.jupiter.specs.Point.{blank, own, oth, point}
@@ -33,7 +32,7 @@ use Rattle.model.specs.Edits.{edits}
 use Rattle.model.specs.Log as logs
 use Rattle.model.specs.Log.{Log, messageBytes, setOf, madeAt, hears, tookUp, tookDown, writes}
 use Rattle.model.specs.Run.{State}
-use Rattle.model.specs.Ours.{End, client, server, ours}
+use Rattle.model.specs.Ours.{client, server, ours}
 use Rattle.model.proofs.Instance.{to-T, edit-laws, past-same, over-same}
 use Rattle.model.proofs.Small.{Small, small-past, small-over, all-drop}
 use Rattle.model.proofs.Sim.{clientFrom, serverFrom, MessageOk, OfLines, Moment, Sim, at-line, at-other, edited-from, taken-from, server-taken-from, server-acked-from}

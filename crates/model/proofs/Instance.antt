@@ -8,9 +8,7 @@ use native.Mathlib.Omega.{arith}
 use lib.Dec.{T, eqb}
 use lib.ListN.{length}
 use borrow.Author.Tests.{eqb-true, ne-eqb}
-use Rattle.ot.specs.declared.Edit.{Edit}
-use Rattle.ot.specs.declared.Edit.the-variants.{Nothing, Delete, Insert}
-use Rattle.ot.specs.Edit.{applied, fits, transformed}
+use Rattle.ot.specs.Edit.{Edit, Nothing, Delete, Insert, applied, fits, transformed}
 use Rattle.ot.specs.Laws.{distinct}
 use Rattle.ot.proofs.Laws.{laws}
 use Rattle.ot.proofs.Fits.{length-inserted, length-deleted-le}

@@ -1,5 +1,6 @@
 pub mod Tests
 pub mod Cross
+pub mod SoundLine
 pub mod SoundClient
 pub mod SoundServer
 pub mod Sound

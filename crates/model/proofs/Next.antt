@@ -1,18 +1,17 @@
 -- The next message is taken: no question says no.
 use mathlib.Core.Path.{_≡_, refl, ap, ap₂, sym, _∙_, subst}
-use mathlib.Core.Bool.{Bool, true, _&&_, cond}
+use mathlib.Core.Bool.{Bool, true, cond}
 use mathlib.Core.List.{List, [], _∷_, _++_}
 use Prim.Native.Nat.{ℕ, suc, _+_, _-_, _≤_, _<_}
 use native.Mathlib.Numerals.{add-one}
-use native.Mathlib.Nat.{le-refl}
 use native.Mathlib.Omega.{arith}
-use lib.Dec.{eqb, leb, ltb}
+use lib.Dec.{eqb, leb}
 use lib.ListN.{length, take, drop}
 use lib.Seq.{take-append-seam}
 use borrow.Author.Tests.{eq-eqb, le-leb, lt-ltb}
-use Rattle.ot.specs.declared.Edit.{Edit}
-use Rattle.ot.specs.Edit.{applied, fits}
+use Rattle.ot.specs.Edit.{Edit, applied, fits}
 use Rattle.wire.specs.declared.Header.{Header}
+use Rattle.wire.specs.declared.Message as message
 use Rattle.wire.specs.Message.{between}
 use Rattle.wire.specs.Bytes.{bytesOf, parsed}
 use Rattle.wire.proofs.Codec.{codec}
@@ -29,22 +28,24 @@ use Rattle.jupiter.proofs.World.{first-untaken}
 use Rattle.jupiter.proofs.Step.{UpMessage, DownMessage, up-message, down-message, up-fits, down-fits}
 use Rattle.model.specs.Limits.{maxInserts, maxPending, maxItems}
 use Rattle.model.specs.Questions.{asks, Answer, Sent, sent}
-use Rattle.model.specs.Cross.{past, over, allPlaced, priority, insertsOf}
-use Rattle.model.specs.Client.{Client, clientMessage, sendClientQuestions, sendClient, other, unacked, clientTaken, clientEditQuestions, clientTakesEdit, clientReads, takeClient}
-use Rattle.model.specs.Server.{Line, Server, lineOf, serverMessage, sendServerQuestions, sendServer, unackedOf, carried, serverTaken, othersRoomy, serverEditQuestions, serverTakesEdit, serverReads, takeServer}
+use Rattle.model.specs.Cross.{allPlaced, priority, insertsOf}
+use Rattle.model.specs.Line.{Line, other, sendQuestions}
+use Rattle.model.specs.Client.{Client, clientMessage, sendClientQuestions, sendClient, clientTaken, clientEditQuestions, clientTakesEdit, clientReads, takeClient}
+use Rattle.model.specs.Server.{Server, lineOf, serverMessage, sendServerQuestions, sendServer, serverTaken, othersRoomy, serverEditQuestions, serverTakesEdit, serverReads, takeServer}
 use Rattle.model.specs.Edits.{edits}
 use Rattle.model.specs.Log.{wireMessage, messageBytes, editMessage}
 use Rattle.model.specs.Run.{State}
-use Rattle.model.specs.Ours.{End, client, server, ours}
+use Rattle.model.specs.Ours.{client, server, ours}
 use Rattle.model.specs.Claim.{Delivered}
-use Rattle.model.proofs.Tests.{both, all-yes, true-between}
+use Rattle.model.proofs.Tests.{both, Yes, all-yes, true-between}
+use Rattle.model.proofs.SoundLine.{Asked, yes-asked}
 use Rattle.model.proofs.SoundClient.{ClientFacts, client-facts}
-use Rattle.model.proofs.SoundServer.{server-facts, LineFacts, line-fact, takenSum}
+use Rattle.model.proofs.SoundServer.{server-facts, ServerLine, line-fact, takenSum, lastQuestions}
 use Rattle.model.proofs.Sound.{new-end}
 use Rattle.model.proofs.Table.{table-roomy}
 use Rattle.model.proofs.Instance.{edit-laws, from-T, past-same, over-same}
-use Rattle.model.proofs.Ranges.{priority-get}
-use Rattle.model.proofs.Sim.{clientFrom, serverFrom, lineFrom, line-from, carried-from, server-taken-from, Moment, Sim}
+use Rattle.model.proofs.Ranges.{line-priority}
+use Rattle.model.proofs.Sim.{clientFrom, serverFrom, lineFrom, headerOf, line-from, server-taken-from, Moment, Sim}
 use Rattle.model.proofs.Follow.{first-inserts, inserts-cons}
 use Rattle.model.proofs.Calls.{client-message, server-message, up-is, up-bytes, up-ok, down-is, down-bytes, down-ok}
 use Rattle.model.proofs.Bounds.{inserts-most, client-most, client-more, doc-most, client-placed, server-placed}
@@ -53,6 +54,26 @@ use Rattle.model.proofs.Bounds.{inserts-most, client-most, client-more,
 pub sent-all : (r : ℕ) (bytes lent : List ℕ) → r ≡ 0 → sent r bytes lent ≡ record { refusal = 0; written = length bytes; buffer = bytes ++ drop (length bytes) lent }
 unfolding sent
 sent-all r bytes lent e = rw e
+
+-- a pending edit for which the lent bytes are enough: questions 13 and 14
+yes-sends : (v : Line) (number : ℕ) (m : message.Message) (lent : List ℕ) → v .acked < number → number ≤ v .made → length (bytesOf m) ≤ length lent
+    → Yes (sendQuestions v number m lent)
+yes-sends v number m lent low high long = (true-between (v .acked + 1) (v .made) number (omega arith) high, (le-leb (length (bytesOf m)) (length lent) long, tt))
+
+-- the next edit message, which fits as the theory says: questions 5 to 9
+arrives : (v : ends.End edits) (i l direction : ℕ) (doc : List ℕ) (x : ends.EditMessage edits) → x .number ≡ suc (v .taken) → v .acked ≤ x .seen → x .seen ≤ v .made
+    → fits (arrived x v) (length doc) ≡ true → allPlaced (takes x v .pending) ≡ true → length (applied (arrived x v) doc) ≤ maxItems
+    → Asked (lineFrom v i) doc (headerOf l direction x) (x .edit)
+arrives v i l direction doc x next low high fit placed size =
+    let same = past-same (x .edit) (drop (x .seen - v .acked) (v .pending)) in
+    record {
+      next = next ∙ sym (add-one (v .taken));
+      low = low;
+      high = high;
+      fit = ap (λ (e : Edit). fits e (length doc)) same ∙ fit;
+      placed = ap allPlaced (over-same (x .edit) (drop (x .seen - v .acked) (v .pending))) ∙ placed;
+      size = subst (λ (e : Edit). length (applied e doc) ≤ maxItems) (sym same) size;
+    }
 
 module _ (n : ℕ) (items : List ℕ) {from : Moment} (s : State ours) (sim : Sim n items from s) (few : length items ≤ 128) (l : ℕ) (lo : 1 ≤ l) (hi : l ≤ n) where
   abbrev h : History edits
@@ -79,8 +100,11 @@ module _ (n : ℕ) (items : List ℕ) {from : Moment} (s : State ours) (sim : Si
   same-line : lineOf S l ≡ lineFrom v (sim .si l)
   same-line = line-from n (length items) (E .doc) (E .lines) (sim .si) l lo hi
 
-  K : LineFacts n (takenSum (S .lines)) l (lineFrom v (sim .si l))
-  K = subst (λ (u : Line). LineFacts n (takenSum (S .lines)) l u) same-line (line-fact S (server-facts S (sim .server-sound)) l lo hi)
+  on-line : (P : Line → Type 0) → P (lineFrom v (sim .si l)) → P (lineOf S l)
+  on-line P p = subst P (sym same-line) p
+
+  K : ServerLine n (takenSum (S .lines)) l (lineFrom v (sim .si l))
+  K = subst (λ (u : Line). ServerLine n (takenSum (S .lines)) l u) same-line (line-fact S (server-facts S (sim .server-sound)) l lo hi)
 
   room : length items + inserts (order h l) ≤ 512
   room = omega (arith, inserts-most n items s sim few l lo hi)
@@ -91,121 +115,81 @@ module _ (n : ℕ) (items : List ℕ) {from : Moment} (s : State ours) (sim : Si
     after : LineAt items l (order h l) (h .served) (h .applied l ++ (oth l (order h l) (c .taken) ∷ [])) (takes x c) v (applied (arrived x c) (E .docs l))
     after = line-down items l (order h l) (h .served) (h .applied l) c v (E .docs l) line x ok next cur
 
-    down-past : past (x .edit) (unacked C (x .seen)) ≡ arrived x c
-    down-past = past-same (x .edit) (drop (x .seen - c .acked) (c .pending))
-
-    down-over : over (x .edit) (unacked C (x .seen)) ≡ takes x c .pending
-    down-over = over-same (x .edit) (drop (x .seen - c .acked) (c .pending))
-
-    pub down-8 : leb (x .seen) (c .made) ≡ true
-    down-8 = le-leb (x .seen) (c .made) (omega (arith, ok .seen-le, line .v-taken, line .c-made))
-
-    pub down-9 : (fits (past (x .edit) (unacked C (x .seen))) (length (E .docs l)) && allPlaced (over (x .edit) (unacked C (x .seen)))
-        && leb (length (applied (past (x .edit) (unacked C (x .seen))) (E .docs l))) maxItems) ≡ true
-    down-9 =
-        both (fits (past (x .edit) (unacked C (x .seen))) (length (E .docs l)) && allPlaced (over (x .edit) (unacked C (x .seen))))
-        (leb (length (applied (past (x .edit) (unacked C (x .seen))) (E .docs l))) maxItems)
-        (both (fits (past (x .edit) (unacked C (x .seen))) (length (E .docs l))) (allPlaced (over (x .edit) (unacked C (x .seen))))
-        (ap (λ (e : Edit). fits e (length (E .docs l))) down-past ∙ from-T (fits (arrived x c) (length (E .docs l))) (down-fits items E h (sim .inv) l x ok next cur))
-        (ap allPlaced down-over ∙ client-placed items l (order h l) (h .served) (h .applied l ++ (oth l (order h l) (c .taken) ∷ [])) (takes x c) v (applied (arrived x c) (E .docs l)) after room))
-        (le-leb (length (applied (past (x .edit) (unacked C (x .seen))) (E .docs l))) maxItems
-        (subst (λ (e : Edit). length (applied e (E .docs l)) ≤ maxItems) (sym down-past)
-        (subst (λ (d : List ℕ). length d ≤ maxItems) (sym (after .c-doc)) (doc-most items (order h l) room l (length (mine l (order h l))) (suc (c .taken))))))
+    pub down-asked : Asked (C .own) (E .docs l) (headerOf l 1 x) (x .edit)
+    down-asked =
+        arrives c (sim .ci l) l 1 (E .docs l) x next cur (omega (arith, ok .seen-le, line .v-taken, line .c-made))
+        (from-T (fits (arrived x c) (length (E .docs l))) (down-fits items E h (sim .inv) l x ok next cur))
+        (client-placed items l (order h l) (h .served) (h .applied l ++ (oth l (order h l) (c .taken) ∷ [])) (takes x c) v (applied (arrived x c) (E .docs l)) after room)
+        (subst (λ (d : List ℕ). length d ≤ maxItems) (sym (after .c-doc)) (doc-most items (order h l) room l (length (mine l (order h l))) (suc (c .taken))))
 
   -- ---- the next edit going down
   module _ (more : c .taken < v .made) (lent : List ℕ) (long : length (messageBytes (editMessage h 0 l (suc (c .taken)))) ≤ length lent) where
-    abbrev k : ℕ
-    k = suc (c .taken)
+    abbrev number : ℕ
+    number = suc (c .taken)
 
     abbrev x : ends.EditMessage edits
-    x = ends.message k v
+    x = ends.message number v
 
     abbrev hd : Header
-    hd = record { line = l; direction = 1; number = k; seen = v .taken }
+    hd = headerOf l 1 x
 
-    low : v .acked < k
+    low : v .acked < number
     low = omega (arith, line .v-acked)
 
     ok : DownMessage items E h l x
-    ok = down-message items E h (sim .inv) l k low more
+    ok = down-message items E h (sim .inv) l number low more
 
     -- it is what the definitions give
-    down-written : bytesOf (serverMessage S l k) ≡ messageBytes (editMessage h 0 l k)
-    down-written = down-bytes n items s sim l lo hi k low more ∙ ap messageBytes (sym (down-is n items s sim l lo hi k low more))
+    down-written : bytesOf (serverMessage S l number) ≡ messageBytes (editMessage h 0 l number)
+    down-written = down-bytes n items s sim l lo hi number low more ∙ ap messageBytes (sym (down-is n items s sim l lo hi number low more))
 
-    down-sent : sendServer S l k lent
-        ≡ record { refusal = 0; written = length (bytesOf (serverMessage S l k)); buffer = bytesOf (serverMessage S l k) ++ drop (length (bytesOf (serverMessage S l k))) lent }
+    down-sent : sendServer S l number lent
+        ≡ record { refusal = 0; written = length (bytesOf (serverMessage S l number)); buffer = bytesOf (serverMessage S l number) ++ drop (length (bytesOf (serverMessage S l number))) lent }
     unfolding sendServer
     down-sent =
-        sent-all (asks (sendServerQuestions S l k lent)) (bytesOf (serverMessage S l k)) lent
-        (all-yes (sendServerQuestions S l k lent) (
+        sent-all (asks (sendServerQuestions S l number lent)) (bytesOf (serverMessage S l number)) lent
+        (all-yes (sendServerQuestions S l number lent) (
           sim .server-sound,
           (
             true-between 1 n l lo hi,
-            (
-              subst (λ (u : Line). between (u .acked + 1) (u .made) k ≡ true) (sym same-line) (true-between (v .acked + 1) (v .made) k (omega (arith, line .v-acked)) more),
-              (le-leb (length (bytesOf (serverMessage S l k))) (length lent) (subst (λ (b : List ℕ). length b ≤ length lent) (sym down-written) long), tt),
-            ),
+            yes-sends (lineOf S l) number (serverMessage S l number) lent (on-line (λ u. u .acked < number) low) (on-line (λ u. number ≤ u .made) more)
+                (subst (λ (b : List ℕ). length b ≤ length lent) (sym down-written) long),
           ),
         ))
-
-    down-priority : priority (other n l) (x .edit) ≡ true
-    down-priority = priority-get (other n l) (v .pending) (k - suc (v .acked)) (omega (arith, K .count, line .v-acked)) (K .priorities)
 
     down-asks : asks (clientEditQuestions C hd (x .edit)) ≡ 0
     down-asks =
         all-yes (clientEditQuestions C hd (x .edit)) (
           sim .client-sound l lo hi,
           (
-            both (eqb l l) (priority (other n l) (x .edit)) (eq-eqb l l refl) down-priority,
-            (
-              lt-ltb (c .taken) k (le-refl k),
-              (
-                eq-eqb k (c .taken + 1) (sym (add-one (c .taken))),
-                (
-                  le-leb (c .acked) (v .taken) (line .c-acked),
-                  (
-                    down-8 x ok refl (line .c-acked),
-                    (down-9 x ok refl (line .c-acked), tt),
-                  ),
-                ),
-              ),
-            ),
+            both (eqb l l) (priority (other n l) (x .edit)) (eq-eqb l l refl) (line-priority v (sim .si l) number (v .taken) (other n l) (K .line) low more),
+            yes-asked (C .own) (E .docs l) hd (x .edit) [] (down-asked x ok refl (line .c-acked)) tt,
           ),
         )
 
     -- what was written reads as the message, and the client takes it
-    down-taken : takeClient C (take (length (bytesOf (serverMessage S l k))) (bytesOf (serverMessage S l k) ++ drop (length (bytesOf (serverMessage S l k))) lent))
+    down-taken : takeClient C (take (length (bytesOf (serverMessage S l number))) (bytesOf (serverMessage S l number) ++ drop (length (bytesOf (serverMessage S l number))) lent))
         ≡ record { refusal = 0; end = clientTaken C (v .taken) (x .edit); passed = c .made - v .taken }
     unfolding takeClient clientTakesEdit
     down-taken =
         ap (λ (b : List ℕ). clientReads C (parsed b))
-        (take-append-seam (bytesOf (serverMessage S l k)) (drop (length (bytesOf (serverMessage S l k))) lent) ∙ down-bytes n items s sim l lo hi k low more)
-        ∙ ap (clientReads C) (codec .written-read (wireMessage (down l x)) (down-ok n items s sim l lo hi k low more .1))
+        (take-append-seam (bytesOf (serverMessage S l number)) (drop (length (bytesOf (serverMessage S l number))) lent) ∙ down-bytes n items s sim l lo hi number low more)
+        ∙ ap (clientReads C) (codec .written-read (wireMessage (down l x)) (down-ok n items s sim l lo hi number low more .1))
         ∙ client-message C hd (x .edit)
         ∙ new-end (asks (clientEditQuestions C hd (x .edit))) C (clientTaken C (v .taken) (x .edit)) (c .made - v .taken) down-asks
 
-    pub delivers-down : Delivered ours (server S) (client C) l k lent
+    pub delivers-down : Delivered ours (server S) (client C) l number lent
     delivers-down =
         record {
           sends = ap (λ (r : Sent). r .refusal) down-sent;
           takes = ap (λ (r : Sent). takeClient C (take (r .written) (r .buffer)) .refusal) down-sent ∙ ap (λ (r : Answer Client). r .refusal) down-taken;
-          rises = ap (λ (r : Sent). takeClient C (take (r .written) (r .buffer)) .end .taken) down-sent ∙ ap (λ (r : Answer Client). r .end .taken) down-taken ∙ add-one (c .taken);
+          rises = ap (λ (r : Sent). takeClient C (take (r .written) (r .buffer)) .end .own .taken) down-sent ∙ ap (λ (r : Answer Client). r .end .own .taken) down-taken ∙ add-one (c .taken);
         }
 
   -- ---- a message that goes up, whenever it was written: where questions 4 to 7 say yes, so do 8 to 10
-  on-line : (P : Line → Type 0) → P (lineFrom v (sim .si l)) → P (lineOf S l)
-  on-line P p = subst P (sym same-line) p
-
   module _ (y : ends.EditMessage edits) (okay : UpMessage items E h l y) (following : y .number ≡ suc (v .taken)) (current : v .acked ≤ y .seen) where
     up-after : LineAt items l (order h l) (h .served ++ (own l (order h l) (v .taken) ∷ [])) (h .applied l) c (takes y v) (E .docs l)
     up-after = line-up items l (order h l) (h .served) (h .applied l) c v (E .docs l) line y okay following current
-
-    up-carried : carried S l (y .seen) (y .edit) ≡ arrived y v
-    up-carried = carried-from n (length items) (E .doc) (E .lines) (sim .si) l lo hi y
-
-    up-over : over (y .edit) (unackedOf (lineOf S l) (y .seen)) ≡ takes y v .pending
-    up-over = ap (λ (u : Line). over (y .edit) (unackedOf u (y .seen))) same-line ∙ over-same (y .edit) (drop (y .seen - v .acked) (v .pending))
 
     up-length : length (applied (arrived y v) (E .doc)) ≤ maxItems
     up-length =
@@ -227,18 +211,13 @@ module _ (n : ℕ) (items : List ℕ) {from : Moment} (s : State ours) (sim : Si
           first-inserts n items s sim l lo hi y okay following o us split,
         ))
 
-    pub up-8 : leb (y .seen) (lineOf S l .made) ≡ true
-    up-8 = on-line (λ u. leb (y .seen) (u .made) ≡ true) (le-leb (y .seen) (v .made) (omega (arith, okay .seen-le, line .c-taken, line .v-made)))
-
-    pub up-9 : (fits (carried S l (y .seen) (y .edit)) (length (E .doc)) && allPlaced (over (y .edit) (unackedOf (lineOf S l) (y .seen)))
-        && leb (length (applied (carried S l (y .seen) (y .edit)) (E .doc))) maxItems) ≡ true
-    up-9 =
-        both (fits (carried S l (y .seen) (y .edit)) (length (E .doc)) && allPlaced (over (y .edit) (unackedOf (lineOf S l) (y .seen))))
-        (leb (length (applied (carried S l (y .seen) (y .edit)) (E .doc))) maxItems)
-        (both (fits (carried S l (y .seen) (y .edit)) (length (E .doc))) (allPlaced (over (y .edit) (unackedOf (lineOf S l) (y .seen))))
-        (ap (λ (e : Edit). fits e (length (E .doc))) up-carried ∙ from-T (fits (arrived y v) (length (E .doc))) (up-fits items E h (sim .inv) l y okay following current))
-        (ap allPlaced up-over ∙ server-placed items l (order h l) (h .served ++ (own l (order h l) (v .taken) ∷ [])) (h .applied l) c (takes y v) (E .docs l) up-after room))
-        (le-leb (length (applied (carried S l (y .seen) (y .edit)) (E .doc))) maxItems (subst (λ (e : Edit). length (applied e (E .doc)) ≤ maxItems) (sym up-carried) up-length))
+    pub up-asked : Asked (lineOf S l) (E .doc) (headerOf l 0 y) (y .edit)
+    up-asked =
+        on-line (λ u. Asked u (E .doc) (headerOf l 0 y) (y .edit))
+        (arrives v (sim .si l) l 0 (E .doc) y following current (omega (arith, okay .seen-le, line .c-taken, line .v-made))
+        (from-T (fits (arrived y v) (length (E .doc))) (up-fits items E h (sim .inv) l y okay following current))
+        (server-placed items l (order h l) (h .served ++ (own l (order h l) (v .taken) ∷ [])) (h .applied l) c (takes y v) (E .docs l) up-after room)
+        up-length)
 
     pub up-10 : leb (lineOf S l .inserts + insertsOf (y .edit)) maxInserts ≡ true
     up-10 = on-line (λ u. leb (u .inserts + insertsOf (y .edit)) maxInserts ≡ true) (le-leb (sim .si l + insertsOf (y .edit)) maxInserts up-inserts)
@@ -246,40 +225,37 @@ module _ (n : ℕ) (items : List ℕ) {from : Moment} (s : State ours) (sim : Si
   -- ---- the next edit going up
   module _ (more : v .taken < c .made) (roomy-others : (j : ℕ) → 1 ≤ j → j ≤ n → (j ≡ l → ⊥) → E .lines j .made - E .lines j .acked < maxPending) (lent : List ℕ)
       (long : length (messageBytes (editMessage h l l (suc (v .taken)))) ≤ length lent) where
-    abbrev up-k : ℕ
-    up-k = suc (v .taken)
+    abbrev up-number : ℕ
+    up-number = suc (v .taken)
 
     abbrev y : ends.EditMessage edits
-    y = ends.message up-k c
+    y = ends.message up-number c
 
     abbrev up-hd : Header
-    up-hd = record { line = l; direction = 0; number = up-k; seen = c .taken }
+    up-hd = headerOf l 0 y
 
     F : ClientFacts C
     F = client-facts C (sim .client-sound l lo hi)
 
-    up-low : c .acked < up-k
+    up-low : c .acked < up-number
     up-low = omega (arith, line .c-acked)
 
     okay : UpMessage items E h l y
-    okay = up-message items E h (sim .inv) l up-k up-low more
+    okay = up-message items E h (sim .inv) l up-number up-low more
 
-    up-written : bytesOf (clientMessage C up-k) ≡ messageBytes (editMessage h l l up-k)
-    up-written = up-bytes n items s sim l lo hi up-k up-low more ∙ ap messageBytes (sym (up-is n items s sim l lo hi up-k up-low more l))
+    up-written : bytesOf (clientMessage C up-number) ≡ messageBytes (editMessage h l l up-number)
+    up-written = up-bytes n items s sim l lo hi up-number up-low more ∙ ap messageBytes (sym (up-is n items s sim l lo hi up-number up-low more l))
 
-    up-sent : sendClient C l up-k lent
-        ≡ record { refusal = 0; written = length (bytesOf (clientMessage C up-k)); buffer = bytesOf (clientMessage C up-k) ++ drop (length (bytesOf (clientMessage C up-k))) lent }
+    up-sent : sendClient C l up-number lent
+        ≡ record { refusal = 0; written = length (bytesOf (clientMessage C up-number)); buffer = bytesOf (clientMessage C up-number) ++ drop (length (bytesOf (clientMessage C up-number))) lent }
     unfolding sendClient
     up-sent =
-        sent-all (asks (sendClientQuestions C l up-k lent)) (bytesOf (clientMessage C up-k)) lent
-        (all-yes (sendClientQuestions C l up-k lent) (
+        sent-all (asks (sendClientQuestions C l up-number lent)) (bytesOf (clientMessage C up-number)) lent
+        (all-yes (sendClientQuestions C l up-number lent) (
           sim .client-sound l lo hi,
           (
             eq-eqb l l refl,
-            (
-              true-between (c .acked + 1) (c .made) up-k (omega (arith, line .c-acked)) more,
-              (le-leb (length (bytesOf (clientMessage C up-k))) (length lent) (subst (λ (b : List ℕ). length b ≤ length lent) (sym up-written) long), tt),
-            ),
+            yes-sends (C .own) up-number (clientMessage C up-number) lent up-low more (subst (λ (b : List ℕ). length b ≤ length lent) (sym up-written) long),
           ),
         ))
 
@@ -293,37 +269,19 @@ module _ (n : ℕ) (items : List ℕ) {from : Moment} (s : State ours) (sim : Si
         all-yes (serverEditQuestions S up-hd (y .edit)) (
           sim .server-sound,
           (
-            both (between 1 n l) (priority (eqb l) (y .edit)) (true-between 1 n l lo hi)
-                (priority-get (eqb l) (c .pending) (up-k - suc (c .acked)) (omega (arith, F .count, line .c-acked)) (F .priorities)),
-            (
-              on-line (λ u. ltb (u .taken) up-k ≡ true) (lt-ltb (v .taken) up-k (le-refl up-k)),
-              (
-                on-line (λ u. eqb up-k (u .taken + 1) ≡ true) (eq-eqb up-k (v .taken + 1) (sym (add-one (v .taken)))),
-                (
-                  on-line (λ u. leb (u .acked) (c .taken) ≡ true) (le-leb (v .acked) (c .taken) (line .v-acked)),
-                  (
-                    up-8 y okay refl (line .v-acked),
-                    (
-                      up-9 y okay refl (line .v-acked),
-                      (
-                        up-10 y okay refl (line .v-acked),
-                        (up-roomy, tt),
-                      ),
-                    ),
-                  ),
-                ),
-              ),
-            ),
+            both (between 1 n l) (priority (eqb l) (y .edit)) (true-between 1 n l lo hi) (line-priority c (sim .ci l) up-number (c .made) (eqb l) (F .own) up-low more),
+            yes-asked (lineOf S l) (E .doc) up-hd (y .edit) (lastQuestions S up-hd (y .edit)) (up-asked y okay refl (line .v-acked))
+                (up-10 y okay refl (line .v-acked), (up-roomy, tt)),
           ),
         )
 
-    up-taken : takeServer S (take (length (bytesOf (clientMessage C up-k))) (bytesOf (clientMessage C up-k) ++ drop (length (bytesOf (clientMessage C up-k))) lent))
+    up-taken : takeServer S (take (length (bytesOf (clientMessage C up-number))) (bytesOf (clientMessage C up-number) ++ drop (length (bytesOf (clientMessage C up-number))) lent))
         ≡ record { refusal = 0; end = serverTaken S l (c .taken) (y .edit); passed = lineOf S l .made - c .taken }
     unfolding takeServer serverTakesEdit
     up-taken =
         ap (λ (b : List ℕ). serverReads S (parsed b))
-        (take-append-seam (bytesOf (clientMessage C up-k)) (drop (length (bytesOf (clientMessage C up-k))) lent) ∙ up-bytes n items s sim l lo hi up-k up-low more)
-        ∙ ap (serverReads S) (codec .written-read (wireMessage (up l y)) (up-ok n items s sim l lo hi up-k up-low more .1))
+        (take-append-seam (bytesOf (clientMessage C up-number)) (drop (length (bytesOf (clientMessage C up-number))) lent) ∙ up-bytes n items s sim l lo hi up-number up-low more)
+        ∙ ap (serverReads S) (codec .written-read (wireMessage (up l y)) (up-ok n items s sim l lo hi up-number up-low more .1))
         ∙ server-message S up-hd (y .edit)
         ∙ new-end (asks (serverEditQuestions S up-hd (y .edit))) S (serverTaken S l (c .taken) (y .edit)) (lineOf S l .made - c .taken) up-asks
 

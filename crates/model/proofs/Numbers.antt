@@ -8,9 +8,7 @@ use native.Mathlib.Omega.{arith}
 use lib.Dec.{eqb, leb, ltb}
 use lib.ListN.{length, drop, getElem?}
 use borrow.Author.Tests.{eqb-true, leb-true, le-leb}
-use Rattle.ot.specs.declared.Edit.{Edit}
-use Rattle.ot.specs.declared.Edit.the-variants.{Delete, Insert}
-use Rattle.ot.specs.Edit.{applied, fits}
+use Rattle.ot.specs.Edit.{Edit, Delete, Insert, applied, fits}
 use Rattle.wire.specs.declared.Header.{Header}
 use Rattle.wire.specs.declared.Message.the-variants as message
 use Rattle.wire.specs.declared.Read.{Read}
@@ -27,23 +25,25 @@ use Rattle.jupiter.specs.Claims.{inserts}
 use Rattle.jupiter.proofs.Lists.{All}
 use Rattle.jupiter.proofs.Step.{DownMessage}
 use Rattle.model.specs.Limits.{maxInserts, maxEdits, maxPending, maxItems}
-use Rattle.model.specs.Questions.{ask, asks, Answer, answer, Sent, sent}
+use Rattle.model.specs.Questions.{Question, ask, asks, Answer, answer, Sent, sent}
 use Rattle.model.specs.Cross.{priority, insertsOf}
-use Rattle.model.specs.Client.{Client, soundClient, edited, editQuestions, editClient, clientMessage, sendClientQuestions, sendClient, tellClientQuestions, tellClient, other, clientTaken, clientAcked, clientEditQuestions, clientTakesEdit, clientAckQuestions, clientTakesAck, clientTakes, clientReads, takeClient}
-use Rattle.model.specs.Server.{Line, Server, lineOf, soundServer, serverMessage, sendServerQuestions, sendServer, tellServerQuestions, tellServer, serverTaken, serverAcked, othersRoomy, serverEditQuestions, serverTakesEdit, serverAckQuestions, serverTakesAck, serverTakes, serverReads, takeServer}
+use Rattle.model.specs.Line.{Line, other, takeQuestions}
+use Rattle.model.specs.Client.{Client, soundClient, edited, editQuestions, editClient, clientMessage, sendClientQuestions, sendClient, tellClientQuestions, tellClient, clientTaken, clientAcked, clientEditQuestions, clientTakesEdit, clientAckQuestions, clientTakesAck, clientTakes, clientReads, takeClient}
+use Rattle.model.specs.Server.{Server, lineOf, soundServer, serverMessage, sendServerQuestions, sendServer, tellServerQuestions, tellServer, serverTaken, serverAcked, othersRoomy, serverEditQuestions, serverTakesEdit, serverAckQuestions, serverTakesAck, serverTakes, serverReads, takeServer}
 use Rattle.model.specs.Edits.{edits}
 use Rattle.model.specs.Sheet.{Call, insert, delete, send, tell, receive, junk}
 use Rattle.model.specs.Log.{Log, wireMessage, messageBytes, madeAt, takenAt}
-use Rattle.model.specs.Numbers.{roomOn, allBut, editing, sending, telling, taking, handing, number}
+use Rattle.model.specs.Numbers.{roomOn, allBut, editing, sending, telling, next, taking, handing, number}
 use Rattle.model.specs.Run.{State, callable, areBytes, unreadable, handedNumber, numberOf}
 use Rattle.model.specs.Ours.{End, ours}
-use Rattle.model.proofs.Tests.{Alike, alike, never, both, and-left, between-true, true-between}
-use Rattle.model.proofs.Sound.{three}
-use Rattle.model.proofs.Sim.{clientFrom, serverFrom, lineFrom, line-from, Lined, MessageOk, Moment, Sim}
+use Rattle.model.proofs.Tests.{Alike, alike, never, both, three, and-left, between-true, true-between}
+use Rattle.model.proofs.SoundLine.{Asked, yes-asked}
+use Rattle.model.proofs.SoundServer.{lastQuestions}
+use Rattle.model.proofs.Sim.{clientFrom, serverFrom, lineFrom, headerOf, line-from, Lined, MessageOk, Moment, Sim}
 use Rattle.model.proofs.Counts.{client-made, client-taken, server-made, server-taken}
 use Rattle.model.proofs.Rooms.{same-room}
 use Rattle.model.proofs.Calls.{client-message, server-message, unread, up-is, up-bytes, down-is, down-bytes}
-use Rattle.model.proofs.Next.{down-8, down-9, up-8, up-9, up-10}
+use Rattle.model.proofs.Next.{down-asked, up-asked, up-10}
 
 -- the number of an answer
 pub refusal-is : {E : Type 0} (r : ℕ) (old new : E) (k : ℕ) → answer r old new k .refusal ≡ r
@@ -71,6 +71,18 @@ module _ (n : ℕ) (items : List ℕ) {from : Moment} (s : State ours) (sim : Si
 
   abbrev E : Ends edits
   E = sim .E
+
+  -- Questions 5 to 9 of a line whose counts are the log's: the log asks 5 to 7, and where these say yes, so do 8 and 9.
+  asks-next : (a k direction : ℕ) (u : Line) (doc : List ℕ) (m : ends.EditMessage edits) (more log : List Question) → u .taken ≡ takenAt h a k → u .acked ≡ w .heard a k
+      → (m .number ≡ suc (u .taken) → u .acked ≤ m .seen → Asked u doc (headerOf k direction m) (m .edit) × Alike more log)
+      → Alike (takeQuestions u doc (headerOf k direction m) (m .edit) more) (next w a k m log)
+  asks-next a k direction u doc m more log taken acked rest =
+      Alike.same (ap (λ (i : ℕ). ltb i (m .number)) taken) (λ y5.
+      Alike.same (ap (λ (i : ℕ). eqb (m .number) (i + 1)) taken) (λ y6.
+      Alike.same (ap (λ (i : ℕ). leb i (m .seen)) acked) (λ y7.
+      let found = rest (eqb-true (m .number) (u .taken + 1) y6 ∙ add-one (u .taken)) (leb-true (u .acked) (m .seen) y7) in
+      let yes = yes-asked u doc (headerOf k direction m) (m .edit) [] (found .0) tt in
+      Alike.over (yes .1 .1 .1 .0) (Alike.over (yes .1 .1 .1 .1 .0) (found .1)))))
 
   -- ---- at client l
   module _ (a : ℕ) (hi : suc a ≤ n) where
@@ -133,21 +145,20 @@ module _ (n : ℕ) (items : List ℕ) {from : Moment} (s : State ours) (sim : Si
     client-takes : (x : Message edits) → MessageOk n items E h x → clientTakes C (wireMessage x) .refusal ≡ asks (taking n w l x)
     unfolding clientTakesEdit clientTakesAck takenAt
     client-takes (up k m) ok =
-        let hd : Header = record { line = k; direction = 0; number = m .number; seen = m .seen } in
+        let hd : Header = headerOf k 0 m in
         ap (λ (r : Answer Client). r .refusal) (client-message C hd (m .edit)) ∙ refusal-is (asks (clientEditQuestions C hd (m .edit))) C (clientTaken C (m .seen) (m .edit)) (c .made - m .seen)
         ∙ alike (clientEditQuestions C hd (m .edit)) (taking n w l (up k m)) (Alike.over (sim .client-sound l lo hi) (Alike.same refl (λ y4. never y4)))
     client-takes (down k m) ok =
-        let hd : Header = record { line = k; direction = 1; number = m .number; seen = m .seen } in
+        let hd : Header = headerOf k 1 m in
         ap (λ (r : Answer Client). r .refusal) (client-message C hd (m .edit)) ∙ refusal-is (asks (clientEditQuestions C hd (m .edit))) C (clientTaken C (m .seen) (m .edit)) (c .made - m .seen)
         ∙ alike (clientEditQuestions C hd (m .edit)) (taking n w l (down k m)) (Alike.over (sim .client-sound l lo hi) (Alike.same (own-edit k m (ok .2)) (λ y4.
         let own : k ≡ l = eqb-true k l (and-left (eqb k l) (priority (other n l) (m .edit)) y4) in
-        Alike.same (ap (λ (i : ℕ). ltb i (m .number)) taken-is) (λ y5.
-        Alike.same (ap (λ (i : ℕ). eqb (m .number) (i + 1)) taken-is) (λ y6.
-        Alike.same (ap (λ (i : ℕ). leb i (m .seen)) (heard-on k own)) (λ y7.
-        let here = subst (λ (i : ℕ). DownMessage items E h i m) own (ok .0) in
-        let next : m .number ≡ suc (c .taken) = eqb-true (m .number) (c .taken + 1) y6 ∙ add-one (c .taken) in
-        let cur = leb-true (c .acked) (m .seen) y7 in
-        Alike.over (down-8 n items s sim few l lo hi m here next cur) (Alike.over (down-9 n items s sim few l lo hi m here next cur) Alike.done)))))))
+        asks-next l k 1 (C .own) (E .docs l) m [] [] taken-is (heard-on k own)
+        (λ next cur. (
+          subst (λ (i : ℕ). Asked (C .own) (E .docs l) (headerOf i 1 m) (m .edit)) (sym own)
+              (down-asked n items s sim few l lo hi m (subst (λ (i : ℕ). DownMessage items E h i m) own (ok .0)) next cur),
+          Alike.done,
+        )))))
     client-takes (upAck k seen) ok = refusal-is (asks (clientAckQuestions C k 0 seen)) C (clientAcked C seen) 0 ∙ alike (clientAckQuestions C k 0 seen) (taking n w l (upAck k seen)) (Alike.over (sim .client-sound l lo hi) (Alike.same refl (λ y4. never y4)))
     client-takes (downAck k seen) ok =
         refusal-is (asks (clientAckQuestions C k 1 seen)) C (clientAcked C seen) 0
@@ -199,21 +210,21 @@ module _ (n : ℕ) (items : List ℕ) {from : Moment} (s : State ours) (sim : Si
   server-takes : (x : Message edits) → MessageOk n items E h x → serverTakes S (wireMessage x) .refusal ≡ asks (taking n w 0 x)
   unfolding serverTakesEdit serverTakesAck
   server-takes (up k m) ok =
-      let hd : Header = record { line = k; direction = 0; number = m .number; seen = m .seen } in
+      let hd : Header = headerOf k 0 m in
       let lo = ok .2 .0 in
       let hi = ok .2 .1 in
       let same = line-is k lo hi in
       ap (λ (r : Answer Server). r .refusal) (server-message S hd (m .edit)) ∙ refusal-is (asks (serverEditQuestions S hd (m .edit))) S (serverTaken S k (m .seen) (m .edit)) (lineOf S k .made - m .seen)
       ∙ alike (serverEditQuestions S hd (m .edit)) (taking n w 0 (up k m)) (Alike.over (sim .server-sound) (Alike.same (both (between 1 n k) (priority (eqb k) (m .edit)) (true-between 1 n k lo hi) (ok .2 .2) ∙ sym (true-between 1 n k lo hi)) (λ y4.
-      Alike.same (ap (λ (i : ℕ). ltb i (m .number)) (server-taken-is k lo hi)) (λ y5.
-      Alike.same (ap (λ (i : ℕ). eqb (m .number) (i + 1)) (server-taken-is k lo hi)) (λ y6.
-      Alike.same (ap (λ (i : ℕ). leb i (m .seen)) (server-acked-is k lo hi)) (λ y7.
-      let next : m .number ≡ suc (E .lines k .taken) = eqb-true (m .number) (lineOf S k .taken + 1) y6 ∙ add-one (lineOf S k .taken) ∙ ap (λ (v : Line). suc (v .taken)) same in
-      let cur : E .lines k .acked ≤ m .seen = subst (λ (v : Line). v .acked ≤ m .seen) same (leb-true (lineOf S k .acked) (m .seen) y7) in
-      Alike.over (up-8 n items s sim few k lo hi m (ok .0) next cur) (Alike.over (up-9 n items s sim few k lo hi m (ok .0) next cur)
-      (Alike.over (up-10 n items s sim few k lo hi m (ok .0) next cur) (Alike.same (room-is k lo hi) (λ y12. Alike.done))))))))))
+      asks-next 0 k 0 (lineOf S k) (E .doc) m (lastQuestions S hd (m .edit)) (ask 12 (allBut (roomOn w) k n) ∷ []) (server-taken-is k lo hi) (server-acked-is k lo hi)
+      (λ next cur.
+      let following : m .number ≡ suc (E .lines k .taken) = next ∙ ap (λ (v : Line). suc (v .taken)) same in
+      let current : E .lines k .acked ≤ m .seen = subst (λ (v : Line). v .acked ≤ m .seen) same cur in (
+        up-asked n items s sim few k lo hi m (ok .0) following current,
+        Alike.over (up-10 n items s sim few k lo hi m (ok .0) following current) (Alike.same (room-is k lo hi) (λ y12. Alike.done)),
+      )))))
   server-takes (down k m) ok =
-      let hd : Header = record { line = k; direction = 1; number = m .number; seen = m .seen } in
+      let hd : Header = headerOf k 1 m in
       ap (λ (r : Answer Server). r .refusal) (server-message S hd (m .edit)) ∙ refusal-is (asks (serverEditQuestions S hd (m .edit))) S (serverTaken S k (m .seen) (m .edit)) (lineOf S k .made - m .seen)
       ∙ alike (serverEditQuestions S hd (m .edit)) (taking n w 0 (down k m)) (Alike.over (sim .server-sound) (Alike.same refl (λ y4. never y4)))
   server-takes (upAck k seen) ok =

@@ -7,13 +7,14 @@ use lib.ListN.{length, replicate}
 use borrow.Author.Tests.{le-leb}
 use Rattle.model.specs.Limits.{maxLines, maxInitial}
 use Rattle.model.specs.Questions.{asks, between}
+use Rattle.model.specs.Line.{noLine}
 use Rattle.model.specs.Client.{Client, noClient, openClientQuestions, openClient}
-use Rattle.model.specs.Server.{Server, noLine, noServer, openServerQuestions, openServer}
+use Rattle.model.specs.Server.{Server, noServer, openServerQuestions, openServer}
 use Rattle.model.proofs.Tests.{held, all-yes, true-between}
 use Rattle.model.proofs.Sound.{new-end}
 
 abbrev pub freshClient : ℕ → ℕ → List ℕ → Client
-freshClient n l items = record { n = n; line = l; made = 0; taken = 0; acked = 0; inserts = 0; items = items; pending = [] }
+freshClient n l items = record { n = n; line = l; items = items; own = noLine }
 
 abbrev pub freshServer : ℕ → List ℕ → Server
 freshServer n items = record { n = n; initial = length items; items = items; lines = replicate n noLine }

@@ -1,14 +1,14 @@
--- What a sound end writes is in range.
-use mathlib.Core.Path.{_≡_, refl}
+-- What a sound line writes is in range.
+use mathlib.Core.Path.{_≡_, refl, ap}
 use mathlib.Core.Bool.{Bool, true, false, _&&_, _||_}
 use mathlib.Core.List.{List, [], _∷_}
-use Prim.Native.Nat.{ℕ, zero, suc, _≤_, _<_}
+use Prim.Native.Nat.{ℕ, zero, suc, _-_, _≤_, _<_}
+use native.Mathlib.Numerals.{add-one}
 use native.Mathlib.Omega.{arith}
 use lib.Dec.{leb}
 use lib.ListN.{length, getD}
 use borrow.Author.Tests.{le-leb}
-use Rattle.ot.specs.declared.Edit.{Edit}
-use Rattle.ot.specs.declared.Edit.the-variants.{Nothing, Delete, Insert}
+use Rattle.ot.specs.Edit.{Edit, Nothing, Delete, Insert}
 use Rattle.ot.specs.Laws.{within}
 use Rattle.wire.specs.declared.Header.{Header}
 use Rattle.wire.specs.declared.Message.{Message}
@@ -16,9 +16,15 @@ use Rattle.wire.specs.declared.Message.the-variants as message
 use Rattle.wire.specs.Message.{messageOf, headerInRange, inRange, between}
 use Rattle.limits.specs.Limits.{maxEdits, maxOthers}
 use Rattle.wire.specs.Bytes.{bytesOf}
+use Rattle.jupiter.specs.Ends as ends
+use Rattle.jupiter.proofs.Lists.{All}
 use Rattle.model.specs.Cross.{placed, allPlaced, priority, priorities}
+use Rattle.model.specs.Line.{lineMessage}
+use Rattle.model.specs.Edits.{edits}
 use Rattle.model.proofs.Tests.{both, and-left, and-right, true-between}
-use Rattle.model.proofs.Small.{Small}
+use Rattle.model.proofs.SoundLine.{LineFacts}
+use Rattle.model.proofs.Small.{Small, all-get}
+use Rattle.model.proofs.Sim.{lineFrom, headerOf}
 
 -- an edit that an end keeps: its position, its priority and its item
 pub fits-range : (h : Header) (e : Edit) (good : ℕ → Bool) → headerInRange h ≡ true → placed e ≡ true → priority good e ≡ true
@@ -42,6 +48,25 @@ unfolding priorities
 priority-get good [] i lt a = absurd (omega arith)
 priority-get good (e ∷ es) zero lt a = and-left (priority good e) (priorities good es) a
 priority-get good (e ∷ es) (suc i) lt a = priority-get good es i (omega arith) (and-right (priority good e) (priorities good es) a)
+
+-- ---- the message of a pending edit
+module _ (v : ends.End edits) (i number : ℕ) where
+  pub line-bytes : (line direction : ℕ)
+      → bytesOf (lineMessage line direction (lineFrom v i) number) ≡ bytesOf (messageOf (headerOf line direction (ends.message number v)) (ends.message number v .edit))
+  line-bytes line direction = ap (λ (j : ℕ). bytesOf (messageOf (headerOf line direction (ends.message number v)) (getD (v .pending) (number - j) Nothing))) (add-one (v .acked))
+
+  module _ (k : ℕ) (right : ℕ → Bool) (f : LineFacts k right (lineFrom v i)) (low : v .acked < number) (high : number ≤ v .made) where
+    place : number - suc (v .acked) < length (v .pending)
+    place = omega (arith, f .count)
+
+    pub line-priority : priority right (ends.message number v .edit) ≡ true
+    line-priority = priority-get right (v .pending) (number - suc (v .acked)) place (f .priorities)
+
+    pub line-range : (h : Header) → headerInRange h ≡ true → ((r : ℕ) → right r ≡ true → (1 ≤ r) × (r ≤ 8)) → All Small (v .pending)
+        → inRange (messageOf h (ends.message number v .edit)) ≡ true
+    line-range h range priorities small =
+        fits-range h (ends.message number v .edit) right range (placed-get (v .pending) (number - suc (v .acked)) place (f .placed)) line-priority priorities
+        (all-get Small (v .pending) (number - suc (v .acked)) Nothing place small)
 
 or-left : (a b : Bool) → a ≡ true → (a || b) ≡ true
 or-left true b e = refl

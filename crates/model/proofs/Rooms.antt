@@ -5,7 +5,8 @@ use Prim.Native.Nat.{ℕ, zero, suc, _-_, _≤_}
 use native.Mathlib.Omega.{arith}
 use lib.Dec.{eqb}
 use borrow.Author.Tests.{eqb-true, eqb-false}
-use Rattle.model.specs.Server.{Line, roomy, othersRoomy}
+use Rattle.model.specs.Line.{Line, roomy}
+use Rattle.model.specs.Server.{othersRoomy}
 use Rattle.model.specs.Numbers.{allBut}
 use Rattle.model.proofs.Tests.{bool-ext, both, and-left, and-right}
 use Rattle.model.proofs.Table.{table, table-roomy, roomy-table}

@@ -1,5 +1,5 @@
 -- The sheet follows the theory: its ends are the theory's ends with 01's limits, and its log is the theory's history.
-use mathlib.Core.Path.{_≡_, refl, ap, _∙_, subst}
+use mathlib.Core.Path.{_≡_, refl, ap, ap₂, _∙_, subst}
 use mathlib.Core.Bool.{Bool, true, false, cond}
 use mathlib.Core.List.{List, map}
 use Prim.Native.Nat.{ℕ, _+_, _-_, _≤_}
@@ -8,8 +8,8 @@ use native.Mathlib.Omega.{arith}
 use lib.Dec.{eqb}
 use lib.ListN.{length, drop}
 use borrow.Author.Tests.{eqb-true}
-use Rattle.ot.specs.declared.Edit.{Edit}
-use Rattle.ot.specs.Edit.{applied}
+use Rattle.ot.specs.Edit.{Edit, applied}
+use Rattle.wire.specs.declared.Header.{Header}
 use Rattle.wire.specs.Message.{inRange}
 use Rattle.jupiter.specs.Made.{Made, mine, others}
 use Rattle.jupiter.specs.History.{History, at, order}
@@ -22,26 +22,30 @@ use Rattle.jupiter.proofs.World.{Inv}
 use Rattle.jupiter.proofs.Step.{Later, later-refl}
 use Rattle.jupiter.proofs.Runs.{Fine}
 use Rattle.model.specs.Cross.{past, priority, insertsOf}
-use Rattle.model.specs.Client.{Client, soundClient, other, edited, clientTaken, clientAcked}
-use Rattle.model.specs.Server.{Line, Server, noLine, lineOf, soundServer, unackedOf, carried, lineTaken, lineKeeps, lineAcked, atPlace, serverTaken, serverAcked}
+use Rattle.model.specs.Line.{Line, noLine, other, lineKeeps, unacked, lineAcked, lineTaken, carried}
+use Rattle.model.specs.Client.{Client, soundClient, with, edited, clientTaken, clientAcked}
+use Rattle.model.specs.Server.{Server, lineOf, soundServer, atPlace, serverTaken, serverAcked}
 use Rattle.model.specs.Edits.{edits}
 use Rattle.model.specs.Log.{wireMessage, messageBytes}
 use Rattle.model.specs.Run.{State}
-use Rattle.model.specs.Ours.{End, client, server, ours}
+use Rattle.model.specs.Ours.{client, server, ours}
 use Rattle.model.proofs.Table.{table, table-cong, table-get, table-at, cond-ne}
 use Rattle.model.proofs.Instance.{past-same, over-same}
 use Rattle.model.proofs.Small.{Small}
 
--- the theory's end of a line, as the client's end, and as what the server keeps of the line
-abbrev pub clientFrom : ℕ → ℕ → ends.End edits → List ℕ → ℕ → Client
-clientFrom n l v items i =
-    record { n = n; line = l; made = v .made; taken = v .taken; acked = v .acked; inserts = i; items = items; pending = v .pending }
-
+-- the theory's end of a line, as a line, and as the client's end
 abbrev pub lineFrom : ends.End edits → ℕ → Line
 lineFrom v i = record { made = v .made; taken = v .taken; acked = v .acked; inserts = i; pending = v .pending }
 
+abbrev pub clientFrom : ℕ → ℕ → ends.End edits → List ℕ → ℕ → Client
+clientFrom n l v items i = record { n = n; line = l; items = items; own = lineFrom v i }
+
 abbrev pub serverFrom : ℕ → ℕ → List ℕ → (ℕ → ends.End edits) → (ℕ → ℕ) → Server
 serverFrom n initial items vs is = record { n = n; initial = initial; items = items; lines = table (λ j. lineFrom (vs j) (is j)) 1 n }
+
+-- the header of an edit message; direction 0 goes up to the server, 1 down
+abbrev pub headerOf : ℕ → ℕ → EditMessage edits → Header
+headerOf l direction m = record { line = l; direction = direction; number = m .number; seen = m .seen }
 
 -- it goes on a line that there is, and an insert has a priority that question 4 lets through at the end it goes to
 abbrev pub Lined : ℕ → Message edits → Type 0
@@ -131,15 +135,22 @@ module _ {A B C D : Type 0} (R : ℕ → A → B → C → D → Type 0) (l : �
 pub at-other : {A : Type 0} (l : ℕ) (v : A) (f : ℕ → A) (j : ℕ) → (l ≡ j → ⊥) → at l v f j ≡ f j
 at-other l v f j h = cond-ne l j v (f j) h
 
--- ---- the ends after a call, as the theory's
+-- ---- a line and the ends after a call, as the theory's
+
+kept-line-from : (v : ends.End edits) (i k : ℕ) (e : Edit) → lineKeeps k e (lineFrom v i) ≡ lineFrom (keeps e v) k
+kept-line-from v i k e = rw (add-one (v .made))
+
+taken-line-from : (v : ends.End edits) (i k : ℕ) (x : EditMessage edits) → lineTaken k (x .seen) (x .edit) (lineFrom v i) ≡ lineFrom (takes x v) k
+taken-line-from v i k x = rw (add-one (v .taken), over-same (x .edit) (drop (x .seen - v .acked) (v .pending)))
 
 pub edited-from : (n l : ℕ) (v : ends.End edits) (items : List ℕ) (i : ℕ) (e : Edit) → edited (clientFrom n l v items i) e ≡ clientFrom n l (keeps e v) (applied e items) (i + insertsOf e)
-edited-from n l v items i e = rw (add-one (v .made))
+edited-from n l v items i e = ap (with (clientFrom n l v items i) (applied e items)) (kept-line-from v i (i + insertsOf e) e)
 
 pub taken-from : (n l : ℕ) (v : ends.End edits) (items : List ℕ) (i : ℕ) (x : EditMessage edits)
     → clientTaken (clientFrom n l v items i) (x .seen) (x .edit) ≡ clientFrom n l (takes x v) (applied (arrived x v) items) i
 taken-from n l v items i x =
-    rw (add-one (v .taken), past-same (x .edit) (drop (x .seen - v .acked) (v .pending)), over-same (x .edit) (drop (x .seen - v .acked) (v .pending)))
+    ap₂ (λ (e : Edit) (w : Line). with (clientFrom n l v items i) (applied e items) w) (past-same (x .edit) (drop (x .seen - v .acked) (v .pending)))
+    (taken-line-from v i i x)
 
 pub acked-from : (n l : ℕ) (v : ends.End edits) (items : List ℕ) (i seen : ℕ) → clientAcked (clientFrom n l v items i) seen ≡ clientFrom n l (acks seen v) items i
 acked-from n l v items i seen = refl
@@ -152,16 +163,16 @@ line-from n initial items vs is l a b =
     table-get f noLine 1 n (l - 1) (omega arith) ∙ ap f (omega arith)
 
 pub carried-from : (n initial : ℕ) (items : List ℕ) (vs : ℕ → ends.End edits) (is : ℕ → ℕ) (l : ℕ) → 1 ≤ l → l ≤ n → (x : EditMessage edits)
-    → carried (serverFrom n initial items vs is) l (x .seen) (x .edit) ≡ arrived x (vs l)
+    → carried (lineOf (serverFrom n initial items vs is) l) (x .seen) (x .edit) ≡ arrived x (vs l)
 carried-from n initial items vs is l a b x =
-    ap (λ (v : Line). past (x .edit) (unackedOf v (x .seen))) (line-from n initial items vs is l a b) ∙ past-same (x .edit) (drop (x .seen - vs l .acked) (vs l .pending))
+    ap (λ (v : Line). past (x .edit) (unacked v (x .seen))) (line-from n initial items vs is l a b) ∙ past-same (x .edit) (drop (x .seen - vs l .acked) (vs l .pending))
 
 pub server-taken-from : (n initial : ℕ) (items : List ℕ) (vs : ℕ → ends.End edits) (is : ℕ → ℕ) (l : ℕ) → 1 ≤ l → l ≤ n → (x : EditMessage edits)
     → serverTaken (serverFrom n initial items vs is) l (x .seen) (x .edit)
     ≡ serverFrom n initial (applied (arrived x (vs l)) items) (at l (takes x (vs l)) (λ k. keeps (arrived x (vs l)) (vs k))) (at l (is l + insertsOf (x .edit)) is)
 server-taken-from n initial items vs is l a b x =
     let s = serverFrom n initial items vs is in
-    let c = carried s l (x .seen) (x .edit) in
+    let c = carried (lineOf s l) (x .seen) (x .edit) in
     let t = arrived x (vs l) in
     let same : c ≡ t = carried-from n initial items vs is l a b x in
     λ i. record {
@@ -171,22 +182,28 @@ server-taken-from n initial items vs is l a b x =
       lines = lines c same i;
     }
   where
+    taking : Line → Line
+    taking v = lineTaken (v .inserts + insertsOf (x .edit)) (x .seen) (x .edit) v
+
+    keeping : Edit → Line → Line
+    keeping c v = lineKeeps (v .inserts) c v
+
     one : (j : ℕ) (c : Edit) → c ≡ arrived x (vs l) → (y : Bool) → eqb l j ≡ y
-        → cond y (lineTaken (x .seen) (x .edit) (lineFrom (vs j) (is j))) (lineKeeps c (lineFrom (vs j) (is j)))
+        → cond y (taking (lineFrom (vs j) (is j))) (keeping c (lineFrom (vs j) (is j)))
         ≡ lineFrom (cond y (takes x (vs l)) (keeps (arrived x (vs l)) (vs j))) (cond y (is l + insertsOf (x .edit)) (is j))
     one j c q true e =
-        subst (λ (k : ℕ). lineTaken (x .seen) (x .edit) (lineFrom (vs k) (is k)) ≡ lineFrom (takes x (vs l)) (is l + insertsOf (x .edit))) (eqb-true l j e)
-        (rw (add-one (vs l .taken), over-same (x .edit) (drop (x .seen - vs l .acked) (vs l .pending))))
-    one j c q false e = rw (add-one (vs j .made), q)
+        subst (λ (k : ℕ). taking (lineFrom (vs k) (is k)) ≡ lineFrom (takes x (vs l)) (is l + insertsOf (x .edit))) (eqb-true l j e)
+        (taken-line-from (vs l) (is l) (is l + insertsOf (x .edit)) x)
+    one j c q false e = kept-line-from (vs j) (is j) (is j) c ∙ ap (λ (d : Edit). lineFrom (keeps d (vs j)) (is j)) q
 
     lines : (c : Edit) → c ≡ arrived x (vs l)
-        → atPlace (l - 1) (lineTaken (x .seen) (x .edit)) (lineKeeps c) (table (λ j. lineFrom (vs j) (is j)) 1 n)
+        → atPlace (l - 1) taking (keeping c) (table (λ j. lineFrom (vs j) (is j)) 1 n)
         ≡ table (λ j. lineFrom (at l (takes x (vs l)) (λ k. keeps (arrived x (vs l)) (vs k)) j) (at l (is l + insertsOf (x .edit)) is j)) 1 n
     lines c q =
         let f : ℕ → Line = λ j. lineFrom (vs j) (is j) in
-        table-at (lineTaken (x .seen) (x .edit)) (lineKeeps c) f 1 n (l - 1)
-        ∙ ap (λ (m : ℕ). table (λ j. cond (eqb m j) (lineTaken (x .seen) (x .edit) (f j)) (lineKeeps c (f j))) 1 n) (omega arith)
-        ∙ table-cong (λ j. cond (eqb l j) (lineTaken (x .seen) (x .edit) (f j)) (lineKeeps c (f j)))
+        table-at taking (keeping c) f 1 n (l - 1)
+        ∙ ap (λ (m : ℕ). table (λ j. cond (eqb m j) (taking (f j)) (keeping c (f j))) 1 n) (omega arith)
+        ∙ table-cong (λ j. cond (eqb l j) (taking (f j)) (keeping c (f j)))
         (λ j. lineFrom (at l (takes x (vs l)) (λ k. keeps (arrived x (vs l)) (vs k)) j) (at l (is l + insertsOf (x .edit)) is j)) 1 n
         (λ j lo hi. one j c q (eqb l j) refl)
 

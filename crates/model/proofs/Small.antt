@@ -7,9 +7,7 @@ use Prim.Native.Nat.{ℕ, zero, suc, _<_}
 use native.Mathlib.Omega.{arith}
 use lib.Dec.{leb}
 use lib.ListN.{length, getD, drop}
-use Rattle.ot.specs.declared.Edit.{Edit}
-use Rattle.ot.specs.declared.Edit.the-variants.{Nothing, Delete, Insert}
-use Rattle.ot.specs.Edit.{transformed}
+use Rattle.ot.specs.Edit.{Edit, Nothing, Delete, Insert, transformed}
 use Rattle.ot.specs.Laws.{stamp}
 use Rattle.ot.proofs.Laws.{laws}
 use Rattle.jupiter.proofs.Lists.{All}

@@ -7,9 +7,7 @@ use native.Mathlib.Omega.{arith}
 use lib.Dec.{leb, eqb}
 use lib.ListN.{length, replicate, length-replicate}
 use borrow.Author.Tests.{leb-true, ltb-true, eq-eqb, eqb-true}
-use Rattle.ot.specs.declared.Edit.{Edit}
-use Rattle.ot.specs.declared.Edit.the-variants.{Nothing, Delete, Insert}
-use Rattle.ot.specs.Edit.{applied, fits}
+use Rattle.ot.specs.Edit.{Edit, Nothing, Delete, Insert, applied, fits}
 use Rattle.wire.specs.declared.Header.{Header}
 use Rattle.wire.specs.declared.Message.{Message}
 use Rattle.wire.specs.declared.Message.the-variants as message
@@ -21,13 +19,16 @@ use Rattle.wire.proofs.Ranges.{header-bounds, insert-bounds, delete-bounds}
 use Rattle.wire.proofs.Codec.{codec}
 use Rattle.model.specs.Limits.{maxLines, maxInserts, maxEdits, maxPending, maxItems, maxInitial, maxOthers}
 use Rattle.model.specs.Questions.{ask, asks, between, Answer, answer}
-use Rattle.model.specs.Cross.{past, over, allPlaced, priority, priorities, insertsOf}
-use Rattle.model.specs.Client.{Client, noClient, soundClient, openClientQuestions, openClient, edited, editQuestions, editClient, unacked, clientTaken, clientAcked, clientEditQuestions, clientTakesEdit, clientAckQuestions, clientTakesAck, clientReads, takeClient}
-use Rattle.model.specs.Server.{Line, Server, noLine, noServer, lineOf, total, soundServer, openServerQuestions, openServer, unackedOf, carried, serverTaken, serverAcked, serverEditQuestions, serverTakesEdit, serverAckQuestions, serverTakesAck, serverReads, takeServer}
+use Rattle.model.specs.Cross.{priority, insertsOf}
+use Rattle.model.specs.Line.{Line, noLine, other}
+use Rattle.model.specs.Client.{Client, noClient, soundClient, openClientQuestions, openClient, edited, editQuestions, editClient, clientTaken, clientAcked, clientEditQuestions, clientTakesEdit, clientAckQuestions, clientTakesAck, clientReads, takeClient}
+use Rattle.model.specs.Server.{Server, noServer, lineOf, total, soundServer, openServerQuestions, openServer, serverTaken, serverAcked, serverEditQuestions, serverTakesEdit, serverAckQuestions, serverTakesAck, serverReads, takeServer}
 use Rattle.model.specs.Sound.{KeepsSound}
-use Rattle.model.proofs.Tests.{and-left, and-right, hold, yes-all, answer-keeps, between-true}
+pub use Rattle.model.proofs.Tests.{three}
+use Rattle.model.proofs.Tests.{and-left, and-right, hold, Yes, yes-all, answer-keeps, between-true}
+use Rattle.model.proofs.SoundLine.{no-line, asked}
 use Rattle.model.proofs.SoundClient.{client-facts, facts-client, edited-sound, taken-sound, acked-sound}
-use Rattle.model.proofs.SoundServer.{LinesFacts, server-facts, facts-server, inserts-one, server-taken-sound, server-acked-sound}
+use Rattle.model.proofs.SoundServer.{LinesFacts, server-facts, facts-server, inserts-one, lastQuestions, server-taken-sound, server-acked-sound}
 
 -- An answer with refusal 0 hands out the new end.
 pub accepted : {E : Type 0} (r : ℕ) (old new : E) (k : ℕ) → (answer r old new k) .refusal ≡ 0 → r ≡ 0
@@ -43,9 +44,9 @@ unfolding answer
 new-end r old new k e = rw e
 
 pub opens-client : (n line : ℕ) (items : List ℕ) → openClient n line items .refusal ≡ 0 → soundClient (openClient n line items .end) ≡ true
-unfolding openClient allPlaced priorities
+unfolding openClient
 opens-client n line items e =
-    let c : Client = record { n = n; line = line; made = 0; taken = 0; acked = 0; inserts = 0; items = items; pending = [] } in
+    let c : Client = record { n = n; line = line; items = items; own = noLine } in
     let r = asks (openClientQuestions n line items) in
     let z : r ≡ 0 = accepted r noClient c 0 e in
     let h = hold (between 1 maxLines n ∷ between 1 n line ∷ leb (length items) maxInitial ∷ []) (yes-all (openClientQuestions n line items) (omega arith) z .0) in
@@ -55,15 +56,8 @@ opens-client n line items e =
       lines = between-true 1 maxLines n (h .0);
       line = between-true 1 n line (h .1 .0);
       items = omega (arith, leb-true (length items) maxInitial (h .1 .1 .0));
-      made = omega arith;
       taken = omega arith;
-      acked = omega arith;
-      room = omega arith;
-      count = refl;
-      placed = refl;
-      priorities = refl;
-      inserts = omega arith;
-      inserts-made = omega arith;
+      own = no-line (eqb line);
     }))
 
 -- An edit of the client's own: its priority, where it has one, is the line.
@@ -78,14 +72,10 @@ edits-sound c e p s =
     (edited-sound c e (client-facts c s) p
     (and-left (fits e (length (c .items))) (leb (length (applied e (c .items))) maxItems) q9)
     (leb-true (length (applied e (c .items))) maxItems (and-right (fits e (length (c .items))) (leb (length (applied e (c .items))) maxItems) q9))
-    (leb-true (c .inserts + insertsOf e) maxInserts (y .1 .1 .0))
-    (ltb-true (c .made) maxEdits (y .1 .1 .1 .0))
-    (ltb-true (c .made - c .acked) maxPending (y .1 .1 .1 .1 .0))
+    (omega (arith, leb-true (c .own .inserts + insertsOf e) _ (y .1 .1 .0)))
+    (omega (arith, ltb-true (c .own .made) _ (y .1 .1 .1 .0)))
+    (ltb-true (c .own .made - c .own .acked) maxPending (y .1 .1 .1 .1 .0))
     (inserts-one e)))
-
--- three tests in a row
-pub three : (a b d : Bool) → (a && b && d) ≡ true → (a ≡ true) × (b ≡ true) × (d ≡ true)
-three a b d e = (and-left a b (and-left (a && b) d e), and-right a b (and-left (a && b) d e), and-right (a && b) d e)
 
 pub client-takes-edit : (c : Client) (h : Header) (e : Edit) → headerInRange h ≡ true → soundClient c ≡ true → soundClient (clientTakesEdit c h e .end) ≡ true
 unfolding clientTakesEdit
@@ -93,17 +83,9 @@ client-takes-edit c h e range s =
     answer-keeps (λ d. soundClient d ≡ true) (asks (clientEditQuestions c h e)) c (clientTaken c (h .seen) e) _ s
     (λ z.
     let y = yes-all (clientEditQuestions c h e) (omega arith) z in
-    let number : h .number ≡ c .taken + 1 = eqb-true (h .number) (c .taken + 1) (y .1 .1 .1 .0) in
-    let q9 =
-    three (fits (past e (unacked c (h .seen))) (length (c .items))) (allPlaced (over e (unacked c (h .seen))))
-    (leb (length (applied (past e (unacked c (h .seen))) (c .items))) maxItems) (y .1 .1 .1 .1 .1 .1 .0) in
+    let q = asked (c .own) (c .items) h e [] (y .1 .1) in
     facts-client (clientTaken c (h .seen) e)
-    (taken-sound c (h .seen) e (client-facts c s)
-    (omega (arith, header-bounds h range .number-high))
-    (leb-true (c .acked) (h .seen) (y .1 .1 .1 .1 .0))
-    (leb-true (h .seen) (c .made) (y .1 .1 .1 .1 .1 .0))
-    (q9 .1)
-    (leb-true (length (applied (past e (unacked c (h .seen))) (c .items))) maxItems (q9 .2))))
+    (taken-sound c h e (client-facts c s) q (omega (arith, q .next, header-bounds h range .number-high))))
 
 pub client-takes-ack : (c : Client) (l d seen : ℕ) → soundClient c ≡ true → soundClient (clientTakesAck c l d seen .end) ≡ true
 unfolding clientTakesAck
@@ -112,7 +94,7 @@ client-takes-ack c l d seen s =
     (λ z.
     let y = yes-all (clientAckQuestions c l d seen) (omega arith) z in
     facts-client (clientAcked c seen)
-    (acked-sound c seen (client-facts c s) (leb-true (c .acked) seen (y .1 .1 .0)) (leb-true seen (c .made) (y .1 .1 .1 .0))))
+    (acked-sound c seen (client-facts c s) (leb-true (c .own .acked) seen (y .1 .1 .0)) (leb-true seen (c .own .made) (y .1 .1 .1 .0))))
 
 client-reads : (c : Client) (m : Read) → ((x : Message) → m ≡ read.Message x → inRange x ≡ true) → soundClient c ≡ true → soundClient (clientReads c m .end) ≡ true
 unfolding inRange
@@ -132,20 +114,9 @@ client-takes c bytes s = client-reads c (parsed bytes) (λ m e. codec .read-in-r
 -- ---- the server
 
 fresh-lines : (n l k : ℕ) → LinesFacts n 0 l (replicate k noLine)
-unfolding allPlaced priorities
 fresh-lines n l zero = tt
 fresh-lines n l (suc k) = (
-  record {
-    taken = omega arith;
-    made = refl;
-    acked = omega arith;
-    room = omega arith;
-    count = refl;
-    placed = refl;
-    priorities = refl;
-    inserts = omega arith;
-    inserts-taken = omega arith;
-  },
+  record { made = refl; line = no-line (other n l) },
   fresh-lines n (suc l) k,
 )
 
@@ -194,22 +165,13 @@ server-takes-edit s h e range t =
     let v = lineOf s (h .line) in
     let q4 = three (eqb (h .direction) 0) (between 1 (s .n) (h .line)) (priority (eqb (h .line)) e) (y .1 .0) in
     let lines = between-true 1 (s .n) (h .line) (q4 .1) in
-    let number : h .number ≡ v .taken + 1 = eqb-true (h .number) (v .taken + 1) (y .1 .1 .1 .0) in
-    let q9 =
-    three (fits (carried s (h .line) (h .seen) e) (length (s .items))) (allPlaced (over e (unackedOf v (h .seen))))
-    (leb (length (applied (carried s (h .line) (h .seen) e) (s .items))) maxItems) (y .1 .1 .1 .1 .1 .1 .0) in
+    let q = asked v (s .items) h e (lastQuestions s h e) (y .1 .1) in
+    let more : Yes (lastQuestions s h e) = y .1 .1 .1 .1 .1 .1 .1 in
     facts-server (serverTaken s (h .line) (h .seen) e)
-    (server-taken-sound s (h .line) (h .seen) e (server-facts s t) (lines .0) (lines .1) (q4 .2)
-    (record {
-      next = omega (arith, up-number h range (eqb-true (h .direction) 0 (q4 .0)));
-      low = leb-true (v .acked) (h .seen) (y .1 .1 .1 .1 .0);
-      high = leb-true (h .seen) (v .made) (y .1 .1 .1 .1 .1 .0);
-      placed = q9 .1;
-      inserts = leb-true (v .inserts + insertsOf e) maxInserts (y .1 .1 .1 .1 .1 .1 .1 .0);
-    })
-    (q9 .0)
-    (leb-true (length (applied (carried s (h .line) (h .seen) e) (s .items))) maxItems (q9 .2))
-    (y .1 .1 .1 .1 .1 .1 .1 .1 .0)))
+    (server-taken-sound s h e (server-facts s t) (lines .0) (lines .1) (q4 .2) q
+    (omega (arith, q .next, up-number h range (eqb-true (h .direction) 0 (q4 .0))))
+    (leb-true (v .inserts + insertsOf e) maxInserts (more .0))
+    (more .1 .0)))
 
 pub server-takes-ack : (s : Server) (l d seen : ℕ) → soundServer s ≡ true → soundServer (serverTakesAck s l d seen .end) ≡ true
 unfolding serverTakesAck

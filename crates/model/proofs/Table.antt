@@ -9,7 +9,8 @@ use lib.Dec.{eqb}
 use lib.ListN.{length, getD, replicate}
 use borrow.Author.Tests.{eq-eqb, ne-eqb, eqb-true, eqb-false}
 use Rattle.model.specs.Questions.{every}
-use Rattle.model.specs.Server.{Line, atPlace, roomy, othersRoomy, total}
+use Rattle.model.specs.Line.{Line, roomy}
+use Rattle.model.specs.Server.{atPlace, othersRoomy, total}
 use Rattle.model.proofs.Tests.{both, and-left, and-right}
 
 abbrev pub table : {A : Type 0} → (ℕ → A) → ℕ → ℕ → List A

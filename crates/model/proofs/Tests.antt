@@ -19,6 +19,10 @@ pub both : (s t : Bool) → s ≡ true → t ≡ true → (s && t) ≡ true
 both true t e f = f
 both false t e f = e
 
+-- three tests in a row
+pub three : (a b d : Bool) → (a && b && d) ≡ true → (a ≡ true) × (b ≡ true) × (d ≡ true)
+three a b d e = (and-left a b (and-left (a && b) d e), and-right a b (and-left (a && b) d e), and-right (a && b) d e)
+
 -- each test of a list holds
 abbrev pub Hold : List Bool → Type 0
 Hold [] = Unit {0}

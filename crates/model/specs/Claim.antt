@@ -46,9 +46,9 @@ module _ (S : Sheet) where
     abbrev pub Full : ℕ → Type 0
     Full j = S .made (s .ends 0) j ≡ s .recorded .heard 0 j + maxPending
 
-    -- the lent bytes are enough for the message that Sending writes at end a for edit number k of line l
+    -- the lent bytes are enough for the message that Sending writes at end a for the edit of that number of line l
     abbrev pub Enough : ℕ → ℕ → ℕ → List ℕ → Type 0
-    Enough a l k lent = (areBytes lent ≡ true) × (length (messageBytes (editMessage history a l k)) ≤ length lent)
+    Enough a l number lent = (areBytes lent ≡ true) × (length (messageBytes (editMessage history a l number)) ≤ length lent)
 
     pub record OnLine (l : ℕ) : Type 0 where
       -- the counts of both ends are those of the history
@@ -88,7 +88,7 @@ module _ (S : Sheet) where
     pub inserts : (e : S .End) (p x : ℕ) → Back e (S .insert e p x)
     pub deletes : (e : S .End) (p : ℕ) → Back e (S .delete e p)
     pub takes : (e : S .End) (bytes : List ℕ) → Back e (S .take e bytes)
-    pub sends : (e : S .End) (l k : ℕ) (lent : List ℕ) → Unwritten lent (S .send e l k lent) × PastStays lent (S .send e l k lent)
+    pub sends : (e : S .End) (l number : ℕ) (lent : List ℕ) → Unwritten lent (S .send e l number lent) × PastStays lent (S .send e l number lent)
     pub tells : (e : S .End) (l : ℕ) (lent : List ℕ) → Unwritten lent (S .tell e l lent) × PastStays lent (S .tell e l lent)
 
   -- the server and the clients as openings, not refused, returned them

@@ -1,40 +1,32 @@
 -- The client's end (01: the bay end) as a record over lists, question 2, and its calls.
 use Prim.Native.Nat.{ℕ, _+_, _-_}
-use mathlib.Core.Bool.{Bool, false, not, _&&_}
-use mathlib.Core.List.{List, [], _∷_, _++_}
+use mathlib.Core.Bool.{Bool, false, _&&_}
+use mathlib.Core.List.{List, [], _∷_}
 use lib.Dec.{leb, ltb, eqb}
-use lib.ListN.{length, getD, drop}
-use Rattle.ot.specs.declared.Edit.{Edit}
-use Rattle.ot.specs.declared.Edit.the-variants.{Nothing, Delete, Insert}
-use Rattle.ot.specs.Edit.{applied, fits}
+use lib.ListN.{length}
+use Rattle.ot.specs.Edit.{Edit, Nothing, Delete, Insert, applied, fits}
 use Rattle.wire.specs.declared.Header.{Header}
 use Rattle.wire.specs.declared.Message.{Message}
 use Rattle.wire.specs.declared.Message.the-variants as message
 use Rattle.wire.specs.declared.Read.{Read}
 use Rattle.wire.specs.declared.Read.the-variants as read
-use Rattle.wire.specs.Message.{messageOf}
 use Rattle.wire.specs.Bytes.{bytesOf, parsed}
-use Rattle.model.specs.Limits.{maxLines, maxInserts, maxEdits, maxOthers, maxPending, maxItems, maxInitial}
+use Rattle.model.specs.Limits.{maxLines, maxInserts, maxEdits, maxOthers, maxItems, maxInitial}
 use Rattle.model.specs.Questions.{Question, ask, asks, every, between, Answer, answer, Sent, sent}
-use Rattle.model.specs.Cross.{past, over, allPlaced, priority, priorities, insertsOf}
+use Rattle.model.specs.Cross.{priority, insertsOf}
+use Rattle.model.specs.Line.{Line, noLine, other, lineTests, roomy, lineKeeps, lineMessage, sendQuestions, lineAcked, lineTaken, carried, seenQuestions, takeQuestions}
 
 pub record Client : Type 0 where
   -- how many clients the sheet has, and which this one is
   pub n : ℕ
   pub line : ℕ
-  -- edits made here, edits taken, and how many of those made the server has acknowledged (01: told)
-  pub made : ℕ
-  pub taken : ℕ
-  pub acked : ℕ
-  -- how many of those made are inserts
-  pub inserts : ℕ
   pub items : List ℕ
-  -- 01: the kept edits, numbers acked + 1 to made, in their present form
-  pub pending : List Edit
+  -- what it keeps of its line
+  pub own : Line
 
 -- what a refused opening returns
 abbrev pub noClient : Client
-noClient = record { n = 0; line = 0; made = 0; taken = 0; acked = 0; inserts = 0; items = []; pending = [] }
+noClient = record { n = 0; line = 0; items = []; own = noLine }
 
 -- question 2, test by test
 abbrev pub clientTests : Client → List Bool
@@ -42,16 +34,8 @@ clientTests c =
     between 1 maxLines (c .n)
     ∷ between 1 (c .n) (c .line)
     ∷ leb (length (c .items)) maxItems
-    ∷ leb (c .made) maxEdits
-    ∷ leb (c .taken) maxOthers
-    ∷ leb (c .acked) (c .made)
-    ∷ leb (c .made - c .acked) maxPending
-    ∷ eqb (length (c .pending)) (c .made - c .acked)
-    ∷ allPlaced (c .pending)
-    ∷ priorities (eqb (c .line)) (c .pending)
-    ∷ leb (c .inserts) maxInserts
-    ∷ leb (c .inserts) (c .made)
-    ∷ []
+    ∷ leb (c .own .taken) maxOthers
+    ∷ lineTests (c .own .made) (eqb (c .line)) (c .own)
 
 unfoldable pub soundClient : Client → Bool
 soundClient c = every (clientTests c)
@@ -65,30 +49,24 @@ openClient n line items =
     answer
     (asks (openClientQuestions n line items))
     noClient
-    (record { n = n; line = line; made = 0; taken = 0; acked = 0; inserts = 0; items = items; pending = [] })
+    (record { n = n; line = line; items = items; own = noLine })
     0
+
+-- the client with another list and line
+abbrev pub with : Client → List ℕ → Line → Client
+with c items v = record { n = c .n; line = c .line; items = items; own = v }
 
 -- An edit made here: applied, counted and kept.
 abbrev pub edited : Client → Edit → Client
-edited c e =
-    record {
-      n = c .n;
-      line = c .line;
-      made = c .made + 1;
-      taken = c .taken;
-      acked = c .acked;
-      inserts = c .inserts + insertsOf e;
-      items = applied e (c .items);
-      pending = c .pending ++ (e ∷ []);
-    }
+edited c e = with c (applied e (c .items)) (lineKeeps (c .own .inserts + insertsOf e) e (c .own))
 
 abbrev pub editQuestions : Client → Edit → List Question
 editQuestions c e =
     ask 2 (soundClient c)
     ∷ ask 9 (fits e (length (c .items)) && leb (length (applied e (c .items))) maxItems)
-    ∷ ask 10 (leb (c .inserts + insertsOf e) maxInserts)
-    ∷ ask 11 (ltb (c .made) maxEdits)
-    ∷ ask 12 (ltb (c .made - c .acked) maxPending)
+    ∷ ask 10 (leb (c .own .inserts + insertsOf e) maxInserts)
+    ∷ ask 11 (ltb (c .own .made) maxEdits)
+    ∷ ask 12 (roomy (c .own))
     ∷ []
 
 unfoldable pub editClient : Client → Edit → Answer Client
@@ -106,27 +84,18 @@ insertClient c p x = editClient c (Insert p x (c .line))
 abbrev pub deleteClient : Client → ℕ → Answer Client
 deleteClient c p = editClient c (Delete p)
 
--- pending edit number k, as it stands now
-abbrev pub pendingAt : ℕ → List Edit → ℕ → Edit
-pendingAt acked pending k = getD pending (k - (acked + 1)) Nothing
-
 abbrev pub clientMessage : Client → ℕ → Message
-clientMessage c k =
-    messageOf (record { line = c .line; direction = 0; number = k; seen = c .taken }) (pendingAt (c .acked) (c .pending) k)
+clientMessage c number = lineMessage (c .line) 0 (c .own) number
 
 abbrev pub sendClientQuestions : Client → ℕ → ℕ → List ℕ → List Question
-sendClientQuestions c line k lent =
-    ask 2 (soundClient c)
-    ∷ ask 4 (eqb line (c .line))
-    ∷ ask 13 (between (c .acked + 1) (c .made) k)
-    ∷ ask 14 (leb (length (bytesOf (clientMessage c k))) (length lent))
-    ∷ []
+sendClientQuestions c line number lent =
+    ask 2 (soundClient c) ∷ ask 4 (eqb line (c .line)) ∷ sendQuestions (c .own) number (clientMessage c number) lent
 
 unfoldable pub sendClient : Client → ℕ → ℕ → List ℕ → Sent
-sendClient c line k lent =
+sendClient c line number lent =
     sent
-    (asks (sendClientQuestions c line k lent))
-    (bytesOf (clientMessage c k))
+    (asks (sendClientQuestions c line number lent))
+    (bytesOf (clientMessage c number))
     lent
 
 abbrev pub tellClientQuestions : Client → ℕ → List ℕ → List Question
@@ -137,55 +106,20 @@ unfoldable pub tellClient : Client → ℕ → List ℕ → Sent
 tellClient c line lent =
     sent
     (asks (tellClientQuestions c line lent))
-    (bytesOf (message.Ack (c .line) 0 (c .taken)))
+    (bytesOf (message.Ack (c .line) 0 (c .own .taken)))
     lent
 
--- The pending edits left once the first seen of those made are dropped.
-abbrev pub unacked : Client → ℕ → List Edit
-unacked c seen = drop (seen - c .acked) (c .pending)
-
 abbrev pub clientAcked : Client → ℕ → Client
-clientAcked c seen =
-    record {
-      n = c .n;
-      line = c .line;
-      made = c .made;
-      taken = c .taken;
-      acked = seen;
-      inserts = c .inserts;
-      items = c .items;
-      pending = unacked c seen;
-    }
+clientAcked c seen = with c (c .items) (lineAcked seen (c .own))
 
 abbrev pub clientTaken : Client → ℕ → Edit → Client
-clientTaken c seen e =
-    record {
-      n = c .n;
-      line = c .line;
-      made = c .made;
-      taken = c .taken + 1;
-      acked = seen;
-      inserts = c .inserts;
-      items = applied (past e (unacked c seen)) (c .items);
-      pending = over e (unacked c seen);
-    }
-
--- another client's priority, of 1 to n
-abbrev pub other : ℕ → ℕ → ℕ → Bool
-other n line r = between 1 n r && not (eqb r line)
+clientTaken c seen e = with c (applied (carried (c .own) seen e) (c .items)) (lineTaken (c .own .inserts) seen e (c .own))
 
 abbrev pub clientEditQuestions : Client → Header → Edit → List Question
 clientEditQuestions c h e =
     ask 2 (soundClient c)
     ∷ ask 4 (eqb (h .direction) 1 && eqb (h .line) (c .line) && priority (other (c .n) (c .line)) e)
-    ∷ ask 5 (ltb (c .taken) (h .number))
-    ∷ ask 6 (eqb (h .number) (c .taken + 1))
-    ∷ ask 7 (leb (c .acked) (h .seen))
-    ∷ ask 8 (leb (h .seen) (c .made))
-    ∷ ask 9
-    (fits (past e (unacked c (h .seen))) (length (c .items)) && allPlaced (over e (unacked c (h .seen)))
-    && leb (length (applied (past e (unacked c (h .seen))) (c .items))) maxItems)
-    ∷ []
+    ∷ takeQuestions (c .own) (c .items) h e []
 
 unfoldable pub clientTakesEdit : Client → Header → Edit → Answer Client
 clientTakesEdit c h e =
@@ -193,15 +127,11 @@ clientTakesEdit c h e =
     (asks (clientEditQuestions c h e))
     c
     (clientTaken c (h .seen) e)
-    (c .made - h .seen)
+    (c .own .made - h .seen)
 
 abbrev pub clientAckQuestions : Client → ℕ → ℕ → ℕ → List Question
 clientAckQuestions c line direction seen =
-    ask 2 (soundClient c)
-    ∷ ask 4 (eqb direction 1 && eqb line (c .line))
-    ∷ ask 7 (leb (c .acked) seen)
-    ∷ ask 8 (leb seen (c .made))
-    ∷ []
+    ask 2 (soundClient c) ∷ ask 4 (eqb direction 1 && eqb line (c .line)) ∷ seenQuestions (c .own) seen
 
 unfoldable pub clientTakesAck : Client → ℕ → ℕ → ℕ → Answer Client
 clientTakesAck c line direction seen =

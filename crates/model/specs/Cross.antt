@@ -2,9 +2,7 @@
 use Prim.Native.Nat.{ℕ}
 use mathlib.Core.Bool.{Bool, true, _&&_}
 use mathlib.Core.List.{List, [], _∷_}
-use Rattle.ot.specs.declared.Edit.{Edit}
-use Rattle.ot.specs.declared.Edit.the-variants.{Nothing, Delete, Insert}
-use Rattle.ot.specs.Edit.{transformed}
+use Rattle.ot.specs.Edit.{Edit, Nothing, Delete, Insert, transformed}
 use Rattle.ot.specs.Laws.{within}
 use Rattle.model.specs.Limits.{maxItems}
 

@@ -3,9 +3,7 @@ use Prim.Native.Nat.{ℕ}
 use mathlib.Core.List.{List}
 use lib.Dec.{eqb}
 use lib.ListN.{length}
-use Rattle.ot.specs.declared.Edit.{Edit}
-use Rattle.ot.specs.declared.Edit.the-variants.{Nothing}
-use Rattle.ot.specs.Edit.{applied, fits, transformed}
+use Rattle.ot.specs.Edit.{Edit, Nothing, applied, fits, transformed}
 use Rattle.jupiter.specs.Algebra.{Algebra}
 use Rattle.model.specs.Cross.{priority, insertsOf}
 

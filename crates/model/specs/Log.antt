@@ -6,9 +6,8 @@ use mathlib.Core.Option.{Option, none, some}
 use mathlib.Core.List.{List, [], _∷_, _++_}
 use lib.Dec.{eqb}
 use lib.ListN.{length, getD, getElem?}
-use Rattle.ot.specs.declared.Edit.{Edit}
-use Rattle.ot.specs.declared.Edit.the-variants as edit
-use Rattle.ot.specs.Edit.{applied}
+use Rattle.ot.specs.Edit as edit
+use Rattle.ot.specs.Edit.{Edit, applied}
 use Rattle.wire.specs.declared.Message as wire
 use Rattle.wire.specs.declared.Message.the-variants as message
 use Rattle.wire.specs.Message.{messageOf}
@@ -59,15 +58,15 @@ unfoldable pub takenAt : History edits → ℕ → ℕ → ℕ
 takenAt h zero l = length (mine l (h .served))
 takenAt h (suc a) l = length (others (suc a) (h .applied (suc a)))
 
--- Number k goes out in its form at what its sender has applied, less the edits that go out on that line from number k on: at the client
--- the first k - 1 of its own and all that it took; at the server all that it took on the line and the first k - 1 of the others.
+-- An edit goes out in its form at what its sender has applied, less the edits that go out on that line from its number on: at the client
+-- the first number - 1 of its own and all that it took; at the server all that it took on the line and the first number - 1 of the others.
 unfoldable pub editMessage : History edits → ℕ → ℕ → ℕ → Message edits
-editMessage h zero l k =
+editMessage h zero l number =
     let seen = takenAt h zero l in
-    down l (record { number = k; seen = seen; edit = othForm l (order h l) seen (k - 1) })
-editMessage h (suc a) l k =
+    down l (record { number = number; seen = seen; edit = othForm l (order h l) seen (number - 1) })
+editMessage h (suc a) l number =
     let seen = takenAt h (suc a) (suc a) in
-    up (suc a) (record { number = k; seen = seen; edit = ownForm (suc a) (order h (suc a)) (k - 1) seen })
+    up (suc a) (record { number = number; seen = seen; edit = ownForm (suc a) (order h (suc a)) (number - 1) seen })
 
 unfoldable pub ackMessage : History edits → ℕ → ℕ → Message edits
 ackMessage h zero l = downAck l (takenAt h zero l)
@@ -138,7 +137,7 @@ took w a (some (downAck l seen)) = cond (eqb a l) (hears w (hearing w l l seen))
 unfoldable pub logged : Log → Call → Log
 logged w (insert l p x) = edited w l (edit.Insert p x l)
 logged w (delete l p) = edited w l (edit.Delete p)
-logged w (send a l k lent) = writes w (editMessage (w .history) a l k)
+logged w (send a l number lent) = writes w (editMessage (w .history) a l number)
 logged w (tell a l lent) = writes w (ackMessage (w .history) a l)
 logged w (receive a i) = took w a (getElem? (w .messages) i)
 logged w (junk a bytes) = hears w (w .heard)
@@ -147,7 +146,7 @@ logged w (junk a bytes) = hears w (w .heard)
 unfoldable pub refusedLog : Log → Call → Log
 refusedLog w (insert l p x) = hears w (w .heard)
 refusedLog w (delete l p) = hears w (w .heard)
-refusedLog w (send a l k lent) = w
+refusedLog w (send a l number lent) = w
 refusedLog w (tell a l lent) = w
 refusedLog w (receive a i) = hears w (w .heard)
 refusedLog w (junk a bytes) = hears w (w .heard)

@@ -6,9 +6,8 @@ use mathlib.Core.Option.{Option, none, some}
 use mathlib.Core.List.{List, [], _∷_}
 use lib.Dec.{leb, ltb, eqb}
 use lib.ListN.{length, getElem?}
-use Rattle.ot.specs.declared.Edit.{Edit}
-use Rattle.ot.specs.declared.Edit.the-variants as edit
-use Rattle.ot.specs.Edit.{applied, fits}
+use Rattle.ot.specs.Edit as edit
+use Rattle.ot.specs.Edit.{Edit, applied, fits}
 use Rattle.jupiter.specs.Made.{mine}
 use Rattle.jupiter.specs.Ends.{EditMessage}
 use Rattle.jupiter.specs.Run.{Message, up, down, upAck, downAck}
@@ -48,10 +47,10 @@ editing w l e =
     ∷ []
 
 abbrev pub sending : ℕ → Log → ℕ → ℕ → ℕ → List ℕ → List Question
-sending n w a l k lent =
+sending n w a l number lent =
     ask 4 (owns n a l)
-    ∷ ask 13 (between (w .heard a l + 1) (madeAt (w .history) a l) k)
-    ∷ ask 14 (leb (length (messageBytes (editMessage (w .history) a l k))) (length lent))
+    ∷ ask 13 (between (w .heard a l + 1) (madeAt (w .history) a l) number)
+    ∷ ask 14 (leb (length (messageBytes (editMessage (w .history) a l number))) (length lent))
     ∷ []
 
 abbrev pub telling : ℕ → ℕ → ℕ → List ℕ → List Question

@@ -16,8 +16,8 @@ clientCalls =
     record {
       Client = Client;
       items = λ c. c .items;
-      made = λ c. c .made;
-      taken = λ c. c .taken;
+      made = λ c. c .own .made;
+      taken = λ c. c .own .taken;
       opens = clients.openClient;
       insert = clients.insertClient;
       delete = clients.deleteClient;

@@ -32,7 +32,7 @@ unreadable (read.Message m) = false
 unfoldable pub callable : ℕ → Call → Bool
 callable n (insert l p x) = between 1 n l && ltb p 65536 && ltb x 4294967296
 callable n (delete l p) = between 1 n l && ltb p 65536
-callable n (send a l k lent) = leb a n && ltb l 256 && ltb k 65536 && areBytes lent
+callable n (send a l number lent) = leb a n && ltb l 256 && ltb number 65536 && areBytes lent
 callable n (tell a l lent) = leb a n && ltb l 256 && areBytes lent
 callable n (receive a i) = leb a n
 callable n (junk a bytes) = leb a n && areBytes bytes && unreadable (parsed bytes)
@@ -73,7 +73,7 @@ module _ (S : Sheet) where
   unfoldable pub call : State → Call → State
   call s (insert l p x) = answered s l (insert l p x) (S .insert (s .ends l) p x)
   call s (delete l p) = answered s l (delete l p) (S .delete (s .ends l) p)
-  call s (send a l k lent) = written s (send a l k lent) (S .send (s .ends a) l k lent)
+  call s (send a l number lent) = written s (send a l number lent) (S .send (s .ends a) l number lent)
   call s (tell a l lent) = written s (tell a l lent) (S .tell (s .ends a) l lent)
   call s (receive a i) = handed s a (receive a i) (getElem? (s .messages) i)
   call s (junk a bytes) = answered s a (junk a bytes) (S .take (s .ends a) bytes)
@@ -86,7 +86,7 @@ module _ (S : Sheet) where
   unfoldable pub numberOf : State → Call → ℕ
   numberOf s (insert l p x) = S .insert (s .ends l) p x .refusal
   numberOf s (delete l p) = S .delete (s .ends l) p .refusal
-  numberOf s (send a l k lent) = S .send (s .ends a) l k lent .refusal
+  numberOf s (send a l number lent) = S .send (s .ends a) l number lent .refusal
   numberOf s (tell a l lent) = S .tell (s .ends a) l lent .refusal
   numberOf s (receive a i) = handedNumber s a (getElem? (s .messages) i)
   numberOf s (junk a bytes) = S .take (s .ends a) bytes .refusal

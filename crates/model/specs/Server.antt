@@ -1,32 +1,20 @@
 -- The server's end as a record over lists, question 2, and its calls.
 use Prim.Native.Nat.{ℕ, zero, suc, _+_, _-_}
 use mathlib.Core.Bool.{Bool, true, false, _&&_}
-use mathlib.Core.List.{List, [], _∷_, _++_, map}
-use lib.Dec.{leb, ltb, eqb}
-use lib.ListN.{length, getD, drop, replicate}
-use Rattle.ot.specs.declared.Edit.{Edit}
-use Rattle.ot.specs.declared.Edit.the-variants.{Nothing, Delete, Insert}
-use Rattle.ot.specs.Edit.{applied, fits}
+use mathlib.Core.List.{List, [], _∷_, map}
+use lib.Dec.{leb, eqb}
+use lib.ListN.{length, getD, replicate}
+use Rattle.ot.specs.Edit.{Edit, Nothing, Delete, Insert, applied}
 use Rattle.wire.specs.declared.Header.{Header}
 use Rattle.wire.specs.declared.Message.{Message}
 use Rattle.wire.specs.declared.Message.the-variants as message
 use Rattle.wire.specs.declared.Read.{Read}
 use Rattle.wire.specs.declared.Read.the-variants as read
-use Rattle.wire.specs.Message.{messageOf}
 use Rattle.wire.specs.Bytes.{bytesOf, parsed}
-use Rattle.model.specs.Limits.{maxLines, maxInserts, maxEdits, maxPending, maxItems, maxInitial}
+use Rattle.model.specs.Limits.{maxLines, maxInserts, maxItems, maxInitial}
 use Rattle.model.specs.Questions.{Question, ask, asks, every, between, Answer, answer, Sent, sent}
-use Rattle.model.specs.Cross.{past, over, allPlaced, priority, priorities, insertsOf}
-use Rattle.model.specs.Client.{other, pendingAt}
-
--- What the server keeps of one line. Made is how many edits it took on all other lines together.
-pub record Line : Type 0 where
-  pub made : ℕ
-  pub taken : ℕ
-  pub acked : ℕ
-  -- how many of those taken are inserts
-  pub inserts : ℕ
-  pub pending : List Edit
+use Rattle.model.specs.Cross.{priority, insertsOf}
+use Rattle.model.specs.Line.{Line, noLine, other, lineTests, roomy, lineKeeps, lineMessage, sendQuestions, lineAcked, lineTaken, carried, seenQuestions, takeQuestions}
 
 pub record Server : Type 0 where
   pub n : ℕ
@@ -35,9 +23,6 @@ pub record Server : Type 0 where
   pub items : List ℕ
   -- lines 1 to n
   pub lines : List Line
-
-abbrev pub noLine : Line
-noLine = record { made = 0; taken = 0; acked = 0; inserts = 0; pending = [] }
 
 -- what a refused opening returns
 abbrev pub noServer : Server
@@ -52,22 +37,12 @@ abbrev pub total : (Line → ℕ) → List Line → ℕ
 total f [] = 0
 total f (v ∷ vs) = f v + total f vs
 
--- question 2 for line l, where all lines together took sum edits, test by test
-abbrev pub lineTests : ℕ → ℕ → ℕ → Line → List Bool
-lineTests n sum l v =
-    leb (v .taken) maxEdits
-    ∷ eqb (v .made) (sum - v .taken)
-    ∷ leb (v .acked) (v .made)
-    ∷ leb (v .made - v .acked) maxPending
-    ∷ eqb (length (v .pending)) (v .made - v .acked)
-    ∷ allPlaced (v .pending)
-    ∷ priorities (other n l) (v .pending)
-    ∷ leb (v .inserts) maxInserts
-    ∷ leb (v .inserts) (v .taken)
-    ∷ []
+-- question 2 for line l, where all lines together took sum edits
+abbrev pub serverLineTests : ℕ → ℕ → ℕ → Line → List Bool
+serverLineTests n sum l v = eqb (v .made) (sum - v .taken) ∷ lineTests (v .taken) (other n l) v
 
 unfoldable pub soundLine : ℕ → ℕ → ℕ → Line → Bool
-soundLine n sum l v = every (lineTests n sum l v)
+soundLine n sum l v = every (serverLineTests n sum l v)
 
 -- the lines from l on
 unfoldable pub soundLines : ℕ → ℕ → ℕ → List Line → Bool
@@ -101,23 +76,17 @@ openServer n items =
     0
 
 abbrev pub serverMessage : Server → ℕ → ℕ → Message
-serverMessage s line k =
-    messageOf (record { line = line; direction = 1; number = k; seen = lineOf s line .taken })
-    (pendingAt (lineOf s line .acked) (lineOf s line .pending) k)
+serverMessage s line number = lineMessage line 1 (lineOf s line) number
 
 abbrev pub sendServerQuestions : Server → ℕ → ℕ → List ℕ → List Question
-sendServerQuestions s line k lent =
-    ask 2 (soundServer s)
-    ∷ ask 4 (between 1 (s .n) line)
-    ∷ ask 13 (between (lineOf s line .acked + 1) (lineOf s line .made) k)
-    ∷ ask 14 (leb (length (bytesOf (serverMessage s line k))) (length lent))
-    ∷ []
+sendServerQuestions s line number lent =
+    ask 2 (soundServer s) ∷ ask 4 (between 1 (s .n) line) ∷ sendQuestions (lineOf s line) number (serverMessage s line number) lent
 
 unfoldable pub sendServer : Server → ℕ → ℕ → List ℕ → Sent
-sendServer s line k lent =
+sendServer s line number lent =
     sent
-    (asks (sendServerQuestions s line k lent))
-    (bytesOf (serverMessage s line k))
+    (asks (sendServerQuestions s line number lent))
+    (bytesOf (serverMessage s line number))
     lent
 
 abbrev pub tellServerQuestions : Server → ℕ → List ℕ → List Question
@@ -130,31 +99,6 @@ tellServer s line lent =
     (asks (tellServerQuestions s line lent))
     (bytesOf (message.Ack line 1 (lineOf s line .taken)))
     lent
-
--- The pending edits of a line left once those up to seen are dropped.
-abbrev pub unackedOf : Line → ℕ → List Edit
-unackedOf v seen = drop (seen - v .acked) (v .pending)
-
--- the line that an acknowledgement came on
-abbrev pub lineAcked : ℕ → Line → Line
-lineAcked seen v =
-    record { made = v .made; taken = v .taken; acked = seen; inserts = v .inserts; pending = unackedOf v seen }
-
--- the line that the edit e came on
-abbrev pub lineTaken : ℕ → Edit → Line → Line
-lineTaken seen e v =
-    record {
-      made = v .made;
-      taken = v .taken + 1;
-      acked = seen;
-      inserts = v .inserts + insertsOf e;
-      pending = over e (unackedOf v seen);
-    }
-
--- any other line: it keeps the result
-abbrev pub lineKeeps : Edit → Line → Line
-lineKeeps e v =
-    record { made = v .made + 1; taken = v .taken; acked = v .acked; inserts = v .inserts; pending = v .pending ++ (e ∷ []) }
 
 -- f at place i, counted from 0, and g at every other
 unfoldable pub atPlace : ℕ → (Line → Line) → (Line → Line) → List Line → List Line
@@ -171,21 +115,16 @@ serverAcked s line seen =
       lines = atPlace (line - 1) (lineAcked seen) (λ v. v) (s .lines);
     }
 
--- the form in which the edit is applied
-abbrev pub carried : Server → ℕ → ℕ → Edit → Edit
-carried s line seen e = past e (unackedOf (lineOf s line) seen)
-
 abbrev pub serverTaken : Server → ℕ → ℕ → Edit → Server
 serverTaken s line seen e =
     record {
       n = s .n;
       initial = s .initial;
-      items = applied (carried s line seen e) (s .items);
-      lines = atPlace (line - 1) (lineTaken seen e) (lineKeeps (carried s line seen e)) (s .lines);
+      items = applied (carried (lineOf s line) seen e) (s .items);
+      lines =
+          atPlace (line - 1) (λ v. lineTaken (v .inserts + insertsOf e) seen e v)
+          (λ v. lineKeeps (v .inserts) (carried (lineOf s line) seen e) v) (s .lines);
     }
-
-abbrev pub roomy : Line → Bool
-roomy v = ltb (v .made - v .acked) maxPending
 
 -- every line but the one at place i, counted from 0, has room for one more pending edit
 unfoldable pub othersRoomy : ℕ → List Line → Bool
@@ -197,17 +136,8 @@ abbrev pub serverEditQuestions : Server → Header → Edit → List Question
 serverEditQuestions s h e =
     ask 2 (soundServer s)
     ∷ ask 4 (eqb (h .direction) 0 && between 1 (s .n) (h .line) && priority (eqb (h .line)) e)
-    ∷ ask 5 (ltb (lineOf s (h .line) .taken) (h .number))
-    ∷ ask 6 (eqb (h .number) (lineOf s (h .line) .taken + 1))
-    ∷ ask 7 (leb (lineOf s (h .line) .acked) (h .seen))
-    ∷ ask 8 (leb (h .seen) (lineOf s (h .line) .made))
-    ∷ ask 9
-    (fits (carried s (h .line) (h .seen) e) (length (s .items))
-    && allPlaced (over e (unackedOf (lineOf s (h .line)) (h .seen)))
-    && leb (length (applied (carried s (h .line) (h .seen) e) (s .items))) maxItems)
-    ∷ ask 10 (leb (lineOf s (h .line) .inserts + insertsOf e) maxInserts)
-    ∷ ask 12 (othersRoomy (h .line - 1) (s .lines))
-    ∷ []
+    ∷ takeQuestions (lineOf s (h .line)) (s .items) h e
+    (ask 10 (leb (lineOf s (h .line) .inserts + insertsOf e) maxInserts) ∷ ask 12 (othersRoomy (h .line - 1) (s .lines)) ∷ [])
 
 unfoldable pub serverTakesEdit : Server → Header → Edit → Answer Server
 serverTakesEdit s h e =
@@ -219,11 +149,7 @@ serverTakesEdit s h e =
 
 abbrev pub serverAckQuestions : Server → ℕ → ℕ → ℕ → List Question
 serverAckQuestions s line direction seen =
-    ask 2 (soundServer s)
-    ∷ ask 4 (eqb direction 0 && between 1 (s .n) line)
-    ∷ ask 7 (leb (lineOf s line .acked) seen)
-    ∷ ask 8 (leb seen (lineOf s line .made))
-    ∷ []
+    ask 2 (soundServer s) ∷ ask 4 (eqb direction 0 && between 1 (s .n) line) ∷ seenQuestions (lineOf s line) seen
 
 unfoldable pub serverTakesAck : Server → ℕ → ℕ → ℕ → Answer Server
 serverTakesAck s line direction seen =

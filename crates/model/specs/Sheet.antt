@@ -28,8 +28,8 @@ pub data Call : Type 0 where
   -- client l inserts an item at a position, or deletes the one there
   insert : (l p x : ℕ) → Call
   delete : (l p : ℕ) → Call
-  -- end a sends on line l edit number k, or an acknowledgement, with these bytes lent
-  send : (a l k : ℕ) (lent : List ℕ) → Call
+  -- end a sends on line l the edit of a number, or an acknowledgement, with these bytes lent
+  send : (a l number : ℕ) (lent : List ℕ) → Call
   tell : (a l : ℕ) (lent : List ℕ) → Call
   -- end a takes the message that was written as number i, counted from 0: at any end, in any order, however often
   receive : (a i : ℕ) → Call

@@ -64,8 +64,8 @@ module _ (c : ClientCalls) (v : ServerCalls) where
   delete (server e) p = refusedHere (server e)
 
   abbrev send : Ends → ℕ → ℕ → List ℕ → Sent
-  send (client e) l k lent = c .send e l k lent
-  send (server e) l k lent = v .send e l k lent
+  send (client e) l number lent = c .send e l number lent
+  send (server e) l number lent = v .send e l number lent
 
   abbrev tell : Ends → ℕ → List ℕ → Sent
   tell (client e) l lent = c .tell e l lent

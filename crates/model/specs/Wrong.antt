@@ -3,16 +3,15 @@ use Prim.Native.Nat.{ℕ, suc, _+_, _-_}
 use mathlib.Core.Bool.{not, _&&_, cond}
 use mathlib.Core.List.{List, [], _∷_}
 use lib.Dec.{ltb, eqb}
-use Rattle.ot.specs.declared.Edit.{Edit}
-use Rattle.ot.specs.declared.Edit.the-variants.{Nothing, Delete, Insert}
-use Rattle.ot.specs.Edit.{applied, transformed}
+use Rattle.ot.specs.Edit.{Edit, Nothing, Delete, Insert, applied, transformed}
 use Rattle.wire.specs.declared.Header.{Header}
 use Rattle.wire.specs.declared.Message.the-variants as message
 use Rattle.wire.specs.declared.Read.{Read}
 use Rattle.wire.specs.declared.Read.the-variants as read
 use Rattle.wire.specs.Bytes.{parsed}
 use Rattle.model.specs.Questions.{asks, Answer, answer}
-use Rattle.model.specs.Client.{Client, unacked, insertClient, clientAcked, clientTakesAck, clientEditQuestions, takeClient}
+use Rattle.model.specs.Line.{unacked}
+use Rattle.model.specs.Client.{Client, with, insertClient, clientAcked, clientTakesAck, clientEditQuestions, takeClient}
 use Rattle.model.specs.Server.{Server, lineOf, serverReads, takeServer}
 use Rattle.model.specs.Numbers.{allBut}
 use Rattle.model.specs.Sheet.{Sheet}
@@ -63,17 +62,7 @@ abbrev pub leaving : Sheet
 leaving = insertingAs (λ c p x. answerAs (showing (c .items)) (insertClient c p x))
   where
     showing : List ℕ → Client → Client
-    showing l c =
-        record {
-          n = c .n;
-          line = c .line;
-          made = c .made;
-          taken = c .taken;
-          acked = c .acked;
-          inserts = c .inserts;
-          items = l;
-          pending = c .pending;
-        }
+    showing l c = with c l (c .own)
 
 -- An earlier list is shown again: after an insert a client shows the list that it showed before.
 pub record Repeating : Type 0 where
@@ -94,8 +83,8 @@ repeating =
     (record {
       Client = Repeating;
       items = λ e. e .shown;
-      made = λ e. e .now .made;
-      taken = λ e. e .now .taken;
+      made = λ e. e .now .own .made;
+      taken = λ e. e .now .own .taken;
       opens = λ n l items. answerAs shows (clientCalls .opens n l items);
       insert = λ e p x. repeats e (λ c. record { now = c; shown = e .shown }) (insertClient (e .now) p x);
       delete = λ e p. repeats e shows (clientCalls .delete (e .now) p);
@@ -119,17 +108,15 @@ overFirst e (p ∷ ps) = transformed p e ∷ ps
 abbrev pub takesFirst : Client → Header → Edit → Answer Client
 takesFirst c h e =
     answer (asks (clientEditQuestions c h e)) c
+    (with c (applied (pastFirst e (unacked (c .own) (h .seen))) (c .items))
     (record {
-      n = c .n;
-      line = c .line;
-      made = c .made;
-      taken = c .taken + 1;
+      made = c .own .made;
+      taken = c .own .taken + 1;
       acked = h .seen;
-      inserts = c .inserts;
-      items = applied (pastFirst e (unacked c (h .seen))) (c .items);
-      pending = overFirst e (unacked c (h .seen));
-    })
-    (c .made - h .seen)
+      inserts = c .own .inserts;
+      pending = overFirst e (unacked (c .own) (h .seen));
+    }))
+    (c .own .made - h .seen)
 
 abbrev pub readsFirst : Client → Read → Answer Client
 readsFirst c read.Refused = answer 3 c c 0

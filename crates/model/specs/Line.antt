@@ -1,0 +1,105 @@
+-- One line as either end keeps it (01: "The server keeps the same per line"): its counts and its pending edits.
+use Prim.Native.Nat.{ℕ, _+_, _-_}
+use mathlib.Core.Bool.{Bool, _&&_, not}
+use mathlib.Core.List.{List, [], _∷_, _++_}
+use lib.Dec.{leb, ltb, eqb}
+use lib.ListN.{length, getD, drop}
+use Rattle.ot.specs.Edit.{Edit, Nothing, applied, fits}
+use Rattle.wire.specs.declared.Header.{Header}
+use Rattle.wire.specs.declared.Message.{Message}
+use Rattle.wire.specs.Message.{messageOf}
+use Rattle.wire.specs.Bytes.{bytesOf}
+use Rattle.model.specs.Limits.{maxInserts, maxEdits, maxPending, maxItems}
+use Rattle.model.specs.Questions.{Question, ask, between}
+use Rattle.model.specs.Cross.{past, over, allPlaced, priorities}
+
+pub record Line : Type 0 where
+  -- edits made for this line, edits taken on it, and how many of those made the other end has acknowledged (01: told).
+  -- The server makes for a line what it takes on all others.
+  pub made : ℕ
+  pub taken : ℕ
+  pub acked : ℕ
+  -- how many of the client's edits are inserts: of those made here at the client, of those taken at the server
+  pub inserts : ℕ
+  -- 01: the kept edits, numbers acked + 1 to made, in their present form
+  pub pending : List Edit
+
+abbrev pub noLine : Line
+noLine = record { made = 0; taken = 0; acked = 0; inserts = 0; pending = [] }
+
+-- another client's priority, of 1 to n
+abbrev pub other : ℕ → ℕ → ℕ → Bool
+other n line r = between 1 n r && not (eqb r line)
+
+-- Question 2 of a line, test by test: the line's client made so many edits, and the priorities of pending inserts pass a test.
+abbrev pub lineTests : ℕ → (ℕ → Bool) → Line → List Bool
+lineTests edits right v =
+    leb edits maxEdits
+    ∷ leb (v .acked) (v .made)
+    ∷ leb (v .made - v .acked) maxPending
+    ∷ eqb (length (v .pending)) (v .made - v .acked)
+    ∷ allPlaced (v .pending)
+    ∷ priorities right (v .pending)
+    ∷ leb (v .inserts) maxInserts
+    ∷ leb (v .inserts) edits
+    ∷ []
+
+-- ---- keeping
+
+-- one more pending edit has a slot: question 12
+abbrev pub roomy : Line → Bool
+roomy v = ltb (v .made - v .acked) maxPending
+
+-- one more edit, with the client's inserts then
+abbrev pub lineKeeps : ℕ → Edit → Line → Line
+lineKeeps inserts e v =
+    record { made = v .made + 1; taken = v .taken; acked = v .acked; inserts = inserts; pending = v .pending ++ (e ∷ []) }
+
+-- ---- sending
+
+-- the pending edit of a number, as it stands now
+abbrev pub pendingAt : ℕ → List Edit → ℕ → Edit
+pendingAt acked pending number = getD pending (number - (acked + 1)) Nothing
+
+abbrev pub lineMessage : ℕ → ℕ → Line → ℕ → Message
+lineMessage line direction v number =
+    messageOf (record { line = line; direction = direction; number = number; seen = v .taken }) (pendingAt (v .acked) (v .pending) number)
+
+abbrev pub sendQuestions : Line → ℕ → Message → List ℕ → List Question
+sendQuestions v number m lent =
+    ask 13 (between (v .acked + 1) (v .made) number) ∷ ask 14 (leb (length (bytesOf m)) (length lent)) ∷ []
+
+-- ---- taking
+
+-- the pending edits left once those up to seen are dropped
+abbrev pub unacked : Line → ℕ → List Edit
+unacked v seen = drop (seen - v .acked) (v .pending)
+
+abbrev pub lineAcked : ℕ → Line → Line
+lineAcked seen v =
+    record { made = v .made; taken = v .taken; acked = seen; inserts = v .inserts; pending = unacked v seen }
+
+-- the edit e came, with the client's inserts then
+abbrev pub lineTaken : ℕ → ℕ → Edit → Line → Line
+lineTaken inserts seen e v =
+    record { made = v .made; taken = v .taken + 1; acked = seen; inserts = inserts; pending = over e (unacked v seen) }
+
+-- the form in which it is applied
+abbrev pub carried : Line → ℕ → Edit → Edit
+carried v seen e = past e (unacked v seen)
+
+-- questions 7 and 8
+abbrev pub seenQuestions : Line → ℕ → List Question
+seenQuestions v seen = ask 7 (leb (v .acked) seen) ∷ ask 8 (leb seen (v .made)) ∷ []
+
+-- questions 5 to 9, and what else an end asks
+abbrev pub takeQuestions : Line → List ℕ → Header → Edit → List Question → List Question
+takeQuestions v items h e more =
+    ask 5 (ltb (v .taken) (h .number))
+    ∷ ask 6 (eqb (h .number) (v .taken + 1))
+    ∷ ask 7 (leb (v .acked) (h .seen))
+    ∷ ask 8 (leb (h .seen) (v .made))
+    ∷ ask 9
+    (fits (carried v (h .seen) e) (length items) && allPlaced (over e (unacked v (h .seen)))
+    && leb (length (applied (carried v (h .seen) e) items)) maxItems)
+    ∷ more
