@@ -1,1 +1,7 @@
-pub mod Laws
+pub mod Room
+pub mod Asked
+pub mod Staying
+pub mod Deciding
+pub mod Accepting
+pub mod Sends
+pub mod Decisions

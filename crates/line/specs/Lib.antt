@@ -1,2 +1,4 @@
-pub mod Numbers
-pub mod Asking
+pub mod Line
+pub mod Keeping
+pub mod Taking
+pub mod Sending

@@ -1,61 +1,86 @@
-// A client's line by its numbers and lent arrays: what its counts say of question 2, the questions of editing and sending, and the message
-// of a pending edit. The client's end lends its arrays.
-ghost use mathlib.Core.Path.{_≡_};
-ghost use Prim.Native.Nat.{_-_};
-ghost use Rattle.model.specs.Questions.{every};
-ghost use Rattle.line.specs.Numbers.{countTests};
-
-pub mod editing;
+// One line as either end has it (01: "The server keeps the same per line"): its counts by value, its pending edits in lent words.
 pub mod sending;
+pub mod taking;
 
-// The numbers of a client. The counts stand first: four of them fill eight bytes from the struct's start, which are stored and read as one.
-pub struct Counts {
+ghost use mathlib.Core.Path.{_≡_};
+ghost use mathlib.Core.List.{[], _∷_, _++_};
+ghost use Prim.Native.Nat.{ℕ, _-_, _<_};
+ghost use lib.Dec.{ltb};
+ghost use Rattle.limits.specs.Limits.{maxPending};
+ghost use Rattle.ot.specs.Edit.{edit, itemOf};
+ghost use Rattle.model.specs.Cross.{insertsOf};
+ghost use Rattle.pending.specs.Slots.{slotsOf};
+ghost use Rattle.line.specs.Line.{pendingIn, Kept};
+ghost use Rattle.line.specs.Keeping.{fitsList, withKept};
+use limits::ITEMS;
+use limits::PENDING;
+use ot::Form;
+
+// The counts of a line.
+pub struct Line {
+    // edits made for it: at the client its own, at the server those taken on all other lines
     pub made: u16,
     pub taken: u16,
+    // how many of those made the other end has acknowledged (01: told)
     pub acked: u16,
+    // how many of the client's edits are inserts
     pub inserts: u16,
-    pub len: u16,
-    pub n: u8,
-    pub line: u8,
 }
 
-impl Counts {
-    // The limits of a client, by name.
-    pub const LINES: u8 = 8;
+impl Line {
+    // How many edits are pending: 0 where acked is the larger, as in an end that is not sound.
+    pub fn pending(self) -> u16
+        ensures { λ r. ⌜ r ≡ self .made - self .acked ⌝ }
+    {
+        if self.acked < self.made {
+            return self.made - self.acked;
+        }
+        0
+    }
 
-    pub const INSERTS: u16 = 48;
+    // Question 12: has one more pending edit a slot?
+    pub fn has_room(self) -> bool
+        ensures { λ r. ⌜ r ≡ ltb (self .made - self .acked) maxPending ⌝ }
+    {
+        (self.pending() as usize) < PENDING
+    }
 
-    pub const EDITS: u16 = 400;
-
-    pub const OTHERS: u16 = 2800;
-
-    pub const PENDING: usize = 64;
-
-    pub const ITEMS: usize = 512;
+    // The counts with one more pending edit, where the line's client then has so many inserts.
+    pub fn kept(self, inserts: u16) -> Line
+        requires { ⌜ self .made < 65535 ⌝ }
+        ensures { λ r. ⌜ r ≡ withKept self inserts ⌝ }
+    {
+        Line {
+            made: self.made + 1,
+            taken: self.taken,
+            acked: self.acked,
+            inserts,
+        }
+    }
 }
 
-// a - b, and 0 where b is larger: so that the counts of any end whatever have a difference.
-pub fn less(a: u16, b: u16) -> u16
-    ensures { λ r. ⌜ r ≡ a - b ⌝ }
+// 1 for an insert, else 0.
+pub fn inserts_of(f: Form) -> u16
+    ensures { λ r. ⌜ ((x : ℕ) → r ≡ insertsOf (edit f x)) ⌝ }
 {
-    if b < a { a - b } else { 0 }
+    match f {
+        Form::Nothing => 0,
+        Form::Delete(_) => 0,
+        Form::Insert(_, _) => 1,
+    }
 }
 
-// Question 2, what the counts say of it.
-pub fn counts_sound(
-    n: u8,
-    line: u8,
-    made: u16,
-    taken: u16,
-    acked: u16,
-    inserts: u16,
-    len: u16,
-) -> bool
-    ensures { λ r. ⌜ r ≡ every (countTests n line made taken acked inserts len) ⌝ }
+// Question 9 of an edit, by the length of the list that it is applied to.
+pub fn fits_list(f: Form, len: u16) -> bool
+    ensures { λ r. ⌜ ((x : ℕ) → r ≡ fitsList (edit f x) len) ⌝ }
 {
-    let lines = (1 <= n) & (n <= Counts::LINES);
-    let own = (1 <= line) & (line <= n);
-    let counts = (made <= Counts::EDITS) & (taken <= Counts::OTHERS) & (acked <= made);
-    let few = (inserts <= Counts::INSERTS) & (inserts <= made);
-    lines & own & counts & few & (len as usize <= Counts::ITEMS)
+    ot::fit(f, len) & (len as usize + inserts_of(f) as usize <= ITEMS)
+}
+
+// One more pending edit, of form f and item x.
+pub fn keep(words: &mut [u32], v: Line, f: Form, x: u32)
+    requires { ⌜ (Kept v (now words) × (v .made - v .acked < maxPending)) × (x ≡ itemOf (edit f x)) ⌝ }
+    ensures { λ _. ⌜ now (words .exit) ≡ slotsOf (pendingIn v (now (words .entry)) ++ (edit f x ∷ [])) ⌝ }
+{
+    pending::append(words, v.pending() as usize, f, x);
 }

@@ -1,50 +1,67 @@
-// Sending: the questions by the counts, and the message of a pending edit.
+// Sending, which changes no end: the message of a pending edit, and its bytes.
 ghost use mathlib.Core.Path.{_≡_};
 ghost use Rattle.model.specs.Questions.{asks};
-ghost use Rattle.line.specs.Asking.{lineQuestion, sendQuestions, messageAt};
+ghost use Rattle.model.specs.Line as model;
+ghost use Rattle.line.specs.Line.{lineOf, Kept};
+ghost use Rattle.line.specs.Sending.{answered, unwritten, numberAsked, finished, IsPending};
+use crate::Line;
 use wire::Header;
 use wire::Message;
 
-// Question 4: is the line its own?
-pub fn ask_line(own: u8, line: u8) -> u8
-    ensures { λ r. ⌜ r ≡ asks (lineQuestion own line) ⌝ }
-{
-    if line == own { 0 } else { 4 }
+// What a sending answers: 0 or the number of the question that said no, and how many bytes were written.
+pub struct Sent {
+    pub refusal: u8,
+    pub written: usize,
 }
 
-// Questions 4 and 13.
-pub fn ask_sending(own: u8, made: u16, acked: u16, line: u8, k: u16) -> u8
-    ensures { λ r. ⌜ r ≡ asks (sendQuestions own made acked line k) ⌝ }
+// Question 13.
+pub fn ask_number(v: Line, number: u16) -> u8
+    ensures { λ r. ⌜ r ≡ asks (numberAsked v number) ⌝ }
 {
-    if line != own {
-        return 4;
-    }
-    if k <= acked {
+    if number <= v.acked {
         return 13;
     }
-    if made < k {
+    if v.made < number {
         return 13;
     }
     0
 }
 
-// The message of edit number k; of one that is not pending it is a message of nothing, which no call sends.
-pub fn message<'a>(
-    own: u8,
-    taken: u16,
-    acked: u16,
-    places: &'a [u32],
-    items: &'a [u32],
-    k: u16,
-) -> Message
-    ensures { λ r. ⌜ r ≡ messageAt own taken acked (now (places .entry)) (now (items .entry)) k ⌝ }
+// The message of a pending edit.
+pub fn message(line: u8, direction: u8, v: Line, words: &[u32], number: u16) -> Message
+    requires { ⌜ IsPending v number × Kept v (now words) ⌝ }
+    ensures { λ r. ⌜ r ≡ model.lineMessage line direction (lineOf v (now (words .entry))) number ⌝ }
 {
-    let i = crate::less(crate::less(k, acked), 1) as usize;
+    let i = (number - 1 - v.acked) as usize;
     let h = Header {
-        line: own,
-        direction: 0,
-        number: k,
-        seen: taken,
+        line,
+        direction,
+        number,
+        seen: v.taken,
     };
-    wire::of_edit(h, slots::at(places, items, i))
+    wire::of_edit(h, pending::form_in(words, i), pending::item_in(words, i))
+}
+
+// A refused sending writes nothing.
+pub fn refused(refusal: u8) -> Sent
+    ensures { λ r. ⌜ r ≡ unwritten refusal ⌝ }
+{
+    Sent {
+        refusal,
+        written: 0,
+    }
+}
+
+// The message goes into the buffer if it fits there: question 14. No byte past it changes, and of a refusal none at all.
+pub fn finish(m: Message, out: &mut [u8]) -> Sent
+    ensures { λ r. ⌜ answered r (now (out .exit)) ≡ finished m (now (out .entry)) ⌝ }
+{
+    let written = wire_write::write(m, out);
+    if written == 0 {
+        return refused(14);
+    }
+    Sent {
+        refusal: 0,
+        written,
+    }
 }

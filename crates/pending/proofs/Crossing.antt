@@ -1,179 +1,169 @@
--- The loop that takes an arriving edit past the pending ones: its invariant, one turn, and the end.
-use Prim.Native.Nat.{ℕ, zero, suc, _+_, _-_, _≤_, _<_}
+-- The loop that takes an arriving form past the pending ones: its invariant, one turn, and the end.
+use Prim.Native.Nat.{ℕ, zero, suc, _+_, _≤_, _<_}
 use native.Mathlib.Nat.{le-of-suc-le-suc, not-suc-le-zero}
 use native.Mathlib.Numerals.{add-one}
 use native.Mathlib.Omega.{arith}
 use mathlib.Core.Path.{_≡_, refl, ap, _∙_, sym}
 use mathlib.Core.Bool.{Bool, true, _&&_, and-true, and-assoc}
 use mathlib.Core.List.{List, [], _∷_, map}
-use mathlib.Core.Option.{Option, none, some}
 use lib.ListN.{length, getD, take, set, replicate, length-take, length-map, List·getD-map}
 use lib.Seq.{take-all}
-use Rattle.ot.specs.declared.Edit.{Edit}
-use Rattle.ot.specs.declared.Edit.the-variants.{Nothing, Delete, Insert}
-use Rattle.ot.specs.Edit.{positionOf, transformed}
-use Rattle.list.specs.Items.{padded}
-use Rattle.ot.specs.Laws.{within, stamp}
+use Rattle.limits.specs.Limits.{maxPending, maxItems}
+use Rattle.ot.specs.declared.Form.{Form}
+use Rattle.ot.specs.declared.Form.the-variants.{Nothing, Delete, Insert}
+use Rattle.ot.specs.Form.{positionOf, moved}
+use Rattle.ot.specs.Edit.{edit}
+use Rattle.ot.specs.Laws.{within}
 use Rattle.ot.proofs.Laws.{laws}
+use Rattle.ot.proofs.Fits.{and-left, and-right, between-true}
+use Rattle.list.specs.Items.{padded}
 use Rattle.list.proofs.Sweep.{swept}
-use Rattle.model.specs.Limits.{maxPending, maxItems}
-use Rattle.model.specs.Cross.{past, over, placed, allPlaced}
-use Rattle.model.proofs.Tests.{and-left, and-right, between-true}
-use Rattle.model.proofs.Cross.{length-over, placed-drop}
-use Rattle.pending.specs.declared.Crossed.{Crossed}
-use Rattle.slots.specs.Slots.{placeOf, itemOf, editAt, editsFrom, filled, Kept, Whole}
-use Rattle.pending.specs.Crossing.{steps, crossed, Ready}
 use Rattle.list.proofs.Pad.{fill-turn, fill-end}
-use Rattle.slots.proofs.Slots.{edits-length, edits-at, edits-drop}
+use Rattle.model.specs.Cross.{placed}
+use Rattle.pending.specs.declared.Crossed.{Crossed}
+use Rattle.pending.specs.Slots.{placeOf, formIn}
+use Rattle.pending.specs.Crossing.{formsFrom, pastForms, overForms, placedForms, steps, crossed, Ready, filled}
+use Rattle.pending.proofs.Forms.{steps-length}
 
--- One step more of each of the model's recursions.
-past-more : (e : Edit) (es : List Edit) (i : ℕ) → i < length es → past e (take (suc i) es) ≡ transformed (past e (take i es)) (getD es i Nothing)
-unfolding past
-past-more e [] i h = absurd (not-suc-le-zero h)
-past-more e (p ∷ es) zero h = refl
-past-more e (p ∷ es) (suc i) h = past-more (transformed e p) es i (le-of-suc-le-suc h)
+-- ---- one step more of each recursion
 
-over-at : (e : Edit) (es : List Edit) (i : ℕ) → i < length es → getD (over e es) i Nothing ≡ transformed (getD es i Nothing) (past e (take i es))
-unfolding past over
-over-at e [] i h = absurd (not-suc-le-zero h)
-over-at e (p ∷ es) zero h = refl
-over-at e (p ∷ es) (suc i) h = over-at (transformed e p) es i (le-of-suc-le-suc h)
+past-more : (f : Form) (fs : List Form) (i : ℕ) → i < length fs → pastForms f (take (suc i) fs) ≡ moved (pastForms f (take i fs)) (getD fs i Nothing)
+unfolding pastForms
+past-more f [] i h = absurd (not-suc-le-zero h)
+past-more f (p ∷ fs) zero h = refl
+past-more f (p ∷ fs) (suc i) h = past-more (moved f p) fs i (le-of-suc-le-suc h)
 
-placed-more : (es : List Edit) (i : ℕ) → i < length es → allPlaced (take (suc i) es) ≡ (allPlaced (take i es) && placed (getD es i Nothing))
-unfolding allPlaced
+over-at : (f : Form) (fs : List Form) (i : ℕ) → i < length fs → getD (overForms f fs) i Nothing ≡ moved (getD fs i Nothing) (pastForms f (take i fs))
+unfolding pastForms overForms
+over-at f [] i h = absurd (not-suc-le-zero h)
+over-at f (p ∷ fs) zero h = refl
+over-at f (p ∷ fs) (suc i) h = over-at (moved f p) fs i (le-of-suc-le-suc h)
+
+over-length : (f : Form) (fs : List Form) → length (overForms f fs) ≡ length fs
+unfolding overForms
+over-length f [] = refl
+over-length f (p ∷ fs) = ap suc (over-length (moved f p) fs)
+
+abbrev fine : Form → Bool
+fine f = placed (edit f 0)
+
+placed-more : (fs : List Form) (i : ℕ) → i < length fs → placedForms (take (suc i) fs) ≡ (placedForms (take i fs) && fine (getD fs i Nothing))
+unfolding placedForms
 placed-more [] i h = absurd (not-suc-le-zero h)
-placed-more (e ∷ es) zero h = and-true (placed e)
-placed-more (e ∷ es) (suc i) h =
-    ap (λ (b : Bool). placed e && b) (placed-more es i (le-of-suc-le-suc h))
-    ∙ sym (and-assoc (placed e) (allPlaced (take i es)) (placed (getD es i Nothing)))
+placed-more (f ∷ fs) zero h = and-true (fine f)
+placed-more (f ∷ fs) (suc i) h =
+    ap (λ (b : Bool). fine f && b) (placed-more fs i (le-of-suc-le-suc h))
+    ∙ sym (and-assoc (fine f) (placedForms (take i fs)) (fine (getD fs i Nothing)))
 
-placed-position : (e : Edit) → placed e ≡ true → positionOf e ≤ maxItems
+-- ---- positions stay far below what 16 bits hold
+
+placed-position : (f : Form) → fine f ≡ true → positionOf f ≤ maxItems
 unfolding within
 placed-position Nothing h = omega arith
-placed-position (Delete p) h = between-true 1 maxItems p h .1
-placed-position (Insert p x r) h = between-true 1 maxItems p h .1
+placed-position (Delete p) h = between-true 1 p maxItems h .1
+placed-position (Insert p r) h = between-true 1 p maxItems h .1
 
-placed-at : (es : List Edit) (i : ℕ) → allPlaced es ≡ true → positionOf (getD es i Nothing) ≤ maxItems
-unfolding allPlaced
+placed-at : (fs : List Form) (i : ℕ) → placedForms fs ≡ true → positionOf (getD fs i Nothing) ≤ maxItems
+unfolding placedForms
 placed-at [] i h = omega arith
-placed-at (e ∷ es) zero h = placed-position e (and-left (placed e) (allPlaced es) h)
-placed-at (e ∷ es) (suc i) h = placed-at es i (and-right (placed e) (allPlaced es) h)
+placed-at (f ∷ fs) zero h = placed-position f (and-left (fine f) (placedForms fs) h)
+placed-at (f ∷ fs) (suc i) h = placed-at fs i (and-right (fine f) (placedForms fs) h)
 
-past-position : (e : Edit) (es : List Edit) → positionOf (past e es) ≤ positionOf e + length es
-unfolding past
-past-position e [] = omega arith
-past-position e (p ∷ es) = omega (arith, past-position (transformed e p) es, laws .moves e p)
+past-position : (f : Form) (fs : List Form) → positionOf (pastForms f fs) ≤ positionOf f + length fs
+unfolding pastForms
+past-position f [] = omega arith
+past-position f (p ∷ fs) = omega (arith, past-position (moved f p) fs, laws .moves f p)
 
-pub steps-length : (e : Edit) (es : List Edit) → steps e es ≡ length es
-unfolding steps
-steps-length e [] = refl
-steps-length e (p ∷ es) = ap suc (steps-length (transformed e p) es)
+-- ---- the forms that the loop reads
 
--- an array after i turns of a loop that writes the numbers of a list of edits
-abbrev pub sofar : (Edit → ℕ) → List Edit → ℕ → List ℕ
-sofar word es i = swept (padded 0 maxPending (map word es)) (replicate maxPending 0) i
+pub forms-length : (words : List ℕ) (from count : ℕ) → length (formsFrom words from count) ≡ count
+unfolding formsFrom
+forms-length words from zero = refl
+forms-length words from (suc count) = ap suc (forms-length words (suc from) count)
 
--- After i turns: the first i slots hold the later forms, the edit stands past the first i.
-pub record Crossing (e : Edit) (es : List Edit) (i : ℕ) (ps : List ℕ) (current : Edit) (good : Bool) : Type 0 where
-  pub turns : i ≤ length es
-  pub places : ps ≡ sofar placeOf (over e es) i
-  pub form : current ≡ past e (take i es)
-  pub fine : good ≡ allPlaced (take i (over e es))
+pub forms-at : (words : List ℕ) (from count i : ℕ) → i < count → getD (formsFrom words from count) i Nothing ≡ formIn words (from + i)
+unfolding formsFrom
+forms-at words from zero i h = absurd (not-suc-le-zero h)
+forms-at words from (suc count) zero h =
+    let e : from ≡ from + 0 = omega arith in
+    ap (formIn words) e
+forms-at words from (suc count) (suc i) h =
+    let e : suc from + i ≡ from + suc i = omega arith in
+    forms-at words (suc from) count i (le-of-suc-le-suc h) ∙ ap (formIn words) e
 
-pub crossing-none : (e : Edit) (es : List Edit) (ps : List ℕ) → ps ≡ replicate maxPending 0 → Crossing e es 0 ps e true
-unfolding past allPlaced
-crossing-none e es ps z = record { turns = omega arith; places = z; form = refl; fine = refl }
+-- ---- the loop
 
-module _ (e : Edit) (es : List Edit) (few : length es ≤ maxPending) (i : ℕ) (ps : List ℕ) (current : Edit) (good : Bool) (now : Crossing e es i ps current good) where
-  -- positions stay far below what 16 bits hold
-  pub current-position : positionOf current ≤ positionOf e + maxPending
-  current-position = rw (now .form) (omega (arith, past-position e (take i es), length-take i es))
+-- the lent array after i turns
+abbrev sofar : Form → List Form → ℕ → List ℕ
+sofar f fs i = swept (filled (overForms f fs)) (replicate maxPending 0) i
 
-  stored : (word : Edit → ℕ) → word Nothing ≡ 0 → (a : List ℕ) (f : Edit) (v : ℕ) → i < length es → a ≡ sofar word (over e es) i → f ≡ getD (over e es) i Nothing
-      → v ≡ word f → set a i v ≡ sofar word (over e es) (i + 1)
-  stored word z a f v h ea ef ev =
-      fill-turn maxPending 0 (map word (over e es)) (rw (length-map, length-over) few) i v a (omega arith) ea
-      (ev ∙ ap word ef ∙ sym (List·getD-map word (over e es) i Nothing) ∙ ap (getD (map word (over e es)) i) z)
+module _ (words : List ℕ) (from count : ℕ) (f : Form) where
+  abbrev forms : List Form
+  forms = formsFrom words from count
 
-  pub crossing-turn : (p f n : Edit) (place : ℕ) (ok : Bool) → i < length es → p ≡ getD es i Nothing → f ≡ transformed p current
-      → place ≡ placeOf f → ok ≡ placed f → n ≡ transformed current p
-      → Crossing e es (i + 1) (set ps i place) n (good && ok)
-  crossing-turn p f n place ok h ep ef epl eo en =
-      let inside : i < length (over e es) = omega (arith, length-over e es) in
-      let f′ : f ≡ getD (over e es) i Nothing =
-      ef ∙ ap (λ (q : Edit). transformed q current) ep ∙ ap (transformed (getD es i Nothing)) (now .form)
-      ∙ sym (over-at e es i h) in
+  -- After i turns: the first i places are those of the later forms, and the arriving form stands past the first i.
+  pub record Crossing (i : ℕ) (later : List ℕ) (current : Form) (good : Bool) : Type 0 where
+    pub turns : i ≤ count
+    pub places : later ≡ sofar f forms i
+    pub form : current ≡ pastForms f (take i forms)
+    pub fits : good ≡ placedForms (take i (overForms f forms))
+
+  pub crossing-start : (later : List ℕ) → later ≡ replicate maxPending 0 → Crossing 0 later f true
+  unfolding pastForms placedForms
+  crossing-start later z = record { turns = omega arith; places = z; form = refl; fits = refl }
+
+module _ {words : List ℕ} {from count : ℕ} {f : Form} {i : ℕ} {later : List ℕ} {current : Form} {good : Bool}
+    (ready : Ready from count words) (now : Crossing words from count f i later current good) where
+  abbrev fs : List Form
+  fs = formsFrom words from count
+
+  all : length fs ≡ count
+  all = forms-length words from count
+
+  over-all : length (overForms f fs) ≡ count
+  over-all = over-length f fs ∙ all
+
+  -- both fit 16 bits, with room for one more
+  pub pending-position : i < count → positionOf (formIn words (from + i)) ≤ maxItems
+  pending-position h = rw (sym (forms-at words from count i h)) (placed-at fs i (ready .placed))
+
+  pub current-position : positionOf current ≤ positionOf f + maxPending
+  current-position = rw (now .form) (omega (arith, past-position f (take i fs), length-take i fs, all, ready .few))
+
+  short : length (map placeOf (overForms f fs)) ≤ maxPending
+  short = rw length-map (omega (arith, over-all, ready .few))
+
+  stored : (g : Form) (place : ℕ) → i < count → g ≡ getD (overForms f fs) i Nothing → place ≡ placeOf g → set later i place ≡ sofar f fs (i + 1)
+  stored g place h eg ep =
+      fill-turn maxPending 0 (map placeOf (overForms f fs)) short i place later (omega (arith, ready .few)) (now .places)
+      (ep ∙ ap placeOf eg ∙ sym (List·getD-map placeOf (overForms f fs) i Nothing))
+
+  -- p is the pending form, g its later form, n the arriving form after it
+  pub crossing-turn : (p g n : Form) (place : ℕ) (ok : Bool) → i < count → p ≡ formIn words (from + i) → g ≡ moved p current
+      → place ≡ placeOf g → ok ≡ placed (edit g 0) → n ≡ moved current p → Crossing words from count f (i + 1) (set later i place) n (good && ok)
+  crossing-turn p g n place ok h ep eg epl eo en =
+      let inside : i < length fs = omega (arith, all) in
+      let p′ : p ≡ getD fs i Nothing = ep ∙ sym (forms-at words from count i h) in
+      let g′ : g ≡ getD (overForms f fs) i Nothing =
+      eg ∙ ap (λ (q : Form). moved q current) p′ ∙ ap (moved (getD fs i Nothing)) (now .form)
+      ∙ sym (over-at f fs i inside) in
       record {
         turns = omega arith;
-        places = stored placeOf refl ps f place h (now .places) f′ epl;
+        places = stored g place h g′ epl;
         form =
-            en ∙ ap (transformed current) ep ∙ ap (λ (x : Edit). transformed x (getD es i Nothing)) (now .form)
-            ∙ sym (past-more e es i h) ∙ ap (λ (k : ℕ). past e (take k es)) (sym (add-one i));
-        fine =
-            ap (λ (b : Bool). b && ok) (now .fine) ∙ ap (λ (b : Bool). allPlaced (take i (over e es)) && b) (eo ∙ ap placed f′)
-            ∙ sym (placed-more (over e es) i inside) ∙ ap (λ (k : ℕ). allPlaced (take k (over e es))) (sym (add-one i));
+            en ∙ ap (moved current) p′ ∙ ap (λ (q : Form). moved q (getD fs i Nothing)) (now .form)
+            ∙ sym (past-more f fs i inside) ∙ ap (λ (k : ℕ). pastForms f (take k fs)) (sym (add-one i));
+        fits =
+            ap (λ (b : Bool). b && ok) (now .fits) ∙ ap (λ (b : Bool). placedForms (take i (overForms f fs)) && b) (eo ∙ ap fine g′)
+            ∙ sym (placed-more (overForms f fs) i (omega (arith, over-all))) ∙ ap (λ (k : ℕ). placedForms (take k (overForms f fs))) (sym (add-one i));
       }
 
-  done : (word : Edit → ℕ) (a : List ℕ) → length es ≤ i → a ≡ sofar word (over e es) i → a ≡ filled word (over e es)
-  unfolding filled
-  done word a h ea =
-      fill-end maxPending 0 (map word (over e es)) (rw (length-map, length-over) few) i a (rw (length-map, length-over) h) ea
+  pub crossing-answer : count ≤ i → _≡_ {A = Crossed} (record { form = current; placed = good; passed = i }) (crossed f fs)
+  crossing-answer h =
+      let c′ : current ≡ pastForms f fs = now .form ∙ ap (pastForms f) (take-all i fs (omega (arith, all))) in
+      let g′ : good ≡ placedForms (overForms f fs) = now .fits ∙ ap placedForms (take-all i (overForms f fs) (omega (arith, over-all))) in
+      let p′ : i ≡ steps f fs = omega (arith, now .turns, all, steps-length f fs) in
+      cc
 
-  pub crossing-end : length es ≤ i
-      → (_≡_ {A = Crossed} (record { edit = current; placed = good; passed = i }) (crossed e es)) × (ps ≡ filled placeOf (over e es))
-  crossing-end h =
-      let c′ : current ≡ past e es = now .form ∙ ap (past e) (take-all i es (omega arith)) in
-      let g′ : good ≡ allPlaced (over e es) = now .fine ∙ ap allPlaced (take-all i (over e es) (omega (arith, length-over e es))) in
-      let all : i ≡ length es = omega (arith, now .turns) in
-      let p′ : i ≡ steps e es = all ∙ sym (steps-length e es) in
-      (cc, done placeOf ps h (now .places))
-
--- The later forms have the items of the edits.
-abbrev stampItem : Option (ℕ × ℕ) → ℕ
-stampItem none = 0
-stampItem (some (x, r)) = x
-
-item-stamp : (e : Edit) → itemOf e ≡ stampItem (stamp e)
-unfolding stamp
-item-stamp Nothing = refl
-item-stamp (Delete p) = refl
-item-stamp (Insert p x r) = refl
-
-item-kept : (a b : Edit) → itemOf (transformed a b) ≡ itemOf a
-item-kept a b = item-stamp (transformed a b) ∙ ap stampItem (laws .keeps a b) ∙ sym (item-stamp a)
-
-over-items : (e : Edit) (es : List Edit) → map itemOf (over e es) ≡ map itemOf es
-unfolding over
-over-items e [] = refl
-over-items e (p ∷ es) = ap (λ (x : ℕ). x ∷ map itemOf (over (transformed e p) es)) (item-kept p e) ∙ ap (λ (l : List ℕ). itemOf p ∷ l) (over-items (transformed e p) es)
-
-pub filled-over : (e : Edit) (es : List Edit) → filled itemOf (over e es) ≡ filled itemOf es
-unfolding filled
-filled-over e es = ap (padded 0 maxPending) (over-items e es)
-
--- What the loop reads.
-module _ (from count : ℕ) (ps xs : List ℕ) (ready : Ready from count ps xs) where
-  pub ready-few : length (editsFrom ps xs from count) ≤ maxPending
-  ready-few = omega (arith, edits-length ps xs from count, ready .few)
-
-  pub ready-position : (i : ℕ) → i < count → positionOf (editAt ps xs (from + i)) ≤ maxItems
-  ready-position i h = rw (sym (edits-at ps xs from count i h)) (placed-at (editsFrom ps xs from count) i (ready .placed))
-
--- Nothing that arrives leaves the pending edits as they are.
-pub over-nothing : (es : List Edit) → over Nothing es ≡ es
-unfolding over transformed
-over-nothing [] = refl
-over-nothing (Nothing ∷ es) = ap (λ (l : List Edit). Nothing ∷ l) (over-nothing es)
-over-nothing (Delete p ∷ es) = ap (λ (l : List Edit). Delete p ∷ l) (over-nothing es)
-over-nothing (Insert p x r ∷ es) = ap (λ (l : List Edit). Insert p x r ∷ l) (over-nothing es)
-
--- what is left of a line that passed the test, once its first k edits are dropped, may cross an edit
-pub kept-ready : (from count : ℕ) (ps xs : List ℕ) → Kept from count ps xs → Whole from ps xs → (k : ℕ) → k ≤ count → Ready (from + k) (count - k) ps xs
-kept-ready from count ps xs kept room k h =
-    record {
-      few = omega (arith, kept .few);
-      places = omega (arith, kept .few, room .places);
-      items = omega (arith, kept .few, room .items);
-      placed =
-          ap allPlaced (sym (edits-drop ps xs from count k)) ∙ placed-drop k (editsFrom ps xs from count) (kept .placed);
-    }
+  pub crossing-places : count ≤ i → later ≡ filled (overForms f fs)
+  crossing-places h = fill-end maxPending 0 (map placeOf (overForms f fs)) short i later (rw length-map (omega (arith, over-all))) (now .places)

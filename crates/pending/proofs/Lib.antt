@@ -1,1 +1,5 @@
+pub mod Forms
+pub mod Slot
+pub mod Slots
 pub mod Crossing
+pub mod Writing

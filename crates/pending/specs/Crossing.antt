@@ -1,28 +1,52 @@
--- An arriving edit and the pending edits of a line (01: its kept edits), which stand in slots.
-use Prim.Native.Nat.{ℕ, suc, _+_, _≤_}
+-- An arriving edit and the pending edits of a line (01: its kept edits), by their forms alone: no item changes.
+use Prim.Native.Nat.{ℕ, zero, suc, _+_, _≤_}
 use mathlib.Core.Path.{_≡_}
-use mathlib.Core.Bool.{true}
-use mathlib.Core.List.{List, [], _∷_}
+use mathlib.Core.Bool.{Bool, true, _&&_}
+use mathlib.Core.List.{List, [], _∷_, map}
 use lib.ListN.{length}
-use Rattle.ot.specs.declared.Edit.{Edit}
-use Rattle.ot.specs.Edit.{transformed}
-use Rattle.model.specs.Limits.{maxPending}
-use Rattle.model.specs.Cross.{past, over, allPlaced}
-use Rattle.slots.specs.Slots.{editsFrom}
+use Rattle.limits.specs.Limits.{maxPending}
+use Rattle.ot.specs.declared.Form.{Form}
+use Rattle.ot.specs.Form.{moved}
+use Rattle.ot.specs.Edit.{Edit, edit, formOf}
+use Rattle.list.specs.Items.{padded}
+use Rattle.model.specs.Cross.{placed}
 use Rattle.pending.specs.declared.Crossed.{Crossed}
+use Rattle.pending.specs.Slots.{placeOf, formIn}
 
--- What crossing asks of the slots. Those of a line that passed the test have it, all of them or the last of them.
-pub record Ready (from count : ℕ) (ps xs : List ℕ) : Type 0 where
-  pub few : count ≤ maxPending
-  pub places : from + count ≤ length ps
-  pub items : from + count ≤ length xs
-  pub placed : allPlaced (editsFrom ps xs from count) ≡ true
+-- the forms in count slots, the first of them slot from
+unfoldable pub formsFrom : List ℕ → ℕ → ℕ → List Form
+formsFrom words from zero = []
+formsFrom words from (suc count) = formIn words from ∷ formsFrom words (suc from) count
+
+-- the arriving form past the pending ones, in order; each pending form past the arriving one as it stood before that one
+unfoldable pub pastForms : Form → List Form → Form
+pastForms f [] = f
+pastForms f (p ∷ ps) = pastForms (moved f p) ps
+
+unfoldable pub overForms : Form → List Form → List Form
+overForms f [] = []
+overForms f (p ∷ ps) = moved p f ∷ overForms (moved f p) ps
+
+-- positions that a message can carry
+unfoldable pub placedForms : List Form → Bool
+placedForms [] = true
+placedForms (f ∷ fs) = placed (edit f 0) && placedForms fs
 
 -- how many steps the arriving edit takes past the pending ones
-unfoldable pub steps : Edit → List Edit → ℕ
-steps e [] = 0
-steps e (p ∷ ps) = suc (steps (transformed e p) ps)
+unfoldable pub steps : Form → List Form → ℕ
+steps f [] = 0
+steps f (p ∷ ps) = suc (steps (moved f p) ps)
 
 -- What an arriving edit becomes, question 9's test of the pending ones' later forms, and the count that the answer gives.
-abbrev pub crossed : Edit → List Edit → Crossed
-crossed e es = record { edit = past e es; placed = allPlaced (over e es); passed = steps e es }
+abbrev pub crossed : Form → List Form → Crossed
+crossed f fs = record { form = pastForms f fs; placed = placedForms (overForms f fs); passed = steps f fs }
+
+-- What crossing asks of the slots: there are so many, and they hold positions of 1 to 512.
+pub record Ready (from count : ℕ) (words : List ℕ) : Type 0 where
+  pub few : from + count ≤ maxPending
+  pub size : maxPending ≤ length words
+  pub placed : placedForms (formsFrom words from count) ≡ true
+
+-- the places of forms, with zeros behind them
+abbrev pub filled : List Form → List ℕ
+filled fs = padded 0 maxPending (map placeOf fs)

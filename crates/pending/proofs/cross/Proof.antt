@@ -1,46 +1,58 @@
-use Rattle.pending.proofs.Crossing.{Crossing, crossing-none, crossing-turn, crossing-end, current-position, ready-few, ready-position}
-use Rattle.slots.proofs.Slots.{edits-length, edits-at}
-use Rattle.slots.specs.Slots.{editsFrom}
-use Rattle.ot.specs.Edit.{positionOf}
-use mathlib.Core.Path.{ap, _∙_, sym}
-use denote.Ref.{now}
-use borrow.Author.Needs.{needs}
+-- `pending::cross` meets its contract: each turn is a law of proofs/Crossing.antt.
+use Prim.Native.Nat.{_-_, _+_, _≤_}
 use native.Mathlib.Omega.{arith}
-use Prim.Native.Nat.{_-_}
+use mathlib.Core.Path.{ap}
+use borrow.Author.Needs.{needs}
+use Rattle.limits.specs.Limits.{maxPending}
+use Rattle.ot.specs.Form.{positionOf}
+use Rattle.pending.specs.Crossing.{Ready}
+use Rattle.pending.proofs.Crossing.{Crossing, crossing-start, pending-position, current-position, crossing-turn, crossing-answer, crossing-places}
 use Rattle.pending.proofs.cross.Statement.{statement}
 use Rattle.pending.proofs.cross.Tie as tie
 
 abbrev Inv-loop : tie.InvT-loop
-Inv-loop places items from count later₀ current₀ good₀ passed₀ later current good passed =
-    Crossing current₀ (editsFrom places items from count) passed later current good
+Inv-loop words from count later₀ f good₀ passed₀ later current good passed = Crossing words from count f passed later current good
 
 abbrev μ-loop : tie.MeasureT-loop
-μ-loop places items from count later₀ current₀ good₀ passed₀ later current good passed =
-    count - passed
+μ-loop words from count later₀ f good₀ passed₀ later current good passed = count - passed
+
+-- the call's start, the turn that a place lies in, and where the turn had read the pending form
+abbrev start : tie.At-loop Inv-loop μ-loop → tie.Start Inv-loop μ-loop
+start c = c .before .before
+
+abbrev turn : tie.After-form-at Inv-loop μ-loop → tie.In-loop Inv-loop μ-loop
+turn c = c .before .before
+
+abbrev read : tie.After-is-placed Inv-loop μ-loop → tie.After-form-at Inv-loop μ-loop
+read c = c .before .before .before
+
+ready : (c : tie.At-loop Inv-loop μ-loop) → Ready (start c .args .from) (start c .args .count) (start c .args .words .now)
+ready c = start c .pre .1 .0
+
+few : (c : tie.At-loop Inv-loop μ-loop) → start c .args .from + start c .args .count ≤ maxPending
+few c = ready c .few
 
 loop-holds : tie.Need-loop-holds Inv-loop μ-loop
-loop-holds c = crossing-none (c .before .before .args .e) (editsFrom (now (c .before .before .args .places)) (now (c .before .before .args .items)) (c .before .before .args .from) (c .before .before .args .count)) (now (c .before .before .args .later)) (c .before .before .pre .1 .1)
+loop-holds c =
+    let s = c .before in
+    crossing-start (s .args .words .now) (s .args .from) (s .args .count) (s .args .f) (s .args .later .now) (s .pre .1 .1)
 
-add-j : tie.Need-add-j Inv-loop μ-loop
-add-j c = omega (arith, c .before .before .before .before .pre .1 .0 .few, c .before .before .before .before .pre .1 .0 .places, c .before .loop .inv .turns, edits-length (now (c .before .before .before .before .args .places)) (now (c .before .before .before .before .args .items)) (c .before .before .before .before .args .from) (c .before .before .before .before .args .count))
+add-form-at : tie.Need-add-form-at Inv-loop μ-loop
+add-form-at c = omega (arith, few (c .before), c .loop-test .taken)
 
-mul-edit-of : tie.Need-mul-edit-of Inv-loop μ-loop
-mul-edit-of c = omega arith
+mul-form-at : tie.Need-mul-form-at Inv-loop μ-loop
+mul-form-at c = omega (arith, few (c .before), c .loop-test .taken)
 
-shared-slice-read-edit-of : tie.Need-shared-slice-read-edit-of Inv-loop μ-loop
-shared-slice-read-edit-of c = omega arith
+shared-slice-read-form-at : tie.Need-shared-slice-read-form-at Inv-loop μ-loop
+shared-slice-read-form-at c = omega (arith, few (c .before .before), ready (c .before .before) .size, c .before .loop-test .taken)
 
-mul-edit-of-2 : tie.Need-mul-edit-of-2 Inv-loop μ-loop
-mul-edit-of-2 c = omega arith
-
-shared-slice-read-edit-of-2 : tie.Need-shared-slice-read-edit-of-2 Inv-loop μ-loop
-shared-slice-read-edit-of-2 c = omega arith
-
-edit-of-requires : tie.Need-edit-of-requires Inv-loop μ-loop
-edit-of-requires c κs = search needs
+form-at-requires : tie.Need-form-at-requires Inv-loop μ-loop
+form-at-requires c κs = search needs
 
 transform-requires : tie.Need-transform-requires Inv-loop μ-loop
-transform-requires c κs = omega (arith, ap positionOf (c .edit-of .ensures), ready-position (c .before .before .before .before .before .before .before .args .from) (c .before .before .before .before .before .before .before .args .count) (now (c .before .before .before .before .before .before .before .args .places)) (now (c .before .before .before .before .before .before .before .args .items)) (c .before .before .before .before .before .before .before .pre .1 .0) (c .before .before .before .before .loop .passed) (c .before .before .before .loop-test .taken))
+transform-requires c κs =
+    let at = turn c .before in
+    omega (arith, ap positionOf (c .form-at .ensures), pending-position (ready at) (at .loop .inv) (turn c .loop-test .taken))
 
 place-of-requires : tie.Need-place-of-requires Inv-loop μ-loop
 place-of-requires c κs = search needs
@@ -55,22 +67,36 @@ is-placed-requires : tie.Need-is-placed-requires Inv-loop μ-loop
 is-placed-requires c κs = search needs
 
 transform-requires-2 : tie.Need-transform-requires-2 Inv-loop μ-loop
-transform-requires-2 c κs = omega (arith, c .before .before .before .before .before .before .before .before .before .before .pre .0, current-position (c .before .before .before .before .before .before .before .before .before .before .args .e) (editsFrom (now (c .before .before .before .before .before .before .before .before .before .before .args .places)) (now (c .before .before .before .before .before .before .before .before .before .before .args .items)) (c .before .before .before .before .before .before .before .before .before .before .args .from) (c .before .before .before .before .before .before .before .before .before .before .args .count)) (ready-few (c .before .before .before .before .before .before .before .before .before .before .args .from) (c .before .before .before .before .before .before .before .before .before .before .args .count) (now (c .before .before .before .before .before .before .before .before .before .before .args .places)) (now (c .before .before .before .before .before .before .before .before .before .before .args .items)) (c .before .before .before .before .before .before .before .before .before .before .pre .1 .0)) (c .before .before .before .before .before .before .before .loop .passed) (c .before .before .before .before .before .before .before .loop .later) (c .before .before .before .before .before .before .before .loop .current) (c .before .before .before .before .before .before .before .loop .good) (c .before .before .before .before .before .before .before .loop .inv))
+transform-requires-2 c κs =
+    let at = turn (read c) .before in
+    omega (arith, start at .pre .0, current-position (ready at) (at .loop .inv))
 
 add-passed : tie.Need-add-passed Inv-loop μ-loop
-add-passed c = omega (arith, c .before .before .before .before .before .before .before .before .before .before .before .pre .1 .0 .few, c .before .before .before .before .before .before .before .before .before .before .before .pre .1 .0 .places, c .before .before .before .before .before .before .before .before .loop .inv .turns, edits-length (now (c .before .before .before .before .before .before .before .before .before .before .before .args .places)) (now (c .before .before .before .before .before .before .before .before .before .before .before .args .items)) (c .before .before .before .before .before .before .before .before .before .before .before .args .from) (c .before .before .before .before .before .before .before .before .before .before .before .args .count))
+add-passed c =
+    let t = turn (read (c .before)) in
+    omega (arith, few (t .before), t .loop-test .taken)
 
 loop-less : tie.Need-loop-less Inv-loop μ-loop
-loop-less c = omega (arith, c .before .before .before .before .before .before .before .before .before .before .before .pre .1 .0 .few, c .before .before .before .before .before .before .before .before .before .before .before .pre .1 .0 .places, c .before .before .before .before .before .before .before .before .loop .inv .turns, edits-length (now (c .before .before .before .before .before .before .before .before .before .before .before .args .places)) (now (c .before .before .before .before .before .before .before .before .before .before .before .args .items)) (c .before .before .before .before .before .before .before .before .before .before .before .args .from) (c .before .before .before .before .before .before .before .before .before .before .before .args .count))
+loop-less c =
+    let t = turn (read (c .before)) in
+    omega (arith, t .loop-test .taken)
 
 loop-again : tie.Need-loop-again Inv-loop μ-loop
-loop-again c = crossing-turn (c .before .before .before .before .before .before .before .before .before .before .before .args .e) (editsFrom (now (c .before .before .before .before .before .before .before .before .before .before .before .args .places)) (now (c .before .before .before .before .before .before .before .before .before .before .before .args .items)) (c .before .before .before .before .before .before .before .before .before .before .before .args .from) (c .before .before .before .before .before .before .before .before .before .before .before .args .count)) (ready-few (c .before .before .before .before .before .before .before .before .before .before .before .args .from) (c .before .before .before .before .before .before .before .before .before .before .before .args .count) (now (c .before .before .before .before .before .before .before .before .before .before .before .args .places)) (now (c .before .before .before .before .before .before .before .before .before .before .before .args .items)) (c .before .before .before .before .before .before .before .before .before .before .before .pre .1 .0)) (c .before .before .before .before .before .before .before .before .loop .passed) (c .before .before .before .before .before .before .before .before .loop .later) (c .before .before .before .before .before .before .before .before .loop .current) (c .before .before .before .before .before .before .before .before .loop .good) (c .before .before .before .before .before .before .before .before .loop .inv) (c .before .before .before .before .edit-of .result) (c .before .before .before .transform .result) (c .transform2 .result) (c .before .before .place-of .result) (c .before .is-placed .result) (omega (arith, c .before .before .before .before .before .before .before .loop-test .taken, edits-length (now (c .before .before .before .before .before .before .before .before .before .before .before .args .places)) (now (c .before .before .before .before .before .before .before .before .before .before .before .args .items)) (c .before .before .before .before .before .before .before .before .before .before .before .args .from) (c .before .before .before .before .before .before .before .before .before .before .before .args .count))) (c .before .before .before .before .edit-of .ensures ∙ sym (edits-at (now (c .before .before .before .before .before .before .before .before .before .before .before .args .places)) (now (c .before .before .before .before .before .before .before .before .before .before .before .args .items)) (c .before .before .before .before .before .before .before .before .before .before .before .args .from) (c .before .before .before .before .before .before .before .before .before .before .before .args .count) (c .before .before .before .before .before .before .before .before .loop .passed) (c .before .before .before .before .before .before .before .loop-test .taken))) (c .before .before .before .transform .ensures) (c .before .before .place-of .ensures) (c .before .is-placed .ensures) (c .transform2 .ensures)
+loop-again c =
+    let placed = c .before in
+    let r = read placed in
+    let t = turn r in
+    crossing-turn (ready (t .before)) (t .before .loop .inv)
+    (r .form-at .result) (placed .before .before .transform .result) (c .transform2 .result) (placed .before .place-of .result) (placed .is-placed .result) (t .loop-test .taken)
+    (r .form-at .ensures) (placed .before .before .transform .ensures) (placed .before .place-of .ensures) (placed .is-placed .ensures) (c .transform2 .ensures)
 
-cast-t22 : tie.Need-cast-t22 Inv-loop μ-loop
-cast-t22 c = omega (arith, c .before .before .before .before .pre .1 .0 .few, c .before .before .before .before .pre .1 .0 .places, c .before .loop .inv .turns, edits-length (now (c .before .before .before .before .args .places)) (now (c .before .before .before .before .args .items)) (c .before .before .before .before .args .from) (c .before .before .before .before .args .count))
+cast-t18 : tie.Need-cast-t18 Inv-loop μ-loop
+cast-t18 c = omega (arith, few (c .before), c .before .loop .inv .turns)
 
 returns : tie.Need-returns Inv-loop μ-loop
-returns c = crossing-end (c .before .before .before .before .args .e) (editsFrom (now (c .before .before .before .before .args .places)) (now (c .before .before .before .before .args .items)) (c .before .before .before .before .args .from) (c .before .before .before .before .args .count)) (ready-few (c .before .before .before .before .args .from) (c .before .before .before .before .args .count) (now (c .before .before .before .before .args .places)) (now (c .before .before .before .before .args .items)) (c .before .before .before .before .pre .1 .0)) (c .before .loop .passed) (c .before .loop .later) (c .before .loop .current) (c .before .loop .good) (c .before .loop .inv) (omega (arith, c .loop-test .left, edits-length (now (c .before .before .before .before .args .places)) (now (c .before .before .before .before .args .items)) (c .before .before .before .before .args .from) (c .before .before .before .before .args .count)))
+returns c =
+    let at = c .before in
+    (crossing-answer (ready at) (at .loop .inv) (c .loop-test .left), crossing-places (ready at) (at .loop .inv) (c .loop-test .left))
 
 pub cross-spec : {M : Type 1} → statement M
 cross-spec =
@@ -79,12 +105,10 @@ cross-spec =
     Inv-loop
     μ-loop
     loop-holds
-    add-j
-    mul-edit-of
-    shared-slice-read-edit-of
-    mul-edit-of-2
-    shared-slice-read-edit-of-2
-    edit-of-requires
+    add-form-at
+    mul-form-at
+    shared-slice-read-form-at
+    form-at-requires
     transform-requires
     place-of-requires
     mul-later
@@ -94,5 +118,5 @@ cross-spec =
     add-passed
     loop-less
     loop-again
-    cast-t22
+    cast-t18
     returns)

@@ -1,27 +1,41 @@
-use Rattle.line.proofs.Laws.{message-of}
+use native.Mathlib.Omega.{arith}
+use mathlib.Core.Path.{refl}
 use denote.Ref.{now}
 use borrow.Author.Needs.{needs}
+use Rattle.line.proofs.Sends.{message-of}
 use Rattle.line.proofs.sending.message.Statement.{statement}
 use Rattle.line.proofs.sending.message.Tie as tie
 
-less-requires : tie.Need-less-requires
-less-requires c κs = search needs
+abbrev start : tie.After-struct-known → tie.Start
+start c = c .before .before
 
-less-requires-2 : tie.Need-less-requires-2
-less-requires-2 c κs = search needs
+sub-i : tie.Need-sub-i
+sub-i c = search needs
+
+sub-i-2 : tie.Need-sub-i-2
+sub-i-2 c = search needs
 
 cast-i : tie.Need-cast-i
 cast-i c = search needs
 
-at-requires : tie.Need-at-requires
-at-requires c κs = search needs
+form-in-requires : tie.Need-form-in-requires
+form-in-requires c κs = search needs
+
+item-in-requires : tie.Need-item-in-requires
+item-in-requires c κs = let s = start (c .before) in omega (arith, s .pre .0 .0, s .pre .0 .1, s .pre .1 .few)
 
 of-edit-requires : tie.Need-of-edit-requires
 of-edit-requires c κs = search needs
 
 returns : tie.Need-returns
-returns c = message-of (c .before .before .before .before .before .before .args .own) (c .before .before .before .before .before .before .args .taken) (c .before .before .before .before .before .before .args .acked) (now (c .before .before .before .before .before .before .args .places)) (now (c .before .before .before .before .before .before .args .items)) (c .before .before .before .before .before .before .args .k) (c .before .before .before .less .result) (c .before .before .less2 .result) (c .before .at .result) (c .of-edit .result) (c .before .before .before .less .ensures) (c .before .before .less2 .ensures) (c .before .at .ensures) (c .of-edit .ensures)
+returns c =
+    let x = c .before in
+    let f = x .before in
+    let s = start (f .before) in
+    message-of (s .args .line) (s .args .direction) (s .args .v) (now (s .args .words)) (s .args .number) _ (f .form-in .result) (x .item-in .result) (c .of-edit .result)
+    (s .pre .0) refl (f .form-in .ensures) (x .item-in .ensures) (c .of-edit .ensures)
 
 pub message-spec : {M : Type 1} → statement M
 message-spec =
-    tie.close (tie.spec less-requires less-requires-2 cast-i at-requires of-edit-requires returns)
+    tie.close
+    (tie.spec sub-i sub-i-2 cast-i form-in-requires item-in-requires of-edit-requires returns)

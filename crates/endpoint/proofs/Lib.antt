@@ -1,4 +1,0 @@
-pub mod Items
-pub mod Room
-pub mod Line
-pub mod Sending

@@ -1,0 +1,5 @@
+pub mod All
+pub mod Right
+pub mod Tests
+pub mod Words
+pub mod Stored

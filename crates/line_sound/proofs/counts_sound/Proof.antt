@@ -1,0 +1,13 @@
+use Rattle.line_sound.proofs.Tests.{four}
+use Rattle.limits.specs.Limits.{maxEdits, maxInserts}
+use lib.Dec.{leb}
+use Rattle.line_sound.proofs.counts_sound.Statement.{statement}
+use Rattle.line_sound.proofs.counts_sound.Tie as tie
+
+returns : tie.Need-returns
+returns c =
+    let s = c .before .before .before .args in
+    four (leb (s .edits) maxEdits) (leb (s .v .acked) (s .v .made)) (leb (s .v .inserts) maxInserts) (leb (s .v .inserts) (s .edits))
+
+pub counts-sound-spec : {M : Type 1} → statement M
+counts-sound-spec = tie.close (tie.spec returns)

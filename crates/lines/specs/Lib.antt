@@ -1,3 +1,0 @@
-pub mod Lines
-pub mod Sending
-pub mod Taking

@@ -1,3 +1,0 @@
-pub mod Slot
-pub mod Slots
-pub mod All
