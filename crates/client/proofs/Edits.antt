@@ -1,148 +1,162 @@
--- Editing: the code's questions are the model's, and what it makes of a sound end is the store of what the model makes.
-use Prim.Native.Nat.{ℕ, _+_, _≤_, _<_}
+-- Editing: the code's questions are the model's, and what it makes of a sound client is the struct for what the model makes.
+use Prim.Native.Nat.{ℕ, _+_, _-_, _≤_, _<_}
 use native.Mathlib.Omega.{arith}
 use mathlib.Core.Path.{_≡_, refl, ap, _∙_, sym}
 use mathlib.Core.Bool.{Bool, true, false, _&&_, cond}
 use mathlib.Core.List.{List, [], _∷_, _++_}
 use lib.Dec.{leb, ltb}
-use lib.ListN.{length, set}
-use borrow.Author.Tests.{eqb-false, ltb-true, leb-true}
-use Rattle.ot.specs.declared.Edit.{Edit}
-use Rattle.ot.specs.Edit.{applied, fits}
+use lib.ListN.{length, length-append}
+use borrow.Author.Tests.{eqb-false, ltb-true, leb-true, le-leb, lt-leb, lt-ltb, le-ltb}
+use Rattle.limits.specs.Limits.{maxInserts, maxEdits, maxPending, maxItems}
+use Rattle.ot.specs.Edit.{Edit, applied, fits}
 use Rattle.list.specs.Items.{Room, Edited}
-use Rattle.model.specs.Limits.{maxInserts, maxEdits, maxPending, maxItems}
 use Rattle.model.specs.Cross.{insertsOf}
 use Rattle.model.specs.Questions.{Question, ask, asks, answer}
-use Rattle.model.specs.Client.{soundClient, editClient}
+use Rattle.model.specs.Line as line
+use Rattle.model.specs.Client.{editClient}
 use Rattle.model.specs.Client as client
 use Rattle.model.proofs.Tests.{Yes, yes-all}
-use Rattle.model.proofs.SoundClient.{ClientFacts, client-facts}
-use Rattle.slots.specs.Slots.{placeOf, itemOf, filled}
-use Rattle.slots.proofs.Slots.{edits-length, filled-push}
-use Rattle.endpoint.specs.Items.{stored, roomy}
-use Rattle.endpoint.proofs.Room.{roomy-model, roomy-room, room-stored, room-length}
-use Rattle.line.specs.Asking.{editAsked}
+use Rattle.pending.specs.Slots.{slotsOf}
+use Rattle.line.specs.declared.Line.{Line}
+use Rattle.line.specs.Line.{Kept}
+use Rattle.line.specs.Keeping.{fitsList, withKept}
+use Rattle.line.proofs.Room.{fits-model, fits-room}
+use Rattle.client.specs.declared.Counts.{Counts}
 use Rattle.client.specs.declared.Client.{Client}
-use Rattle.client.specs.Store.{pendingCount, view, sound, Sound}
-use Rattle.client.specs.Answers.{refusedWith, doneWith, guarded, edited}
+use Rattle.client.specs.declared.Changed.{Changed}
+use Rattle.client.specs.View.{size, itemsIn, slotsIn, view, sound, Sound}
+use Rattle.client.specs.Answers.{refusedWith, answerOf, guarded, edited, editAsked}
+use Rattle.client.proofs.Words.{withSlots, withBoth}
 use Rattle.client.proofs.Answers.{unsound, refused, done}
+use Rattle.client.proofs.Written.{facts, len-few, list-long, becomes}
 
--- the counts with other values
-abbrev pub counted : Client → ℕ → ℕ → ℕ → List ℕ → List ℕ → List ℕ → Client
-counted c made inserts len items places pending =
-    record {
-      n = c .n;
-      line = c .line;
-      made = made;
-      taken = c .taken;
-      acked = c .acked;
-      inserts = inserts;
-      len = len;
-      items = items;
-      «pending_places» = places;
-      «pending_items» = pending;
-    }
+-- ---- questions 9 to 12 as the code asks them
 
-module _ (c : Client) (s : Sound c) where
-  pub facts : ClientFacts (view c)
-  facts = client-facts (view c) (s .model)
+module _ (k : Counts) (e : Edit) (b : Bool) (eb : b ≡ fitsList e (k .len)) where
+  abbrev room : Bool
+  room = ltb (k .own .made - k .own .acked) maxPending
 
-  pub len-few : c .len ≤ maxItems
-  len-few = omega (arith, facts .items, s .size)
+  tested : (f i m r : Bool) → fitsList e (k .len) ≡ f → leb (k .own .inserts + insertsOf e) maxInserts ≡ i → ltb (k .own .made) maxEdits ≡ m
+      → room ≡ r → asks (ask 9 f ∷ ask 10 i ∷ ask 11 m ∷ ask 12 r ∷ []) ≡ asks (editAsked k e)
+  tested f i m r ef ei em er = λ j. asks (ask 9 (sym ef j) ∷ ask 10 (sym ei j) ∷ ask 11 (sym em j) ∷ ask 12 (sym er j) ∷ [])
 
-  pub items-stored : c .items ≡ stored (view c .items)
-  items-stored = ap (λ (d : Client). d .items) (s .whole)
+  pub asked-9 : b ≡ false → 9 ≡ asks (editAsked k e)
+  asked-9 f = tested false (leb (k .own .inserts + insertsOf e) maxInserts) (ltb (k .own .made) maxEdits) room (sym eb ∙ f) refl refl refl
+
+  module _ (t : b ≡ true) (i : ℕ) (ei : i ≡ insertsOf e) where
+    pub asked-10 : maxInserts < k .own .inserts + i → 10 ≡ asks (editAsked k e)
+    asked-10 h =
+        tested true false (ltb (k .own .made) maxEdits) room (sym eb ∙ t) (lt-leb (k .own .inserts + insertsOf e) maxInserts (omega arith)) refl refl
+
+    module _ (few : k .own .inserts + i ≤ maxInserts) where
+      inserts-few : leb (k .own .inserts + insertsOf e) maxInserts ≡ true
+      inserts-few = le-leb (k .own .inserts + insertsOf e) maxInserts (omega arith)
+
+      pub asked-11 : maxEdits ≤ k .own .made → 11 ≡ asks (editAsked k e)
+      asked-11 h = tested true true false room (sym eb ∙ t) inserts-few (le-ltb (k .own .made) maxEdits h) refl
+
+      pub asked-12 : k .own .made < maxEdits → (r : Bool) → r ≡ room → asks (ask 12 r ∷ []) ≡ asks (editAsked k e)
+      asked-12 h r er = tested true true true r (sym eb ∙ t) inserts-few (lt-ltb (k .own .made) maxEdits h) (sym er)
+
+-- ---- at a sound client they are the model's
+
+-- the answer of an edit that is done
+abbrev pub editDone : Client → Line → ℕ → Changed
+editDone c own len = record { refusal = 0; passed = 0; counts = record { own = own; len = len; n = c .counts .n; line = c .counts .line } }
+
+-- What questions 2 and 9 to 12 leave known of an edit that they let through: what its steps ask, and that they do what the model does.
+pub record Allowed (c : Client) (e : Edit) : Type 0 where
+  pub kept : Kept (c .counts .own) (slotsIn (c .words))
+  pub pending : c .counts .own .made - c .counts .own .acked < maxPending
+  pub room : Room e (c .counts .len) maxItems
+  pub inserts : c .counts .own .inserts + insertsOf e ≤ maxInserts
+  pub made : c .counts .own .made < maxEdits
+  pub list : (slots : List ℕ) → slots ≡ slotsOf (view c .own .pending ++ (e ∷ [])) → length (itemsIn (withSlots (c .words) slots)) ≡ maxItems
+  pub done : (own : Line) (i len : ℕ) (slots after : List ℕ) → slots ≡ slotsOf (view c .own .pending ++ (e ∷ [])) → i ≡ insertsOf e
+      → own ≡ withKept (c .counts .own) (c .counts .own .inserts + i) → Edited e (c .counts .len) (itemsIn (withSlots (c .words) slots)) after len
+      → answerOf (editDone c own len) (withBoth (c .words) slots after) ≡ edited c e
 
 module _ (c : Client) (s : Sound c) (e : Edit) where
   -- 10 to 12, which the model asks in the same words
   abbrev later : List Question
   later =
-      ask 10 (leb (c .inserts + insertsOf e) maxInserts) ∷ ask 11 (ltb (c .made) maxEdits) ∷ ask 12 (ltb (pendingCount c) maxPending) ∷ []
+      ask 10 (leb (c .counts .own .inserts + insertsOf e) maxInserts)
+      ∷ ask 11 (ltb (c .counts .own .made) maxEdits)
+      ∷ ask 12 (ltb (c .counts .own .made - c .counts .own .acked) maxPending)
+      ∷ []
 
   abbrev nine : Bool
   nine = fits e (length (view c .items)) && leb (length (applied e (view c .items))) maxItems
 
-  same-questions : asks (ask 2 (soundClient (view c)) ∷ ask 9 nine ∷ later) ≡ asks (editAsked (c .made) (c .acked) (c .inserts) (c .len) e)
+  same-questions : asks (client.editQuestions (view c) e) ≡ asks (editAsked (c .counts) e)
   same-questions =
       ap (λ (b : Bool). asks (ask 2 b ∷ ask 9 nine ∷ later)) (s .model)
       ∙ ap (λ (b : Bool). asks (ask 9 b ∷ later))
-      (sym (roomy-model e (view c .items) (facts c s .items)) ∙ ap (roomy e) (s .size))
+      (sym (fits-model e (view c .items) (facts c s .items)) ∙ ap (fitsList e) (s .listed))
 
-  edit-refused : (r : ℕ) → r ≡ asks (editAsked (c .made) (c .acked) (c .inserts) (c .len) e) → (r ≡ 0 → ⊥) → refusedWith r c ≡ edited c e
+  edit-refused : (r : ℕ) → r ≡ asks (editAsked (c .counts) e) → (r ≡ 0 → ⊥) → refusedWith r c ≡ edited c e
   unfolding editClient
   edit-refused r er n =
       refused c r 0 (client.edited (view c) e) (s .yes) n
       ∙ ap (λ (k : ℕ). guarded c (answer k (view c) (client.edited (view c) e) 0)) (er ∙ sym same-questions)
 
-  edit-done : asks (editAsked (c .made) (c .acked) (c .inserts) (c .len) e) ≡ 0 → doneWith 0 (client.edited (view c) e) ≡ edited c e
-  unfolding editClient
-  edit-done z = done c (asks (ask 2 (soundClient (view c)) ∷ ask 9 nine ∷ later)) 0 (client.edited (view c) e) (s .yes) (same-questions ∙ z)
-
-  module _ (z : asks (editAsked (c .made) (c .acked) (c .inserts) (c .len) e) ≡ 0) where
-    answered-yes : Yes (editAsked (c .made) (c .acked) (c .inserts) (c .len) e)
+  module _ (z : asks (editAsked (c .counts) e) ≡ 0) where
+    answered-yes : Yes (editAsked (c .counts) e)
     answered-yes =
-        yes-all (editAsked (c .made) (c .acked) (c .inserts) (c .len) e)
-        (eqb-false 9 0 refl, (eqb-false 10 0 refl, (eqb-false 11 0 refl, (eqb-false 12 0 refl, tt)))) z
+        yes-all (editAsked (c .counts) e) (eqb-false 9 0 refl, (eqb-false 10 0 refl, (eqb-false 11 0 refl, (eqb-false 12 0 refl, tt)))) z
 
-    pub edit-room : Room e (c .len) maxItems
-    edit-room = roomy-room e (c .len) (len-few c s) (answered-yes .0)
+    edit-room : Room e (c .counts .len) maxItems
+    edit-room = fits-room e (c .counts .len) (len-few c s) (answered-yes .0)
 
-    pub edit-inserts : c .inserts + insertsOf e ≤ maxInserts
-    edit-inserts = leb-true (c .inserts + insertsOf e) maxInserts (answered-yes .1 .0)
+    edit-inserts : c .counts .own .inserts + insertsOf e ≤ maxInserts
+    edit-inserts = leb-true (c .counts .own .inserts + insertsOf e) maxInserts (answered-yes .1 .0)
 
-    pub edit-made : c .made < maxEdits
-    edit-made = ltb-true (c .made) maxEdits (answered-yes .1 .1 .0)
+    edit-made : c .counts .own .made < maxEdits
+    edit-made = ltb-true (c .counts .own .made) maxEdits (answered-yes .1 .1 .0)
 
-    pub edit-pending : pendingCount c < maxPending
-    edit-pending = ltb-true (pendingCount c) maxPending (answered-yes .1 .1 .1 .0)
+    edit-pending : c .counts .own .made - c .counts .own .acked < maxPending
+    edit-pending = ltb-true (c .counts .own .made - c .counts .own .acked) maxPending (answered-yes .1 .1 .1 .0)
 
-    -- one more slot is in use
-    pushed : (word : Edit → ℕ) (ws : List ℕ) (v : ℕ) → ws ≡ filled word (view c .pending) → v ≡ word e
-        → set ws (pendingCount c) v ≡ filled word (view c .pending ++ (e ∷ []))
-    pushed word ws v ew ev =
-        let n : pendingCount c ≡ length (view c .pending) = sym (edits-length (c .«pending_places») (c .«pending_items») 0 (pendingCount c)) in
-        ap (λ (l : List ℕ). set l (pendingCount c) v) ew ∙ ap (set (filled word (view c .pending)) (pendingCount c)) ev
-        ∙ ap (λ (k : ℕ). set (filled word (view c .pending)) k (word e)) n
-        ∙ filled-push word (view c .pending) e (omega (arith, edit-pending, n))
+    -- ---- what is written
 
-    pub edited-is : (r k len place item : ℕ) (after : List ℕ) → r ≡ asks (editAsked (c .made) (c .acked) (c .inserts) (c .len) e) → k ≡ insertsOf e → place ≡ placeOf e → item ≡ itemOf e
-        → Edited e (c .len) (c .items) after len
-        → record {
-          refusal = r;
-          passed = 0;
-          client =
-              counted c (c .made + 1) (c .inserts + k) len after (set (c .«pending_places») (pendingCount c) place)
-              (set (c .«pending_items») (pendingCount c) item);
-        } ≡ edited c e
-    edited-is r k len place item after er ek ep ei ed =
-        let room : Room e (c .len) maxItems = edit-room in
-        let items : after ≡ stored (applied e (view c .items)) =
-        ed .items ∙ room-stored e (c .len) (c .items) (view c .items) (items-stored c s) (s .size) room in
-        let size : len ≡ length (applied e (view c .items)) = ed .length ∙ room-length e (c .len) (view c .items) (s .size) room in
-        let ps : List ℕ = set (c .«pending_places») (pendingCount c) place in
-        let xs : List ℕ = set (c .«pending_items») (pendingCount c) item in
-        let es : List Edit = view c .pending ++ (e ∷ []) in
-        let ps′ : ps ≡ filled placeOf es = pushed placeOf (c .«pending_places») place (ap (λ (d : Client). d .«pending_places») (s .whole)) ep in
-        let xs′ : xs ≡ filled itemOf es = pushed itemOf (c .«pending_items») item (ap (λ (d : Client). d .«pending_items») (s .whole)) ei in
-        ap (λ (q : ℕ). record { refusal = q; passed = 0; client = counted c (c .made + 1) (c .inserts + k) len after ps xs }) (er ∙ z)
-        ∙ ap (λ (d : Client). record { refusal = 0; passed = 0; client = d })
-        (ap (λ (j : ℕ). counted c (c .made + 1) (c .inserts + j) len after ps xs) ek
-        ∙ ap (λ (j : ℕ). counted c (c .made + 1) (c .inserts + insertsOf e) j after ps xs) size
-        ∙ ap (λ (a : List ℕ). counted c (c .made + 1) (c .inserts + insertsOf e) (length (applied e (view c .items))) a ps xs) items
-        ∙ ap (λ (a : List ℕ). counted c (c .made + 1) (c .inserts + insertsOf e) (length (applied e (view c .items))) (stored (applied e (view c .items))) a xs) ps′
-        ∙ ap (counted c (c .made + 1) (c .inserts + insertsOf e) (length (applied e (view c .items))) (stored (applied e (view c .items))) (filled placeOf es)) xs′)
-        ∙ edit-done z
+    abbrev kept : line.Line
+    kept = line.lineKeeps (c .counts .own .inserts + insertsOf e) e (view c .own)
+
+    kept-few : length (kept .pending) ≤ maxPending
+    kept-few = omega (arith, length-append (view c .own .pending) (e ∷ []), facts c s .own .count, edit-pending)
+
+    edit-done : length (c .words) ≡ size → (own : Line) (i len : ℕ) (slots after : List ℕ) → slots ≡ slotsOf (kept .pending) → i ≡ insertsOf e
+        → own ≡ withKept (c .counts .own) (c .counts .own .inserts + i) → Edited e (c .counts .len) (itemsIn (withSlots (c .words) slots)) after len
+        → answerOf (editDone c own len) (withBoth (c .words) slots after) ≡ edited c e
+    unfolding editClient
+    edit-done long own i len slots after es ei eo ed =
+        ap (λ (d : Client). record { refusal = 0; passed = 0; client = d })
+        (becomes c s long kept kept-few slots es e own len after edit-room
+        (eo ∙ ap (λ (j : ℕ). withKept (c .counts .own) (c .counts .own .inserts + j)) ei) ed)
+        ∙ done c (asks (client.editQuestions (view c) e)) 0 (client.edited (view c) e) (s .yes) (same-questions ∙ z)
+
+    edit-allowing : length (c .words) ≡ size → Allowed c e
+    edit-allowing long =
+        record {
+          kept = s .kept;
+          pending = edit-pending;
+          room = edit-room;
+          inserts = edit-inserts;
+          made = edit-made;
+          list = λ slots es. list-long c s long kept kept-few slots es;
+          done = edit-done long;
+        }
 
 -- What the answer of questions 2 and 9 to 12 tells.
-module _ (c : Client) (e : Edit) (r : ℕ) (f : sound c ≡ true → Sound c) (er : r ≡ cond (sound c) (asks (editAsked (c .made) (c .acked) (c .inserts) (c .len) e)) 2) where
-  answer-is : (b : Bool) → sound c ≡ b → r ≡ cond b (asks (editAsked (c .made) (c .acked) (c .inserts) (c .len) e)) 2
-  answer-is b t = er ∙ ap (λ (x : Bool). cond x (asks (editAsked (c .made) (c .acked) (c .inserts) (c .len) e)) 2) t
+module _ (c : Client) (e : Edit) (r : ℕ) (f : sound c ≡ true → Sound c) (er : r ≡ cond (sound c) (asks (editAsked (c .counts) e)) 2) where
+  answer-is : (b : Bool) → sound c ≡ b → r ≡ cond b (asks (editAsked (c .counts) e)) 2
+  answer-is b t = er ∙ ap (λ (x : Bool). cond x (asks (editAsked (c .counts) e)) 2) t
 
-  pub edit-allowed : r ≡ 0 → Sound c × (asks (editAsked (c .made) (c .acked) (c .inserts) (c .len) e) ≡ 0)
-  edit-allowed z = go (sound c) refl
+  pub edit-allowed : length (c .words) ≡ size → r ≡ 0 → Allowed c e
+  edit-allowed long z = go (sound c) refl
     where
-      go : (b : Bool) → sound c ≡ b → Sound c × (asks (editAsked (c .made) (c .acked) (c .inserts) (c .len) e) ≡ 0)
-      go true t = (f t, sym (answer-is true t) ∙ z)
+      go : (b : Bool) → sound c ≡ b → Allowed c e
+      go true t = edit-allowing c (f t) e (sym (answer-is true t) ∙ z) long
       go false t = absurd (eqb-false 2 0 refl (sym (answer-is false t) ∙ z))
 
   pub edit-not-allowed : (r ≡ 0 → ⊥) → refusedWith r c ≡ edited c e

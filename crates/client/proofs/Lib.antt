@@ -1,6 +1,8 @@
-pub mod Sound
+pub mod Words
 pub mod Answers
-pub mod Messages
-pub mod Edits
-pub mod Takes
+pub mod Sound
 pub mod Stored
+pub mod Written
+pub mod Edits
+pub mod Messages
+pub mod Takes

@@ -1,27 +1,23 @@
--- What a sending writes is what the model writes.
-use Prim.Native.Nat.{ℕ, _+_, _-_}
-use native.Mathlib.Omega.{arith}
+-- Sending: what is refused and what is written is what the model refuses and writes.
+use Prim.Native.Nat.{ℕ}
 use mathlib.Core.Path.{_≡_, refl, ap, _∙_, sym}
 use mathlib.Core.Bool.{Bool, true, false, cond}
-use mathlib.Core.List.{List, [], _∷_, _++_}
-use lib.Dec.{leb, ltb}
-use lib.ListN.{length, getD, List·getD-eq-default}
-use borrow.Author.Tests.{eqb-false, ltb-true, ltb-false}
-use Rattle.ot.specs.declared.Edit.the-variants.{Nothing}
+use mathlib.Core.List.{List, [], _∷_}
+use lib.Dec.{leb, eqb}
+use lib.ListN.{length}
+use borrow.Author.Tests.{eqb-false, eq-eqb, ne-eqb}
 use Rattle.wire.specs.declared.Message.{Message}
 use Rattle.wire.specs.declared.Message.the-variants as message
-use Rattle.wire.specs.Message.{messageOf}
 use Rattle.wire.specs.Bytes.{bytesOf}
 use Rattle.model.specs.Questions as model
-use Rattle.model.specs.Client.{clientMessage, sendClient, tellClient}
-use Rattle.slots.specs.Slots.{placeOf, itemOf, editOf, editAt}
-use Rattle.slots.proofs.Slot.{zero-slot}
-use Rattle.slots.proofs.Slots.{edits-length, edits-at, filled-at}
-use Rattle.endpoint.specs.Sending.{finished}
-use Rattle.endpoint.proofs.Line.{asks-append}
-use Rattle.line.specs.Asking.{lineQuestion, sendQuestions, messageAt}
+use Rattle.model.specs.Line.{lineMessage, sendQuestions}
+use Rattle.model.specs.Client.{soundClient, clientMessage, sendClientQuestions, sendClient, tellClient}
+use Rattle.line.specs.Keeping.{thenAsked}
+use Rattle.line.specs.Sending.{answered, unwritten, numberAsked, finished}
+use Rattle.line.proofs.Asked.{then-yes, then-no}
+use Rattle.line.proofs.Sends.{send-asked, refused-sent}
 use Rattle.client.specs.declared.Client.{Client}
-use Rattle.client.specs.Store.{pendingCount, view, sound, Sound}
+use Rattle.client.specs.View.{slotsIn, view, sound, Sound}
 use Rattle.client.specs.Answers.{guardedSending, sentEdit, sentAck}
 
 pub unsound-sending : (c : Client) (a : model.Sent) (lent : List ℕ) → sound c ≡ false
@@ -29,48 +25,83 @@ pub unsound-sending : (c : Client) (a : model.Sent) (lent : List ℕ) → sound 
 unfolding guardedSending
 unsound-sending c a lent h = rw h
 
--- reading a slot reads the list of pending edits, past its end too
-slot-at : (c : Client) → Sound c → (i : ℕ) → editAt (c .«pending_places») (c .«pending_items») i ≡ getD (view c .pending) i Nothing
-slot-at c s i = go (ltb i (pendingCount c)) refl
-  where
-    go : (b : Bool) → ltb i (pendingCount c) ≡ b → editAt (c .«pending_places») (c .«pending_items») i ≡ getD (view c .pending) i Nothing
-    go true t =
-        let e : 0 + i ≡ i = omega arith in
-        sym (edits-at (c .«pending_places») (c .«pending_items») 0 (pendingCount c) i (ltb-true i (pendingCount c) t)
-        ∙ ap (editAt (c .«pending_places») (c .«pending_items»)) e)
-    go false f =
-        let past : getD (view c .pending) i Nothing ≡ Nothing =
-        List·getD-eq-default (view c .pending) Nothing
-        (omega (arith, edits-length (c .«pending_places») (c .«pending_items») 0 (pendingCount c), ltb-false i (pendingCount c) f)) in
-        let place : getD (c .«pending_places») i 0 ≡ 0 =
-        ap (λ (d : Client). getD (d .«pending_places») i 0) (s .whole) ∙ filled-at placeOf refl (view c .pending) i ∙ ap placeOf past in
-        let item : getD (c .«pending_items») i 0 ≡ 0 =
-        ap (λ (d : Client). getD (d .«pending_items») i 0) (s .whole) ∙ filled-at itemOf refl (view c .pending) i ∙ ap itemOf past in
-        ap (λ (n : ℕ). editOf n (getD (c .«pending_items») i 0)) place ∙ ap (editOf 0) item ∙ zero-slot ∙ sym past
+sound-sending : (c : Client) (a : model.Sent) (lent : List ℕ) → sound c ≡ true → a ≡ guardedSending c a lent
+unfolding guardedSending
+sound-sending c a lent h = rw h
 
--- so that any number has the model's message
-pub message-view : (c : Client) → Sound c → (k : ℕ) → messageAt (c .line) (c .taken) (c .acked) (c .«pending_places») (c .«pending_items») k ≡ clientMessage (view c) k
-message-view c s k =
-    ap (messageOf (record { line = c .line; direction = 0; number = k; seen = c .taken })) (slot-at c s (k - (c .acked + 1)))
+-- questions 2 and 4 at a sound client, and those that follow
+module _ (c : Client) (s : Sound c) (line : ℕ) (rest : List model.Question) where
+  abbrev questions : List model.Question
+  questions = model.ask 2 (soundClient (view c)) ∷ model.ask 4 (eqb line (c .counts .line)) ∷ rest
+
+  asked : (b : Bool) → eqb line (c .counts .line) ≡ b → cond b (model.asks rest) 4 ≡ model.asks questions
+  asked b e = λ i. cond (sym (s .model) i) (cond (sym e i) (model.asks rest) 4) 2
+
+  other-line : (line ≡ c .counts .line → ⊥) → 4 ≡ model.asks questions
+  other-line n = asked false (ne-eqb line (c .counts .line) n)
+
+  own-line : line ≡ c .counts .line → model.asks rest ≡ model.asks questions
+  own-line e = asked true (eq-eqb line (c .counts .line) e)
+
+-- ---- a pending edit
+
+module _ (c : Client) (s : Sound c) (line number : ℕ) (lent : List ℕ) where
+  abbrev bytes : List ℕ
+  bytes = bytesOf (clientMessage (view c) number)
+
+  abbrev lineQuestions : List model.Question
+  lineQuestions = sendQuestions (view c .own) number (clientMessage (view c) number) lent
+
+  abbrev fit : List model.Question
+  fit = model.ask 14 (leb (length bytes) (length lent)) ∷ []
+
+  in-parts : model.asks lineQuestions ≡ thenAsked (model.asks (numberAsked (c .counts .own) number)) (model.asks fit)
+  in-parts = send-asked (c .counts .own) (slotsIn (c .words)) number (clientMessage (view c) number) lent
+
+  send-refused : (r : ℕ) → (r ≡ 0 → ⊥) → r ≡ model.asks (sendClientQuestions (view c) line number lent)
+      → answered (unwritten r) lent ≡ sentEdit c line number lent
+  unfolding sendClient
+  send-refused r n e =
+      refused-sent r bytes lent n ∙ ap (λ (q : ℕ). model.sent q bytes lent) e
+      ∙ sound-sending c (sendClient (view c) line number lent) lent (s .yes)
+
+  pub send-other : (line ≡ c .counts .line → ⊥) → answered (unwritten 4) lent ≡ sentEdit c line number lent
+  send-other n = send-refused 4 (eqb-false 4 0 refl) (other-line c s line lineQuestions n)
+
+  module _ (e : line ≡ c .counts .line) (r : ℕ) (er : r ≡ model.asks (numberAsked (c .counts .own) number)) where
+    pub send-number : (r ≡ 0 → ⊥) → answered (unwritten r) lent ≡ sentEdit c line number lent
+    send-number n =
+        send-refused r n
+        (er ∙ sym (then-no (model.asks (numberAsked (c .counts .own) number)) (model.asks fit) (λ z. n (er ∙ z)))
+        ∙ sym in-parts ∙ own-line c s line lineQuestions e)
+
+    pub sent-edit : r ≡ 0 → (m : Message) → m ≡ lineMessage line 0 (view c .own) number → finished m lent ≡ sentEdit c line number lent
+    unfolding sendClient
+    sent-edit z m em =
+        ap (λ (x : Message). finished x lent) (em ∙ ap (λ (l : ℕ). lineMessage l 0 (view c .own) number) e)
+        ∙ ap (λ (q : ℕ). model.sent q bytes lent)
+        (sym (then-yes (model.asks (numberAsked (c .counts .own) number)) (model.asks fit) (sym er ∙ z)) ∙ sym in-parts ∙ own-line c s line lineQuestions e)
+        ∙ sound-sending c (sendClient (view c) line number lent) lent (s .yes)
+
+-- ---- an acknowledgement
 
 module _ (c : Client) (s : Sound c) (line : ℕ) (lent : List ℕ) where
-  pub sent-edit : (k : ℕ) → finished (model.asks (sendQuestions (c .line) (c .made) (c .acked) line k)) (messageAt (c .line) (c .taken) (c .acked) (c .«pending_places») (c .«pending_items») k) lent ≡ sentEdit c line k lent
-  unfolding sendClient guardedSending
-  sent-edit k =
-      let asked : List model.Question = sendQuestions (c .line) (c .made) (c .acked) line k in
-      let fit : List model.Question = model.ask 14 (leb (length (bytesOf (clientMessage (view c) k))) (length lent)) ∷ [] in
-      let bytes : List ℕ = bytesOf (clientMessage (view c) k) in
-      ap (λ (x : Message). finished (model.asks asked) x lent) (message-view c s k)
-      ∙ ap (λ (n : ℕ). model.sent n bytes lent) (sym (asks-append asked fit (eqb-false 4 0 refl, (eqb-false 13 0 refl, tt))))
-      ∙ ap (λ (b : Bool). model.sent (model.asks (model.ask 2 b ∷ asked ++ fit)) bytes lent) (sym (s .model))
-      ∙ ap (λ (b : Bool). cond b (sendClient (view c) line k lent) (record { refusal = 2; written = 0; buffer = lent })) (sym (s .yes))
+  abbrev ack : ℕ → Message
+  ack l = message.Ack l 0 (c .counts .own .taken)
 
-  pub sent-ack : finished (model.asks (lineQuestion (c .line) line)) (message.Ack (c .line) 0 (c .taken)) lent ≡ sentAck c line lent
-  unfolding tellClient guardedSending bytesOf
-  sent-ack =
-      let asked : List model.Question = lineQuestion (c .line) line in
-      let fit : List model.Question = model.ask 14 (leb 5 (length lent)) ∷ [] in
-      let bytes : List ℕ = bytesOf (message.Ack (c .line) 0 (c .taken)) in
-      ap (λ (n : ℕ). model.sent n bytes lent) (sym (asks-append asked fit (eqb-false 4 0 refl, tt)))
-      ∙ ap (λ (b : Bool). model.sent (model.asks (model.ask 2 b ∷ asked ++ fit)) bytes lent) (sym (s .model))
-      ∙ ap (λ (b : Bool). cond b (tellClient (view c) line lent) (record { refusal = 2; written = 0; buffer = lent })) (sym (s .yes))
+  abbrev room : List model.Question
+  room = model.ask 14 (leb 5 (length lent)) ∷ []
+
+  pub tell-other : (line ≡ c .counts .line → ⊥) → answered (unwritten 4) lent ≡ sentAck c line lent
+  unfolding tellClient
+  tell-other n =
+      refused-sent 4 (bytesOf (ack (c .counts .line))) lent (eqb-false 4 0 refl)
+      ∙ ap (λ (q : ℕ). model.sent q (bytesOf (ack (c .counts .line))) lent) (other-line c s line room n)
+      ∙ sound-sending c (tellClient (view c) line lent) lent (s .yes)
+
+  pub sent-ack : line ≡ c .counts .line → finished (ack line) lent ≡ sentAck c line lent
+  unfolding tellClient bytesOf
+  sent-ack e =
+      ap (λ (l : ℕ). finished (ack l) lent) e
+      ∙ ap (λ (q : ℕ). model.sent q (bytesOf (ack (c .counts .line))) lent) (own-line c s line room e)
+      ∙ sound-sending c (tellClient (view c) line lent) lent (s .yes)

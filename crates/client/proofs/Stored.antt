@@ -1,25 +1,31 @@
--- The struct of a sound client is sound, and means that client.
-use mathlib.Core.Path.{_≡_, refl, ap, sym, _∙_}
+-- A sound client of the model: the struct for it is sound, and means that client.
+use Prim.Native.Nat.{ℕ, zero, suc, _-_}
+use native.Mathlib.Omega.{arith}
+use mathlib.Core.Path.{_≡_, refl, ap, _∙_}
 use mathlib.Core.Bool.{true}
 use mathlib.Core.List.{List}
-use Prim.Native.Nat.{ℕ, zero, suc, _-_, _≤_}
-use native.Mathlib.Omega.{arith}
 use lib.Dec.{eqb}
 use lib.ListN.{length, take, drop, replicate}
 use borrow.Author.Tests.{le-leb}
-use Rattle.ot.specs.declared.Edit.{Edit}
-use Rattle.model.specs.Limits.{maxItems, maxPending}
+use Rattle.limits.specs.Limits.{maxItems}
+use Rattle.list.specs.Items.{stored, allZero}
+use Rattle.list.proofs.Pad.{pad-take, pad-drop, pad-length}
+use Rattle.model.specs.Questions.{every}
+use Rattle.model.specs.Line as line
 use Rattle.model.specs.Client as model
-use Rattle.model.proofs.Tests.{held}
+use Rattle.model.proofs.Tests.{held, and-right}
+use Rattle.model.proofs.SoundLine.{facts-line}
 use Rattle.model.proofs.SoundClient.{ClientFacts, client-facts}
-use Rattle.slots.specs.Slots.{placeOf, itemOf, editsFrom, stretch, filled}
-use Rattle.slots_sound.specs.Sound.{soundSlots}
-use Rattle.list.proofs.Pad.{pad-take, pad-drop}
-use Rattle.slots.proofs.Slot.{Ranks, own-ranks}
-use Rattle.slots.proofs.Slots.{stretch-all, filled-length}
-use Rattle.slots_sound.proofs.Tests.{filled-edits, sound-filled}
-use Rattle.endpoint.specs.Items.{stored, allZero}
-use Rattle.client.specs.Store as clients
+use Rattle.pending.specs.Slots as pending
+use Rattle.pending.specs.Slots.{slotsOf}
+use Rattle.pending.proofs.Slots.{slots-length}
+use Rattle.line.specs.Line.{lineOf, countsOf}
+use Rattle.line_sound.specs.Sound.{soundLine, tidy}
+use Rattle.line_sound.proofs.Stored as lines
+use Rattle.client.specs.declared.Client.{Client}
+use Rattle.client.specs.View.{size, itemsIn, slotsIn, view, store, soundTests, sound}
+use Rattle.client.proofs.Words.{items-of, slots-of, both-long}
+use Rattle.client.proofs.Sound.{sound-facts}
 
 -- ---- unused places
 
@@ -28,61 +34,67 @@ unfolding allZero
 zeros zero = refl
 zeros (suc k) = zeros k
 
-items-used : (l : List ℕ) → take (length l) (stored l) ≡ l
-items-used l = pad-take maxItems 0 l
-
-items-unused : (l : List ℕ) → allZero (drop (length l) (stored l)) ≡ true
-items-unused l = ap allZero (pad-drop maxItems 0 l (length l) (omega arith)) ∙ zeros (maxItems - length l)
-
--- ---- the client
-
 module _ (m : model.Client) (s : model.soundClient m ≡ true) where
   abbrev f : ClientFacts m
   f = client-facts m s
 
-  few : length (m .pending) ≤ maxPending
-  few = omega (arith, f .count, f .room)
+  abbrev words : List ℕ
+  words = store m .words
 
-  ranks : Ranks (eqb (m .line))
-  ranks = own-ranks (m .line) (f .line .0) (omega (arith, f .line, f .lines))
+  items-long : length (stored (m .items)) ≡ maxItems
+  items-long = pad-length maxItems 0 (m .items) (f .items)
 
-  whole : (word : Edit → ℕ) → stretch 0 (filled word (m .pending)) ≡ filled word (m .pending)
-  whole word = stretch-all (filled word (m .pending)) (filled-length word (m .pending) few)
+  slots-long : length (slotsOf (m .own .pending)) ≡ pending.size
+  slots-long = slots-length (m .own .pending) (omega (arith, f .own .count, f .own .room))
 
-  slots-used : editsFrom (filled placeOf (m .pending)) (filled itemOf (m .pending)) 0 (m .made - m .acked) ≡ m .pending
-  slots-used =
-      ap (editsFrom (filled placeOf (m .pending)) (filled itemOf (m .pending)) 0) (sym (f .count))
-      ∙ filled-edits (eqb (m .line)) ranks 0 (filled placeOf (m .pending)) (filled itemOf (m .pending)) (m .pending) few (whole placeOf) (whole itemOf)
-      (f .placed) (f .priorities)
+  items-are : itemsIn words ≡ stored (m .items)
+  items-are = items-of (stored (m .items)) (slotsOf (m .own .pending)) items-long slots-long
 
-  slots-sound : soundSlots (eqb (m .line)) 0 (m .made - m .acked) (filled placeOf (m .pending)) (filled itemOf (m .pending)) ≡ true
-  slots-sound =
-      ap (λ (n : ℕ). soundSlots (eqb (m .line)) 0 n (filled placeOf (m .pending)) (filled itemOf (m .pending))) (sym (f .count))
-      ∙ sound-filled (eqb (m .line)) ranks 0 (filled placeOf (m .pending)) (filled itemOf (m .pending)) (m .pending) few (whole placeOf) (whole itemOf)
-      (f .placed) (f .priorities)
+  slots-are : slotsIn words ≡ slotsOf (m .own .pending)
+  slots-are = slots-of (stored (m .items)) (slotsOf (m .own .pending)) items-long slots-long
 
-  pub client-view : clients.view (clients.store m) ≡ m
-  client-view = λ i. record {
-    n = m .n;
-    line = m .line;
-    made = m .made;
-    taken = m .taken;
-    acked = m .acked;
-    inserts = m .inserts;
-    items = items-used (m .items) i;
-    pending = slots-used i;
-  }
+  ranks : lines.Ranks (eqb (m .line))
+  ranks = lines.own-ranks (m .n) (m .line) (f .line .0) (omega (arith, f .line, f .lines))
 
-  pub client-stored : clients.sound (clients.store m) ≡ true
-  unfolding clients.sound
+  tests : every (line.lineTests (m .own .made) (eqb (m .line)) (m .own)) ≡ true
+  tests = held (line.lineTests (m .own .made) (eqb (m .line)) (m .own)) (facts-line (m .own .made) (eqb (m .line)) (m .own) (f .own))
+
+  line-read : lineOf (countsOf (m .own)) (slotsIn words) ≡ m .own
+  line-read = ap (lineOf (countsOf (m .own))) slots-are ∙ lines.stored-line (m .own .made) (eqb (m .line)) (m .own) ranks tests
+
+  slots-tidy : tidy (m .own .made - m .own .acked) (slotsIn words) ≡ true
+  unfolding soundLine
+  slots-tidy =
+      ap (tidy (m .own .made - m .own .acked)) slots-are
+      ∙ and-right (every (line.lineTests (m .own .made) (eqb (m .line)) (lineOf (countsOf (m .own)) (slotsOf (m .own .pending)))))
+      (tidy (m .own .made - m .own .acked) (slotsOf (m .own .pending))) (lines.stored-sound (m .own .made) (eqb (m .line)) (m .own) ranks tests)
+
+  pub words-long : length words ≡ size
+  words-long = both-long (stored (m .items)) (slotsOf (m .own .pending)) items-long slots-long
+
+  pub client-view : view (store m) ≡ m
+  client-view = λ i. record { n = m .n; line = m .line; items = read i; own = line-read i }
+    where
+      read : take (length (m .items)) (itemsIn words) ≡ m .items
+      read = ap (take (length (m .items))) items-are ∙ pad-take maxItems 0 (m .items)
+
+  pub client-stored : sound (store m) ≡ true
+  unfolding sound
   client-stored =
-      held (clients.soundTests (clients.store m)) (
+      held (soundTests (store m)) (
         ap model.soundClient client-view ∙ s,
-        (
-          le-leb (length (m .items)) maxItems (f .items),
-          (
-            items-unused (m .items),
-            (slots-sound, tt),
-          ),
-        ),
+        (le-leb (length (m .items)) maxItems (f .items), (unused, (slots-tidy, tt))),
       )
+    where
+      unused : allZero (drop (length (m .items)) (itemsIn words)) ≡ true
+      unused =
+          ap (λ (l : List ℕ). allZero (drop (length (m .items)) l)) items-are
+          ∙ ap allZero (pad-drop maxItems 0 (m .items) (length (m .items)) (omega arith)) ∙ zeros (maxItems - length (m .items))
+
+-- A client that question 2 finds sound is the struct for what it stands for, and that is sound.
+module _ (c : Client) (long : length (c .words) ≡ size) (s : sound c ≡ true) where
+  pub stored-view : c ≡ store (view c)
+  stored-view = sound-facts c long s .whole
+
+  pub view-sound : model.soundClient (view c) ≡ true
+  view-sound = sound-facts c long s .model

@@ -1,34 +1,30 @@
 -- What each call of a client answers: the model's answer in structs. An end that is not sound is refused by question 2.
-use Prim.Native.Nat.{ℕ}
+use Prim.Native.Nat.{ℕ, _+_, _-_}
 use mathlib.Core.Bool.{cond}
-use mathlib.Core.List.{List}
-use lib.Dec.{eqb}
-use Rattle.ot.specs.declared.Edit.{Edit}
-use Rattle.ot.specs.declared.Edit.the-variants.{Delete, Insert}
+use mathlib.Core.List.{List, [], _∷_}
+use lib.Dec.{eqb, leb, ltb}
+use Rattle.limits.specs.Limits.{maxInserts, maxEdits, maxPending}
+use Rattle.ot.specs.Edit.{Edit, Delete, Insert}
 use Rattle.wire.specs.declared.Message.{Message}
 use Rattle.model.specs.Questions as model
+use Rattle.model.specs.Cross.{insertsOf}
 use Rattle.model.specs.Client as client
-use Rattle.line.specs.declared.Counts.{Counts}
+use Rattle.line.specs.Keeping.{fitsList}
+use Rattle.client.specs.declared.Counts.{Counts}
 use Rattle.client.specs.declared.Client.{Client}
 use Rattle.client.specs.declared.Answer.{Answer}
 use Rattle.client.specs.declared.Changed.{Changed}
-use Rattle.client.specs.declared.editing.Change.{Change}
-use Rattle.client.specs.declared.editing.Change.the-variants as change
-use Rattle.client.specs.Store.{clientOf, view, store, sound}
+use Rattle.client.specs.View.{clientOf, view, store, sound}
 
 abbrev pub refusedWith : ℕ → Client → Answer
 refusedWith r c = record { refusal = r; passed = 0; client = c }
 
--- the answer of a call that was lent the arrays of a client, with what it left in them
-abbrev pub answerOf : Changed → List ℕ → List ℕ → List ℕ → Answer
-answerOf r items places pending =
-    record { refusal = r .refusal; passed = r .passed; client = clientOf (r .counts) items places pending }
+-- the answer of a call that was lent the words of a client, with what it left in them
+abbrev pub answerOf : Changed → List ℕ → Answer
+answerOf r words = record { refusal = r .refusal; passed = r .passed; client = clientOf (r .counts) words }
 
 abbrev pub refusedCounts : ℕ → Counts → Changed
 refusedCounts r k = record { refusal = r; passed = 0; counts = k }
-
-abbrev pub doneWith : ℕ → client.Client → Answer
-doneWith passed m = record { refusal = 0; passed = passed; client = store m }
 
 -- the model's answer in structs: on a refusal the end is the one that came
 abbrev pub given : Client → model.Answer client.Client → Answer
@@ -44,19 +40,21 @@ opened n line items = given (store client.noClient) (client.openClient n line it
 abbrev pub edited : Client → Edit → Answer
 edited c e = guarded c (client.editClient (view c) e)
 
+-- an insert's priority is the line
 abbrev pub inserted : Client → ℕ → ℕ → Answer
-inserted c p x = guarded c (client.insertClient (view c) p x)
+inserted c p x = edited c (Insert p x (c .counts .line))
 
 abbrev pub deleted : Client → ℕ → Answer
-deleted c p = guarded c (client.deleteClient (view c) p)
+deleted c p = edited c (Delete p)
 
--- what an editing is asked for, and the edit as it is made: an insert's priority is the line
-abbrev pub madeAs : ℕ → Change → Edit
-madeAs line (change.Delete p) = Delete p
-madeAs line (change.Insert p x) = Insert p x line
-
-abbrev pub changed : Client → Change → Answer
-changed c d = edited c (madeAs (c .line) d)
+-- questions 9 to 12, by the numbers
+abbrev pub editAsked : Counts → Edit → List model.Question
+editAsked k e =
+    model.ask 9 (fitsList e (k .len))
+    ∷ model.ask 10 (leb (k .own .inserts + insertsOf e) maxInserts)
+    ∷ model.ask 11 (ltb (k .own .made) maxEdits)
+    ∷ model.ask 12 (ltb (k .own .made - k .own .acked) maxPending)
+    ∷ []
 
 abbrev pub taken : Client → List ℕ → Answer
 taken c bytes = guarded c (client.takeClient (view c) bytes)
@@ -70,7 +68,7 @@ unfoldable pub guardedSending : Client → model.Sent → List ℕ → model.Sen
 guardedSending c a lent = cond (sound c) a (record { refusal = 2; written = 0; buffer = lent })
 
 abbrev pub sentEdit : Client → ℕ → ℕ → List ℕ → model.Sent
-sentEdit c line k lent = guardedSending c (client.sendClient (view c) line k lent) lent
+sentEdit c line number lent = guardedSending c (client.sendClient (view c) line number lent) lent
 
 abbrev pub sentAck : Client → ℕ → List ℕ → model.Sent
 sentAck c line lent = guardedSending c (client.tellClient (view c) line lent) lent

@@ -1,2 +1,3 @@
-pub mod Store
+pub mod View
 pub mod Answers
+pub mod Taking

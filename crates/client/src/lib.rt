@@ -1,29 +1,20 @@
-// The client's end of a sheet: its state, opening, and question 2.
-// A client is its numbers and three arrays. The calls change lent arrays in place (`edit_lent`, `take_lent`); the methods, which take a
-// client by value and hand it back, are thin: they lend its arrays.
+// The client's end of a sheet (01: the bay end): its state, opening, and question 2.
+// A client is its numbers and one array of words. The calls get the numbers by value and change lent words in place; the methods, which
+// take a client by value and hand it back, are thin: they lend its words.
 ghost use mathlib.Core.Path.{_≡_};
 ghost use mathlib.Core.Bool.{true};
-ghost use Rattle.client.specs.Store.{fresh, counts, countsOf, clientOf, sound, Sound, Sizes};
+ghost use lib.ListN.{length, replicate};
+ghost use Rattle.client.specs.View.{size, clientOf, sound, Sound};
 ghost use Rattle.client.specs.Answers.{opened, refusedCounts, answerOf};
-pub use line::Counts;
+use line::Line;
 
 pub mod editing;
 pub mod sending;
 pub mod taking;
 
-// All state of a client. Unused places are zero.
-pub struct Client {
-    // the items; the first len are the list
-    pub items: [u32; Client::ITEMS],
-    // edits acked + 1 to made, in their present form: where each stands, position * 256 + priority, and its item
-    pub pending_places: [u32; Client::PENDING],
-    pub pending_items: [u32; Client::PENDING],
-    // edits made here, edits taken, and how many of those made the server has acknowledged
-    pub made: u16,
-    pub taken: u16,
-    pub acked: u16,
-    // how many of those made are inserts
-    pub inserts: u16,
+// The numbers of a client.
+pub struct Counts {
+    pub own: Line,
     // how many items the list has
     pub len: u16,
     // how many clients the sheet has, and which this one is
@@ -31,7 +22,14 @@ pub struct Client {
     pub line: u8,
 }
 
-// What a call on lent arrays answers: 0 or the number of the question that said no, how many pending edits the edit was transformed
+// All state of a client. Unused places are zero.
+pub struct Client {
+    pub counts: Counts,
+    // the items, of which the first len are the list; then the words of its line, the pending edits
+    pub words: [u32; Client::WORDS],
+}
+
+// What a call on lent words answers: 0 or the number of the question that said no, how many pending edits the edit was transformed
 // past, and the numbers.
 pub struct Changed {
     pub refusal: u8,
@@ -39,8 +37,7 @@ pub struct Changed {
     pub counts: Counts,
 }
 
-// What a call answers: 0 or the number of the question that said no, how many pending edits the edit was transformed past, and
-// the client.
+// What a method answers: the same, with the client.
 pub struct Answer {
     pub refusal: u8,
     pub passed: u16,
@@ -58,12 +55,12 @@ fn refused(refusal: u8, k: Counts) -> Changed
     }
 }
 
-// The answer of a method: the arrays that were lent, with their numbers again.
-fn joined(a: Changed, items: [u32; 512], places: [u32; 64], pending: [u32; 64]) -> Answer
-    ensures { λ r. ⌜ r ≡ answerOf a items places pending ⌝ }
+// The answer of a method: the words that were lent, with their numbers again.
+fn joined(a: Changed, words: [u32; Client::WORDS]) -> Answer
+    ensures { λ r. ⌜ r ≡ answerOf a words ⌝ }
 {
-    let k = a.counts;
-    let client = Client::of(k, items, places, pending);
+    let counts = a.counts;
+    let client = Client { counts, words };
     Answer {
         refusal: a.refusal,
         passed: a.passed,
@@ -71,115 +68,78 @@ fn joined(a: Changed, items: [u32; 512], places: [u32; 64], pending: [u32; 64]) 
     }
 }
 
-// Question 2. Every test is made whatever the others find. The numbers come one by one, and the arrays as their first places, which are
-// all of them: a struct of numbers, or a slice handed on as it came, would be stored in parts and read back whole, which waits for the
-// stores.
-fn is_sound<'a>(
-    n: u8,
-    line: u8,
-    made: u16,
-    taken: u16,
-    acked: u16,
-    inserts: u16,
-    len: u16,
-    items: &'a [u32],
-    places: &'a [u32],
-    pending: &'a [u32],
-) -> bool
-    requires { ⌜ Sizes (now items) (now places) (now pending) ⌝ }
-    ensures answer { λ r. ⌜ r ≡ sound (clientOf (countsOf n line made taken acked inserts len) (now (items .entry)) (now (places .entry)) (now (pending .entry))) ⌝ }
-    ensures facts { λ r. ⌜ (r ≡ true → Sound (clientOf (countsOf n line made taken acked inserts len) (now (items .entry)) (now (places .entry)) (now (pending .entry)))) ⌝ }
+// Question 2. Every test is made whatever the others find.
+fn is_sound(k: Counts, words: &[u32]) -> bool
+    requires { ⌜ length (now words) ≡ size ⌝ }
+    ensures answer { λ r. ⌜ r ≡ sound (clientOf k (now (words .entry))) ⌝ }
+    ensures facts { λ r. ⌜ (r ≡ true → Sound (clientOf k (now (words .entry)))) ⌝ }
 {
-    let count = line::less(made, acked) as usize;
-    line::counts_sound(n, line, made, taken, acked, inserts, len)
-        & endpoint::zero_from(items, len as usize)
-        & slots_sound::sound(places, pending, 0, count, n, line, true)
+    let v = k.own;
+    let lines = (1 <= k.n) & (k.n <= Client::LINES);
+    let own = (1 <= k.line) & (k.line <= k.n);
+    let counts = (k.len as usize <= Client::ITEMS) & (v.taken <= Client::OTHERS);
+    let unused = list::zero_from(&words[0..Client::ITEMS], k.len as usize);
+    let slots = &words[Client::ITEMS..Client::WORDS];
+    lines & own & counts & unused & line_sound::is_sound(v.made, v, slots, k.n, k.line, true)
+}
+
+// Question 1, and the client in words that are zero. Refused, they stay zero, and so are the numbers.
+pub fn open_lent(n: u8, line: u8, items: &[u32], words: &mut [u32]) -> Changed
+    requires { ⌜ now words ≡ replicate size 0 ⌝ }
+    ensures { λ r. ⌜ answerOf r (now (words .exit)) ≡ opened n line (now (items .entry)) ⌝ }
+{
+    let own = Line {
+        made: 0,
+        taken: 0,
+        acked: 0,
+        inserts: 0,
+    };
+    let lines = (1 <= n) & (n <= Client::LINES);
+    let mine = (1 <= line) & (line <= n);
+    if lines & mine & (items.len() <= Client::INITIAL) {
+        list::initial(items, &mut words[0..Client::ITEMS]);
+        let len = items.len() as u16;
+        let counts = Counts { own, len, n, line };
+        return Changed {
+            refusal: 0,
+            passed: 0,
+            counts,
+        };
+    }
+    let none = Counts {
+        own,
+        len: 0,
+        n: 0,
+        line: 0,
+    };
+    refused(1, none)
 }
 
 impl Client {
-    pub const LINES: u8 = Counts::LINES;
+    // The limits of a client, by name.
+    pub const LINES: u8 = limits::LINES;
 
-    pub const INSERTS: u16 = Counts::INSERTS;
+    pub const INSERTS: u16 = limits::INSERTS;
 
-    pub const EDITS: u16 = Counts::EDITS;
+    pub const EDITS: u16 = limits::EDITS;
 
-    pub const OTHERS: u16 = Counts::OTHERS;
+    pub const OTHERS: u16 = limits::OTHERS;
 
-    pub const PENDING: usize = Counts::PENDING;
+    pub const PENDING: usize = limits::PENDING;
 
-    pub const ITEMS: usize = Counts::ITEMS;
+    pub const ITEMS: usize = limits::ITEMS;
 
-    pub const INITIAL: usize = 128;
+    pub const INITIAL: usize = limits::INITIAL;
 
-    pub fn counts(self) -> Counts
-        ensures { λ r. ⌜ r ≡ counts self ⌝ }
-    {
-        Counts {
-            n: self.n,
-            line: self.line,
-            made: self.made,
-            taken: self.taken,
-            acked: self.acked,
-            inserts: self.inserts,
-            len: self.len,
-        }
-    }
-
-    // The client of its numbers and arrays.
-    pub fn of(k: Counts, items: [u32; 512], places: [u32; 64], pending: [u32; 64]) -> Client
-        ensures { λ r. ⌜ r ≡ clientOf k items places pending ⌝ }
-    {
-        Client {
-            n: k.n,
-            line: k.line,
-            made: k.made,
-            taken: k.taken,
-            acked: k.acked,
-            inserts: k.inserts,
-            len: k.len,
-            items,
-            pending_places: places,
-            pending_items: pending,
-        }
-    }
-
-    // A client that has made and taken nothing.
-    fn fresh(n: u8, line: u8, len: u16, items: [u32; 512]) -> Client
-        ensures { λ r. ⌜ r ≡ fresh n line len items ⌝ }
-    {
-        Client {
-            n,
-            line,
-            made: 0,
-            taken: 0,
-            acked: 0,
-            inserts: 0,
-            len,
-            items,
-            pending_places: [0; 64],
-            pending_items: [0; 64],
-        }
-    }
+    // The words of a client.
+    pub const WORDS: usize = 640;
 
     // A client of line `line` of n, with the initial list. Refused, it is all zeros.
     pub fn open(n: u8, line: u8, items: &[u32]) -> Answer
         ensures { λ r. ⌜ r ≡ opened n line (now (items .entry)) ⌝ }
     {
-        let lines = (1 <= n) & (n <= Client::LINES);
-        let own = (1 <= line) & (line <= n);
-        if lines & own & (items.len() <= Client::INITIAL) {
-            let client = Client::fresh(n, line, items.len() as u16, endpoint::initial(items));
-            return Answer {
-                refusal: 0,
-                passed: 0,
-                client,
-            };
-        }
-        let client = Client::fresh(0, 0, 0, [0; 512]);
-        Answer {
-            refusal: 1,
-            passed: 0,
-            client,
-        }
+        let mut words = [0u32; Client::WORDS];
+        let a = open_lent(n, line, items, &mut words);
+        joined(a, words)
     }
 }

@@ -1,82 +1,85 @@
 // Taking: a message from the server, an edit of another client or an acknowledgement.
 ghost use mathlib.Core.Path.{_≡_};
 ghost use mathlib.Core.Bool.{true};
+ghost use lib.ListN.{length};
 ghost use Rattle.wire.specs.Message.{inRange};
+ghost use Rattle.client.specs.View.{size, clientOf, Sound};
 ghost use Rattle.client.specs.Answers.{taken, takenMessage, answerOf};
-ghost use Rattle.client.specs.Store.{clientOf, Sizes, Sound};
+ghost use Rattle.client.specs.Taking.{fromOther, downTo};
 use crate::Answer;
 use crate::Changed;
 use crate::Client;
-use line::Counts;
+use crate::Counts;
+use line::taking::Arrival;
+use line::taking::accept;
+use line::taking::decide;
+use line::taking::split;
+use ot::Form;
 use wire::Message;
 use wire::Read;
 
-// Takes a message that was read, at a client that question 2 found sound: the decision, then what an accepted message changes.
-fn take_message(
-    k: Counts,
-    items: &mut [u32],
-    places: &mut [u32],
-    pending: &mut [u32],
-    m: Message,
-) -> Changed
-    requires { ⌜ (inRange m ≡ true) × (Sizes (now items) (now places) (now pending) × Sound (clientOf k (now items) (now places) (now pending))) ⌝ }
-    ensures { λ r. ⌜ answerOf r (now (items .exit)) (now (places .exit)) (now (pending .exit)) ≡ takenMessage (clientOf k (now (items .entry)) (now (places .entry)) (now (pending .entry))) m ⌝ }
+// Is an insert's priority another client's, of 1 to n?
+fn from_other(n: u8, line: u8, f: Form) -> bool
+    ensures { λ r. ⌜ r ≡ fromOther n line f ⌝ }
 {
-    let mut later = [0u32; 64];
-    let d = arrival::decide(k, places, pending, m, &mut later);
-    if d.refusal != 0 {
-        return Changed {
-            refusal: d.refusal,
-            passed: d.passed,
-            counts: k,
-        };
-    }
-    let e = d.edit;
-    arrival::put(places, &later);
-    arrival::drop_items(pending, k.made, k.acked, d.acked);
-    let len = list::apply(items, k.len, e);
-    Changed {
-        refusal: 0,
-        passed: d.passed,
-        counts: Counts {
-            n: k.n,
-            line: k.line,
-            made: k.made,
-            taken: d.taken,
-            acked: d.acked,
-            inserts: k.inserts,
-            len,
-        },
+    match f {
+        Form::Nothing => true,
+        Form::Delete(_) => true,
+        Form::Insert(_, r) => (1 <= r) & (r <= n) & !(r == line),
     }
 }
 
-// Takes one message, in place.
-pub fn take_lent(
-    k: Counts,
-    items: &mut [u32],
-    places: &mut [u32],
-    pending: &mut [u32],
-    bytes: &[u8],
-) -> Changed
-    requires { ⌜ Sizes (now items) (now places) (now pending) ⌝ }
-    ensures { λ r. ⌜ answerOf r (now (items .exit)) (now (places .exit)) (now (pending .exit)) ≡ taken (clientOf k (now (items .entry)) (now (places .entry)) (now (pending .entry))) (now (bytes .entry)) ⌝ }
+// Question 4.
+fn comes_down(k: Counts, a: Arrival) -> bool
+    ensures { λ r. ⌜ r ≡ downTo k a ⌝ }
 {
-    if crate::is_sound(
-        k.n,
-        k.line,
-        k.made,
-        k.taken,
-        k.acked,
-        k.inserts,
-        k.len,
-        &items[..Client::ITEMS],
-        &places[..Client::PENDING],
-        &pending[..Client::PENDING],
-    ) {
-        let Read::Message(m) = reading::parse(bytes) else {
+    let f = a.form;
+    (a.direction == 1) & (a.line == k.line) & from_other(k.n, k.line, f)
+}
+
+// Takes a message that was read, at a client that question 2 found sound: the decision, then what an accepted message changes.
+fn take_message(k: Counts, words: &mut [u32], m: Message) -> Changed
+    requires { ⌜ (inRange m ≡ true) × ((length (now words) ≡ size) × Sound (clientOf k (now words))) ⌝ }
+    ensures { λ r. ⌜ answerOf r (now (words .exit)) ≡ takenMessage (clientOf k (now (words .entry))) m ⌝ }
+{
+    let a = split(m);
+    if comes_down(k, a) {
+        let v = k.own;
+        let mut later = [0u32; Client::PENDING];
+        let slots = &words[Client::ITEMS..Client::WORDS];
+        let d = decide(v, slots, k.len, v.inserts, a, &mut later);
+        if d.refusal != 0 {
+            return crate::refused(d.refusal, k);
+        }
+        let f = d.form;
+        accept(&mut words[Client::ITEMS..Client::WORDS], v, a.seen, &later);
+        let len = list::apply(&mut words[0..Client::ITEMS], k.len, f, a.item);
+        let own = d.line;
+        let counts = Counts {
+            own,
+            len,
+            n: k.n,
+            line: k.line,
+        };
+        return Changed {
+            refusal: 0,
+            passed: d.passed,
+            counts,
+        };
+    }
+    crate::refused(4, k)
+}
+
+// Takes one message, in place.
+pub fn take(k: Counts, words: &mut [u32], bytes: &[u8]) -> Changed
+    requires { ⌜ length (now words) ≡ size ⌝ }
+    ensures { λ r. ⌜ answerOf r (now (words .exit)) ≡ taken (clientOf k (now (words .entry))) (now (bytes .entry)) ⌝ }
+{
+    if crate::is_sound(k, words) {
+        let Read::Message(m) = wire_read::parse(bytes) else {
             return crate::refused(3, k);
         };
-        return take_message(k, items, places, pending, m);
+        return take_message(k, words, m);
     }
     crate::refused(2, k)
 }
@@ -86,10 +89,9 @@ impl Client {
     pub fn take(self, bytes: &[u8]) -> Answer
         ensures { λ r. ⌜ r ≡ taken self (now (bytes .entry)) ⌝ }
     {
-        let mut items = self.items;
-        let mut places = self.pending_places;
-        let mut pending = self.pending_items;
-        let a = take_lent(self.counts(), &mut items, &mut places, &mut pending, bytes);
-        crate::joined(a, items, places, pending)
+        let counts = self.counts;
+        let mut words = self.words;
+        let a = take(counts, &mut words, bytes);
+        crate::joined(a, words)
     }
 }

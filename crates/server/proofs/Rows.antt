@@ -1,153 +1,140 @@
--- The arrays of the struct, line by line: what the one struct for an end holds of each line, and that a struct which holds it is
--- that one.
+-- The struct line by line: what the one struct for a server holds of each line, and that a struct which holds it is that one.
+use Prim.Native.Nat.{ℕ, zero, suc, _+_, _-_, _*_, _≤_, _<_}
+use native.Mathlib.Nat.{zero-add}
+use native.Mathlib.Omega.{arith}
 use mathlib.Core.Path.{_≡_, refl, ap, sym, _∙_}
 use mathlib.Core.List.{List, [], _∷_, _++_, map}
-use Prim.Native.Nat.{ℕ, zero, suc, _+_, _*_, _≤_, _<_}
-use native.Mathlib.Omega.{arith}
 use lib.ListN.{length, getD, take, drop, length-append, length-map, take-append-drop, drop-of-length-le, List·getD-map}
 use lib.Seq.{take-at, drop-append-add, drop-drop, ext-getD}
-use Rattle.ot.specs.declared.Edit.{Edit}
-use Rattle.list.specs.Items.{padded}
-use Rattle.model.specs.Limits.{maxLines, maxPending, maxItems}
-use Rattle.model.specs.Server as model
-use Rattle.slots.specs.Slots.{placeOf, itemOf, stretch, filled}
+use Rattle.limits.specs.Limits.{maxLines, maxItems, maxPending}
+use Rattle.list.specs.Items.{stored}
 use Rattle.list.proofs.Pad.{pad-getD, pad-length}
-use Rattle.slots.proofs.Slots.{filled-length}
-use Rattle.server.specs.declared.Server.{Server}
-use Rattle.server.specs.View.{slotsOf, allLines, store}
-use Rattle.server.specs.Sound.{Sized}
+use Rattle.model.specs.Line as line
+use Rattle.model.specs.Server as model
+use Rattle.pending.specs.Slots as pending
+use Rattle.pending.specs.Slots.{slotsOf}
+use Rattle.pending.proofs.Slots.{slots-length}
+use Rattle.line.specs.declared.Line.{Line}
+use Rattle.line.specs.Line.{countsOf}
+use Rattle.server.specs.declared.Counts.{Counts}
+use Rattle.server.specs.View.{itemsIn, slotsAt, countsAt, serverOf, allLines, slotsOfLines, counts, store, Sizes}
+use Rattle.server.proofs.Loops.{base}
 
--- ---- the slots of some lines one after the other
+-- ---- the words of some lines one after the other
 
-module _ (word : Edit → ℕ) where
-  -- an array with the numbers of each line
-  pub slots-from : (vs : List model.Line) (ws : List ℕ) (i : ℕ) → length ws ≡ maxPending * (i + length vs)
-      → ((k : ℕ) → k < length vs → stretch (maxPending * (i + k)) ws ≡ filled word (getD vs k model.noLine .pending))
-      → drop (maxPending * i) ws ≡ slotsOf word vs
-  unfolding slotsOf
-  slots-from [] ws i e f = drop-of-length-le ws {i = maxPending * i} (omega arith)
-  slots-from (v ∷ vs) ws i e f =
-      let p : maxPending * i + maxPending ≡ maxPending * suc i = omega arith in
-      let here : i ≡ i + 0 = omega arith in
-      let n : i + suc (length vs) ≡ suc i + length vs = omega arith in
-      sym (take-append-drop maxPending (drop (maxPending * i) ws))
-      ∙ ap (λ (r : List ℕ). r ++ drop maxPending (drop (maxPending * i) ws))
-      (ap (λ (j : ℕ). stretch (maxPending * j) ws) here ∙ f 0 (omega arith))
-      ∙ ap (λ (r : List ℕ). filled word (v .pending) ++ r)
-      (drop-drop maxPending (maxPending * i) ws ∙ ap (λ (j : ℕ). drop j ws) p
-      ∙ slots-from vs ws (suc i) (e ∙ ap (λ (j : ℕ). maxPending * j) n)
-      (λ k h.
-      let q : suc i + k ≡ i + suc k = omega arith in
-      ap (λ (j : ℕ). stretch (maxPending * j) ws) q ∙ f (suc k) (omega arith)))
+-- words that end with those of the lines, the first of them at place i
+slots-from : (vs : List line.Line) (words : List ℕ) (i : ℕ) → length words ≡ maxItems + pending.size * (i + length vs)
+    → ((j : ℕ) → j < length vs → slotsAt (i + j) words ≡ slotsOf (getD vs j line.noLine .pending)) → drop (base i) words ≡ slotsOfLines vs
+unfolding slotsOfLines
+slots-from [] words i e f = drop-of-length-le words {i = base i} (omega arith)
+slots-from (v ∷ vs) words i e f =
+    let next : base i + pending.size ≡ base (suc i) = omega arith in
+    let here : i ≡ i + 0 = omega arith in
+    let rest : i + suc (length vs) ≡ suc i + length vs = omega arith in
+    sym (take-append-drop pending.size (drop (base i) words))
+    ∙ ap (λ (l : List ℕ). l ++ drop pending.size (drop (base i) words)) (ap (λ (j : ℕ). slotsAt j words) here ∙ f 0 (omega arith))
+    ∙ ap (λ (l : List ℕ). slotsOf (v .pending) ++ l)
+    (drop-drop pending.size (base i) words ∙ ap (λ (j : ℕ). drop j words) next
+    ∙ slots-from vs words (suc i) (e ∙ ap (λ (j : ℕ). maxItems + pending.size * j) rest)
+    (λ j h.
+    let q : suc i + j ≡ i + suc j = omega arith in
+    ap (λ (n : ℕ). slotsAt n words) q ∙ f (suc j) (omega arith)))
 
-  -- no line has more than 64 pending edits
-  abbrev pub AllFew : List model.Line → Type 0
-  AllFew vs = (k : ℕ) → length (getD vs k model.noLine .pending) ≤ maxPending
+-- no line has more than 64 pending edits
+abbrev AllFew : List line.Line → Type 0
+AllFew vs = (i : ℕ) → length (getD vs i line.noLine .pending) ≤ maxPending
 
-  pub slots-at : (vs : List model.Line) (i : ℕ) → AllFew vs → i < length vs → stretch (maxPending * i) (slotsOf word vs) ≡ filled word (getD vs i model.noLine .pending)
-  unfolding slotsOf
-  slots-at [] i f h = absurd (omega arith)
-  slots-at (v ∷ vs) zero f h = take-at (filled word (v .pending)) (slotsOf word vs) maxPending (filled-length word (v .pending) (f 0))
-  slots-at (v ∷ vs) (suc i) f h =
-      let e : maxPending * suc i ≡ length (filled word (v .pending)) + maxPending * i = omega (arith, filled-length word (v .pending) (f 0)) in
-      ap (λ (j : ℕ). stretch j (filled word (v .pending) ++ slotsOf word vs)) e
-      ∙ ap (take maxPending) (drop-append-add (filled word (v .pending)) (slotsOf word vs) (maxPending * i))
-      ∙ slots-at vs i (λ k. f (suc k)) (omega arith)
+lines-slots : (vs : List line.Line) (i : ℕ) → AllFew vs → i < length vs
+    → take pending.size (drop (pending.size * i) (slotsOfLines vs)) ≡ slotsOf (getD vs i line.noLine .pending)
+unfolding slotsOfLines
+lines-slots [] i f h = absurd (omega arith)
+lines-slots (v ∷ vs) zero f h = take-at (slotsOf (v .pending)) (slotsOfLines vs) pending.size (slots-length (v .pending) (f 0))
+lines-slots (v ∷ vs) (suc i) f h =
+    let e : pending.size * suc i ≡ length (slotsOf (v .pending)) + pending.size * i = omega (arith, slots-length (v .pending) (f 0)) in
+    ap (λ (j : ℕ). take pending.size (drop j (slotsOf (v .pending) ++ slotsOfLines vs))) e
+    ∙ ap (take pending.size) (drop-append-add (slotsOf (v .pending)) (slotsOfLines vs) (pending.size * i))
+    ∙ lines-slots vs i (λ j. f (suc j)) (omega arith)
 
--- 64 slots to a line
-slots-long : (word : Edit → ℕ) (vs : List model.Line) → ((k : ℕ) → length (getD vs k model.noLine .pending) ≤ maxPending) → length (slotsOf word vs) ≡ maxPending * length vs
-unfolding slotsOf
-slots-long word [] f = refl
-slots-long word (v ∷ vs) f =
-    omega (arith, length-append (filled word (v .pending)) (slotsOf word vs), filled-length word (v .pending) (f 0), slots-long word vs (λ k. f (suc k)))
+lines-long : (vs : List line.Line) → AllFew vs → length (slotsOfLines vs) ≡ pending.size * length vs
+unfolding slotsOfLines
+lines-long [] f = refl
+lines-long (v ∷ vs) f =
+    omega (arith, length-append (slotsOf (v .pending)) (slotsOfLines vs), slots-length (v .pending) (f 0), lines-long vs (λ j. f (suc j)))
 
 -- ---- the struct
 
 -- the line v stands at place i
-pub record Row (s : Server) (i : ℕ) (v : model.Line) : Type 0 where
-  pub made : getD (s .made) i 0 ≡ v .made
-  pub taken : getD (s .taken) i 0 ≡ v .taken
-  pub acked : getD (s .acked) i 0 ≡ v .acked
-  pub inserts : getD (s .inserts) i 0 ≡ v .inserts
-  pub places : stretch (maxPending * i) (s .«pending_places») ≡ filled placeOf (v .pending)
-  pub items : stretch (maxPending * i) (s .«pending_items») ≡ filled itemOf (v .pending)
+pub record Row (k : Counts) (words : List ℕ) (i : ℕ) (v : line.Line) : Type 0 where
+  pub counts : countsAt k i ≡ countsOf v
+  pub slots : slotsAt i words ≡ slotsOf (v .pending)
+
+-- what the one struct for a server holds
+pub record Holds (k : Counts) (words : List ℕ) (m : model.Server) : Type 0 where
+  pub n : k .n ≡ m .n
+  pub initial : k .initial ≡ m .initial
+  pub len : k .len ≡ length (m .items)
+  pub items : itemsIn words ≡ stored (m .items)
+  pub rows : (i : ℕ) → i < maxLines → Row k words i (getD (m .lines) i line.noLine)
 
 module _ (m : model.Server) (few : length (m .lines) ≤ maxLines) where
   eight : length (allLines m) ≡ 8
-  eight = pad-length maxLines model.noLine (m .lines) few
+  eight = pad-length maxLines line.noLine (m .lines) few
 
-  line-is : (i : ℕ) → getD (allLines m) i model.noLine ≡ getD (m .lines) i model.noLine
-  line-is i = pad-getD maxLines model.noLine (m .lines) i
+  line-is : (i : ℕ) → getD (allLines m) i line.noLine ≡ getD (m .lines) i line.noLine
+  line-is i = pad-getD maxLines line.noLine (m .lines) i
 
-  module _ (f : model.Line → ℕ) (z : f model.noLine ≡ 0) where
-    count-at : (i : ℕ) → getD (map f (allLines m)) i 0 ≡ f (getD (m .lines) i model.noLine)
-    count-at i =
-        ap (getD (map f (allLines m)) i) (sym z) ∙ List·getD-map f (allLines m) i model.noLine ∙ ap f (line-is i)
+  counts-at : (i : ℕ) → getD (map countsOf (allLines m)) i (countsOf line.noLine) ≡ countsOf (getD (m .lines) i line.noLine)
+  counts-at i = List·getD-map countsOf (allLines m) i line.noLine ∙ ap countsOf (line-is i)
 
-    counts-are : (ws : List ℕ) → length ws ≡ 8 → ((i : ℕ) → i < maxLines → getD ws i 0 ≡ f (getD (m .lines) i model.noLine)) → ws ≡ map f (allLines m)
-    counts-are ws e r =
-        ext-getD 0 ws (map f (allLines m)) (e ∙ sym (length-map (allLines m) f ∙ eight))
-        (λ i h. r i (omega arith) ∙ sym (count-at i))
-
-  module _ (word : Edit → ℕ) where
-    slots-are : (ws : List ℕ) → length ws ≡ 512 → ((i : ℕ) → i < maxLines → stretch (maxPending * i) ws ≡ filled word (getD (m .lines) i model.noLine .pending))
-        → ws ≡ slotsOf word (allLines m)
-    slots-are ws e r =
-        slots-from word (allLines m) ws 0 (omega (arith, eight))
-        (λ k h.
-        let e′ : 0 + k ≡ k = omega arith in
-        ap (λ (j : ℕ). stretch (maxPending * j) ws) e′ ∙ r k (omega (arith, eight)) ∙ ap (λ (v : model.Line). filled word (v .pending)) (sym (line-is k)))
-
-  -- a struct that holds each line of an end is the one for that end
-  pub store-is : (s : Server) → Sized s → s .n ≡ m .n → s .initial ≡ m .initial → s .len ≡ length (m .items) → s .items ≡ padded 0 maxItems (m .items)
-      → ((i : ℕ) → i < maxLines → Row s i (getD (m .lines) i model.noLine)) → s ≡ store m
+  -- a struct that holds each line of a server is the one for that server
+  pub store-is : (k : Counts) (words : List ℕ) → Sizes k words → Holds k words m → serverOf k words ≡ store m
   unfolding store
-  store-is s z a b c d r =
-      let made = counts-are (λ v. v .made) refl (s .made) (z .made) (λ i h. r i h .made) in
-      let taken = counts-are (λ v. v .taken) refl (s .taken) (z .taken) (λ i h. r i h .taken) in
-      let acked = counts-are (λ v. v .acked) refl (s .acked) (z .acked) (λ i h. r i h .acked) in
-      let inserts = counts-are (λ v. v .inserts) refl (s .inserts) (z .inserts) (λ i h. r i h .inserts) in
-      let places = slots-are placeOf (s .«pending_places») (z .places) (λ i h. r i h .places) in
-      let items = slots-are itemOf (s .«pending_items») (z .items) (λ i h. r i h .items) in
+  store-is k words z h =
+      let lines : k .lines ≡ map countsOf (allLines m) =
+      ext-getD (countsOf line.noLine) (k .lines) (map countsOf (allLines m)) (z .lines ∙ sym (length-map (allLines m) countsOf ∙ eight))
+      (λ i lt. h .rows i (omega (arith, z .lines)) .counts ∙ sym (counts-at i)) in
+      let slots : drop maxItems words ≡ slotsOfLines (allLines m) =
+      slots-from (allLines m) words 0 (omega (arith, z .words, eight))
+      (λ j lt.
+      ap (λ (i : ℕ). slotsAt i words) (zero-add j) ∙ h .rows j (omega (arith, eight)) .slots
+      ∙ ap (λ (v : line.Line). slotsOf (v .pending)) (sym (line-is j))) in
+      let all : words ≡ stored (m .items) ++ slotsOfLines (allLines m) =
+      sym (take-append-drop maxItems words) ∙ ap (λ (l : List ℕ). l ++ drop maxItems words) (h .items) ∙ ap (λ (l : List ℕ). stored (m .items) ++ l) slots in
       λ j. record {
-        n = a j;
-        initial = b j;
-        len = c j;
-        items = d j;
-        made = made j;
-        taken = taken j;
-        acked = acked j;
-        inserts = inserts j;
-        «pending_places» = places j;
-        «pending_items» = items j;
+        counts = record { n = h .n j; initial = h .initial j; len = h .len j; lines = lines j };
+        words = all j;
       }
 
-  module _ (short : (i : ℕ) → length (getD (m .lines) i model.noLine .pending) ≤ maxPending) where
-    all-few : (k : ℕ) → length (getD (allLines m) k model.noLine .pending) ≤ maxPending
-    all-few k = omega (arith, short k, ap (λ (v : model.Line). length (v .pending)) (line-is k))
+  module _ (short : (i : ℕ) → length (getD (m .lines) i line.noLine .pending) ≤ maxPending) (fits : length (m .items) ≤ maxItems) where
+    all-few : (i : ℕ) → length (getD (allLines m) i line.noLine .pending) ≤ maxPending
+    all-few i = omega (arith, short i, ap (λ (v : line.Line). length (v .pending)) (line-is i))
 
-    pub store-sized : Sized (store m)
+    list-long : length (stored (m .items)) ≡ maxItems
+    list-long = pad-length maxItems 0 (m .items) fits
+
+    pub sizes-of : Sizes (store m .counts) (store m .words)
     unfolding store
-    store-sized =
+    sizes-of =
         record {
-          made = length-map (allLines m) (λ v. v .made) ∙ eight;
-          taken = length-map (allLines m) (λ v. v .taken) ∙ eight;
-          acked = length-map (allLines m) (λ v. v .acked) ∙ eight;
-          inserts = length-map (allLines m) (λ v. v .inserts) ∙ eight;
-          places = omega (arith, slots-long placeOf (allLines m) all-few, eight);
-          items = omega (arith, slots-long itemOf (allLines m) all-few, eight);
+          words = omega (arith, length-append (stored (m .items)) (slotsOfLines (allLines m)), list-long, lines-long (allLines m) all-few, eight);
+          lines = length-map (allLines m) countsOf ∙ eight;
         }
 
-    pub store-row : (i : ℕ) → i < maxLines → Row (store m) i (getD (m .lines) i model.noLine)
+    pub store-holds : Holds (store m .counts) (store m .words) m
     unfolding store
-    store-row i h =
+    store-holds =
         record {
-          made = count-at (λ v. v .made) refl i;
-          taken = count-at (λ v. v .taken) refl i;
-          acked = count-at (λ v. v .acked) refl i;
-          inserts = count-at (λ v. v .inserts) refl i;
-          places =
-              slots-at placeOf (allLines m) i all-few (omega (arith, eight)) ∙ ap (λ (v : model.Line). filled placeOf (v .pending)) (line-is i);
-          items =
-              slots-at itemOf (allLines m) i all-few (omega (arith, eight)) ∙ ap (λ (v : model.Line). filled itemOf (v .pending)) (line-is i);
+          n = refl;
+          initial = refl;
+          len = refl;
+          items = take-at (stored (m .items)) (slotsOfLines (allLines m)) maxItems list-long;
+          rows = λ i h.
+              let from : base i ≡ length (stored (m .items)) + pending.size * i = omega (arith, list-long) in
+              record {
+                counts = counts-at i;
+                slots =
+                    ap (λ (j : ℕ). take pending.size (drop j (stored (m .items) ++ slotsOfLines (allLines m)))) from
+                    ∙ ap (take pending.size) (drop-append-add (stored (m .items)) (slotsOfLines (allLines m)) (pending.size * i))
+                    ∙ lines-slots (allLines m) i all-few (omega (arith, eight)) ∙ ap (λ (v : line.Line). slotsOf (v .pending)) (line-is i);
+              };
         }

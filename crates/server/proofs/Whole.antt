@@ -1,55 +1,134 @@
 -- What the code of question 2 computes is its definition, and a struct that passes it is the one for its meaning.
+use Prim.Native.Nat.{ℕ, zero, suc, _+_, _-_, _≤_, _<_}
+use native.Mathlib.Nat.{zero-add}
+use native.Mathlib.Numerals.{add-one}
+use native.Mathlib.Omega.{arith}
 use mathlib.Core.Path.{_≡_, refl, ap, sym, _∙_, subst}
 use mathlib.Core.Bool.{Bool, true, false, _&&_, and-true, and-assoc}
 use mathlib.Core.List.{List, [], _∷_}
-use Prim.Native.Nat.{ℕ, zero, suc, _+_, _-_, _*_, _≤_, _<_}
-use native.Mathlib.Omega.{arith}
 use lib.Dec.{leb, ltb, eqb}
 use lib.ListN.{length, getD, take, drop, length-take}
 use lib.Seq.{length-take-le}
 use borrow.Author.Tests.{leb-true, le-leb, eq-eqb, eqb-true, ltb-true, ltb-false}
-use Rattle.list.specs.Items.{padded}
-use Rattle.model.specs.Limits.{maxLines, maxItems, maxPending}
-use Rattle.model.specs.Questions.{every, between}
-use Rattle.model.specs.Client.{other}
+use Rattle.limits.specs.Limits.{maxLines, maxItems}
+use Rattle.list.specs.Items.{allZero}
+use Rattle.list.proofs.Items.{stored-of}
+use Rattle.list.proofs.Parts.{part-length}
+use Rattle.model.specs.Questions.{every}
+use Rattle.model.specs.Line as line
 use Rattle.model.specs.Server as model
-use Rattle.model.proofs.Tests.{both, and-left, and-right, hold, held, between-true, bool-ext}
-use Rattle.model.proofs.SoundServer.{LineFacts, LinesFacts, ServerFacts, server-facts, takenSum}
-use Rattle.slots.specs.Slots.{placeOf, itemOf, editsFrom, filled, allFrom}
-use Rattle.slots_sound.specs.Sound.{emptyAt}
-use Rattle.list.proofs.Pad.{pad-length}
-use Rattle.slots_sound.proofs.Tests.{sound-kept}
-use Rattle.endpoint.specs.Items.{allZero}
-use Rattle.endpoint.proofs.Items.{stored-of}
+use Rattle.model.proofs.Tests.{both, and-left, and-right, hold, held, bool-ext}
+use Rattle.model.proofs.SoundServer.{takenSum}
+use Rattle.pending.specs.Slots.{allFrom}
+use Rattle.line.specs.Line.{Kept}
+use Rattle.line_sound.specs.Sound.{soundLine, emptyLine}
+use Rattle.line_sound.proofs.All.{all-each, all-same}
+use Rattle.line_sound.proofs.Words.{sound-kept, empty-kept}
+use Rattle.line_sound.proofs.Stored.{empty-counts, empty-words}
+use Rattle.server.specs.declared.Counts.{Counts}
 use Rattle.server.specs.declared.Server.{Server}
-use Rattle.lines.specs.Lines.{pendingCount}
-use Rattle.lines_sound.specs.Sound.{sumFrom}
-use Rattle.server.specs.View.{countsOf, lineAt, linesFrom, view, store}
-use Rattle.lines.specs.Lines.{AllKept}
-use Rattle.lines_sound.specs.Sound.{countsAt, slotsAt}
-use Rattle.server.specs.Sound.{zeroLine, structTests, soundStruct, Sized, Sound}
-use Rattle.server.proofs.Rows.{Row, store-is}
-use Rattle.server.proofs.Places.{each-first, each-last, lines-length, line-used, line-unused, total-is, places-yes, yes-places}
+use Rattle.server.specs.View.{itemsIn, slotsAt, countsAt, lineAt, linesFrom, serverOf, view, tidyAt, emptyAt, soundTests, sound, Sound, Sizes}
+use Rattle.server.specs.Totals.{totalOf, soundAt}
+use Rattle.server.proofs.Lines.{lines-length, line-used, line-unused, total-words, total-most}
+use Rattle.server.proofs.Loops.{slots-long}
+use Rattle.server.proofs.Rows.{Row, Holds, store-is}
 
--- the lines in use
-abbrev pub used : Server → List model.Line
-used s = linesFrom (countsOf s) (s .«pending_places») (s .«pending_items») 0 (s .n)
+-- ---- tests of places
 
--- a line in use
-abbrev pub line : Server → ℕ → model.Line
-line s i = lineAt (countsOf s) (s .«pending_places») (s .«pending_items») i
+pub each-first : (test : ℕ → Bool) (count : ℕ) → allFrom test 0 count ≡ true → (i : ℕ) → i < count → test i ≡ true
+each-first test count a i h = ap test (sym (zero-add i)) ∙ all-each test 0 count a i h
 
--- the tests that the code makes
-abbrev pub codeTests : Server → List Bool
-codeTests s =
-    leb 1 (s .n)
-    ∷ leb (s .n) 8
-    ∷ leb (s .initial) 128
-    ∷ leb (s .len) 512
-    ∷ leb (s .len) (s .initial + sumFrom (s .inserts) 0 (s .n))
-    ∷ allZero (drop (s .len) (s .items))
-    ∷ allFrom (countsAt (countsOf s) (sumFrom (s .taken) 0 (s .n))) 0 8
-    ∷ allFrom (slotsAt (countsOf s) (s .«pending_places») (s .«pending_items»)) 0 8
+-- the places from n on, of m
+pub each-last : (test : ℕ → Bool) (n m : ℕ) → allFrom test n (m - n) ≡ true → (i : ℕ) → n ≤ i → i < m → test i ≡ true
+each-last test n m a i h k =
+    let e : i ≡ n + (i - n) = omega arith in
+    ap test e ∙ all-each test n (m - n) a (i - n) (omega arith)
+
+four : (a b c d : Bool) → ((a && b) && (c && d)) ≡ ((a && c) && (b && d))
+four true b true d = refl
+four true true false d = refl
+four true false false d = refl
+four false b c d = refl
+
+all-both : (s t : ℕ → Bool) (from count : ℕ) → allFrom (λ i. s i && t i) from count ≡ (allFrom s from count && allFrom t from count)
+unfolding allFrom
+all-both s t from zero = refl
+all-both s t from (suc count) =
+    ap (λ (b : Bool). (s from && t from) && b) (all-both s t (suc from) count)
+    ∙ four (s from) (t from) (allFrom s (suc from) count) (allFrom t (suc from) count)
+
+-- ---- one line, and all lines in use
+
+-- made and taken together, or made as what is left
+sums : (made taken sum : ℕ) → taken ≤ sum → eqb (made + taken) sum ≡ eqb made (sum - taken)
+sums made taken sum h =
+    bool-ext (eqb (made + taken) sum) (eqb made (sum - taken))
+    (λ t. eq-eqb made (sum - taken) (omega (arith, eqb-true (made + taken) sum t)))
+    (λ t. eq-eqb (made + taken) sum (omega (arith, eqb-true made (sum - taken) t)))
+
+module _ (k : Counts) (words : List ℕ) where
+  -- the lines in use
+  abbrev used : List line.Line
+  used = linesFrom k words 0 (k .n)
+
+  abbrev taken-all : ℕ
+  taken-all = totalOf (λ v. v .taken) k
+
+  abbrev inserts-all : ℕ
+  inserts-all = totalOf (λ v. v .inserts) k
+
+  taken-total : takenSum used ≡ taken-all
+  taken-total = total-words (λ v. v .taken) k words 0 (k .n) (λ j. refl)
+
+  inserts-total : model.total (λ v. v .inserts) used ≡ inserts-all
+  inserts-total = total-words (λ v. v .inserts) k words 0 (k .n) (λ j. refl)
+
+  module _ (sum : ℕ) where
+    -- the model's question of the line at place i
+    abbrev modelAt : ℕ → Bool
+    modelAt i = model.soundLine (k .n) sum (i + 1) (lineAt k words i)
+
+    model-lines : (i count : ℕ) → allFrom modelAt i count ≡ model.soundLines (k .n) sum (suc i) (linesFrom k words i count)
+    unfolding allFrom linesFrom model.soundLines
+    model-lines i zero = refl
+    model-lines i (suc count) =
+        ap (λ (l : ℕ). model.soundLine (k .n) sum l (lineAt k words i) && allFrom modelAt (suc i) count) (add-one i)
+        ∙ ap (λ (b : Bool). model.soundLine (k .n) sum (suc i) (lineAt k words i) && b) (model-lines (suc i) count)
+
+    line-parts : (i : ℕ) → countsAt k i .taken ≤ sum → soundAt k sum words i ≡ (modelAt i && tidyAt k words i)
+    unfolding model.soundLine soundLine
+    line-parts i h =
+        let v = countsAt k i in
+        let tests : Bool = every (line.lineTests (v .taken) (line.other (k .n) (i + 1)) (lineAt k words i)) in
+        ap (λ (b : Bool). b && (tests && tidyAt k words i)) (sums (v .made) (v .taken) sum h)
+        ∙ sym (and-assoc (eqb (v .made) (sum - v .taken)) tests (tidyAt k words i))
+
+  taken-few : (i : ℕ) → i < k .n → countsAt k i .taken ≤ taken-all
+  taken-few i h =
+      let most = total-most (λ v. v .taken) used i (omega (arith, lines-length k words 0 (k .n))) in
+      let here = ap (λ (v : line.Line). v .taken) (line-used k words (k .n) i h) in
+      omega (arith, taken-total, most, here)
+
+  -- the code's test of the lines in use is the model's, and that their slots are tidy
+  lines-parts : allFrom (soundAt k taken-all words) 0 (k .n) ≡ (model.soundLines (k .n) taken-all 1 used && allFrom (tidyAt k words) 0 (k .n))
+  lines-parts =
+      all-same (soundAt k taken-all words) (λ i. modelAt taken-all i && tidyAt k words i) 0 (k .n)
+      (λ i h. line-parts taken-all (0 + i) (taken-few (0 + i) (omega arith)))
+      ∙ all-both (modelAt taken-all) (tidyAt k words) 0 (k .n)
+      ∙ ap (λ (b : Bool). b && allFrom (tidyAt k words) 0 (k .n)) (model-lines taken-all 0 (k .n))
+
+-- ---- the tests of the code
+
+abbrev pub codeTests : Counts → List ℕ → List Bool
+codeTests k words =
+    leb 1 (k .n)
+    ∷ leb (k .n) 8
+    ∷ leb (k .initial) 128
+    ∷ leb (k .len) 512
+    ∷ leb (k .len) (k .initial + totalOf (λ v. v .inserts) k)
+    ∷ allZero (drop (k .len) (itemsIn words))
+    ∷ allFrom (soundAt k (totalOf (λ v. v .taken) k) words) 0 (k .n)
+    ∷ allFrom (emptyAt k words) (k .n) (maxLines - k .n)
     ∷ []
 
 pub limits-few : (n initial len : ℕ) → (((leb 1 n && leb n 8) && leb initial 128) && leb len 512) ≡ true → n ≤ 8
@@ -57,247 +136,201 @@ limits-few n initial len t =
     leb-true n 8
     (and-right (leb 1 n) (leb n 8) (and-left (leb 1 n && leb n 8) (leb initial 128) (and-left ((leb 1 n && leb n 8) && leb initial 128) (leb len 512) t)))
 
-module _ (s : Server) (long : length (s .items) ≡ 512) where
-  abbrev ps : List ℕ
-  ps = s .«pending_places»
+module _ (k : Counts) (words : List ℕ) (z : Sizes k words) where
+  abbrev s : Server
+  s = serverOf k words
 
-  abbrev xs : List ℕ
-  xs = s .«pending_items»
+  abbrev items : List ℕ
+  items = take (k .len) (itemsIn words)
 
-  taken-total : takenSum (used s) ≡ sumFrom (s .taken) 0 (s .n)
-  taken-total = total-is (countsOf s) ps xs (λ v. v .taken) (s .taken) (λ j. refl) 0 (s .n)
+  long : length (itemsIn words) ≡ maxItems
+  long = part-length 0 maxItems words (omega (arith, z .words))
 
-  inserts-total : model.total (λ v. v .inserts) (used s) ≡ sumFrom (s .inserts) 0 (s .n)
-  inserts-total = total-is (countsOf s) ps xs (λ v. v .inserts) (s .inserts) (λ j. refl) 0 (s .n)
+  items-short : length items ≤ maxItems
+  items-short = simp length-take (omega (arith, long))
 
-  items-short : length (take (s .len) (s .items)) ≤ maxItems
-  items-short = simp length-take (omega arith)
+  items-length : k .len ≤ maxItems → length items ≡ k .len
+  items-length h = length-take-le (k .len) (itemsIn words) (omega (arith, long))
 
-  items-length : s .len ≤ 512 → length (take (s .len) (s .items)) ≡ s .len
-  items-length h = length-take-le (s .len) (s .items) (omega arith)
-
-  code-struct : every (codeTests s) ≡ true → soundStruct s ≡ true
-  unfolding soundStruct model.soundServer view
-  code-struct e =
-      let h = hold (codeTests s) e in
-      let few : s .n ≤ maxLines = leb-true (s .n) 8 (h .1 .0) in
-      let len : s .len ≤ 512 = leb-true (s .len) 512 (h .1 .1 .1 .0) in
-      let most : s .len ≤ s .initial + sumFrom (s .inserts) 0 (s .n) = leb-true (s .len) (s .initial + sumFrom (s .inserts) 0 (s .n)) (h .1 .1 .1 .1 .0) in
-      let p = places-yes (countsOf s) ps xs (sumFrom (s .taken) 0 (s .n)) few (h .1 .1 .1 .1 .1 .1 .0) (h .1 .1 .1 .1 .1 .1 .1 .0) in
-      held (structTests s) (
+  code-sound : every (codeTests k words) ≡ true → sound (serverOf k words) ≡ true
+  unfolding sound model.soundServer view
+  code-sound e =
+      let h = hold (codeTests k words) e in
+      let len : k .len ≤ maxItems = leb-true (k .len) 512 (h .1 .1 .1 .0) in
+      let most : k .len ≤ k .initial + totalOf (λ v. v .inserts) k = leb-true (k .len) (k .initial + totalOf (λ v. v .inserts) k) (h .1 .1 .1 .1 .0) in
+      let vs = used k words in
+      let lines = sym (lines-parts k words) ∙ h .1 .1 .1 .1 .1 .1 .0 in
+      let model-yes = and-left (model.soundLines (k .n) (taken-all k words) 1 vs) (allFrom (tidyAt k words) 0 (k .n)) lines in
+      held (soundTests s) (
         held (model.serverTests (view s)) (
-          both (leb 1 (s .n)) (leb (s .n) 8) (h .0) (h .1 .0),
+          both (leb 1 (k .n)) (leb (k .n) 8) (h .0) (h .1 .0),
           (
             h .1 .1 .0,
             (
-              le-leb (length (take (s .len) (s .items))) maxItems items-short,
+              le-leb (length items) maxItems items-short,
               (
-                eq-eqb (length (used s)) (s .n) (lines-length (countsOf s) ps xs 0 (s .n)),
+                eq-eqb (length vs) (k .n) (lines-length k words 0 (k .n)),
                 (
-                  subst (λ (t : ℕ). model.soundLines (s .n) t 1 (used s) ≡ true) (sym taken-total) (p .0),
+                  subst (λ (t : ℕ). model.soundLines (k .n) t 1 vs ≡ true) (sym (taken-total k words)) model-yes,
+                  (le-leb (length items) (k .initial + model.total (λ v. v .inserts) vs) (omega (arith, items-length len, inserts-total k words)), tt),
+                ),
+              ),
+            ),
+          ),
+        ),
+        (
+          h .1 .1 .1 .0,
+          (
+            h .1 .1 .1 .1 .1 .0,
+            (and-right (model.soundLines (k .n) (taken-all k words) 1 vs) (allFrom (tidyAt k words) 0 (k .n)) lines, (h .1 .1 .1 .1 .1 .1 .1 .0, tt)),
+          ),
+        ),
+      )
+
+  sound-code : sound (serverOf k words) ≡ true → every (codeTests k words) ≡ true
+  unfolding sound model.soundServer view
+  sound-code e =
+      let t = hold (soundTests s) e in
+      let m = hold (model.serverTests (view s)) (t .0) in
+      let len : k .len ≤ maxItems = leb-true (k .len) 512 (t .1 .0) in
+      let vs = used k words in
+      let most : length items ≤ k .initial + model.total (λ v. v .inserts) vs =
+      leb-true (length items) (k .initial + model.total (λ v. v .inserts) vs) (m .1 .1 .1 .1 .1 .0) in
+      held (codeTests k words) (
+        and-left (leb 1 (k .n)) (leb (k .n) 8) (m .0),
+        (
+          and-right (leb 1 (k .n)) (leb (k .n) 8) (m .0),
+          (
+            m .1 .0,
+            (
+              t .1 .0,
+              (
+                le-leb (k .len) (k .initial + totalOf (λ v. v .inserts) k) (omega (arith, items-length len, inserts-total k words)),
+                (
+                  t .1 .1 .0,
                   (
-                    le-leb (length (take (s .len) (s .items))) (s .initial + model.total (λ v. v .inserts) (used s)) (omega (arith, items-length len, inserts-total)),
-                    tt,
+                    lines-parts k words
+                        ∙ both (model.soundLines (k .n) (taken-all k words) 1 vs) (allFrom (tidyAt k words) 0 (k .n))
+                        (subst (λ (n : ℕ). model.soundLines (k .n) n 1 vs ≡ true) (taken-total k words) (m .1 .1 .1 .1 .0)) (t .1 .1 .1 .0),
+                    (t .1 .1 .1 .1 .0, tt),
                   ),
                 ),
               ),
             ),
           ),
         ),
-        (h .1 .1 .1 .0, (h .1 .1 .1 .1 .1 .0, (p .1 .0, (p .1 .1, tt)))),
       )
 
-  struct-code : soundStruct s ≡ true → every (codeTests s) ≡ true
-  unfolding soundStruct model.soundServer view
-  struct-code e =
-      let t = hold (structTests s) e in
-      let m = hold (model.serverTests (view s)) (t .0) in
-      let few : s .n ≤ maxLines = leb-true (s .n) 8 (and-right (leb 1 (s .n)) (leb (s .n) 8) (m .0)) in
-      let len : s .len ≤ 512 = leb-true (s .len) 512 (t .1 .0) in
-      let most : length (take (s .len) (s .items)) ≤ s .initial + model.total (λ v. v .inserts) (used s) =
-      leb-true (length (take (s .len) (s .items))) (s .initial + model.total (λ v. v .inserts) (used s)) (m .1 .1 .1 .1 .1 .0) in
-      let p = yes-places (countsOf s) ps xs (sumFrom (s .taken) 0 (s .n)) few (subst (λ (t : ℕ). model.soundLines (s .n) t 1 (used s) ≡ true) taken-total (m .1 .1 .1 .1 .0)) (t .1 .1 .1 .0) (t .1 .1 .1 .1 .0) in
-      held (codeTests s) (
-        and-left (leb 1 (s .n)) (leb (s .n) 8) (m .0),
-        (
-          and-right (leb 1 (s .n)) (leb (s .n) 8) (m .0),
-          (
-            m .1 .0,
-            (
-              t .1 .0,
-              (
-                le-leb (s .len) (s .initial + sumFrom (s .inserts) 0 (s .n)) (omega (arith, items-length len, inserts-total)),
-                (t .1 .1 .0, (p .0, (p .1, tt))),
-              ),
-            ),
-          ),
-        ),
-      )
-
-  pub struct-sound : every (codeTests s) ≡ soundStruct s
-  struct-sound = bool-ext (every (codeTests s)) (soundStruct s) code-struct struct-code
+  code-is : every (codeTests k words) ≡ sound (serverOf k words)
+  code-is = bool-ext (every (codeTests k words)) (sound (serverOf k words)) code-sound sound-code
 
   -- as the code joins them
-  four : (a b c d e : Bool) → (a && (b && (c && (d && e)))) ≡ ((((a && b) && c) && d) && e)
-  four a b c d e = simp and-assoc
-
   abbrev limits : Bool
-  limits = ((leb 1 (s .n) && leb (s .n) 8) && leb (s .initial) 128) && leb (s .len) 512
+  limits = ((leb 1 (k .n) && leb (k .n) 8) && leb (k .initial) 128) && leb (k .len) 512
 
   abbrev rest : Bool
   rest =
-      every (leb (s .len) (s .initial + sumFrom (s .inserts) 0 (s .n)) ∷ allZero (drop (s .len) (s .items)) ∷ allFrom (countsAt (countsOf s) (sumFrom (s .taken) 0 (s .n))) 0 8 ∷ allFrom (slotsAt (countsOf s) ps xs) 0 8 ∷ [])
+      every
+      (leb (k .len) (k .initial + totalOf (λ v. v .inserts) k)
+      ∷ allZero (drop (k .len) (itemsIn words))
+      ∷ allFrom (soundAt k (totalOf (λ v. v .taken) k) words) 0 (k .n)
+      ∷ allFrom (emptyAt k words) (k .n) (maxLines - k .n)
+      ∷ [])
 
-  in-parts : (b : Bool) → limits ≡ b → (b && rest) ≡ soundStruct s
-  in-parts b t = ap (λ (x : Bool). x && rest) (sym t) ∙ sym (four (leb 1 (s .n)) (leb (s .n) 8) (leb (s .initial) 128) (leb (s .len) 512) rest) ∙ struct-sound
+  in-parts : (b : Bool) → limits ≡ b → (b && rest) ≡ sound (serverOf k words)
+  in-parts b t =
+      ap (λ (x : Bool). x && rest) (sym t) ∙ group (leb 1 (k .n)) (leb (k .n) 8) (leb (k .initial) 128) (leb (k .len) 512) rest ∙ code-is
+    where
+      group : (a b c d e : Bool) → ((((a && b) && c) && d) && e) ≡ (a && (b && (c && (d && e))))
+      group a b c d e = simp and-assoc
 
-  pub sound-no : limits ≡ false → false ≡ soundStruct s
+  pub sound-no : limits ≡ false → false ≡ sound (serverOf k words)
   sound-no t = in-parts false t
 
-  pub sound-yes : (most taken : ℕ) (zero′ places slots : Bool) → limits ≡ true → most ≡ s .initial + sumFrom (s .inserts) 0 (s .n) → taken ≡ sumFrom (s .taken) 0 (s .n)
-      → zero′ ≡ allZero (drop (s .len) (s .items)) → places ≡ allFrom (countsAt (countsOf s) taken) 0 8 → slots ≡ allFrom (slotsAt (countsOf s) ps xs) 0 8
-      → (((leb (s .len) most && zero′) && places) && slots) ≡ soundStruct s
-  sound-yes most taken zero′ places slots t m k z p l =
-      chain (leb (s .len) most) zero′ places slots
-      ∙ ap (λ (n : ℕ). every (leb (s .len) n ∷ zero′ ∷ places ∷ slots ∷ [])) m
-      ∙ ap (λ (b : Bool). every (leb (s .len) (s .initial + sumFrom (s .inserts) 0 (s .n)) ∷ b ∷ places ∷ slots ∷ [])) z
-      ∙ ap (λ (b : Bool). every (leb (s .len) (s .initial + sumFrom (s .inserts) 0 (s .n)) ∷ allZero (drop (s .len) (s .items)) ∷ b ∷ slots ∷ [])) (p ∙ ap (λ (n : ℕ). allFrom (countsAt (countsOf s) n) 0 8) k)
-      ∙ ap (λ (b : Bool). every (leb (s .len) (s .initial + sumFrom (s .inserts) 0 (s .n)) ∷ allZero (drop (s .len) (s .items)) ∷ allFrom (countsAt (countsOf s) (sumFrom (s .taken) 0 (s .n))) 0 8 ∷ b ∷ [])) l
+  -- the tests of the code, one after the other
+  pub sound-yes : (most taken : ℕ) (zero′ used′ unused : Bool) → limits ≡ true → most ≡ totalOf (λ v. v .inserts) k → taken ≡ totalOf (λ v. v .taken) k
+      → zero′ ≡ allZero (drop (k .len) (itemsIn words)) → used′ ≡ allFrom (soundAt k taken words) 0 (k .n)
+      → unused ≡ allFrom (emptyAt k words) (k .n) (maxLines - k .n)
+      → (((leb (k .len) (k .initial + most) && zero′) && used′) && unused) ≡ sound (serverOf k words)
+  sound-yes most taken zero′ used′ unused t m n z′ u e =
+      let all = totalOf (λ v. v .inserts) k in
+      let items-zero = allZero (drop (k .len) (itemsIn words)) in
+      let lines = allFrom (soundAt k (totalOf (λ v. v .taken) k) words) 0 (k .n) in
+      group (leb (k .len) (k .initial + most)) zero′ used′ unused
+      ∙ ap (λ (j : ℕ). every (leb (k .len) (k .initial + j) ∷ zero′ ∷ used′ ∷ unused ∷ [])) m
+      ∙ ap (λ (b : Bool). every (leb (k .len) (k .initial + all) ∷ b ∷ used′ ∷ unused ∷ [])) z′
+      ∙ ap (λ (b : Bool). every (leb (k .len) (k .initial + all) ∷ items-zero ∷ b ∷ unused ∷ [])) (u ∙ ap (λ (j : ℕ). allFrom (soundAt k j words) 0 (k .n)) n)
+      ∙ ap (λ (b : Bool). every (leb (k .len) (k .initial + all) ∷ items-zero ∷ lines ∷ b ∷ [])) e
       ∙ in-parts true t
     where
-      chain : (a b c d : Bool) → (((a && b) && c) && d) ≡ every (a ∷ b ∷ c ∷ d ∷ [])
-      chain a b c d = simp (and-assoc, and-true)
+      group : (a b c d : Bool) → (((a && b) && c) && d) ≡ every (a ∷ b ∷ c ∷ d ∷ [])
+      group a b c d = simp (and-assoc, and-true)
 
   -- ---- a struct that passes
 
-  module _ (z : Sized s) (e : soundStruct s ≡ true) where
-    kept : AllKept (countsOf s) ps xs
-    kept i h =
-        let t = hold (codeTests s) (struct-code e) in
-        sound-kept (other (s .n) (i + 1)) ps xs (maxPending * i) (pendingCount (countsOf s) i)
-        (record { places = omega (arith, z .places); items = omega (arith, z .items) })
-        (each-first (slotsAt (countsOf s) ps xs) 8 (t .1 .1 .1 .1 .1 .1 .1 .0) i h)
+  module _ (e : sound (serverOf k words) ≡ true) where
+    used-line : (i : ℕ) → i < k .n → soundLine (countsAt k i .taken) (line.other (k .n) (i + 1)) (countsAt k i) (slotsAt i words) ≡ true
+    used-line i h =
+        let t = hold (codeTests k words) (sound-code e) in
+        and-right (eqb (countsAt k i .made + countsAt k i .taken) (totalOf (λ v. v .taken) k))
+        (soundLine (countsAt k i .taken) (line.other (k .n) (i + 1)) (countsAt k i) (slotsAt i words))
+        (each-first (soundAt k (totalOf (λ v. v .taken) k) words) (k .n) (t .1 .1 .1 .1 .1 .1 .0) i h)
 
-    row : (i : ℕ) → i < maxLines → Row s i (getD (used s) i model.noLine)
-    unfolding soundStruct editsFrom
-    row i h = go (ltb i (s .n)) refl
+    empty-at : (i : ℕ) → k .n ≤ i → i < maxLines → emptyLine (countsAt k i) (slotsAt i words) ≡ true
+    empty-at i h lt =
+        let t = hold (codeTests k words) (sound-code e) in
+        each-last (emptyAt k words) (k .n) maxLines (t .1 .1 .1 .1 .1 .1 .1 .0) i h lt
+
+    kept : (i : ℕ) → i < maxLines → Kept (countsAt k i) (slotsAt i words)
+    kept i lt = go (ltb i (k .n)) refl
       where
-        go : (b : Bool) → ltb i (s .n) ≡ b → Row s i (getD (used s) i model.noLine)
+        go : (b : Bool) → ltb i (k .n) ≡ b → Kept (countsAt k i) (slotsAt i words)
         go true t =
-            subst (λ (v : model.Line). Row s i v) (sym (line-used (countsOf s) ps xs (s .n) i (ltb-true i (s .n) t)))
-            (record { made = refl; taken = refl; acked = refl; inserts = refl; places = kept i h .places; items = kept i h .items })
+            sound-kept (countsAt k i .taken) (line.other (k .n) (i + 1)) (countsAt k i) (slotsAt i words) (slots-long i words (z .words) lt)
+            (used-line i (ltb-true i (k .n) t))
+        go false f = empty-kept (countsAt k i) (slotsAt i words) (slots-long i words (z .words) lt) (empty-at i (ltb-false i (k .n) f) lt)
+
+    row : (i : ℕ) → i < maxLines → Row k words i (getD (used k words) i line.noLine)
+    row i lt = go (ltb i (k .n)) refl
+      where
+        go : (b : Bool) → ltb i (k .n) ≡ b → Row k words i (getD (used k words) i line.noLine)
+        go true t =
+            subst (λ (v : line.Line). Row k words i v) (sym (line-used k words (k .n) i (ltb-true i (k .n) t)))
+            (record { counts = refl; slots = kept i lt .whole })
         go false f =
-            let t = hold (structTests s) e in
-            let y = each-last (zeroLine (countsOf s) ps xs) (s .n) maxLines (t .1 .1 .1 .1 .0) i (ltb-false i (s .n) f) h in
-            let c = hold (eqb (getD (s .made) i 0) 0 ∷ eqb (getD (s .taken) i 0) 0 ∷ eqb (getD (s .acked) i 0) 0 ∷ eqb (getD (s .inserts) i 0) 0 ∷ [])
-            (and-left (every (eqb (getD (s .made) i 0) 0 ∷ eqb (getD (s .taken) i 0) 0 ∷ eqb (getD (s .acked) i 0) 0 ∷ eqb (getD (s .inserts) i 0) 0 ∷ [])) (allFrom (emptyAt ps xs) (maxPending * i) maxPending) y) in
-            let made : getD (s .made) i 0 ≡ 0 = eqb-true (getD (s .made) i 0) 0 (c .0) in
-            let none′ : pendingCount (countsOf s) i ≡ 0 = omega arith in
-            subst (λ (v : model.Line). Row s i v) (sym (line-unused (countsOf s) ps xs (s .n) i (ltb-false i (s .n) f)))
+            let n = ltb-false i (k .n) f in
+            subst (λ (v : line.Line). Row k words i v) (sym (line-unused k words (k .n) i n))
             (record {
-              made = made;
-              taken = eqb-true (getD (s .taken) i 0) 0 (c .1 .0);
-              acked = eqb-true (getD (s .acked) i 0) 0 (c .1 .1 .0);
-              inserts = eqb-true (getD (s .inserts) i 0) 0 (c .1 .1 .1 .0);
-              places = kept i h .places ∙ ap (λ (n : ℕ). filled placeOf (editsFrom ps xs (maxPending * i) n)) none′;
-              items = kept i h .items ∙ ap (λ (n : ℕ). filled itemOf (editsFrom ps xs (maxPending * i) n)) none′;
+              counts = empty-counts (countsAt k i) (slotsAt i words) (empty-at i n lt);
+              slots = empty-words (countsAt k i) (slotsAt i words) (slots-long i words (z .words) lt) (empty-at i n lt);
             })
 
-    pub struct-whole : Sound s
-    unfolding soundStruct view
-    struct-whole =
-        let t = hold (structTests s) e in
-        let c = hold (codeTests s) (struct-code e) in
-        let few : s .n ≤ 8 = leb-true (s .n) 8 (c .1 .0) in
-        let len : s .len ≤ 512 = leb-true (s .len) 512 (t .1 .0) in
+    pub struct-holds : Holds k words (view (serverOf k words))
+    unfolding sound view
+    struct-holds =
+        let t = hold (soundTests s) e in
+        let len : k .len ≤ maxItems = leb-true (k .len) 512 (t .1 .0) in
         record {
-          well = e;
-          whole =
-              store-is (view s) (omega (arith, lines-length (countsOf s) ps xs 0 (s .n))) s z refl refl (sym (items-length len))
-              (stored-of (s .items) (s .len) long len (t .1 .1 .0)) row;
-          kept = kept;
-          sized = z;
+          n = refl;
+          initial = refl;
+          len = sym (items-length len);
+          items = stored-of (itemsIn words) (k .len) long len (t .1 .1 .0);
+          rows = row;
         }
 
-    pub sound-row : (i : ℕ) → i < maxLines → Row s i (getD (view s .lines) i model.noLine)
-    unfolding view
-    sound-row = row
+    pub struct-whole : Sound (serverOf k words)
+    unfolding sound view
+    struct-whole =
+        let t = hold (soundTests s) e in
+        let few : k .n ≤ 8 = leb-true (k .n) 8 (hold (codeTests k words) (sound-code e) .1 .0) in
+        record {
+          yes = e;
+          model = t .0;
+          whole = store-is (view s) (omega (arith, lines-length k words 0 (k .n))) k words z struct-holds;
+          listed = items-length (leb-true (k .len) 512 (t .1 .0));
+          kept = kept;
+        }
 
--- ---- a sound struct
-
-pub facts-at : (n sum l : ℕ) (vs : List model.Line) (i : ℕ) → i < length vs → LinesFacts n sum l vs → LineFacts n sum (l + i) (getD vs i model.noLine)
-facts-at n sum l [] i h f = absurd (omega arith)
-facts-at n sum l (v ∷ vs) zero h f =
-    let e : l ≡ l + 0 = omega arith in
-    subst (λ (k : ℕ). LineFacts n sum k v) e (f .0)
-facts-at n sum l (v ∷ vs) (suc i) h f =
-    let e : suc l + i ≡ l + suc i = omega arith in
-    subst (λ (k : ℕ). LineFacts n sum k (getD vs i model.noLine)) e (facts-at n sum (suc l) vs i (omega arith) (f .1))
-
--- the sum of what n lines took
-sum-few : (n sum l : ℕ) (vs : List model.Line) → LinesFacts n sum l vs → takenSum vs ≤ 400 * length vs
-sum-few n sum l [] f = omega arith
-sum-few n sum l (v ∷ vs) f = omega (arith, sum-few n sum (suc l) vs (f .1), f .0 .taken)
-
-module _ (s : Server) (h : Sound s) where
-  pub means : model.soundServer (view s) ≡ true
-  unfolding soundStruct
-  means = hold (structTests s) (h .well) .0
-
-  pub facts : ServerFacts (view s)
-  facts = server-facts (view s) means
-
-  pub lines-few : s .n ≤ 8
-  unfolding view
-  lines-few = facts .n .1
-
-  pub lines-count : length (view s .lines) ≡ s .n
-  unfolding view
-  lines-count = facts .count
-
-  pub items-are : s .items ≡ padded 0 512 (take (s .len) (s .items))
-  unfolding view store
-  items-are = ap (λ (t : Server). t .items) (h .whole)
-
-  pub len-is : s .len ≡ length (take (s .len) (s .items))
-  unfolding view store
-  len-is = ap (λ (t : Server). t .len) (h .whole)
-
-  pub len-view : s .len ≡ length (view s .items)
-  unfolding view
-  len-view = len-is
-
-  pub long : length (s .items) ≡ 512
-  long = ap length items-are ∙ pad-length 512 0 (take (s .len) (s .items)) (omega (arith, len-view, facts .items, len-is))
-
-  pub lines-row : (i : ℕ) → i < maxLines → Row s i (getD (view s .lines) i model.noLine)
-  lines-row = sound-row s long (h .sized) (h .well)
-
-  module _ (i : ℕ) (lt : i < s .n) where
-    pub at-view : getD (view s .lines) i model.noLine ≡ line s i
-    unfolding view
-    at-view = line-used (countsOf s) (s .«pending_places») (s .«pending_items») (s .n) i lt
-
-    pub at-facts : LineFacts (s .n) (takenSum (view s .lines)) (1 + i) (line s i)
-    unfolding view
-    at-facts =
-        subst (λ (v : model.Line). LineFacts (s .n) (takenSum (used s)) (1 + i) v) at-view
-        (facts-at (s .n) (takenSum (used s)) 1 (used s) i (omega (arith, lines-count)) (facts .lines))
-
-    pub made-few : getD (s .made) i 0 ≤ 3200
-    unfolding view
-    made-few =
-        omega (arith, at-facts .made, sum-few (s .n) (takenSum (used s)) 1 (used s) (facts .lines), lines-count, lines-few)
-
-  module _ (l : ℕ) (t : between 1 (s .n) l ≡ true) where
-    pub line-low : 1 ≤ l
-    line-low = between-true 1 (s .n) l t .0
-
-    pub line-high : l ≤ 8
-    line-high = let b = between-true 1 (s .n) l t in omega (arith, lines-few)
-
-    place-used : l - 1 < s .n
-    place-used = let b = between-true 1 (s .n) l t in omega arith
-
-    pub line-of : model.lineOf (view s) l ≡ line s (l - 1)
-    line-of = at-view (l - 1) place-used
+  -- the two promises of the code
+  pub both-told : (r : Bool) → r ≡ sound (serverOf k words) → (r ≡ sound (serverOf k words)) × (r ≡ true → Sound (serverOf k words))
+  both-told r e = (e, λ t. struct-whole (sym e ∙ t))

@@ -1,3 +1,4 @@
 pub mod View
-pub mod Sound
-pub mod Calls
+pub mod Answers
+pub mod Taking
+pub mod Totals

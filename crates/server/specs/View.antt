@@ -1,97 +1,104 @@
--- What the server's struct means as an end over lists, and the one struct for such an end.
-use Prim.Native.Nat.{ℕ, zero, suc, _+_, _*_}
+-- The server's end in numbers and words: the model's server that these are, and back; question 2 of them.
+use Prim.Native.Nat.{ℕ, zero, suc, _+_, _-_, _*_, _<_}
+use mathlib.Core.Path.{_≡_}
+use mathlib.Core.Bool.{Bool, true}
 use mathlib.Core.List.{List, [], _∷_, _++_, map}
-use lib.ListN.{length, getD, take, replicate}
-use Rattle.ot.specs.declared.Edit.{Edit}
-use Rattle.list.specs.Items.{padded}
-use Rattle.model.specs.Limits.{maxLines, maxPending, maxItems}
+use lib.Dec.{leb}
+use lib.ListN.{length, getD, take, drop}
+use Rattle.limits.specs.Limits.{maxLines, maxItems}
+use Rattle.list.specs.Items.{padded, stored, allZero}
+use Rattle.list.specs.Parts.{part}
+use Rattle.model.specs.Questions.{every}
+use Rattle.model.specs.Line as line
 use Rattle.model.specs.Server as model
-use Rattle.slots.specs.Slots.{placeOf, itemOf, editsFrom, filled}
+use Rattle.pending.specs.Slots as pending
+use Rattle.pending.specs.Slots.{allFrom}
+use Rattle.line.specs.declared.Line.{Line}
+use Rattle.line.specs.Line.{lineOf, countsOf, Kept}
+use Rattle.line_sound.specs.Sound.{tidy, emptyLine}
+use Rattle.server.specs.declared.Counts.{Counts}
 use Rattle.server.specs.declared.Server.{Server}
-use Rattle.lines.specs.declared.Counts.{Counts}
-use Rattle.lines.specs.Lines.{counts, pendingCount}
 
-abbrev pub countsOf : Server → Counts
-countsOf s = counts (s .n) (s .initial) (s .len) (s .made) (s .taken) (s .acked) (s .inserts)
+-- the words of the server: 512 items, and the 128 words of each of eight lines
+abbrev pub size : ℕ
+size = 1536
 
--- the end with these counts, items, and places and items of the pending edits
-abbrev pub serverOf : Counts → List ℕ → List ℕ → List ℕ → Server
-serverOf k items ps xs =
-    record {
-      n = k .n;
-      initial = k .initial;
-      len = k .len;
-      items = items;
-      made = k .made;
-      taken = k .taken;
-      acked = k .acked;
-      inserts = k .inserts;
-      «pending_places» = ps;
-      «pending_items» = xs;
-    }
+abbrev pub itemsIn : List ℕ → List ℕ
+itemsIn words = part 0 maxItems words
 
--- The line at place i, counted from 0. Its pending edits stand in the first slots of its 64.
-abbrev pub lineAt : Counts → List ℕ → List ℕ → ℕ → model.Line
-lineAt k ps xs i =
-    record {
-      made = getD (k .made) i 0;
-      taken = getD (k .taken) i 0;
-      acked = getD (k .acked) i 0;
-      inserts = getD (k .inserts) i 0;
-      pending = editsFrom ps xs (maxPending * i) (pendingCount k i);
-    }
+-- the words of the line at place i, counted from 0
+abbrev pub slotsAt : ℕ → List ℕ → List ℕ
+slotsAt i words = part (maxItems + pending.size * i) pending.size words
+
+abbrev pub countsAt : Counts → ℕ → Line
+countsAt k i = getD (k .lines) i (countsOf line.noLine)
+
+abbrev pub lineAt : Counts → List ℕ → ℕ → line.Line
+lineAt k words i = lineOf (countsAt k i) (slotsAt i words)
 
 -- so many lines, the first of them at place i
-unfoldable pub linesFrom : Counts → List ℕ → List ℕ → ℕ → ℕ → List model.Line
-linesFrom k ps xs i zero = []
-linesFrom k ps xs i (suc count) = lineAt k ps xs i ∷ linesFrom k ps xs (suc i) count
+unfoldable pub linesFrom : Counts → List ℕ → ℕ → ℕ → List line.Line
+linesFrom k words i zero = []
+linesFrom k words i (suc count) = lineAt k words i ∷ linesFrom k words (suc i) count
 
--- the items stand in the first len places, lines 1 to n in the first n
+abbrev pub serverOf : Counts → List ℕ → Server
+serverOf k words = record { counts = k; words = words }
+
+-- what the struct stands for: its first len items, and lines 1 to n
 unfoldable pub view : Server → model.Server
 view s =
     record {
-      n = s .n;
-      initial = s .initial;
-      items = take (s .len) (s .items);
-      lines = linesFrom (countsOf s) (s .«pending_places») (s .«pending_items») 0 (s .n);
+      n = s .counts .n;
+      initial = s .counts .initial;
+      items = take (s .counts .len) (itemsIn (s .words));
+      lines = linesFrom (s .counts) (s .words) 0 (s .counts .n);
     }
-
--- the slots of some lines one after the other, the places or the items
-unfoldable pub slotsOf : (Edit → ℕ) → List model.Line → List ℕ
-slotsOf word [] = []
-slotsOf word (v ∷ vs) = filled word (v .pending) ++ slotsOf word vs
 
 -- all eight lines; over those that are not in use nothing has come
-abbrev pub allLines : model.Server → List model.Line
-allLines m = padded model.noLine maxLines (m .lines)
+abbrev pub allLines : model.Server → List line.Line
+allLines m = padded line.noLine maxLines (m .lines)
+
+-- the words of some lines, one after the other
+unfoldable pub slotsOfLines : List line.Line → List ℕ
+slotsOfLines [] = []
+slotsOfLines (v ∷ vs) = pending.slotsOf (v .pending) ++ slotsOfLines vs
+
+-- the one struct for a server: unused places are zero
+abbrev pub counts : model.Server → Counts
+counts m = record { n = m .n; initial = m .initial; len = length (m .items); lines = map countsOf (allLines m) }
 
 unfoldable pub store : model.Server → Server
-store m =
-    record {
-      n = m .n;
-      initial = m .initial;
-      len = length (m .items);
-      items = padded 0 maxItems (m .items);
-      made = map (λ v. v .made) (allLines m);
-      taken = map (λ v. v .taken) (allLines m);
-      acked = map (λ v. v .acked) (allLines m);
-      inserts = map (λ v. v .inserts) (allLines m);
-      «pending_places» = slotsOf placeOf (allLines m);
-      «pending_items» = slotsOf itemOf (allLines m);
-    }
+store m = serverOf (counts m) (stored (m .items) ++ slotsOfLines (allLines m))
 
--- an end over whose lines nothing has come
-abbrev pub fresh : ℕ → ℕ → List ℕ → Server
-fresh n len items =
-    record {
-      n = n;
-      initial = len;
-      len = len;
-      items = items;
-      made = replicate 8 0;
-      taken = replicate 8 0;
-      acked = replicate 8 0;
-      inserts = replicate 8 0;
-      «pending_places» = replicate 512 0;
-      «pending_items» = replicate 512 0;
-    }
+-- the slots of the line at place i, which is in use, have no bits that mean nothing; a line that is not in use is zero
+abbrev pub tidyAt : Counts → List ℕ → ℕ → Bool
+tidyAt k words i = tidy (countsAt k i .made - countsAt k i .acked) (slotsAt i words)
+
+abbrev pub emptyAt : Counts → List ℕ → ℕ → Bool
+emptyAt k words i = emptyLine (countsAt k i) (slotsAt i words)
+
+-- Question 2: the model's, with what only a struct can break.
+abbrev pub soundTests : Server → List Bool
+soundTests s =
+    model.soundServer (view s)
+    ∷ leb (s .counts .len) maxItems
+    ∷ allZero (drop (s .counts .len) (itemsIn (s .words)))
+    ∷ allFrom (tidyAt (s .counts) (s .words)) 0 (s .counts .n)
+    ∷ allFrom (emptyAt (s .counts) (s .words)) (s .counts .n) (maxLines - s .counts .n)
+    ∷ []
+
+unfoldable pub sound : Server → Bool
+sound s = every (soundTests s)
+
+-- What the calls may assume once question 2 has been answered yes: such a struct is the one for its meaning.
+pub record Sound (s : Server) : Type 0 where
+  pub yes : sound s ≡ true
+  pub model : model.soundServer (view s) ≡ true
+  pub whole : s ≡ store (view s)
+  pub listed : length (view s .items) ≡ s .counts .len
+  pub kept : (i : ℕ) → i < maxLines → Kept (countsAt (s .counts) i) (slotsAt i (s .words))
+
+-- the lengths of the words and of the counts
+pub record Sizes (k : Counts) (ws : List ℕ) : Type 0 where
+  pub words : length ws ≡ size
+  pub lines : length (k .lines) ≡ maxLines

@@ -1,170 +1,212 @@
-// The server's end of a sheet. Each method takes the end by value and hands it back in its answer. An end by value is copied at each
-// call, so the work is done by functions of `taking` and `sending` that get its counts and are lent its arrays.
+// The server's end of a sheet: its state, opening, and question 2.
+// The server is its numbers and one array of words. The calls get the numbers by value and change lent words in place; the methods, which
+// take the server by value and hand it back, are thin: they lend its words.
 pub mod sending;
 pub mod taking;
 
 ghost use mathlib.Core.Path.{_≡_};
 ghost use mathlib.Core.Bool.{true};
-ghost use Rattle.lines.specs.Lines.{counts};
-ghost use Rattle.server.specs.View.{countsOf, serverOf, fresh};
-ghost use Rattle.server.specs.Sound.{soundStruct, Sound, Sizes};
-ghost use Rattle.server.specs.Calls.{opened};
-use lines::Counts;
+ghost use Prim.Native.Nat.{_-_, _≤_};
+ghost use lib.ListN.{replicate};
+ghost use Rattle.limits.specs.Limits.{maxLines};
+ghost use Rattle.pending.specs.Slots.{allFrom};
+ghost use Rattle.server.specs.View.{size, serverOf, emptyAt, sound, Sound, Sizes};
+ghost use Rattle.server.specs.Answers.{opened, refusedCounts, answerOf};
+ghost use Rattle.server.specs.Totals.{soundAt, Totaled};
+use line::Line;
 
-// The server's end. Of each line four counts, at place line - 1, and its pending edits, in the 64 slots from 64 * (line - 1). Every
-// place that is not in use is zero.
-pub struct Server {
+// The numbers of the server.
+pub struct Counts {
     // how many lines are in use
     pub n: u8,
-    // how many items it was opened with
+    // how many items it was opened with, and how many the list has
     pub initial: u16,
     pub len: u16,
-    pub items: [u32; 512],
-    // edits taken on all other lines together
-    pub made: [u16; 8],
-    // edits taken on this line
-    pub taken: [u16; 8],
-    // how many of those made the client has acknowledged (01: told)
-    pub acked: [u16; 8],
-    // how many of those taken are inserts
-    pub inserts: [u16; 8],
-    // numbers acked + 1 to made, in their present form: where each stands, position * 256 + priority, and its item
-    pub pending_places: [u32; 512],
-    pub pending_items: [u32; 512],
+    // line l at place l - 1
+    pub lines: [Line; Server::LINES],
 }
 
-// What opening and taking answer: the end, 0 or the number of the question that said no, and how many pending edits an edit was
-// transformed past.
-pub struct Answer {
-    pub server: Server,
+// All state of the server. Unused places are zero.
+pub struct Server {
+    pub counts: Counts,
+    // the items, of which the first len are the list; then the words of each line, its pending edits
+    pub words: [u32; Server::WORDS],
+}
+
+// What a call on lent words answers: 0 or the number of the question that said no, how many pending edits an edit was transformed past,
+// and the numbers.
+pub struct Changed {
     pub refusal: u8,
     pub passed: u16,
+    pub counts: Counts,
+}
+
+// What a method answers: the same, with the server.
+pub struct Answer {
+    pub refusal: u8,
+    pub passed: u16,
+    pub server: Server,
+}
+
+// The edits taken on all lines in use together, and how many of them are inserts.
+struct Totals {
+    taken: u32,
+    inserts: u32,
+}
+
+// A refusal leaves the numbers as they came.
+fn refused(refusal: u8, k: Counts) -> Changed
+    ensures { λ r. ⌜ r ≡ refusedCounts refusal k ⌝ }
+{
+    Changed {
+        refusal,
+        passed: 0,
+        counts: k,
+    }
+}
+
+// The answer of a method: the words that were lent, with their numbers again.
+fn joined(a: Changed, words: [u32; Server::WORDS]) -> Answer
+    ensures { λ r. ⌜ r ≡ answerOf a words ⌝ }
+{
+    let counts = a.counts;
+    let server = Server { counts, words };
+    Answer {
+        refusal: a.refusal,
+        passed: a.passed,
+        server,
+    }
 }
 
 // ---- question 2
 
-// All arrays are lent, those of the counts as well: put together in a struct they would be copied, and read back too soon.
-fn is_sound<'a>(
-    n: u8,
-    initial: u16,
-    len: u16,
-    made: &'a [u16],
-    taken: &'a [u16],
-    acked: &'a [u16],
-    inserts: &'a [u16],
-    items: &'a [u32],
-    places: &'a [u32],
-    slots: &'a [u32],
-) -> bool
-    requires { ⌜ Sizes (counts n initial len (now made) (now taken) (now acked) (now inserts)) (now items) (now places) (now slots) ⌝ }
-    ensures answer { λ r. ⌜ r ≡ soundStruct (serverOf (counts n initial len (now (made .entry)) (now (taken .entry)) (now (acked .entry)) (now (inserts .entry))) (now (items .entry)) (now (places .entry)) (now (slots .entry))) ⌝ }
-    ensures whole { λ r. ⌜ (r ≡ true → Sound (serverOf (counts n initial len (now (made .entry)) (now (taken .entry)) (now (acked .entry)) (now (inserts .entry))) (now (items .entry)) (now (places .entry)) (now (slots .entry)))) ⌝ }
+fn add_up(k: Counts) -> Totals
+    requires { ⌜ k .n ≤ maxLines ⌝ }
+    ensures { λ r. ⌜ Totaled k r ⌝ }
 {
-    let lines = (1 <= n) & (n as usize <= Server::LINES);
-    if lines & (initial as usize <= Server::INITIAL) & (len as usize <= Server::ITEMS) {
-        let m = n as usize;
-        let most = initial as u32 + lines_sound::sum(m, inserts);
-        return (len as u32 <= most)
-            & endpoint::zero_from(items, len as usize)
-            & lines_sound::places_sound(n, made, taken, acked, inserts, lines_sound::sum(m, taken))
-            & lines_sound::slots_sound(n, made, acked, places, slots);
+    let n = k.n as usize;
+    let mut taken = 0u32;
+    let mut inserts = 0u32;
+    for i in 0..n {
+        let v = k.lines[i];
+        taken += v.taken as u32;
+        inserts += v.inserts as u32;
+    }
+    Totals { taken, inserts }
+}
+
+// The lines in use, which are the first n, where all of them took so many edits.
+fn used_sound(k: Counts, words: &[u32], taken: u32) -> bool
+    requires { ⌜ (k .n ≤ maxLines) × Sizes k (now words) ⌝ }
+    ensures { λ r. ⌜ r ≡ allFrom (soundAt k taken (now (words .entry))) 0 (k .n) ⌝ }
+{
+    let mut well = true;
+    let mut line = 0;
+    while line < k.n {
+        let v = k.lines[line as usize];
+        let from = Server::ITEMS + pending::WORDS * line as usize;
+        let to = from + pending::WORDS;
+        line += 1;
+        let others = v.made as u32 + v.taken as u32 == taken;
+        well = well & others & line_sound::is_sound(v.taken, v, &words[from..to], k.n, line, false);
+    }
+    well
+}
+
+// The other lines.
+fn unused_empty(k: Counts, words: &[u32]) -> bool
+    requires { ⌜ (k .n ≤ maxLines) × Sizes k (now words) ⌝ }
+    ensures { λ r. ⌜ r ≡ allFrom (emptyAt k (now (words .entry))) (k .n) (maxLines - k .n) ⌝ }
+{
+    let mut well = true;
+    let n = k.n as usize;
+    for i in n..Server::LINES {
+        let v = k.lines[i];
+        let from = Server::ITEMS + pending::WORDS * i;
+        let to = from + pending::WORDS;
+        well = well & line_sound::is_empty(v, &words[from..to]);
+    }
+    well
+}
+
+// Every test is made whatever the others find.
+fn is_sound(k: Counts, words: &[u32]) -> bool
+    requires { ⌜ Sizes k (now words) ⌝ }
+    ensures answer { λ r. ⌜ r ≡ sound (serverOf k (now (words .entry))) ⌝ }
+    ensures facts { λ r. ⌜ (r ≡ true → Sound (serverOf k (now (words .entry)))) ⌝ }
+{
+    let lines = (1 <= k.n) & (k.n as usize <= Server::LINES);
+    if lines & (k.initial as usize <= Server::INITIAL) & (k.len as usize <= Server::ITEMS) {
+        let all = add_up(k);
+        let few = k.len as u32 <= k.initial as u32 + all.inserts;
+        let unused = list::zero_from(&words[0..Server::ITEMS], k.len as usize);
+        return few & unused & used_sound(k, words, all.taken) & unused_empty(k, words);
     }
     false
 }
 
 // ---- opening
 
-// An end over whose lines nothing has come.
-fn fresh(n: u8, len: u16, items: [u32; 512]) -> Server
-    ensures { λ r. ⌜ r ≡ fresh n len items ⌝ }
+// Question 1, and the server in words that are zero. Refused, they stay zero, and so are the numbers.
+pub fn open_lent(n: u8, items: &[u32], words: &mut [u32]) -> Changed
+    requires { ⌜ now words ≡ replicate size 0 ⌝ }
+    ensures { λ r. ⌜ answerOf r (now (words .exit)) ≡ opened n (now (items .entry)) ⌝ }
 {
-    Server {
-        n,
-        initial: len,
-        len,
-        items,
-        made: [0; 8],
-        taken: [0; 8],
-        acked: [0; 8],
-        inserts: [0; 8],
-        pending_places: [0; 512],
-        pending_items: [0; 512],
+    let none = Line {
+        made: 0,
+        taken: 0,
+        acked: 0,
+        inserts: 0,
+    };
+    let lines = [none; Server::LINES];
+    let right = (1 <= n) & (n as usize <= Server::LINES);
+    if right & (items.len() <= Server::INITIAL) {
+        list::initial(items, &mut words[0..Server::ITEMS]);
+        let len = items.len() as u16;
+        let counts = Counts {
+            n,
+            initial: len,
+            len,
+            lines,
+        };
+        return Changed {
+            refusal: 0,
+            passed: 0,
+            counts,
+        };
     }
+    let zero = Counts {
+        n: 0,
+        initial: 0,
+        len: 0,
+        lines,
+    };
+    refused(1, zero)
 }
 
 impl Server {
-    // The limits, by name.
-    pub const LINES: usize = 8;
+    // The limits of the server, by name.
+    pub const LINES: usize = limits::LINES as usize;
 
-    pub const INSERTS: u16 = Counts::INSERTS;
+    pub const INSERTS: u16 = limits::INSERTS;
 
-    pub const EDITS: u16 = Counts::EDITS;
+    pub const EDITS: u16 = limits::EDITS;
 
-    pub const PENDING: u16 = Counts::PENDING;
+    pub const PENDING: usize = limits::PENDING;
 
-    pub const ITEMS: usize = 512;
+    pub const ITEMS: usize = limits::ITEMS;
 
-    pub const INITIAL: usize = 128;
+    pub const INITIAL: usize = limits::INITIAL;
 
-    // Question 1. Opening is handed no end; refused, it returns one that is all zeros.
+    // The words of the server.
+    pub const WORDS: usize = 1536;
+
+    // A server of n lines, with the initial list. Refused, it is all zeros.
     pub fn open(n: u8, items: &[u32]) -> Answer
         ensures { λ r. ⌜ r ≡ opened n (now (items .entry)) ⌝ }
     {
-        let fits = (1 <= n) & (n as usize <= Server::LINES) & (items.len() <= Server::INITIAL);
-        if fits {
-            let server = fresh(n, items.len() as u16, endpoint::initial(items));
-            return Answer {
-                refusal: 0,
-                passed: 0,
-                server,
-            };
-        }
-        let server = fresh(0, 0, [0; 512]);
-        Answer {
-            refusal: 1,
-            passed: 0,
-            server,
-        }
-    }
-
-    // The small part of an end: what functions that are lent its arrays get beside them.
-    pub fn counts(self) -> Counts
-        ensures { λ r. ⌜ r ≡ countsOf self ⌝ }
-    {
-        let made = self.made;
-        let taken = self.taken;
-        let acked = self.acked;
-        let inserts = self.inserts;
-        Counts {
-            n: self.n,
-            initial: self.initial,
-            len: self.len,
-            made,
-            taken,
-            acked,
-            inserts,
-        }
-    }
-
-    // The server of its small part and its arrays.
-    pub fn of(k: Counts, items: [u32; 512], places: [u32; 512], pending: [u32; 512]) -> Server
-        ensures { λ r. ⌜ r ≡ serverOf k items places pending ⌝ }
-    {
-        let made = k.made;
-        let taken = k.taken;
-        let acked = k.acked;
-        let inserts = k.inserts;
-        Server {
-            n: k.n,
-            initial: k.initial,
-            len: k.len,
-            items,
-            made,
-            taken,
-            acked,
-            inserts,
-            pending_places: places,
-            pending_items: pending,
-        }
+        let mut words = [0u32; Server::WORDS];
+        let a = open_lent(n, items, &mut words);
+        joined(a, words)
     }
 }

@@ -1,120 +1,70 @@
-// Sending: a pending edit, or an acknowledgement. The end's arrays are lent, since an end by value is copied at each call.
+// Sending, which changes no end: a pending edit of a line in its present form, or an acknowledgement of what was taken there.
 ghost use mathlib.Core.Path.{_≡_};
-ghost use Rattle.endpoint.specs.Sending.{answered as sentAs};
-ghost use Rattle.server.specs.View.{serverOf};
-ghost use Rattle.server.specs.Sound.{Sizes};
-ghost use Rattle.server.specs.Calls.{sends, tells};
+ghost use Rattle.line.specs.Sending.{answered};
+ghost use Rattle.server.specs.View.{serverOf, Sizes};
+ghost use Rattle.server.specs.Answers.{sentEdit, sentAck};
+use crate::Counts;
 use crate::Server;
-use crate::is_sound;
-use endpoint::Sent;
-use lines::Counts;
-use lines::sending;
+use line::sending::Sent;
+use line::sending::ask_number;
+use line::sending::finish;
+use line::sending::message;
+use line::sending::refused;
+use wire::Message;
 
-// Number n of the pending edits of a line, in its present form.
-pub fn send_lent<'a>(
-    k: Counts,
-    items: &'a [u32],
-    places: &'a [u32],
-    pending: &'a [u32],
-    line: u8,
-    n: u16,
-    out: &mut [u8],
-) -> Sent
-    requires { ⌜ Sizes k (now items) (now places) (now pending) ⌝ }
-    ensures { λ r. ⌜ sentAs r (now (out .exit)) ≡ sends (serverOf k (now (items .entry)) (now (places .entry)) (now (pending .entry))) line n (now (out .entry)) ⌝ }
+// Writes the message of the pending edit of that number, unless a question says no.
+pub fn send(k: Counts, words: &[u32], line: u8, number: u16, out: &mut [u8]) -> Sent
+    requires { ⌜ Sizes k (now words) ⌝ }
+    ensures { λ r. ⌜ answered r (now (out .exit)) ≡ sentEdit (serverOf k (now (words .entry))) line number (now (out .entry)) ⌝ }
 {
-    if is_sound(
-        k.n,
-        k.initial,
-        k.len,
-        &k.made,
-        &k.taken,
-        &k.acked,
-        &k.inserts,
-        items,
-        places,
-        pending,
-    ) {
-        let refusal = sending::ask_send(k.n, &k.made, &k.acked, line, n);
-        if refusal == 0 {
-            let m = sending::message(&k.taken, &k.acked, places, pending, line, n);
-            return endpoint::finish(0, m, out);
+    if crate::is_sound(k, words) {
+        if (line < 1) | (k.n < line) {
+            return refused(4);
         }
-        return Sent {
-            refusal,
-            written: 0,
-        };
+        let at = (line - 1) as usize;
+        let v = k.lines[at];
+        let refusal = ask_number(v, number);
+        if refusal != 0 {
+            return refused(refusal);
+        }
+        let from = Server::ITEMS + pending::WORDS * at;
+        let to = from + pending::WORDS;
+        let m = message(line, 1, v, &words[from..to], number);
+        return finish(m, out);
     }
-    Sent {
-        refusal: 2,
-        written: 0,
-    }
+    refused(2)
 }
 
-// An acknowledgement of what was taken on a line.
-pub fn tell_lent<'a>(
-    k: Counts,
-    items: &'a [u32],
-    places: &'a [u32],
-    pending: &'a [u32],
-    line: u8,
-    out: &mut [u8],
-) -> Sent
-    requires { ⌜ Sizes k (now items) (now places) (now pending) ⌝ }
-    ensures { λ r. ⌜ sentAs r (now (out .exit)) ≡ tells (serverOf k (now (items .entry)) (now (places .entry)) (now (pending .entry))) line (now (out .entry)) ⌝ }
+// Writes an acknowledgement of the edits taken on a line, unless a question says no.
+pub fn tell(k: Counts, words: &[u32], line: u8, out: &mut [u8]) -> Sent
+    requires { ⌜ Sizes k (now words) ⌝ }
+    ensures { λ r. ⌜ answered r (now (out .exit)) ≡ sentAck (serverOf k (now (words .entry))) line (now (out .entry)) ⌝ }
 {
-    if is_sound(
-        k.n,
-        k.initial,
-        k.len,
-        &k.made,
-        &k.taken,
-        &k.acked,
-        &k.inserts,
-        items,
-        places,
-        pending,
-    ) {
-        if (1 <= line) & (line <= k.n) {
-            return endpoint::finish(0, sending::told(&k.taken, line), out);
+    if crate::is_sound(k, words) {
+        if (line < 1) | (k.n < line) {
+            return refused(4);
         }
-        return Sent {
-            refusal: 4,
-            written: 0,
-        };
+        let at = (line - 1) as usize;
+        let v = k.lines[at];
+        return finish(Message::Ack(line, 1, v.taken), out);
     }
-    Sent {
-        refusal: 2,
-        written: 0,
-    }
+    refused(2)
 }
 
-// The same of an end by value.
 impl Server {
-    pub fn send(self, line: u8, k: u16, out: &mut [u8]) -> Sent
-        ensures { λ r. ⌜ sentAs r (now (out .exit)) ≡ sends self line k (now (out .entry)) ⌝ }
+    // Writes the message of a pending edit into the lent buffer.
+    pub fn send(self, line: u8, number: u16, out: &mut [u8]) -> Sent
+        ensures { λ r. ⌜ answered r (now (out .exit)) ≡ sentEdit self line number (now (out .entry)) ⌝ }
     {
-        send_lent(
-            self.counts(),
-            &self.items,
-            &self.pending_places,
-            &self.pending_items,
-            line,
-            k,
-            out,
-        )
+        let counts = self.counts;
+        send(counts, &self.words, line, number, out)
     }
 
+    // Writes an acknowledgement of all edits taken on a line into the lent buffer.
     pub fn tell(self, line: u8, out: &mut [u8]) -> Sent
-        ensures { λ r. ⌜ sentAs r (now (out .exit)) ≡ tells self line (now (out .entry)) ⌝ }
+        ensures { λ r. ⌜ answered r (now (out .exit)) ≡ sentAck self line (now (out .entry)) ⌝ }
     {
-        tell_lent(
-            self.counts(),
-            &self.items,
-            &self.pending_places,
-            &self.pending_items,
-            line,
-            out,
-        )
+        let counts = self.counts;
+        tell(counts, &self.words, line, out)
     }
 }

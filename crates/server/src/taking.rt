@@ -1,98 +1,189 @@
 // Taking: a message of a client, an edit or an acknowledgement.
 ghost use mathlib.Core.Path.{_≡_};
-ghost use Rattle.server.specs.View.{serverOf};
-ghost use Rattle.server.specs.Sound.{Sizes};
-ghost use Rattle.server.specs.Calls.{unchanged, answerOf, takes};
+ghost use mathlib.Core.Bool.{true};
+ghost use Prim.Native.Nat.{_-_, _<_, _≤_};
+ghost use Rattle.limits.specs.Limits.{maxItems, maxLines};
+ghost use Rattle.ot.specs.Form.{positionOf};
+ghost use Rattle.ot.specs.Edit.{edit, itemOf};
+ghost use Rattle.wire.specs.Message.{inRange};
+ghost use Rattle.model.specs.Questions.{asks};
+ghost use Rattle.pending.specs.Slots.{allFrom};
+ghost use Rattle.line.specs.Taking.{zeros};
+ghost use Rattle.server.specs.View.{serverOf, Sound, Sizes};
+ghost use Rattle.server.specs.Answers.{taken, takenMessage, answerOf};
+ghost use Rattle.server.specs.Taking.{isOwn, upTo, roomyAt, lastAsked, Decided, KeptBy};
 use crate::Answer;
+use crate::Changed;
+use crate::Counts;
 use crate::Server;
-use crate::is_sound;
-use lines::Counts;
-use lines::taking;
+use line::Line;
+use line::taking::Arrival;
+use line::taking::Decision;
+use line::taking::accept;
+use line::taking::refusing;
+use line::taking::split;
+use ot::Form;
+use wire::Message;
 use wire::Read;
 
-// What taking answers where the arrays are lent: 0 or the number of the question that said no, how many pending edits an edit was
-// transformed past, and the counts as they are now.
-pub struct Changed {
-    pub refusal: u8,
-    pub passed: u16,
-    pub counts: Counts,
-}
+// ---- the questions
 
-// The number of the question that said no, with the counts as handed in.
-fn refused(refusal: u8, k: Counts) -> Changed
-    ensures { λ r. ⌜ r ≡ unchanged refusal k ⌝ }
+// An insert that comes up a line has the line's priority.
+fn is_own(line: u8, f: Form) -> bool
+    ensures { λ r. ⌜ r ≡ isOwn line f ⌝ }
 {
-    Changed {
-        refusal,
-        passed: 0,
-        counts: k,
+    match f {
+        Form::Nothing => true,
+        Form::Delete(_) => true,
+        Form::Insert(_, r) => line == r,
     }
 }
 
-// Bytes that a client sent: exactly one message. The end's arrays are lent and written in place, since an end by value is copied at
-// each call; a refusal writes nothing.
-pub fn take_lent(
-    mut k: Counts,
-    items: &mut [u32; 512],
-    places: &mut [u32; 512],
-    pending: &mut [u32; 512],
-    bytes: &[u8],
-) -> Changed
-    requires { ⌜ Sizes k (now items) (now places) (now pending) ⌝ }
-    ensures { λ r. ⌜ answerOf r (now (items .exit)) (now (places .exit)) (now (pending .exit)) ≡ takes (serverOf k (now (items .entry)) (now (places .entry)) (now (pending .entry))) (now (bytes .entry)) ⌝ }
+// Question 4.
+fn comes_up(n: u8, a: Arrival) -> bool
+    ensures { λ r. ⌜ r ≡ upTo n a ⌝ }
 {
-    if is_sound(
-        k.n,
-        k.initial,
-        k.len,
-        &k.made,
-        &k.taken,
-        &k.acked,
-        &k.inserts,
-        items,
-        places,
-        pending,
-    ) {
-        let Read::Message(m) = reading::parse(bytes) else {
-            return refused(3, k);
-        };
-        let mut later = [0u32; 64];
-        let d = arrivals::decide(k, places, pending, m, &mut later);
-        if d.refusal == 0 {
-            let i = d.at;
-            let e = d.edit;
-            arrivals::write_slots(k, places, pending, d, &later);
-            k.len = list::apply(items, k.len, e);
-            taking::raise(&mut k.made, d.others, i);
-            k.taken[i] = d.taken;
-            k.acked[i] = d.acked;
-            k.inserts[i] = d.inserts;
-            return Changed {
-                refusal: 0,
-                passed: d.passed,
-                counts: k,
-            };
+    let f = a.form;
+    (a.direction == 0) & ((1 <= a.line) & (a.line <= n)) & is_own(a.line, f)
+}
+
+// Has every line in use but the one at a place, counted from 0, room for one more pending edit?
+fn others_roomy(k: Counts, at: usize) -> bool
+    requires { ⌜ k .n ≤ maxLines ⌝ }
+    ensures { λ r. ⌜ r ≡ allFrom (roomyAt k at) 0 (k .n) ⌝ }
+{
+    let mut roomy = true;
+    let n = k.n as usize;
+    for i in 0..n {
+        let v = k.lines[i];
+        roomy = roomy & ((i == at) | v.has_room());
+    }
+    roomy
+}
+
+// Questions 10 and 12, with the inserts that the line's client then has.
+fn ask_last(k: Counts, at: usize, inserts: u16) -> u8
+    requires { ⌜ k .n ≤ maxLines ⌝ }
+    ensures { λ r. ⌜ r ≡ asks (lastAsked k at inserts) ⌝ }
+{
+    if Server::INSERTS < inserts {
+        return 10;
+    }
+    if others_roomy(k, at) {
+        return 0;
+    }
+    12
+}
+
+// ---- the decision
+
+// What a message makes of its line: questions 4 to 10 and 12.
+fn decide(k: Counts, words: &[u32], a: Arrival, later: &mut [u32; Server::PENDING]) -> Decision
+    requires { ⌜ ((positionOf (a .form) ≤ maxItems) × Sizes k (now words)) × (Sound (serverOf k (now words)) × (now later ≡ zeros)) ⌝ }
+    ensures { λ r. ⌜ Decided k (now (words .entry)) a r (now (later .exit)) ⌝ }
+{
+    if comes_up(k.n, a) {
+        let at = (a.line - 1) as usize;
+        let v = k.lines[at];
+        let from = Server::ITEMS + pending::WORDS * at;
+        let to = from + pending::WORDS;
+        let f = a.form;
+        let inserts = v.inserts + line::inserts_of(f);
+        let d = line::taking::decide(v, &words[from..to], k.len, inserts, a, later);
+        if d.refusal != 0 {
+            return d;
         }
-        return refused(d.refusal, k);
+        if a.carries {
+            let refusal = ask_last(k, at, inserts);
+            if refusal != 0 {
+                return refusing(refusal, v);
+            }
+        }
+        return d;
     }
-    refused(2, k)
+    let none = Line {
+        made: 0,
+        taken: 0,
+        acked: 0,
+        inserts: 0,
+    };
+    refusing(4, none)
+}
+
+// ---- what is written
+
+// Every line in use but the one at a place keeps one more edit, of form f and item x.
+fn keep_others(k: Counts, words: &mut [u32], at: usize, f: Form, x: u32) -> Counts
+    requires { ⌜ (Sizes k (now words) × (at < maxLines)) × ((allFrom (roomyAt k at) 0 (k .n) ≡ true) × (Sound (serverOf k (now words)) × (x ≡ itemOf (edit f x)))) ⌝ }
+    ensures { λ r. ⌜ KeptBy (k .n) at (edit f x) k (now (words .entry)) r (now (words .exit)) ⌝ }
+{
+    let mut counts = k;
+    let n = k.n as usize;
+    for i in 0..n {
+        if i == at {
+            continue;
+        }
+        let v = k.lines[i];
+        let from = Server::ITEMS + pending::WORDS * i;
+        let to = from + pending::WORDS;
+        line::keep(&mut words[from..to], v, f, x);
+        counts.lines[i] = v.kept(v.inserts);
+    }
+    counts
+}
+
+// Takes a message that was read, at a server that question 2 found sound: the decision, then what an accepted message changes.
+fn take_message(k: Counts, words: &mut [u32], m: Message) -> Changed
+    requires { ⌜ (inRange m ≡ true) × (Sizes k (now words) × Sound (serverOf k (now words))) ⌝ }
+    ensures { λ r. ⌜ answerOf r (now (words .exit)) ≡ takenMessage (serverOf k (now (words .entry))) m ⌝ }
+{
+    let a = split(m);
+    let mut later = [0u32; Server::PENDING];
+    let d = decide(k, words, a, &mut later);
+    if d.refusal != 0 {
+        return crate::refused(d.refusal, k);
+    }
+    let at = (a.line - 1) as usize;
+    let f = d.form;
+    let mut counts = k;
+    if a.carries {
+        counts = keep_others(k, words, at, f, a.item);
+    }
+    let from = Server::ITEMS + pending::WORDS * at;
+    let to = from + pending::WORDS;
+    accept(&mut words[from..to], k.lines[at], a.seen, &later);
+    counts.len = list::apply(&mut words[0..Server::ITEMS], k.len, f, a.item);
+    let v = d.line;
+    counts.lines[at] = v;
+    Changed {
+        refusal: 0,
+        passed: d.passed,
+        counts,
+    }
+}
+
+// Takes one message, in place.
+pub fn take(k: Counts, words: &mut [u32], bytes: &[u8]) -> Changed
+    requires { ⌜ Sizes k (now words) ⌝ }
+    ensures { λ r. ⌜ answerOf r (now (words .exit)) ≡ taken (serverOf k (now (words .entry))) (now (bytes .entry)) ⌝ }
+{
+    if crate::is_sound(k, words) {
+        let Read::Message(m) = wire_read::parse(bytes) else {
+            return crate::refused(3, k);
+        };
+        return take_message(k, words, m);
+    }
+    crate::refused(2, k)
 }
 
 impl Server {
-    // The same of an end by value.
+    // Takes one message.
     pub fn take(self, bytes: &[u8]) -> Answer
-        ensures { λ r. ⌜ r ≡ takes self (now (bytes .entry)) ⌝ }
+        ensures { λ r. ⌜ r ≡ taken self (now (bytes .entry)) ⌝ }
     {
-        let mut items = self.items;
-        let mut places = self.pending_places;
-        let mut pending = self.pending_items;
-        let a = take_lent(self.counts(), &mut items, &mut places, &mut pending, bytes);
-        let k = a.counts;
-        let server = Server::of(k, items, places, pending);
-        Answer {
-            server,
-            refusal: a.refusal,
-            passed: a.passed,
-        }
+        let counts = self.counts;
+        let mut words = self.words;
+        let a = take(counts, &mut words, bytes);
+        crate::joined(a, words)
     }
 }

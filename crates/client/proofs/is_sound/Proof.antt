@@ -1,36 +1,64 @@
-use borrow.Author.Needs.{needs}
-use Rattle.client.specs.Store.{countsOf, clientOf}
+-- `is_sound` meets its contract: the tests that it makes are question 2 (proofs/Sound.antt).
+use Rattle.client.specs.View.{clientOf}
 use Rattle.client.proofs.Sound.{answers}
+use borrow.Author.Needs.{needs}
 use Rattle.client.proofs.is_sound.Statement.{statement}
 use Rattle.client.proofs.is_sound.Tie as tie
 
-less-requires : tie.Need-less-requires
-less-requires c κs = search needs
+abbrev start : tie.After-struct-known2 → tie.Start
+start c = c .before .before .before .before
 
-cast-count : tie.Need-cast-count
-cast-count c = search needs
+abbrev counted : tie.After-zero-from → tie.After-struct-known2
+counted c = c .before .before .before .before .before .before .before
 
-counts-sound-requires : tie.Need-counts-sound-requires
-counts-sound-requires c κs = search needs
+cast-counts : tie.Need-cast-counts
+cast-counts c = search needs
+
+sub-zero-from : tie.Need-sub-zero-from
+sub-zero-from c = search needs
+
+part-zero-from-start : tie.Need-part-zero-from-start
+part-zero-from-start c = search needs
+
+part-zero-from-end : tie.Need-part-zero-from-end
+part-zero-from-end c = search needs
+
+cast-zero-from : tie.Need-cast-zero-from
+cast-zero-from c = search needs
 
 zero-from-requires : tie.Need-zero-from-requires
 zero-from-requires c κs = search needs
 
-sound-requires : tie.Need-sound-requires
-sound-requires c κs = search needs
+sub-slots : tie.Need-sub-slots
+sub-slots c = search needs
+
+part-slots-start : tie.Need-part-slots-start
+part-slots-start c = search needs
+
+part-slots-end : tie.Need-part-slots-end
+part-slots-end c = search needs
+
+is-sound-requires : tie.Need-is-sound-requires
+is-sound-requires c κs = search needs
 
 returns : tie.Need-returns
 returns c =
-    let s = c .before .before .before .before .before .before .before in
-    answers (clientOf (countsOf (s .args .n) (s .args .line) (s .args .made) (s .args .taken) (s .args .acked) (s .args .inserts) (s .args .len)) (s .args .items .now) (s .args .places .now) (s .args .pending .now)) (s .pre) (c .before .before .before .less .result) (c .before .before .counts-sound .result) (c .before .zero-from .result) (c .sound .result) (c .before .before .before .less .ensures) (c .before .before .counts-sound .ensures) (c .before .zero-from .ensures) (c .sound .ensures .answer)
+    let z = c .before .before in
+    let s = start (counted z) in
+    answers (clientOf (s .args .k) (s .args .words .now)) (s .pre) (z .zero-from .result) (c .is-sound .result) (z .zero-from .ensures) (c .is-sound .ensures .0)
 
 pub is-sound-spec : {M : Type 1} → statement M
 is-sound-spec =
     tie.close
     (tie.spec
-    less-requires
-    cast-count
-    counts-sound-requires
+    cast-counts
+    sub-zero-from
+    part-zero-from-start
+    part-zero-from-end
+    cast-zero-from
     zero-from-requires
-    sound-requires
+    sub-slots
+    part-slots-start
+    part-slots-end
+    is-sound-requires
     returns)

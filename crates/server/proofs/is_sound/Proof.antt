@@ -1,55 +1,95 @@
 use borrow.Author.Needs.{needs}
-use native.Mathlib.Omega.{arith}
-use mathlib.Core.Path.{ap, sym, _∙_}
-use Prim.Native.Nat.{ℕ, _+_}
+use Prim.Native.Nat.{_≤_}
 use denote.Ref.{now}
-use Rattle.lines.specs.Lines.{counts}
-use Rattle.server.specs.View.{serverOf}
-use Rattle.server.specs.Sound.{Sized}
-use Rattle.lines.proofs.Writing.{never}
-use Rattle.server.proofs.Whole.{limits-few, sound-no, sound-yes, struct-whole}
-use borrow.Author.Needs.{needs}
+use Rattle.server.proofs.Whole.{limits-few, sound-no, sound-yes, both-told}
 use Rattle.server.proofs.is_sound.Statement.{statement}
 use Rattle.server.proofs.is_sound.Tie as tie
 
-sum-requires : tie.Need-sum-requires
-sum-requires c κs = (limits-few (c .before .before .before .before .before .before .before .before .args .n) (c .before .before .before .before .before .before .before .before .args .initial) (c .before .before .before .before .before .before .before .before .args .len) (c .if1 .taken), c .before .before .before .before .before .before .before .before .pre .sized .inserts)
+-- the call, where the limits hold; and where the items were looked at
+abbrev start : tie.Then1 → tie.Start
+start c = c .before .before .before .before .before .before
 
-add-most : tie.Need-add-most
-add-most c = omega (arith, c .sum .ensures .1)
+abbrev limits : tie.After-zero-from → tie.Then1
+limits c = c .before .before .before .before .before .before .before
+
+few : (c : tie.Then1) → start c .args .k .n ≤ 8
+few c = let k = start c .args .k in limits-few (k .n) (k .initial) (k .len) (c .if1 .taken)
+
+cast-lines : tie.Need-cast-lines
+cast-lines c = search needs
+
+cast-if1 : tie.Need-cast-if1
+cast-if1 c = search needs
+
+cast-if1-2 : tie.Need-cast-if1-2
+cast-if1-2 c = search needs
+
+add-up-requires : tie.Need-add-up-requires
+add-up-requires c κs = few c
+
+cast-few : tie.Need-cast-few
+cast-few c = search needs
+
+cast-few-2 : tie.Need-cast-few-2
+cast-few-2 c = search needs
+
+add-few : tie.Need-add-few
+add-few c = search needs
+
+sub-zero-from : tie.Need-sub-zero-from
+sub-zero-from c = search needs
+
+part-zero-from-start : tie.Need-part-zero-from-start
+part-zero-from-start c = search needs
+
+part-zero-from-end : tie.Need-part-zero-from-end
+part-zero-from-end c = search needs
+
+cast-zero-from : tie.Need-cast-zero-from
+cast-zero-from c = search needs
 
 zero-from-requires : tie.Need-zero-from-requires
 zero-from-requires c κs = search needs
 
-sum-requires-2 : tie.Need-sum-requires-2
-sum-requires-2 c κs = (limits-few (c .before .before .before .before .before .before .before .before .before .before .args .n) (c .before .before .before .before .before .before .before .before .before .before .args .initial) (c .before .before .before .before .before .before .before .before .before .before .args .len) (c .before .before .if1 .taken), c .before .before .before .before .before .before .before .before .before .before .pre .sized .taken)
+used-sound-requires : tie.Need-used-sound-requires
+used-sound-requires c κs = let t = limits c in (few t, start t .pre)
 
-places-sound-requires : tie.Need-places-sound-requires
-places-sound-requires c κs =
-    let s = c .before .before .before .before .before .before .before .before .before .before .before in
-    let l = s .pre .sized in
-    (limits-few (s .args .n) (s .args .initial) (s .args .len) (c .before .before .before .if1 .taken), (l .made, (l .taken, (l .acked, l .inserts))))
-
-slots-sound-requires : tie.Need-slots-sound-requires
-slots-sound-requires c κs = ((c .before .before .before .before .before .before .before .before .before .before .before .before .pre .sized .made, c .before .before .before .before .before .before .before .before .before .before .before .before .pre .sized .acked), (omega (arith, c .before .before .before .before .before .before .before .before .before .before .before .before .pre .sized .places), omega (arith, c .before .before .before .before .before .before .before .before .before .before .before .before .pre .sized .items)))
+unused-empty-requires : tie.Need-unused-empty-requires
+unused-empty-requires c κs = let t = limits (c .before) in (few t, start t .pre)
 
 returns : tie.Need-returns
-returns c = let z : Sized (serverOf (counts (c .before .before .before .before .before .before .before .before .before .before .before .before .before .args .n) (c .before .before .before .before .before .before .before .before .before .before .before .before .before .args .initial) (c .before .before .before .before .before .before .before .before .before .before .before .before .before .args .len) (now (c .before .before .before .before .before .before .before .before .before .before .before .before .before .args .made)) (now (c .before .before .before .before .before .before .before .before .before .before .before .before .before .args .taken)) (now (c .before .before .before .before .before .before .before .before .before .before .before .before .before .args .acked)) (now (c .before .before .before .before .before .before .before .before .before .before .before .before .before .args .inserts))) (now (c .before .before .before .before .before .before .before .before .before .before .before .before .before .args .items)) (now (c .before .before .before .before .before .before .before .before .before .before .before .before .before .args .places)) (now (c .before .before .before .before .before .before .before .before .before .before .before .before .before .args .slots))) = c .before .before .before .before .before .before .before .before .before .before .before .before .before .pre .sized in
-    let e = sound-yes (serverOf (counts (c .before .before .before .before .before .before .before .before .before .before .before .before .before .args .n) (c .before .before .before .before .before .before .before .before .before .before .before .before .before .args .initial) (c .before .before .before .before .before .before .before .before .before .before .before .before .before .args .len) (now (c .before .before .before .before .before .before .before .before .before .before .before .before .before .args .made)) (now (c .before .before .before .before .before .before .before .before .before .before .before .before .before .args .taken)) (now (c .before .before .before .before .before .before .before .before .before .before .before .before .before .args .acked)) (now (c .before .before .before .before .before .before .before .before .before .before .before .before .before .args .inserts))) (now (c .before .before .before .before .before .before .before .before .before .before .before .before .before .args .items)) (now (c .before .before .before .before .before .before .before .before .before .before .before .before .before .args .places)) (now (c .before .before .before .before .before .before .before .before .before .before .before .before .before .args .slots))) (c .before .before .before .before .before .before .before .before .before .before .before .before .before .pre .list) (c .before .before .before .before .before .before .before .before .before .before .before .before .before .args .initial + c .before .before .before .before .sum .result) (c .before .before .sum2 .result) (c .before .before .before .zero-from .result) (c .before .places-sound .result) (c .slots-sound .result) (c .before .before .before .before .before .if1 .taken) (ap (λ (n : ℕ). c .before .before .before .before .before .before .before .before .before .before .before .before .before .args .initial + n) (c .before .before .before .before .sum .ensures .0)) (c .before .before .sum2 .ensures .0) (c .before .before .before .zero-from .ensures) (c .before .places-sound .ensures) (c .slots-sound .ensures) in
-    (e, λ y. struct-whole (serverOf (counts (c .before .before .before .before .before .before .before .before .before .before .before .before .before .args .n) (c .before .before .before .before .before .before .before .before .before .before .before .before .before .args .initial) (c .before .before .before .before .before .before .before .before .before .before .before .before .before .args .len) (now (c .before .before .before .before .before .before .before .before .before .before .before .before .before .args .made)) (now (c .before .before .before .before .before .before .before .before .before .before .before .before .before .args .taken)) (now (c .before .before .before .before .before .before .before .before .before .before .before .before .before .args .acked)) (now (c .before .before .before .before .before .before .before .before .before .before .before .before .before .args .inserts))) (now (c .before .before .before .before .before .before .before .before .before .before .before .before .before .args .items)) (now (c .before .before .before .before .before .before .before .before .before .before .before .before .before .args .places)) (now (c .before .before .before .before .before .before .before .before .before .before .before .before .before .args .slots))) (c .before .before .before .before .before .before .before .before .before .before .before .before .before .pre .list) z (sym e ∙ y))
+returns c =
+    let zero = c .before .before in
+    let t = limits zero in
+    let a = start t .args in
+    let sums = zero .before .before .before .before .before .before .add-up in
+    both-told (a .k) (now (a .words)) (start t .pre) _
+    (sound-yes (a .k) (now (a .words)) (start t .pre) (sums .result .inserts) (sums .result .taken) (zero .zero-from .result) (c .before .used-sound .result)
+    (c .unused-empty .result) (t .if1 .taken) (sums .ensures .inserts) (sums .ensures .taken) (zero .zero-from .ensures)
+    (c .before .used-sound .ensures) (c .unused-empty .ensures))
 
 returns-2 : tie.Need-returns-2
-returns-2 c = (sound-no (serverOf (counts (c .before .before .before .before .before .before .before .before .args .n) (c .before .before .before .before .before .before .before .before .args .initial) (c .before .before .before .before .before .before .before .before .args .len) (now (c .before .before .before .before .before .before .before .before .args .made)) (now (c .before .before .before .before .before .before .before .before .args .taken)) (now (c .before .before .before .before .before .before .before .before .args .acked)) (now (c .before .before .before .before .before .before .before .before .args .inserts))) (now (c .before .before .before .before .before .before .before .before .args .items)) (now (c .before .before .before .before .before .before .before .before .args .places)) (now (c .before .before .before .before .before .before .before .before .args .slots))) (c .before .before .before .before .before .before .before .before .pre .list) (c .if1 .left), never)
+returns-2 c =
+    let s = c .before .before .before .before .before .before in
+    both-told (s .args .k) (now (s .args .words)) (s .pre) _ (sound-no (s .args .k) (now (s .args .words)) (s .pre) (c .if1 .left))
 
 pub is-sound-spec : {M : Type 1} → statement M
 is-sound-spec =
     tie.close
     (tie.spec
-    sum-requires
-    add-most
+    cast-lines
+    cast-if1
+    cast-if1-2
+    add-up-requires
+    cast-few
+    cast-few-2
+    add-few
+    sub-zero-from
+    part-zero-from-start
+    part-zero-from-end
+    cast-zero-from
     zero-from-requires
-    sum-requires-2
-    places-sound-requires
-    slots-sound-requires
+    used-sound-requires
+    unused-empty-requires
     returns
     returns-2)

@@ -1,116 +1,193 @@
-use borrow.Author.Needs.{needs}
-use mathlib.Core.Path.{_≡_, refl, ap, sym, _∙_}
+-- `take_message` meets its contract: refused by question 4, refused by the decision, or accepted and applied (proofs/Takes.antt).
+use native.Mathlib.Omega.{arith}
+use mathlib.Core.Path.{_≡_, refl, ap, sym, _∙_, subst}
+use mathlib.Core.Bool.{true}
 use mathlib.Core.List.{List}
-use Prim.Native.Nat.{ℕ}
-use lib.ListN.{length}
-use Rattle.wire.specs.declared.Message.{Message}
-use Rattle.model.specs.Limits.{maxPending}
-use Rattle.arrival.specs.declared.Decision.{Decision}
+use Prim.Native.Nat.{ℕ, _≤_}
+use Rattle.limits.specs.Limits.{maxItems}
+use Rattle.ot.specs.Form.{positionOf}
+use Rattle.line.specs.declared.taking.Arrival.{Arrival}
+use Rattle.line.proofs.Decisions.{arrival-position}
 use Rattle.client.specs.declared.Client.{Client}
-use Rattle.client.specs.Store.{clientOf, Sound}
-use Rattle.client.proofs.Takes.{decidable, moved, take-refused, take-room, take-later, take-droppable, take-done}
+use Rattle.client.specs.declared.Changed.{Changed}
+use Rattle.client.specs.View.{clientOf, Sound}
+use Rattle.client.specs.Answers.{answerOf}
+use Rattle.client.specs.Taking.{downTo}
+use Rattle.client.proofs.Written.{facts}
+use Rattle.client.proofs.Takes.{Accepted, not-down, refuses, accepts}
+use borrow.Author.Needs.{needs}
 use Rattle.client.proofs.taking.take_message.Statement.{statement}
 use Rattle.client.proofs.taking.take_message.Tie as tie
 
--- the end whose parts these are, and what is known of it
-abbrev whole : tie.Start → Client
-whole c = clientOf (c .args .k) (c .args .items .now) (c .args .places .now) (c .args .pending .now)
+abbrev end : tie.Start → Client
+end s = clientOf (s .args .k) (s .args .words .now)
 
-sound : (c : tie.Start) → Sound (whole c)
-sound c = c .pre .1 .1
+sound : (s : tie.Start) → Sound (end s)
+sound s = s .pre .1 .1
 
--- ---- decided
+-- ---- the message in parts, and question 4
 
-abbrev told : tie.After-decide → tie.Start
-told c = c .before .before .before .before .before .before .before
+abbrev start : tie.After-comes-down → tie.Start
+start c = c .before .before .before
 
-abbrev end : tie.After-decide → Client
-end c = whole (told c)
+abbrev arrival : tie.After-comes-down → Arrival
+arrival c = c .before .split .result
 
-abbrev message : tie.After-decide → Message
-message c = told c .args .m
+abbrev asked : tie.Then1 → tie.After-comes-down
+asked c = c .before
 
-abbrev decision : tie.After-decide → Decision
-decision c = c .decide .result
+down : (c : tie.Then1) → downTo (start (asked c) .args .k) (arrival (asked c)) ≡ true
+down c = sym (asked c .comes-down .ensures) ∙ c .if1 .taken
 
-abbrev kept : tie.After-decide → List ℕ
-kept c = c .decide .last .1 .1 .1 .1 .0
+-- ---- the decision
 
--- ---- and not refused
+abbrev yes : tie.After-decide → tie.Then1
+yes c = c .before .before .before .before .before
 
-kept-length : (c : tie.Else1) → length (kept (c .before .before)) ≡ maxPending
-kept-length c =
-    let a = c .before .before in
-    take-later (end a) (sound (told a)) (message a) (decision a) (kept a) (a .decide .ensures) (c .if1 .left)
+abbrev later : tie.After-decide → List ℕ
+later c = c .decide .last .1 .1 .1 .1 .1 .0
 
--- ---- the needs
+-- ---- it refuses nothing
+
+abbrev decided : tie.Else2 → tie.After-decide
+decided c = c .before .before
+
+accepted : (c : tie.Else2)
+    → let d = decided c in
+    let a = asked (yes d) in
+    Accepted (end (start a)) (start a .args .m) (arrival a) (d .decide .result) (later d)
+accepted c =
+    let d = decided c in
+    let t = yes d in
+    let a = asked t in
+    let s = start a in
+    accepts (end s) (sound s) (s .args .m) (arrival a) (a .before .split .ensures) (down t) (d .decide .result) (later d) (d .decide .ensures) (c .if2 .left) (s .pre .1 .0)
+
+abbrev passed : tie.After-later2 → tie.Else2
+passed c = c .before .before
+
+abbrev accepting : tie.After-apply-arg → tie.After-accept
+accepting c = c .before .before .before
+
+abbrev applying : tie.After-own → tie.After-apply
+applying c = c .before .before .before
+
+split-requires : tie.Need-split-requires
+split-requires c κs = search needs
+
+comes-down-requires : tie.Need-comes-down-requires
+comes-down-requires c κs = search needs
+
+sub-slots : tie.Need-sub-slots
+sub-slots c = search needs
+
+part-slots-start : tie.Need-part-slots-start
+part-slots-start c = search needs
+
+part-slots-end : tie.Need-part-slots-end
+part-slots-end c = search needs
 
 decide-requires : tie.Need-decide-requires
 decide-requires c κs =
-    let s = c .before .before .before .before .before .before in
-    (s .pre .0, decidable (whole s) (sound s) _ refl)
+    let a = asked (c .before .before .before .before) in
+    let s = start a in (
+      (
+        subst (λ (x : Arrival). positionOf (x .form) ≤ maxItems) (sym (a .before .split .ensures)) (arrival-position (s .args .m) (s .pre .0)),
+        omega (arith, facts (end s) (sound s) .taken),
+      ),
+      (sound s .kept, refl),
+    )
+
+refused-requires : tie.Need-refused-requires
+refused-requires c κs = search needs
 
 same-length : tie.Need-same-length
 same-length c = search needs
 
-same-length-2 : tie.Need-same-length-2
-same-length-2 c = search needs
-
 returns : tie.Need-returns
 returns c =
-    let a = c .before .before in
-    take-refused (end a) (sound (told a)) (message a) (decision a) (kept a) (a .decide .ensures) (c .if1 .taken)
+    let d = c .before .before .before in
+    let t = yes d in
+    let a = asked t in
+    let s = start a in
+    ap (λ (q : Changed). answerOf q (s .args .words .now)) (c .refused .ensures)
+    ∙ refuses (end s) (sound s) (s .args .m) (arrival a) (a .before .split .ensures) (down t) (d .decide .result) (later d) (d .decide .ensures) (c .before .if2 .taken)
 
-slice-aggregate-put : tie.Need-slice-aggregate-put
-slice-aggregate-put c = sym (kept-length (c .before .before))
+sub-accept : tie.Need-sub-accept
+sub-accept c = search needs
 
-put-requires : tie.Need-put-requires
-put-requires c κs = (told (c .before .before .before .before) .pre .1 .0 .places-size, kept-length (c .before .before))
+part-accept-start : tie.Need-part-accept-start
+part-accept-start c = search needs
 
-drop-items-requires : tie.Need-drop-items-requires
-drop-items-requires c κs =
-    let a = c .before .before .before .before .before .before .before .before in
-    take-droppable (end a) (sound (told a)) (message a) (decision a) (kept a) (a .decide .ensures) (c .before .before .before .before .before .before .if1 .left)
+part-accept-end : tie.Need-part-accept-end
+part-accept-end c = search needs
+
+slice-aggregate-accept : tie.Need-slice-aggregate-accept
+slice-aggregate-accept c = sym (accepted (passed c) .places)
+
+accept-requires : tie.Need-accept-requires
+accept-requires c κs =
+    let e = passed c in
+    let k = sound (start (asked (yes (decided e)))) .kept in
+    (((omega (arith, accepted e .seen, k .acked), omega (arith, accepted e .seen, k .acked)), accepted e .places), k)
+
+sub-apply : tie.Need-sub-apply
+sub-apply c = search needs
+
+part-apply-start : tie.Need-part-apply-start
+part-apply-start c = search needs
+
+part-apply-end : tie.Need-part-apply-end
+part-apply-end c = search needs
 
 apply-requires : tie.Need-apply-requires
 apply-requires c κs =
-    let a = c .before .before .before .before .before .before .before .before .before .before .before .before in
-    (told a .pre .1 .0 .items-size, take-room (end a) (sound (told a)) (message a) (decision a) (kept a) (a .decide .ensures) (c .before .before .before .before .before .before .before .before .before .before .if1 .left))
+    let p = accepting c in
+    let e = passed (p .before) in
+    (accepted e .list (p .accept .last .0) (p .accept .ensures), accepted e .room)
 
-same-length-3 : tie.Need-same-length-3
-same-length-3 c = search needs
-
-same-length-4 : tie.Need-same-length-4
-same-length-4 c = search needs
-
-same-length-5 : tie.Need-same-length-5
-same-length-5 c = search needs
+same-length-2 : tie.Need-same-length-2
+same-length-2 c = search needs
 
 returns-2 : tie.Need-returns-2
 returns-2 c =
-    let a = c .before .before .before .before .before .before .before .before .before .before .before .before .before .before .before in
-    let d = decision a in
-    let yes = c .before .before .before .before .before .before .before .before .before .before .before .before .before .if1 .left in
-    let len = c .before .before .apply .result in
-    let after = c .before .before .apply .last .0 in
-    let rest = c .before .before .before .before .before .before .drop-items .last .0 in
-    ap (λ (ps : List ℕ). record { refusal = 0; passed = d .passed; client = moved (end a) (d .taken) (d .acked) len after ps rest }) (c .before .before .before .before .before .before .before .before .before .before .put .ensures)
-    ∙ ap (λ (r : ℕ). record { refusal = r; passed = d .passed; client = moved (end a) (d .taken) (d .acked) len after (kept a) rest }) (sym yes)
-    ∙ take-done (end a) (sound (told a)) (message a) d (kept a) (a .decide .ensures) yes len after rest (c .before .before .apply .ensures) (c .before .before .before .before .before .before .drop-items .ensures)
+    let l = applying c in
+    let p = accepting (l .before) in
+    accepted (passed (p .before)) .done (l .apply .result) (p .accept .last .0) (l .apply .last .0) (p .accept .ensures) (l .apply .ensures)
+
+refused-requires-2 : tie.Need-refused-requires-2
+refused-requires-2 c κs = search needs
+
+returns-3 : tie.Need-returns-3
+returns-3 c =
+    let a = c .before .before in
+    let s = start a in
+    ap (λ (q : Changed). answerOf q (s .args .words .now)) (c .refused2 .ensures)
+    ∙ not-down (end s) (sound s) (s .args .m) (arrival a) (a .before .split .ensures) (sym (a .comes-down .ensures) ∙ c .before .if1 .left)
 
 pub take-message-spec : {M : Type 1} → statement M
 take-message-spec =
     tie.close
     (tie.spec
+    split-requires
+    comes-down-requires
+    sub-slots
+    part-slots-start
+    part-slots-end
     decide-requires
+    refused-requires
     same-length
-    same-length-2
     returns
-    slice-aggregate-put
-    put-requires
-    drop-items-requires
+    sub-accept
+    part-accept-start
+    part-accept-end
+    slice-aggregate-accept
+    accept-requires
+    sub-apply
+    part-apply-start
+    part-apply-end
     apply-requires
-    same-length-3
-    same-length-4
-    same-length-5
-    returns-2)
+    same-length-2
+    returns-2
+    refused-requires-2
+    returns-3)

@@ -1,24 +1,16 @@
 use borrow.Author.Needs.{needs}
-use mathlib.Core.Path.{ap, _∙_}
-use Rattle.lines.specs.declared.Counts.{Counts}
-use Rattle.server.specs.View.{serverOf}
-use Rattle.server.specs.Calls.{sends}
+use Rattle.server.proofs.Counted.{counted}
 use Rattle.server.proofs.Server.send.Statement.{statement}
 use Rattle.server.proofs.Server.send.Tie as tie
 
-counts-requires : tie.Need-counts-requires
-counts-requires c κs = search needs
-
-send-lent-requires : tie.Need-send-lent-requires
-send-lent-requires c κs = search needs
+send-requires : tie.Need-send-requires
+send-requires c κs = record { words = search needs; lines = search (needs, counted) }
 
 same-length : tie.Need-same-length
 same-length c = search needs
 
 returns : tie.Need-returns
-returns c = let s = c .before .before .before .before .before .before .before .before .before .before .before .before .before .args .t1 in
-    c .before .before .send-lent .ensures
-    ∙ ap (λ (k : Counts). sends (serverOf k (s .items) (s .«pending_places») (s .«pending_items»)) (c .before .before .before .before .before .before .before .before .before .before .before .before .before .args .line) (c .before .before .before .before .before .before .before .before .before .before .before .before .before .args .k) (c .before .before .before .before .before .before .before .before .before .before .before .before .before .args .out .now)) (c .before .before .before .before .before .before .before .before .before .before .before .counts .ensures)
+returns c = search needs
 
 pub send-spec : {M : Type 1} → statement M
-send-spec = tie.close (tie.spec counts-requires send-lent-requires same-length returns)
+send-spec = tie.close (tie.spec send-requires same-length returns)

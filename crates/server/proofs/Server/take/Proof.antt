@@ -1,30 +1,20 @@
 use borrow.Author.Needs.{needs}
-use mathlib.Core.Path.{ap, _∙_}
-use Rattle.lines.specs.declared.Counts.{Counts}
-use Rattle.server.specs.declared.Answer.{Answer}
-use Rattle.server.specs.declared.Server.{Server}
-use Rattle.server.specs.View.{serverOf}
-use Rattle.server.specs.Calls.{takes}
+use mathlib.Core.Path.{_∙_}
+use Rattle.server.proofs.Counted.{counted}
 use Rattle.server.proofs.Server.take.Statement.{statement}
 use Rattle.server.proofs.Server.take.Tie as tie
 
-counts-requires : tie.Need-counts-requires
-counts-requires c κs = search needs
+slice-aggregate-take : tie.Need-slice-aggregate-take
+slice-aggregate-take c = search needs
 
-take-lent-requires : tie.Need-take-lent-requires
-take-lent-requires c κs = search needs
+take-requires : tie.Need-take-requires
+take-requires c κs = record { words = search needs; lines = search (needs, counted) }
 
-of-requires : tie.Need-of-requires
-of-requires c κs = search needs
+joined-requires : tie.Need-joined-requires
+joined-requires c κs = search needs
 
 returns : tie.Need-returns
-returns c =
-    let t = c .before .before .take-lent in
-    let a = c .before .before .before .before .before .before .before .before .before .before .before .args in
-    let s = a .self in
-    ap {B = Answer} (λ (x : Server). record { server = x; refusal = t .result .refusal; passed = t .result .passed }) (c .of .ensures)
-    ∙ t .ensures
-    ∙ ap (λ (k : Counts). takes (serverOf k (s .items) (s .«pending_places») (s .«pending_items»)) (a .bytes .now)) (c .before .before .before .before .before .before .counts .ensures)
+returns c = c .joined .ensures ∙ c .before .before .take .ensures
 
 pub take-spec : {M : Type 1} → statement M
-take-spec = tie.close (tie.spec counts-requires take-lent-requires of-requires returns)
+take-spec = tie.close (tie.spec slice-aggregate-take take-requires joined-requires returns)

@@ -1,24 +1,16 @@
 use borrow.Author.Needs.{needs}
-use mathlib.Core.Path.{ap, _∙_}
-use Rattle.lines.specs.declared.Counts.{Counts}
-use Rattle.server.specs.View.{serverOf}
-use Rattle.server.specs.Calls.{tells}
+use Rattle.server.proofs.Counted.{counted}
 use Rattle.server.proofs.Server.tell.Statement.{statement}
 use Rattle.server.proofs.Server.tell.Tie as tie
 
-counts-requires : tie.Need-counts-requires
-counts-requires c κs = search needs
-
-tell-lent-requires : tie.Need-tell-lent-requires
-tell-lent-requires c κs = search needs
+tell-requires : tie.Need-tell-requires
+tell-requires c κs = record { words = search needs; lines = search (needs, counted) }
 
 same-length : tie.Need-same-length
 same-length c = search needs
 
 returns : tie.Need-returns
-returns c = let s = c .before .before .before .before .before .before .before .before .before .before .before .before .before .args .t1 in
-    c .before .before .tell-lent .ensures
-    ∙ ap (λ (k : Counts). tells (serverOf k (s .items) (s .«pending_places») (s .«pending_items»)) (c .before .before .before .before .before .before .before .before .before .before .before .before .before .args .line) (c .before .before .before .before .before .before .before .before .before .before .before .before .before .args .out .now)) (c .before .before .before .before .before .before .before .before .before .before .before .counts .ensures)
+returns c = search needs
 
 pub tell-spec : {M : Type 1} → statement M
-tell-spec = tie.close (tie.spec counts-requires tell-lent-requires same-length returns)
+tell-spec = tie.close (tie.spec tell-requires same-length returns)

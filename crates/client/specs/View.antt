@@ -1,0 +1,67 @@
+-- The client's end in numbers and words: the model's client that these are, and back; question 2 of them.
+use Prim.Native.Nat.{ℕ, _-_}
+use mathlib.Core.Path.{_≡_}
+use mathlib.Core.Bool.{Bool, true}
+use mathlib.Core.List.{List, [], _∷_, _++_}
+use lib.Dec.{leb}
+use lib.ListN.{length, take, drop}
+use Rattle.limits.specs.Limits.{maxItems}
+use Rattle.list.specs.Items.{stored, allZero}
+use Rattle.list.specs.Parts.{part}
+use Rattle.model.specs.Questions.{every}
+use Rattle.model.specs.Client as model
+use Rattle.pending.specs.Slots as pending
+use Rattle.line.specs.Line.{lineOf, countsOf, Kept}
+use Rattle.line_sound.specs.Sound.{tidy}
+use Rattle.client.specs.declared.Counts.{Counts}
+use Rattle.client.specs.declared.Client.{Client}
+
+-- the words of a client: 512 items, and the 128 words of its line
+abbrev pub size : ℕ
+size = 640
+
+abbrev pub itemsIn : List ℕ → List ℕ
+itemsIn words = part 0 maxItems words
+
+abbrev pub slotsIn : List ℕ → List ℕ
+slotsIn words = part maxItems pending.size words
+
+abbrev pub clientOf : Counts → List ℕ → Client
+clientOf k words = record { counts = k; words = words }
+
+-- what the struct stands for: its first len items, and the edits in its first slots
+abbrev pub view : Client → model.Client
+view c =
+    record {
+      n = c .counts .n;
+      line = c .counts .line;
+      items = take (c .counts .len) (itemsIn (c .words));
+      own = lineOf (c .counts .own) (slotsIn (c .words));
+    }
+
+-- the one struct for a client: unused places are zero
+abbrev pub counts : model.Client → Counts
+counts m = record { own = countsOf (m .own); len = length (m .items); n = m .n; line = m .line }
+
+abbrev pub store : model.Client → Client
+store m = clientOf (counts m) (stored (m .items) ++ pending.slotsOf (m .own .pending))
+
+-- Question 2: the model's, with what only a struct can break.
+abbrev pub soundTests : Client → List Bool
+soundTests c =
+    model.soundClient (view c)
+    ∷ leb (c .counts .len) maxItems
+    ∷ allZero (drop (c .counts .len) (itemsIn (c .words)))
+    ∷ tidy (c .counts .own .made - c .counts .own .acked) (slotsIn (c .words))
+    ∷ []
+
+unfoldable pub sound : Client → Bool
+sound c = every (soundTests c)
+
+-- What a sound struct is, among it the store of what it stands for.
+pub record Sound (c : Client) : Type 0 where
+  pub yes : sound c ≡ true
+  pub model : model.soundClient (view c) ≡ true
+  pub whole : c ≡ store (view c)
+  pub listed : length (view c .items) ≡ c .counts .len
+  pub kept : Kept (c .counts .own) (slotsIn (c .words))

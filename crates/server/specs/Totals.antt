@@ -1,0 +1,27 @@
+-- Question 2 by the numbers: what all lines in use took together, and one line in use.
+use Prim.Native.Nat.{ℕ, _+_, _≤_}
+use mathlib.Core.Path.{_≡_}
+use mathlib.Core.Bool.{Bool, _&&_}
+use mathlib.Core.List.{List, []}
+use lib.Dec.{eqb}
+use Rattle.model.specs.Line as line
+use Rattle.model.specs.Server.{total}
+use Rattle.line_sound.specs.Sound.{soundLine}
+use Rattle.server.specs.declared.Counts.{Counts}
+use Rattle.server.specs.declared.Totals.{Totals}
+use Rattle.server.specs.View.{slotsAt, countsAt, linesFrom}
+
+-- a number of each of the first n lines, added up
+abbrev pub totalOf : (line.Line → ℕ) → Counts → ℕ
+totalOf f k = total f (linesFrom k [] 0 (k .n))
+
+pub record Totaled (k : Counts) (t : Totals) : Type 0 where
+  pub taken : t .taken ≡ totalOf (λ v. v .taken) k
+  pub inserts : t .inserts ≡ totalOf (λ v. v .inserts) k
+  pub few : (t .taken ≤ 524280) × (t .inserts ≤ 524280)
+
+-- the line at place i, where all lines together took so many edits
+abbrev pub soundAt : Counts → ℕ → List ℕ → ℕ → Bool
+soundAt k taken words i =
+    eqb (countsAt k i .made + countsAt k i .taken) taken
+    && soundLine (countsAt k i .taken) (line.other (k .n) (i + 1)) (countsAt k i) (slotsAt i words)
