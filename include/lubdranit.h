@@ -157,15 +157,15 @@ static inline uint32_t lub_server_item(const uint8_t *end, unsigned position) {
 }
 
 /* Of a line from 1 to 8: edits made for it, edits taken on it, and how many of those made its client has acknowledged. */
-static inline unsigned lub_server_count(const uint8_t *end, size_t first, unsigned line) {
-    return line < 1 || line > LUB_LINES ? 0 : (unsigned)lub_word(end, first + line - 1);
+static inline unsigned lub_server_count(const uint8_t *end, unsigned line, size_t which) {
+    return line < 1 || line > LUB_LINES ? 0 : (unsigned)lub_word(end, 3 + 4 * ((size_t)line - 1) + which);
 }
 
-static inline unsigned lub_server_made(const uint8_t *end, unsigned line) { return lub_server_count(end, 3, line); }
+static inline unsigned lub_server_made(const uint8_t *end, unsigned line) { return lub_server_count(end, line, 0); }
 
-static inline unsigned lub_server_taken(const uint8_t *end, unsigned line) { return lub_server_count(end, 11, line); }
+static inline unsigned lub_server_taken(const uint8_t *end, unsigned line) { return lub_server_count(end, line, 1); }
 
-static inline unsigned lub_server_acked(const uint8_t *end, unsigned line) { return lub_server_count(end, 19, line); }
+static inline unsigned lub_server_acked(const uint8_t *end, unsigned line) { return lub_server_count(end, line, 2); }
 
 #ifdef __cplusplus
 }

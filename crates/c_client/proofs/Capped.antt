@@ -1,41 +1,23 @@
--- Numbers too wide for their field: read as the widest they make an unsound end, as they do themselves.
-use Prim.Native.Nat.{ℕ, _≤_, _<_}
+-- A client whose numbers are too wide for their fields: read as the widest they make an unsound client, as they do themselves.
+use Prim.Native.Nat.{_<_}
 use native.Mathlib.Omega.{arith}
-use mathlib.Core.Path.{_≡_, refl, ap, sym, _∙_}
-use mathlib.Core.Bool.{Bool, true, false}
-use lib.Dec.{leb}
-use borrow.Author.Tests.{leb-true, leb-false, le-leb, lt-leb}
-use Rattle.model.specs.Client as model
-use Rattle.model.proofs.Tests.{hold, bool-ext}
+use mathlib.Core.Path.{_≡_}
+use mathlib.Core.Bool.{true}
+use borrow.Author.Tests.{leb-true}
+use Rattle.model.proofs.Tests.{hold}
 use Rattle.model.proofs.SoundClient.{client-facts}
 use Rattle.client.specs.declared.Client.{Client}
-use Rattle.client.specs.Store.{countsOf, clientOf, view, sound, soundTests}
-use Rattle.c_client.specs.Reading.{capped, cappedEnd}
-
-module _ (most x : ℕ) where
-  pub in-field : x ≤ most → capped most x ≡ x
-  in-field h = rw (le-leb x most h)
-
-  pub too-wide : most < x → capped most x ≡ most
-  too-wide h = rw (lt-leb x most h)
-
-  -- a number that is below the widest once it is read was so before
-  below : capped most x < most → capped most x ≡ x
-  below h = go (leb x most) refl
-    where
-      go : (b : Bool) → leb x most ≡ b → capped most x ≡ x
-      go true t = in-field (leb-true x most t)
-      go false f = absurd (omega (arith, too-wide (leb-false x most f)))
+use Rattle.client.specs.View.{clientOf, view, sound, soundTests}
+use Rattle.c_layout.specs.Numbers.{capped, cappedLine}
+use Rattle.c_layout.proofs.Counts.{in-field, was-in-field, Small, small-same, small-was}
+use Rattle.c_client.specs.Reading.{cappedEnd}
 
 -- the bounds of question 2 on each number
 record Bounds (c : Client) : Type 0 where
-  n : c .n < 255
-  line : c .line < 255
-  made : c .made < 65535
-  taken : c .taken < 65535
-  acked : c .acked < 65535
-  inserts : c .inserts < 65535
-  len : c .len < 65535
+  n : c .counts .n < 255
+  line : c .counts .line < 255
+  len : c .counts .len < 65535
+  own : Small (c .counts .own)
 
 bounds : (c : Client) → sound c ≡ true → Bounds c
 unfolding sound
@@ -45,31 +27,29 @@ bounds c s =
     record {
       n = omega (arith, f .lines .1);
       line = omega (arith, f .lines .1, f .line .1);
-      made = omega (arith, f .made);
-      taken = omega (arith, f .taken);
-      acked = omega (arith, f .acked, f .made);
-      inserts = omega (arith, f .inserts);
-      len = omega (arith, leb-true (c .len) 512 (t .1 .0));
+      len = omega (arith, leb-true (c .counts .len) 512 (t .1 .0));
+      own =
+          record {
+            made = omega (arith, f .own .edits);
+            taken = omega (arith, f .taken);
+            acked = omega (arith, f .own .acked, f .own .edits);
+            inserts = omega (arith, f .own .inserts);
+          };
     }
 
 module _ (c : Client) where
-  same : capped 255 (c .n) ≡ c .n → capped 255 (c .line) ≡ c .line → capped 65535 (c .made) ≡ c .made → capped 65535 (c .taken) ≡ c .taken
-      → capped 65535 (c .acked) ≡ c .acked → capped 65535 (c .inserts) ≡ c .inserts → capped 65535 (c .len) ≡ c .len → cappedEnd c ≡ c
-  same n line made taken acked inserts len =
-      λ i. clientOf (countsOf (n i) (line i) (made i) (taken i) (acked i) (inserts i) (len i)) (c .items) (c .«pending_places») (c .«pending_items»)
+  same : cappedLine (c .counts .own) ≡ c .counts .own → capped 65535 (c .counts .len) ≡ c .counts .len → capped 255 (c .counts .n) ≡ c .counts .n
+      → capped 255 (c .counts .line) ≡ c .counts .line → cappedEnd c ≡ c
+  same own len n line = λ i. clientOf (record { own = own i; len = len i; n = n i; line = line i }) (c .words)
 
   pub sound-same : sound c ≡ true → cappedEnd c ≡ c
   sound-same s =
       let b = bounds c s in
-      let at : (most x : ℕ) → x < most → capped most x ≡ x = λ most x h. in-field most x (omega arith) in
-      same (at 255 (c .n) (b .n)) (at 255 (c .line) (b .line)) (at 65535 (c .made) (b .made)) (at 65535 (c .taken) (b .taken)) (at 65535 (c .acked) (b .acked))
-      (at 65535 (c .inserts) (b .inserts)) (at 65535 (c .len) (b .len))
+      same (small-same (c .counts .own) (b .own)) (in-field 65535 (c .counts .len) (b .len)) (in-field 255 (c .counts .n) (b .n))
+      (in-field 255 (c .counts .line) (b .line))
 
-  capped-same : sound (cappedEnd c) ≡ true → cappedEnd c ≡ c
-  capped-same s =
+  pub sound-capped : sound (cappedEnd c) ≡ true → cappedEnd c ≡ c
+  sound-capped s =
       let b = bounds (cappedEnd c) s in
-      same (below 255 (c .n) (b .n)) (below 255 (c .line) (b .line)) (below 65535 (c .made) (b .made)) (below 65535 (c .taken) (b .taken))
-      (below 65535 (c .acked) (b .acked)) (below 65535 (c .inserts) (b .inserts)) (below 65535 (c .len) (b .len))
-
-  pub sound-capped : sound (cappedEnd c) ≡ sound c
-  sound-capped = bool-ext (sound (cappedEnd c)) (sound c) (λ s. ap sound (sym (capped-same s)) ∙ s) (λ s. ap sound (sound-same s) ∙ s)
+      same (small-was (c .counts .own) (b .own)) (was-in-field 65535 (c .counts .len) (b .len)) (was-in-field 255 (c .counts .n) (b .n))
+      (was-in-field 255 (c .counts .line) (b .line))

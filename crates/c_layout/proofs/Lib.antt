@@ -1,6 +1,6 @@
 pub mod Words
 pub mod Loops
-pub mod Called
 pub mod Parts
-pub mod Sections
+pub mod Counts
+pub mod Called
 pub mod ItemBytes

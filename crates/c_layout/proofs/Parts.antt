@@ -1,71 +1,108 @@
--- Parts of lent bytes: the words that a part holds, and parts written one behind the other.
+-- Parts of an end in its bytes: the words that a part holds, and parts written one behind the other.
 use Prim.Native.Nat.{ℕ, zero, suc, _+_, _-_, _*_, _/_, _%_, _≤_}
 use native.Mathlib.Omega.{arith}
 use mathlib.Core.Path.{_≡_, refl, ap, ap₂, sym, _∙_}
 use mathlib.Core.List.{List, [], _∷_, _++_, append-assoc}
-use lib.ListN.{length, take, drop}
-use lib.Seq.{take-at, drop-at, take-take, drop-drop, take-nil, drop-nil}
-use Rattle.c_layout.specs.Words.{Order, wordsBy, bytesOf, Bytes}
+use lib.ListN.{length, take, drop, length-take, length-drop, length-append, take-append-drop}
+use lib.Seq.{take-at, drop-at, drop-drop, length-take-le}
+use Rattle.list.specs.Parts.{part}
+use Rattle.c_layout.specs.Words.{Order, lowFirst, wordsBy, wordsOf, bytesOf, putAt, Bytes}
+use Rattle.c_layout.proofs.Words.{written-back, words-length, bytes-length, read-one}
 
 -- ---- reading
 
--- a part of the first k places
-pub part-front : (i n k : ℕ) (s : List ℕ) → i + n ≤ k → take n (drop i (take k s)) ≡ take n (drop i s)
-part-front zero n k s h = take-take n k s (omega arith)
-part-front (suc i) n zero s h = absurd (omega arith)
-part-front (suc i) n (suc k) [] h = refl
-part-front (suc i) n (suc k) (x ∷ s) h = part-front i n k s (omega arith)
+four-more : (n : ℕ) → 4 * suc n ≡ suc (suc (suc (suc (4 * n))))
+four-more n = omega arith
 
-four : (n : ℕ) → 4 * suc n ≡ suc (suc (suc (suc (4 * n))))
-four n = omega arith
+module _ (f : Order) where
+  pub words-take : (n : ℕ) (s : List ℕ) → wordsBy f (take (4 * n) s) ≡ take n (wordsBy f s)
+  unfolding wordsBy
+  words-take zero s = refl
+  words-take (suc n) [] = ap (λ (m : ℕ). wordsBy f (take m [])) (four-more n)
+  words-take (suc n) (a ∷ []) = ap (λ (m : ℕ). wordsBy f (take m (a ∷ []))) (four-more n)
+  words-take (suc n) (a ∷ b ∷ []) = ap (λ (m : ℕ). wordsBy f (take m (a ∷ b ∷ []))) (four-more n)
+  words-take (suc n) (a ∷ b ∷ c ∷ []) = ap (λ (m : ℕ). wordsBy f (take m (a ∷ b ∷ c ∷ []))) (four-more n)
+  words-take (suc n) (a ∷ b ∷ c ∷ d ∷ s) =
+      ap (λ (m : ℕ). wordsBy f (take m (a ∷ b ∷ c ∷ d ∷ s))) (four-more n) ∙ ap (λ (ws : List ℕ). f a b c d ∷ ws) (words-take n s)
 
-words-take : (f : Order) (n : ℕ) (s : List ℕ) → take n (wordsBy f s) ≡ wordsBy f (take (4 * n) s)
-unfolding wordsBy
-words-take f zero s = refl
-words-take f (suc n) [] = ap (wordsBy f) (sym (take-nil (4 * suc n)))
-words-take f (suc n) (a ∷ []) = sym (ap (λ (k : ℕ). wordsBy f (take k (a ∷ []))) (four n))
-words-take f (suc n) (a ∷ b ∷ []) = sym (ap (λ (k : ℕ). wordsBy f (take k (a ∷ b ∷ []))) (four n))
-words-take f (suc n) (a ∷ b ∷ c ∷ []) = sym (ap (λ (k : ℕ). wordsBy f (take k (a ∷ b ∷ c ∷ []))) (four n))
-words-take f (suc n) (a ∷ b ∷ c ∷ d ∷ s) =
-    ap (λ (l : List ℕ). f a b c d ∷ l) (words-take f n s) ∙ sym (ap (λ (k : ℕ). wordsBy f (take k (a ∷ b ∷ c ∷ d ∷ s))) (four n))
+  words-drop : (n : ℕ) (s : List ℕ) → wordsBy f (drop (4 * n) s) ≡ drop n (wordsBy f s)
+  unfolding wordsBy
+  words-drop zero s = refl
+  words-drop (suc n) [] = ap (λ (m : ℕ). wordsBy f (drop m [])) (four-more n)
+  words-drop (suc n) (a ∷ []) = ap (λ (m : ℕ). wordsBy f (drop m (a ∷ []))) (four-more n)
+  words-drop (suc n) (a ∷ b ∷ []) = ap (λ (m : ℕ). wordsBy f (drop m (a ∷ b ∷ []))) (four-more n)
+  words-drop (suc n) (a ∷ b ∷ c ∷ []) = ap (λ (m : ℕ). wordsBy f (drop m (a ∷ b ∷ c ∷ []))) (four-more n)
+  words-drop (suc n) (a ∷ b ∷ c ∷ d ∷ s) = ap (λ (m : ℕ). wordsBy f (drop m (a ∷ b ∷ c ∷ d ∷ s))) (four-more n) ∙ words-drop n s
 
-words-drop : (f : Order) (n : ℕ) (s : List ℕ) → drop n (wordsBy f s) ≡ wordsBy f (drop (4 * n) s)
-unfolding wordsBy
-words-drop f zero s = refl
-words-drop f (suc n) [] = ap (wordsBy f) (sym (drop-nil (4 * suc n)))
-words-drop f (suc n) (a ∷ []) = sym (ap (λ (k : ℕ). wordsBy f (drop k (a ∷ []))) (four n) ∙ ap (wordsBy f) (drop-nil (suc (suc (suc (4 * n))))))
-words-drop f (suc n) (a ∷ b ∷ []) = sym (ap (λ (k : ℕ). wordsBy f (drop k (a ∷ b ∷ []))) (four n) ∙ ap (wordsBy f) (drop-nil (suc (suc (4 * n)))))
-words-drop f (suc n) (a ∷ b ∷ c ∷ []) = sym (ap (λ (k : ℕ). wordsBy f (drop k (a ∷ b ∷ c ∷ []))) (four n) ∙ ap (wordsBy f) (drop-nil (suc (4 * n))))
-words-drop f (suc n) (a ∷ b ∷ c ∷ d ∷ s) = words-drop f n s ∙ sym (ap (λ (k : ℕ). wordsBy f (drop k (a ∷ b ∷ c ∷ d ∷ s))) (four n))
+  -- the n words from word a on, from their bytes as they are lent
+  pub words-part : (a n : ℕ) (s : List ℕ) → wordsBy f (take (4 * a + 4 * n - 4 * a) (drop (4 * a) s)) ≡ part a n (wordsBy f s)
+  words-part a n s =
+      let wide : 4 * a + 4 * n - 4 * a ≡ 4 * n = omega arith in
+      ap (λ (k : ℕ). wordsBy f (take k (drop (4 * a) s))) wide ∙ words-take n (drop (4 * a) s) ∙ ap (take n) (words-drop a s)
 
--- Words i to i + n of the first k bytes are those of the bytes from a up to b.
-pub words-part : (f : Order) (i n a b k : ℕ) (s : List ℕ) → a ≡ 4 * i → b ≡ a + 4 * n → b ≤ k
-    → take n (drop i (wordsBy f (take k s))) ≡ wordsBy f (take (b - a) (drop a s))
-words-part f i n a b k s ea eb h =
-    let m : 4 * n ≡ b - a = omega arith in
-    ap (take n) (words-drop f i (take k s)) ∙ words-take f n (drop (4 * i) (take k s))
-    ∙ ap (wordsBy f) (part-front (4 * i) (4 * n) k s (omega arith) ∙ ap₂ (λ (x y : ℕ). take x (drop y s)) m (sym ea))
+  pub words-many : (n : ℕ) (s : List ℕ) → 4 * n ≤ length s → n ≤ length (wordsBy f s)
+  words-many n s h =
+      omega
+      (arith, length-take n (wordsBy f s), ap length (words-take n s), words-length f n (take (4 * n) s) (length-take-le (4 * n) s h))
 
--- every one of the first bytes is a byte
-pub bytes-front : (n : ℕ) (s : List ℕ) → Bytes s → Bytes (take n s)
+-- words that were written in front of other bytes
+pub read-front : (ws rest : List ℕ) → wordsOf (bytesOf ws ++ rest) ≡ ws ++ wordsOf rest
+unfolding bytesOf wordsBy
+read-front [] rest = refl
+read-front (w ∷ ws) rest = ap₂ (λ (x : ℕ) (l : List ℕ). x ∷ l) (read-one w) (read-front ws rest)
+
+bytes-front : (n : ℕ) (s : List ℕ) → Bytes s → Bytes (take n s)
 bytes-front zero s h i = omega arith
 bytes-front (suc n) [] h i = omega arith
 bytes-front (suc n) (x ∷ s) h zero = h 0
 bytes-front (suc n) (x ∷ s) h (suc i) = bytes-front n s (λ j. h (suc j)) i
 
+-- the first words, written back in front of the bytes behind them
+pub written-front : (n size : ℕ) (s : List ℕ) → size ≡ 4 * n → size ≤ length s → Bytes s → bytesOf (take n (wordsOf s)) ++ drop size s ≡ s
+written-front n size s e h b =
+    let long : length (take (4 * n) s) ≡ 4 * n = length-take-le (4 * n) s (omega arith) in
+    ap (λ (k : ℕ). bytesOf (take n (wordsOf s)) ++ drop k s) e
+    ∙ ap (λ (l : List ℕ). l ++ drop (4 * n) s)
+    (ap bytesOf (sym (words-take lowFirst n s)) ∙ written-back (take (4 * n) s) n long (bytes-front (4 * n) s b))
+    ∙ take-append-drop (4 * n) s
+
 -- ---- writing
 
-pub bytes-append : (v w : List ℕ) → bytesOf (v ++ w) ≡ bytesOf v ++ bytesOf w
+bytes-append : (v w : List ℕ) → bytesOf (v ++ w) ≡ bytesOf v ++ bytesOf w
 unfolding bytesOf
 bytes-append [] w = refl
 bytes-append (x ∷ v) w = ap (λ (l : List ℕ). x % 256 ∷ x / 256 % 256 ∷ x / 65536 % 256 ∷ x / 16777216 ∷ l) (bytes-append v w)
 
--- A part x from a up to b, behind what was written so far.
-pub written-behind : (a b : ℕ) (done x l s : List ℕ) → a ≤ b → length done ≡ a → l ≡ done ++ drop a s
-    → take a l ++ (x ++ drop (b - a) (drop a l)) ≡ (done ++ x) ++ drop b s
-written-behind a b done x l s h n e =
-    let far : a + (b - a) ≡ b = omega arith in
-    let front : take a l ≡ done = ap (take a) e ∙ take-at done (drop a s) a n in
-    let rest : drop (b - a) (drop a l) ≡ drop b s =
-    ap (λ (m : List ℕ). drop (b - a) (drop a m)) e ∙ ap (drop (b - a)) (drop-at done (drop a s) a n) ∙ drop-drop (b - a) a s ∙ ap (λ (k : ℕ). drop k s) far in
-    ap₂ (λ (p q : List ℕ). p ++ (x ++ q)) front rest ∙ sym (append-assoc done x (drop b s))
+-- a part that was lent came back as x, which is y
+pub put-lent : (a n : ℕ) (x y l : List ℕ) → x ≡ y → length y ≡ n → take a l ++ (x ++ drop (a + n - a) (drop a l)) ≡ putAt a y l
+put-lent a n x y l e k =
+    let far : a + (a + n - a) ≡ a + length y = omega arith in
+    ap₂ (λ (p q : List ℕ). take a l ++ (p ++ q)) e (drop-drop (a + n - a) a l ∙ ap (λ (m : ℕ). drop m l) far)
+
+-- words are written, and others behind them
+pub written-behind : (size : ℕ) (ns ws s b₁ b₂ : List ℕ) → size ≡ 4 * (length ns + length ws) → b₁ ≡ putAt 0 (bytesOf ns) s → b₂ ≡ putAt (4 * length ns) (bytesOf ws) b₁
+    → b₂ ≡ bytesOf (ns ++ ws) ++ drop size s
+written-behind size ns ws s b₁ b₂ e e₁ e₂ =
+    let a = 4 * length ns in
+    let la : length (bytesOf ns) ≡ a = bytes-length ns in
+    let lw : length (bytesOf ws) ≡ 4 * length ws = bytes-length ws in
+    let far : a + length (bytesOf ws) ≡ size = omega arith in
+    let first : b₁ ≡ bytesOf ns ++ drop a s =
+    e₁ ∙ ap (λ (k : ℕ). bytesOf ns ++ drop k s) (let z : 0 + length (bytesOf ns) ≡ a = omega arith in z) in
+    let front : take a b₁ ≡ bytesOf ns = ap (take a) first ∙ take-at (bytesOf ns) (drop a s) a la in
+    let behind : drop (a + length (bytesOf ws)) b₁ ≡ drop size s =
+    sym (drop-drop (length (bytesOf ws)) a b₁) ∙ ap (λ (l : List ℕ). drop (length (bytesOf ws)) (drop a l)) first
+    ∙ ap (drop (length (bytesOf ws))) (drop-at (bytesOf ns) (drop a s) a la) ∙ drop-drop (length (bytesOf ws)) a s
+    ∙ ap (λ (k : ℕ). drop k s) far in
+    e₂ ∙ ap₂ (λ (p q : List ℕ). p ++ (bytesOf ws ++ q)) front behind
+    ∙ sym (append-assoc (bytesOf ns) (bytesOf ws) (drop size s)) ∙ ap (λ (l : List ℕ). l ++ drop size s) (sym (bytes-append ns ws))
+
+-- what stands up to the end of a part that was put there
+pub put-front : (a b : ℕ) (x l : List ℕ) → a ≤ length l → b ≡ a + length x → take b (putAt a x l) ≡ take a l ++ x
+put-front a b x l h e =
+    let rest : List ℕ = drop (a + length x) l in
+    let long : length (take a l ++ x) ≡ b = omega (arith, length-append (take a l) x, length-take-le a l h) in
+    ap (take b) (sym (append-assoc (take a l) x rest)) ∙ take-at (take a l ++ x) rest b long
+
+pub put-length : (a : ℕ) (x l : List ℕ) → a + length x ≤ length l → length (putAt a x l) ≡ length l
+put-length a x l h = simp (length-append, length-take, length-drop) (omega arith)

@@ -9,7 +9,7 @@ use Rattle.c_layout.specs.Words.{Order, lowFirst, wordAt, wordsBy, words
 
 -- ---- round trips
 
-read-one : (w : ℕ) → lowFirst (w % 256) (w / 256 % 256) (w / 65536 % 256) (w / 16777216) ≡ w
+pub read-one : (w : ℕ) → lowFirst (w % 256) (w / 256 % 256) (w / 65536 % 256) (w / 16777216) ≡ w
 read-one w = omega arith
 
 pub read-back : (ws : List ℕ) → wordsOf (bytesOf ws) ≡ ws

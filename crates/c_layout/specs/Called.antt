@@ -2,9 +2,10 @@
 use Prim.Native.Nat.{ℕ, _+_, _*_, _/_, _%_, _<_}
 use mathlib.Core.Path.{_≡_}
 use mathlib.Core.Bool.{cond}
-use mathlib.Core.List.{List}
-use lib.Dec.{ltb}
-use lib.ListN.{length}
+use mathlib.Core.List.{List, _++_}
+use lib.Dec.{eqb, ltb}
+use lib.ListN.{length, drop}
+use Rattle.model.specs.Questions.{Sent}
 
 pub record Called : Type 0 where
   pub answer : ℕ
@@ -25,6 +26,18 @@ returned answer bytes = record { answer = answer; bytes = bytes }
 -- Question 18, before all others: the end's lent bytes are at least as many as its layout has. No byte changes.
 unfoldable pub laidOut : ℕ → List ℕ → List ℕ → Called → Called
 laidOut size end bytes rest = cond (ltb (length end) size) (called 18 0 bytes) rest
+
+-- A call that may change its end. A refusal leaves every byte. Else the new end stands in the first bytes, and those past the layout stay.
+abbrev pub changing : ℕ → ℕ → ℕ → List ℕ → List ℕ → Called
+changing size refusal count new bytes = called refusal count (cond (eqb refusal 0) (new ++ drop size bytes) bytes)
+
+-- Opening items are four bytes each. A cut one gives 1.
+abbrev pub opening : ℕ → List ℕ → List ℕ → Called → Called
+opening size end items rest = laidOut size end end (cond (eqb (length items % 4) 0) rest (called 1 0 end))
+
+-- A sending writes no byte of the end: the bytes are those that the message goes into.
+abbrev pub sending : Sent → Called
+sending s = called (s .refusal) (s .written) (s .buffer)
 
 -- an answer taken apart
 abbrev pub Unpacks : Type 0

@@ -2,7 +2,7 @@
 use Prim.Native.Nat.{ℕ, _+_, _*_, _/_, _%_, _<_}
 use mathlib.Core.Path.{_≡_}
 use mathlib.Core.List.{List, [], _∷_, _++_}
-use lib.ListN.{length, getD}
+use lib.ListN.{length, getD, take, drop}
 
 -- what makes a word of four bytes
 abbrev pub Order : Type 0
@@ -39,6 +39,10 @@ fourOf w = w % 256 ∷ w / 256 % 256 ∷ w / 65536 % 256 ∷ w / 16777216 ∷ []
 unfoldable pub bytesOf : List ℕ → List ℕ
 bytesOf [] = []
 bytesOf (w ∷ ws) = fourOf w ++ bytesOf ws
+
+-- the list l with x from place `at` on, over what stood there
+abbrev pub putAt : ℕ → List ℕ → List ℕ → List ℕ
+putAt at x l = take at l ++ (x ++ drop (at + length x) l)
 
 -- every element is a byte
 abbrev pub Bytes : List ℕ → Type 0

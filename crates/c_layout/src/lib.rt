@@ -1,9 +1,11 @@
 // Lent bytes as words and back, four bytes to a word. The words of an end have their low byte first, opening items their high byte first.
-// Nothing here knows what a word means.
+pub mod numbers;
+
 ghost use mathlib.Core.Path.{_≡_};
-ghost use Prim.Native.Nat.{_*_};
-ghost use lib.ListN.{length, getD};
-ghost use Rattle.c_layout.specs.Words.{lowFirst, highFirst, wordAt, wordsOf, itemsOf, bytesOf};
+ghost use Prim.Native.Nat.{_+_, _*_, _≤_};
+ghost use lib.ListN.{length};
+ghost use Rattle.list.specs.Parts.{part};
+ghost use Rattle.c_layout.specs.Words.{lowFirst, highFirst, wordAt, wordsOf, itemsOf, bytesOf, putAt};
 ghost use Rattle.c_layout.specs.Called.{packed};
 
 fn low_first(a: u8, b: u8, c: u8, d: u8) -> u32
@@ -28,8 +30,8 @@ fn item_in(b: &[u8]) -> u32
     low_first(b[3], b[2], b[1], b[0])
 }
 
-// The words of an end.
-pub fn decode(bytes: &[u8], words: &mut [u32])
+// The words of bytes, low byte first.
+fn decode(bytes: &[u8], words: &mut [u32])
     requires { ⌜ length (now bytes) ≡ 4 * length (now words) ⌝ }
     ensures { λ _. ⌜ now (words .exit) ≡ wordsOf (now (bytes .entry)) ⌝ }
 {
@@ -52,8 +54,8 @@ pub fn decode_items(bytes: &[u8], words: &mut [u32])
     }
 }
 
-// The bytes of an end's words.
-pub fn encode(words: &[u32], bytes: &mut [u8])
+// The bytes of words.
+fn encode(words: &[u32], bytes: &mut [u8])
     requires { ⌜ length (now bytes) ≡ 4 * length (now words) ⌝ }
     ensures { λ _. ⌜ now (bytes .exit) ≡ bytesOf (now (words .entry)) ⌝ }
 {
@@ -65,6 +67,26 @@ pub fn encode(words: &[u32], bytes: &mut [u8])
         bytes[first + 2] = (x / 65536 % 256) as u8;
         bytes[first + 3] = (x / 16777216) as u8;
     }
+}
+
+// The words of an end from word `from` on, as many as are lent.
+pub fn get(bytes: &[u8], from: usize, words: &mut [u32])
+    requires { ⌜ 4 * (from + length (now words)) ≤ length (now bytes) ⌝ }
+    ensures { λ _. ⌜ now (words .exit) ≡ part from (length (now (words .entry))) (wordsOf (now (bytes .entry))) ⌝ }
+{
+    let at = 4 * from;
+    let end = at + 4 * words.len();
+    decode(&bytes[at..end], words);
+}
+
+// The words go to the end's bytes, from word `from` on.
+pub fn put(bytes: &mut [u8], from: usize, words: &[u32])
+    requires { ⌜ 4 * (from + length (now words)) ≤ length (now bytes) ⌝ }
+    ensures { λ _. ⌜ now (bytes .exit) ≡ putAt (4 * from) (bytesOf (now (words .entry))) (now (bytes .entry)) ⌝ }
+{
+    let at = 4 * from;
+    let end = at + 4 * words.len();
+    encode(words, &mut bytes[at..end]);
 }
 
 // What an exported call returns: the refusal, and the count or length beside it.

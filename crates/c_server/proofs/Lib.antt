@@ -1,5 +1,4 @@
-pub mod Copy
-pub mod Parts
-pub mod Fitting
-pub mod Answering
-pub mod Filling
+pub mod Ends
+pub mod Loops
+pub mod Capped
+pub mod Calls

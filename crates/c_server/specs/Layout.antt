@@ -1,75 +1,48 @@
--- The server's end as words, and as bytes: where each part stands, both ways, and that they fit. A word has four bytes, its low byte first.
+-- The server as lent bytes: where each part stands, and both round trips.
 use Prim.Native.Nat.{ℕ, _≤_}
 use mathlib.Core.Path.{_≡_}
-use mathlib.Core.List.{List, [], _∷_, _++_}
-use lib.ListN.{length, getD, take, drop}
-use Rattle.c_layout.specs.Words.{wordsOf, bytesOf, Bytes}
-use Rattle.lines.specs.declared.Counts.{Counts}
-use Rattle.lines.specs.Lines.{counts}
+use mathlib.Core.List.{List, _∷_, _++_}
+use lib.ListN.{length, getD, drop}
+use Rattle.limits.specs.Limits.{maxLines}
+use Rattle.list.specs.Parts.{part}
+use Rattle.server.specs.declared.Counts.{Counts}
 use Rattle.server.specs.declared.Server.{Server}
-use Rattle.server.specs.View.{countsOf, serverOf}
-use Rattle.server.specs.Sound.{Sizes}
+use Rattle.server.specs.View as server
+use Rattle.server.specs.View.{serverOf, Sizes}
+use Rattle.c_layout.specs.Words.{wordsOf, bytesOf, Bytes}
+use Rattle.c_layout.specs.Numbers.{linesAt, linesWords}
 
--- ---- where the parts stand
-
--- The numbers: n, how many items it was opened with, how long its list is; then a count of each line, eight times, for four counts.
-abbrev pub madeAt : ℕ
-madeAt = 3
-
-abbrev pub takenAt : ℕ
-takenAt = 11
-
-abbrev pub ackedAt : ℕ
-ackedAt = 19
-
-abbrev pub insertsAt : ℕ
-insertsAt = 27
-
-abbrev pub numbers : ℕ
-numbers = 35
-
--- Three arrays of 512 words: the items, and of the pending edits the places and the items, 64 slots a line.
-abbrev pub itemsAt : ℕ
-itemsAt = numbers
-
-abbrev pub placesAt : ℕ
-placesAt = 547
-
-abbrev pub pendingAt : ℕ
-pendingAt = 1059
-
--- all of it, in bytes: 1,571 words
+-- the bytes of the server: 1,571 words
 abbrev pub size : ℕ
 size = 6284
 
--- so many words from a place on
-abbrev pub section : ℕ → ℕ → List ℕ → List ℕ
-section at n ws = take n (drop at ws)
+-- how many words are its numbers
+abbrev pub numbers : ℕ
+numbers = 35
 
--- ---- both ways
-
+-- Words 0 to 2 are n, how many items it was opened with, and the length of its list; from word 3 on stand the counts of eight lines, four
+-- words each. Then come the words of the server.
 abbrev pub countsIn : List ℕ → Counts
-countsIn ws =
-    counts (getD ws 0 0) (getD ws 1 0) (getD ws 2 0) (section madeAt 8 ws) (section takenAt 8 ws) (section ackedAt 8 ws) (section insertsAt 8 ws)
+countsIn ws = record { n = getD ws 0 0; initial = getD ws 1 0; len = getD ws 2 0; lines = linesAt ws 3 maxLines }
 
 abbrev pub serverIn : List ℕ → Server
-serverIn ws = serverOf (countsIn (take numbers ws)) (section itemsAt 512 ws) (section placesAt 512 ws) (section pendingAt 512 ws)
+serverIn ws = serverOf (countsIn ws) (part numbers server.size ws)
 
 abbrev pub numbersIn : Counts → List ℕ
-numbersIn k = (k .n ∷ k .initial ∷ k .len ∷ []) ++ k .made ++ k .taken ++ k .acked ++ k .inserts
+numbersIn k = k .n ∷ k .initial ∷ k .len ∷ linesWords (k .lines)
 
 abbrev pub wordsIn : Server → List ℕ
-wordsIn s = numbersIn (countsOf s) ++ s .items ++ s .«pending_places» ++ s .«pending_items»
+wordsIn s = numbersIn (s .counts) ++ s .words
 
--- an end as bytes, and the end that the first bytes are
+-- the bytes of an end, and the end that bytes are; those past the layout do not matter
 unfoldable pub bytesIn : Server → List ℕ
 bytesIn s = bytesOf (wordsIn s)
 
 unfoldable pub endIn : List ℕ → Server
-endIn bytes = serverIn (wordsOf (take size bytes))
+endIn bytes = serverIn (wordsOf bytes)
 
--- Whatever stands behind it, an end that was written reads back as it was; and bytes are what writing the end that they are gives. So an end has
--- one form in bytes, and there is no byte that nobody looks at.
-pub record Fits : Type 0 where
-  pub read-back : (s : Server) (rest : List ℕ) → Sizes (countsOf s) (s .items) (s .«pending_places») (s .«pending_items») → endIn (bytesIn s ++ rest) ≡ s
+-- An end that was written reads back as it was, whatever stands behind it. Bytes that were read are what writing the end gives, so an end
+-- has one byte form.
+pub record RoundTrips : Type 0 where
+  pub read-back : (s : Server) (rest : List ℕ) → Sizes (s .counts) (s .words) → endIn (bytesIn s ++ rest) ≡ s
   pub written-back : (bytes : List ℕ) → size ≤ length bytes → Bytes bytes → bytesIn (endIn bytes) ++ drop size bytes ≡ bytes

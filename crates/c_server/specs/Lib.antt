@@ -1,3 +1,3 @@
 pub mod Layout
 pub mod Calls
-pub mod Numbers
+pub mod Reading

@@ -1,60 +1,85 @@
-// An end's parts from its bytes, and back.
+// The server's numbers and words from its bytes, and back.
 ghost use mathlib.Core.Path.{_≡_};
-ghost use lib.ListN.{length, take};
-ghost use Rattle.c_layout.specs.Words.{wordsOf};
+ghost use mathlib.Core.List.{_++_};
+ghost use Prim.Native.Nat.{_≤_};
+ghost use lib.ListN.{length, drop};
+ghost use Rattle.server.specs.View as server;
 ghost use Rattle.server.specs.View.{serverOf};
-ghost use Rattle.server.specs.Sound.{Sizes};
-ghost use Rattle.c_server.specs.Layout.{size, bytesIn};
-ghost use Rattle.c_server.specs.Numbers.{countsCapped, Filled, Places};
-use crate::numbers;
-use lines::Counts;
+ghost use Rattle.c_layout.specs.Words.{wordsOf};
+ghost use Rattle.c_server.specs.Layout.{size, numbers, countsIn, numbersIn, bytesIn, endIn};
+ghost use Rattle.c_server.specs.Reading.{cappedCounts, cappedEnd};
+use c_layout::get;
+use c_layout::numbers::LINE;
+use c_layout::numbers::in_8;
+use c_layout::numbers::in_16;
+use c_layout::numbers::line_at;
+use c_layout::numbers::put_line;
+use c_layout::put;
+use line::Line;
+use server::Counts;
+use server::Server;
 
-// Where each part's bytes begin, and how many bytes there are. The numbers stand first.
-const ITEMS: usize = 140;
+// Where each number stands, and where the words of the server begin.
+const N: usize = 0;
 
-const PLACES: usize = 2188;
+const INITIAL: usize = 1;
 
-const PENDING: usize = 4236;
+const LEN: usize = 2;
 
-pub const SIZE: usize = 6284;
+const LINES: usize = 3;
 
-// How many slots the pending edits of all lines have.
-pub const SLOTS: usize = 512;
+pub const WORDS: usize = LINES + LINE * Server::LINES;
 
-// The end's numbers.
+// The bytes of the server.
+pub const SIZE: usize = 4 * (WORDS + Server::WORDS);
+
+// The numbers that the bytes hold.
 pub fn counts(bytes: &[u8]) -> Counts
-    requires { ⌜ length (now bytes) ≡ size ⌝ }
-    ensures { λ r. ⌜ r ≡ countsCapped (wordsOf (take 140 (now (bytes .entry)))) ⌝ }
+    requires { ⌜ size ≤ length (now bytes) ⌝ }
+    ensures { λ r. ⌜ r ≡ cappedCounts (countsIn (wordsOf (now (bytes .entry)))) ⌝ }
 {
-    let mut words = [0u32; numbers::NUMBERS];
-    c_layout::decode(&bytes[0..ITEMS], &mut words);
-    numbers::counts(&words)
+    let mut numbers = [0u32; WORDS];
+    get(bytes, N, &mut numbers);
+    let none = Line {
+        made: 0,
+        taken: 0,
+        acked: 0,
+        inserts: 0,
+    };
+    let mut lines = [none; Server::LINES];
+    for i in 0..Server::LINES {
+        let at = LINES + LINE * i;
+        lines[i] = line_at(&numbers, at);
+    }
+    Counts {
+        n: in_8(numbers[N]),
+        initial: in_16(numbers[INITIAL]),
+        len: in_16(numbers[LEN]),
+        lines,
+    }
 }
 
-// Its arrays are filled. Apart from the numbers this is short enough to be inlined, and then each array is one copy of memory.
-pub fn fill(bytes: &[u8], items: &mut [u32], places: &mut [u32], pending: &mut [u32])
-    requires { ⌜ (length (now bytes) ≡ size) × Places (now items) (now places) (now pending) ⌝ }
-    ensures { λ _. ⌜ Filled (now (bytes .entry)) (now (items .exit)) (now (places .exit)) (now (pending .exit)) ⌝ }
+// The numbers as words.
+fn put_counts(k: Counts, words: &mut [u32])
+    requires { ⌜ length (now words) ≡ numbers ⌝ }
+    ensures { λ _. ⌜ now (words .exit) ≡ numbersIn k ⌝ }
 {
-    c_layout::decode(&bytes[ITEMS..PLACES], items);
-    c_layout::decode(&bytes[PLACES..PENDING], places);
-    c_layout::decode(&bytes[PENDING..SIZE], pending);
+    words[N] = k.n as u32;
+    words[INITIAL] = k.initial as u32;
+    words[LEN] = k.len as u32;
+    for i in 0..Server::LINES {
+        let v = k.lines[i];
+        let at = LINES + LINE * i;
+        put_line(words, at, v);
+    }
 }
 
-pub fn write<'a>(
-    k: Counts,
-    items: &'a [u32],
-    places: &'a [u32],
-    pending: &'a [u32],
-    bytes: &mut [u8],
-)
-    requires { ⌜ Sizes k (now items) (now places) (now pending) × (length (now bytes) ≡ size) ⌝ }
-    ensures { λ _. ⌜ now (bytes .exit) ≡ bytesIn (serverOf k (now (items .entry)) (now (places .entry)) (now (pending .entry))) ⌝ }
+pub fn write(bytes: &mut [u8], k: Counts, words: &[u32])
+    requires { ⌜ (size ≤ length (now bytes)) × (length (now words) ≡ server.size) ⌝ }
+    ensures { λ _. ⌜ now (bytes .exit) ≡ bytesIn (serverOf k (now (words .entry))) ++ drop size (now (bytes .entry)) ⌝ }
 {
-    let mut words = [0u32; numbers::NUMBERS];
-    numbers::put(k, &mut words);
-    c_layout::encode(&words, &mut bytes[0..ITEMS]);
-    c_layout::encode(items, &mut bytes[ITEMS..PLACES]);
-    c_layout::encode(places, &mut bytes[PLACES..PENDING]);
-    c_layout::encode(pending, &mut bytes[PENDING..SIZE]);
+    let mut numbers = [0u32; WORDS];
+    put_counts(k, &mut numbers);
+    put(bytes, N, &numbers);
+    put(bytes, WORDS, words);
 }

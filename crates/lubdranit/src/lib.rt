@@ -6,8 +6,8 @@ ghost use Rattle.c_client.specs.Layout.{size as clientSize};
 ghost use Rattle.c_client.specs.Calls as client;
 ghost use Rattle.c_server.specs.Layout.{size as serverSize};
 ghost use Rattle.c_server.specs.Calls as server;
-ghost use Rattle.print.specs.Sink.{Printed};
-ghost use Rattle.script.specs.Output.{output};
+ghost use Rattle.sheet_print.specs.Sink.{Printed};
+ghost use Rattle.sheet_run.specs.Output.{output};
 
 // ---- a client
 
@@ -89,14 +89,14 @@ pub extern "C" fn lub_server_take(end: &mut [u8], message: &[u8]) -> u64
 pub extern "C" fn lub_client_bytes() -> u64
     ensures { λ r. ⌜ r ≡ clientSize ⌝ }
 {
-    c_client::LAYOUT as u64
+    c_client::SIZE as u64
 }
 
 #[no_mangle]
 pub extern "C" fn lub_server_bytes() -> u64
     ensures { λ r. ⌜ r ≡ serverSize ⌝ }
 {
-    c_server::layout::SIZE as u64
+    c_server::SIZE as u64
 }
 
 // The run program with its input and output in memory.
@@ -104,5 +104,5 @@ pub extern "C" fn lub_server_bytes() -> u64
 pub extern "C" fn lub_run(input: &[u8], out: &mut [u8]) -> u64
     ensures { λ r. ⌜ Printed (output (now (input .entry))) (now (out .entry)) (now (out .exit)) r ⌝ }
 {
-    script::run(input, out) as u64
+    sheet_run::run(input, out) as u64
 }

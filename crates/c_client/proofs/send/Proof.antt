@@ -1,64 +1,52 @@
 use native.Mathlib.Omega.{arith}
-use Rattle.model.specs.Client.{sendClient}
-use Rattle.client.specs.declared.Client.{Client}
-use Rattle.client.specs.Store.{clientOf}
-use Rattle.client.specs.Answers.{sentEdit}
-use Rattle.c_client.specs.Layout.{endIn}
-use Rattle.c_client.specs.Calls.{sending}
-use Rattle.c_client.proofs.Calls.{too-short, call-sent, edit-fits}
 use denote.Ref.{now}
+use Rattle.model.specs.Client.{sendClient}
+use Rattle.client.specs.View.{clientOf}
+use Rattle.c_layout.proofs.Called.{too-short}
+use Rattle.c_client.specs.Layout.{size}
+use Rattle.c_client.specs.Calls.{sentIn}
+use Rattle.c_client.proofs.Calls.{call-sent, edit-fits}
 use borrow.Author.Needs.{needs}
 use Rattle.c_client.proofs.send.Statement.{statement}
 use Rattle.c_client.proofs.send.Tie as tie
 
-abbrev got : tie.After-send-lent → tie.After-read
-got c = c .before .before .before .before .before .before .before .before
+abbrev done : tie.After-struct-known → tie.After-send
+done c = c .before .before .before
+
+abbrev got : tie.After-send → tie.After-read
+got c = c .before .before .before .before
 
 abbrev long : tie.After-read → tie.Else1
-long c = c .before .before .before .before
+long c = c .before .before
 
--- the end as it was read
-abbrev whole : tie.After-read → Client
-whole c = clientOf (c .read .result) (c .read .last .1 .0) (c .read .last .1 .1 .0) (c .read .last .1 .1 .1 .0)
+abbrev start : tie.Else1 → tie.Start
+start c = c .before .before .before
 
 answer-requires : tie.Need-answer-requires
 answer-requires c κs = search needs
 
 returns : tie.Need-returns
+unfolding sentIn
 returns c =
-    let s = c .before .before .before .before in
-    too-short (now (s .args .end)) (now (s .args .out))
-    (sending (sentEdit (endIn (now (s .args .end))) (s .args .line) (s .args .number) (now (s .args .out)))) (c .answer .result)
-    (omega (arith, c .before .if1 .taken)) (c .answer .ensures)
+    let a = c .before .before .before .before .args in
+    too-short size (now (a .end)) (now (a .out)) _ (c .answer .result) (omega (arith, c .before .if1 .taken)) (c .answer .ensures)
 
 slice-aggregate-read : tie.Need-slice-aggregate-read
 slice-aggregate-read c = search needs
 
-slice-aggregate-read-2 : tie.Need-slice-aggregate-read-2
-slice-aggregate-read-2 c = search needs
-
-slice-aggregate-read-3 : tie.Need-slice-aggregate-read-3
-slice-aggregate-read-3 c = search needs
-
 read-requires : tie.Need-read-requires
 read-requires c κs = search needs
 
-slice-aggregate-send-lent : tie.Need-slice-aggregate-send-lent
-slice-aggregate-send-lent c = search needs
+slice-aggregate-send : tie.Need-slice-aggregate-send
+slice-aggregate-send c = search needs
 
-slice-aggregate-send-lent-2 : tie.Need-slice-aggregate-send-lent-2
-slice-aggregate-send-lent-2 c = search needs
-
-slice-aggregate-send-lent-3 : tie.Need-slice-aggregate-send-lent-3
-slice-aggregate-send-lent-3 c = search needs
-
-send-lent-requires : tie.Need-send-lent-requires
-send-lent-requires c κs = search needs
+send-requires : tie.Need-send-requires
+send-requires c κs = search needs
 
 cast-answer : tie.Need-cast-answer
 cast-answer c =
-    let d = c .before .before .before in
-    omega (arith, edit-fits _ _ _ (d .send-lent .result) _ _ (d .send-lent .ensures))
+    let d = done c in
+    omega (arith, edit-fits _ _ _ (d .send .result) _ _ (d .send .ensures))
 
 answer-requires-2 : tie.Need-answer-requires-2
 answer-requires-2 c κs = search needs
@@ -67,13 +55,14 @@ same-length : tie.Need-same-length
 same-length c = search needs
 
 returns-2 : tie.Need-returns-2
+unfolding sentIn
 returns-2 c =
-    let d = c .before .before .before .before in
+    let d = done (c .before) in
     let r = got d in
-    let s = long r .before .before .before in
-    call-sent (now (s .args .end)) (omega (arith, long r .if1 .left)) (whole r) (r .read .ensures)
-    (λ m. sendClient m (s .args .line) (s .args .number) (now (s .args .out))) (d .send-lent .result) (c .answer2 .result) (now (s .args .out))
-    (d .send-lent .last .1 .1 .1 .1 .1 .1 .0) (d .send-lent .ensures) (c .answer2 .ensures)
+    let l = long r in
+    let a = start l .args in
+    call-sent (now (a .out)) (λ m. sendClient m (a .line) (a .number) (now (a .out))) (now (a .end)) (clientOf (r .read .result) (r .read .last .1 .0)) (d .send .result)
+    (c .answer2 .result) (d .send .last .1 .1 .1 .1 .0) (omega (arith, l .if1 .left)) (r .read .ensures) (d .send .ensures) (c .answer2 .ensures)
 
 pub send-spec : {M : Type 1} → statement M
 send-spec =
@@ -82,13 +71,9 @@ send-spec =
     answer-requires
     returns
     slice-aggregate-read
-    slice-aggregate-read-2
-    slice-aggregate-read-3
     read-requires
-    slice-aggregate-send-lent
-    slice-aggregate-send-lent-2
-    slice-aggregate-send-lent-3
-    send-lent-requires
+    slice-aggregate-send
+    send-requires
     cast-answer
     answer-requires-2
     same-length

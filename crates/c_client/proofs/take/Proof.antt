@@ -1,70 +1,51 @@
 use native.Mathlib.Omega.{arith}
-use Rattle.model.specs.Client.{takeClient}
-use Rattle.client.specs.Answers.{answerOf, taken}
-use Rattle.client.specs.declared.Client.{Client}
-use Rattle.client.specs.Store.{clientOf}
-use Rattle.c_client.specs.Layout.{endIn}
-use Rattle.c_client.specs.Calls.{answered}
-use Rattle.c_client.proofs.Calls.{too-short, call-answered}
 use denote.Ref.{now}
+use Rattle.model.specs.Client.{takeClient}
+use Rattle.client.specs.View.{clientOf}
+use Rattle.client.specs.Answers.{answerOf}
+use Rattle.c_layout.proofs.Called.{too-short}
+use Rattle.c_client.specs.Layout.{size}
+use Rattle.c_client.specs.Calls.{takenIn}
+use Rattle.c_client.proofs.Calls.{call-answered}
 use borrow.Author.Needs.{needs}
 use Rattle.c_client.proofs.take.Statement.{statement}
 use Rattle.c_client.proofs.take.Tie as tie
 
-abbrev done : tie.After-finish → tie.After-take-lent
-done c = c .before .before .before .before .before .before .before .before
+abbrev done : tie.After-finish → tie.After-take
+done c = c .before .before .before .before
 
-abbrev got : tie.After-take-lent → tie.After-read
-got c = c .before .before .before .before .before .before .before
+abbrev got : tie.After-take → tie.After-read
+got c = c .before .before .before
 
 abbrev long : tie.After-read → tie.Else1
-long c = c .before .before .before .before .before
+long c = c .before .before .before
 
--- the end as it was read
-abbrev whole : tie.After-read → Client
-whole c = clientOf (c .read .result) (c .read .last .1 .0) (c .read .last .1 .1 .0) (c .read .last .1 .1 .1 .0)
+abbrev start : tie.Else1 → tie.Start
+start c = c .before .before .before
 
 answer-requires : tie.Need-answer-requires
 answer-requires c κs = search needs
 
 returns : tie.Need-returns
+unfolding takenIn
 returns c =
-    let s = c .before .before .before .before in
-    too-short (now (s .args .end)) (now (s .args .end)) (answered (taken (endIn (now (s .args .end))) (now (s .args .message))) (now (s .args .end)))
-    (c .answer .result) (omega (arith, c .before .if1 .taken)) (c .answer .ensures)
+    let a = c .before .before .before .before .args in
+    too-short size (now (a .end)) (now (a .end)) _ (c .answer .result) (omega (arith, c .before .if1 .taken)) (c .answer .ensures)
 
 slice-aggregate-read : tie.Need-slice-aggregate-read
 slice-aggregate-read c = search needs
 
-slice-aggregate-read-2 : tie.Need-slice-aggregate-read-2
-slice-aggregate-read-2 c = search needs
-
-slice-aggregate-read-3 : tie.Need-slice-aggregate-read-3
-slice-aggregate-read-3 c = search needs
-
 read-requires : tie.Need-read-requires
 read-requires c κs = search needs
 
-slice-aggregate-take-lent : tie.Need-slice-aggregate-take-lent
-slice-aggregate-take-lent c = search needs
+slice-aggregate-take : tie.Need-slice-aggregate-take
+slice-aggregate-take c = search needs
 
-slice-aggregate-take-lent-2 : tie.Need-slice-aggregate-take-lent-2
-slice-aggregate-take-lent-2 c = search needs
-
-slice-aggregate-take-lent-3 : tie.Need-slice-aggregate-take-lent-3
-slice-aggregate-take-lent-3 c = search needs
-
-take-lent-requires : tie.Need-take-lent-requires
-take-lent-requires c κs = search needs
+take-requires : tie.Need-take-requires
+take-requires c κs = search needs
 
 slice-aggregate-finish : tie.Need-slice-aggregate-finish
 slice-aggregate-finish c = search needs
-
-slice-aggregate-finish-2 : tie.Need-slice-aggregate-finish-2
-slice-aggregate-finish-2 c = search needs
-
-slice-aggregate-finish-3 : tie.Need-slice-aggregate-finish-3
-slice-aggregate-finish-3 c = search needs
 
 finish-requires : tie.Need-finish-requires
 finish-requires c κs = search needs
@@ -73,14 +54,16 @@ same-length : tie.Need-same-length
 same-length c = search needs
 
 returns-2 : tie.Need-returns-2
+unfolding takenIn
 returns-2 c =
     let f = c .before .before in
     let d = done f in
     let r = got d in
-    let s = long r .before .before .before in
-    call-answered (now (s .args .end)) (omega (arith, long r .if1 .left)) (whole r) (r .read .ensures) (λ m. takeClient m (now (s .args .message)))
-    (answerOf (d .take-lent .result) (d .take-lent .last .1 .0) (d .take-lent .last .1 .1 .0) (d .take-lent .last .1 .1 .1 .0)) (f .finish .result)
-    (f .finish .last .0) (d .take-lent .ensures) (f .finish .ensures)
+    let l = long r in
+    let a = start l .args in
+    call-answered (now (a .end)) (λ m. takeClient m (now (a .message))) (clientOf (r .read .result) (r .read .last .1 .0))
+    (answerOf (d .take .result) (d .take .last .1 .0)) (f .finish .result) (f .finish .last .0) (omega (arith, l .if1 .left)) (r .read .ensures)
+    (d .take .ensures) (f .finish .ensures)
 
 pub take-spec : {M : Type 1} → statement M
 take-spec =
@@ -89,16 +72,10 @@ take-spec =
     answer-requires
     returns
     slice-aggregate-read
-    slice-aggregate-read-2
-    slice-aggregate-read-3
     read-requires
-    slice-aggregate-take-lent
-    slice-aggregate-take-lent-2
-    slice-aggregate-take-lent-3
-    take-lent-requires
+    slice-aggregate-take
+    take-requires
     slice-aggregate-finish
-    slice-aggregate-finish-2
-    slice-aggregate-finish-3
     finish-requires
     same-length
     returns-2)

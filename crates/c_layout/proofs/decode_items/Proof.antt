@@ -1,6 +1,7 @@
 use Prim.Native.Nat.{_-_, _+_, _*_, _≤_}
 use native.Mathlib.Omega.{arith}
-use mathlib.Core.Path.{_≡_, refl, sym, _∙_}
+use mathlib.Core.Path.{_≡_, refl, _∙_}
+use denote.Ref.{now}
 use lib.ListN.{length, length-set, length-take, length-drop}
 use Rattle.c_layout.specs.Words.{highFirst, itemsOf}
 use Rattle.list.proofs.Sweep.{swept}
@@ -13,6 +14,12 @@ Inv-loop bytes words₀ i₀ i-end words i = (i ≤ i-end) × (length words ≡ 
 
 abbrev μ-loop : tie.MeasureT-loop
 μ-loop bytes words₀ i₀ i-end words i = i-end - i
+
+abbrev turn : tie.After-item-in Inv-loop μ-loop → tie.At-loop Inv-loop μ-loop
+turn c = c .before .before .before
+
+abbrev start : tie.At-loop Inv-loop μ-loop → tie.Start Inv-loop μ-loop
+start c = c .before .before .before
 
 loop-holds : tie.Need-loop-holds Inv-loop μ-loop
 loop-holds c = (omega arith, refl, refl)
@@ -49,17 +56,22 @@ loop-less c = omega arith
 
 loop-again : tie.Need-loop-again Inv-loop μ-loop
 loop-again c =
-    let s = c .before .before .before .before .before .before in
-    let l = c .before .before .before .loop in
-    (omega arith, length-set (l .words) (l .i) (c .item-in .result) ∙ l .inv .1, read-turn highFirst (s .args .bytes .now) (s .args .words .now) (l .words) (l .i) (s .pre) (4 * l .i + 4 - 4 * l .i) (c .item-in .result) (omega arith) (omega arith) (c .item-in .ensures) (l .inv .2))
+    let l = turn c in
+    let s = start l in (
+      omega arith,
+      length-set (l .loop .words) (l .loop .i) (c .item-in .result) ∙ l .loop .inv .1,
+      read-turn highFirst (now (s .args .bytes)) (now (s .args .words)) (l .loop .words) (l .loop .i) (s .pre) (4 * l .loop .i + 4 - 4 * l .loop .i)
+          (c .item-in .result) (omega arith) (omega arith) (c .item-in .ensures) (l .loop .inv .2),
+    )
 
 same-length : tie.Need-same-length Inv-loop μ-loop
 same-length c = omega arith
 
 returns : tie.Need-returns Inv-loop μ-loop
 returns c =
-    let s = c .before .before .before .before in
-    read-end highFirst (s .args .bytes .now) (s .args .words .now) (c .before .loop .words) (c .before .loop .i) (s .pre) (omega arith) (c .before .loop .inv .2)
+    let l = c .before in
+    let s = start l in
+    read-end highFirst (now (s .args .bytes)) (now (s .args .words)) (l .loop .words) (l .loop .i) (s .pre) (omega arith) (l .loop .inv .2)
 
 pub decode-items-spec : {M : Type 1} → statement M
 decode-items-spec =

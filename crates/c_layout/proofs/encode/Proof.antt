@@ -1,7 +1,7 @@
-use Prim.Native.Nat.{_-_, _+_, _*_, _≤_}
+use Prim.Native.Nat.{_-_, _*_, _≤_}
 use native.Mathlib.Omega.{arith}
-use borrow.Author.Needs.{needs}
-use mathlib.Core.Path.{_≡_, refl, sym, _∙_}
+use mathlib.Core.Path.{_≡_, refl}
+use denote.Ref.{now}
 use lib.ListN.{length, length-set}
 use Rattle.c_layout.proofs.Loops.{write-turn, write-end}
 use Rattle.c_layout.specs.Words.{bytesOf}
@@ -14,6 +14,9 @@ Inv-loop words bytes₀ i₀ i-end bytes i = (i ≤ i-end) × (length bytes ≡ 
 
 abbrev μ-loop : tie.MeasureT-loop
 μ-loop words bytes₀ i₀ i-end bytes i = i-end - i
+
+abbrev start : tie.At-loop Inv-loop μ-loop → tie.Start Inv-loop μ-loop
+start c = c .before
 
 loop-holds : tie.Need-loop-holds Inv-loop μ-loop
 loop-holds c = (omega arith, refl, refl)
@@ -67,13 +70,22 @@ loop-less : tie.Need-loop-less Inv-loop μ-loop
 loop-less c = omega arith
 
 loop-again : tie.Need-loop-again Inv-loop μ-loop
-loop-again c = (omega arith, simp length-set (c .before .before .loop .inv .1), write-turn (c .before .before .before .args .words .now) (c .before .before .before .args .bytes .now) (c .before .before .before .pre) (c .before .before .loop .i) (c .before .before .loop .bytes) (omega arith) (c .before .before .loop .inv .2))
+loop-again c =
+    let l = c .before .before in
+    let s = start l in (
+      omega arith,
+      simp length-set (l .loop .inv .1),
+      write-turn (now (s .args .words)) (now (s .args .bytes)) (s .pre) (l .loop .i) (l .loop .bytes) (omega arith) (l .loop .inv .2),
+    )
 
 same-length : tie.Need-same-length Inv-loop μ-loop
 same-length c = omega arith
 
 returns : tie.Need-returns Inv-loop μ-loop
-returns c = let s = c .before .before in write-end (s .args .words .now) (s .args .bytes .now) (s .pre) (c .before .loop .i) (c .before .loop .bytes) (omega arith) (c .before .loop .inv .2)
+returns c =
+    let l = c .before in
+    let s = start l in
+    write-end (now (s .args .words)) (now (s .args .bytes)) (s .pre) (l .loop .i) (l .loop .bytes) (omega arith) (l .loop .inv .2)
 
 pub encode-spec : {M : Type 1} → statement M
 encode-spec =

@@ -1,156 +1,78 @@
+use Rattle.server.proofs.Counted.{counted}
 use native.Mathlib.Omega.{arith}
-use Prim.Native.Nat.{ℕ, _≤_}
-use mathlib.Core.List.{List}
-use lib.ListN.{length, take}
-use lib.Seq.{length-take-le}
-use Rattle.server.specs.Sound.{Sizes}
+use denote.Ref.{now}
+use Rattle.model.specs.Server.{takeServer}
+use Rattle.server.specs.View.{serverOf}
+use Rattle.server.specs.Answers.{answerOf}
+use Rattle.c_layout.proofs.Called.{too-short}
 use Rattle.c_server.specs.Layout.{size}
-use Rattle.c_server.specs.Numbers.{Reads}
-use Rattle.c_server.proofs.Filling.{filled-reads}
-use Rattle.c_server.proofs.Answering.{taken-short, taken-sizes, take-done, take-no}
+use Rattle.c_server.specs.Calls.{takenIn}
+use Rattle.c_server.proofs.Ends.{end-read}
+use Rattle.c_server.proofs.Calls.{call-answered}
+use borrow.Author.Needs.{needs}
 use Rattle.c_server.proofs.take.Statement.{statement}
 use Rattle.c_server.proofs.take.Tie as tie
 
--- ---- the end was read, and the message taken
+abbrev done : tie.After-finish → tie.After-take
+done c = c .before .before .before .before
 
-abbrev start : tie.After-take-lent → tie.Start
-start c = c .before .before .before .before .before .before .before .before .before .before .before .before .before .before .before .before .before .before .before
+abbrev numbered : tie.After-take → tie.After-counts
+numbered c = c .before .before
 
-abbrev bytes : tie.After-take-lent → List ℕ
-bytes c = start c .args .end .now
+abbrev got : tie.After-counts → tie.After-get
+got c = c .before .before .before
 
-whole : (c : tie.After-take-lent) → size ≤ length (bytes c)
-whole c = c .before .before .before .before .before .before .before .before .before .before .before .before .before .before .before .before .if1 .left
+abbrev long : tie.After-get → tie.Else1
+long c = c .before .before .before
 
-abbrev filled : tie.After-take-lent → tie.After-fill
-filled c = c .before .before .before .before .before .before .before .before .before .before
-
-abbrev counted : tie.After-take-lent → tie.After-counts
-counted c = c .before .before .before .before
-
-reads-at : (c : tie.After-take-lent) → let f = filled c .fill in Reads (take 6284 (start c .args .end .now)) (counted c .counts .result) (f .last .1 .0) (f .last .1 .1 .0) (f .last .1 .1 .1 .0)
-reads-at c =
-    let f = filled c .fill in
-    filled-reads (take 6284 (start c .args .end .now)) (f .last .1 .0) (f .last .1 .1 .0) (f .last .1 .1 .1 .0) (length-take-le 6284 (start c .args .end .now) (whole c)) (f .ensures) (counted c .counts .result)
-    (counted c .counts .ensures)
-
--- ---- and accepted
-
-abbrev done : tie.Then2 → tie.After-take-lent
-done c = c .before .before
-
-sizes : (c : tie.Then2) → let t = done c .take-lent in Sizes (t .result .counts) (t .last .1 .0) (t .last .1 .1 .0) (t .last .1 .1 .1 .0)
-sizes c =
-    let d = done c in
-    let f = filled d .fill in
-    taken-sizes (bytes d) (whole d) (counted d .counts .result) (f .last .1 .0) (f .last .1 .1 .0) (f .last .1 .1 .1 .0) (reads-at d) (start d .args .message .now)
-    (d .take-lent .result) (d .take-lent .last .1 .0) (d .take-lent .last .1 .1 .0) (d .take-lent .last .1 .1 .1 .0) (d .take-lent .ensures) (c .if2 .taken)
-
--- ---- the needs
+abbrev start : tie.Else1 → tie.Start
+start c = c .before .before .before
 
 answer-requires : tie.Need-answer-requires
-answer-requires c κs = omega arith
+answer-requires c κs = search needs
 
 returns : tie.Need-returns
-returns c = let s = c .before .before .before .before in
-    taken-short (s .args .end .now) (s .args .message .now) (c .answer .result) (c .before .if1 .taken) (c .answer .ensures)
+unfolding takenIn
+returns c =
+    let a = c .before .before .before .before .args in
+    too-short size (now (a .end)) (now (a .end)) _ (c .answer .result) (omega (arith, c .before .if1 .taken)) (c .answer .ensures)
 
-sub-fill : tie.Need-sub-fill
-sub-fill c = omega arith
+slice-aggregate-get : tie.Need-slice-aggregate-get
+slice-aggregate-get c = search needs
 
-part-fill-start : tie.Need-part-fill-start
-part-fill-start c = omega arith
-
-part-fill-end : tie.Need-part-fill-end
-part-fill-end c = omega arith
-
-slice-aggregate-fill : tie.Need-slice-aggregate-fill
-slice-aggregate-fill c = omega arith
-
-slice-aggregate-fill-2 : tie.Need-slice-aggregate-fill-2
-slice-aggregate-fill-2 c = omega arith
-
-slice-aggregate-fill-3 : tie.Need-slice-aggregate-fill-3
-slice-aggregate-fill-3 c = omega arith
-
-fill-requires : tie.Need-fill-requires
-fill-requires c κs = omega arith
-
-sub-counts : tie.Need-sub-counts
-sub-counts c = omega arith
-
-part-counts-start : tie.Need-part-counts-start
-part-counts-start c = omega arith
-
-part-counts-end : tie.Need-part-counts-end
-part-counts-end c = omega arith
+get-requires : tie.Need-get-requires
+get-requires c κs = search needs
 
 counts-requires : tie.Need-counts-requires
-counts-requires c κs = omega arith
+counts-requires c κs = search needs
 
-take-lent-requires : tie.Need-take-lent-requires
-take-lent-requires c κs =
-    let e = c .before .before .before .before .before .before .before .before .before .before .before .before .before .before .before .before .before .before .args .end .now in
-    let f = c .before .before .before .before .before .before .before .before .before .fill in
-    let k = c .before .before .before .counts in
-    filled-reads (take 6284 e) (f .last .1 .0) (f .last .1 .1 .0) (f .last .1 .1 .1 .0) (length-take-le 6284 e (c .before .before .before .before .before .before .before .before .before .before .before .before .before .before .before .if1 .left)) (f .ensures) (k .result) (k .ensures) .sizes
+slice-aggregate-take : tie.Need-slice-aggregate-take
+slice-aggregate-take c = search needs
 
-slice-aggregate-write : tie.Need-slice-aggregate-write
-slice-aggregate-write c = let z = sizes (c .before) in omega (arith, z .list, z .sized .places, z .sized .items)
+take-requires : tie.Need-take-requires
+take-requires c κs = record { words = search needs; lines = search (needs, counted) }
 
-slice-aggregate-write-2 : tie.Need-slice-aggregate-write-2
-slice-aggregate-write-2 c = let z = sizes (c .before .before) in omega (arith, z .list, z .sized .places, z .sized .items)
+slice-aggregate-finish : tie.Need-slice-aggregate-finish
+slice-aggregate-finish c = search needs
 
-slice-aggregate-write-3 : tie.Need-slice-aggregate-write-3
-slice-aggregate-write-3 c = let z = sizes (c .before .before .before) in omega (arith, z .list, z .sized .places, z .sized .items)
-
-sub-write : tie.Need-sub-write
-sub-write c = omega arith
-
-part-write-start : tie.Need-part-write-start
-part-write-start c = omega arith
-
-part-write-end : tie.Need-part-write-end
-part-write-end c = whole (done (c .before .before .before))
-
-write-requires : tie.Need-write-requires
-write-requires c κs =
-    let t = c .before .before .before .before in
-    let z = sizes t in
-    let e = z .sized in (
-      record {
-        list = omega arith;
-        sized =
-            record { made = omega arith; taken = omega arith; acked = omega arith; inserts = omega arith; places = omega arith; items = omega arith };
-      },
-      length-take-le 6284 (bytes (done t)) (whole (done t)),
-    )
-
-answer-requires-2 : tie.Need-answer-requires-2
-answer-requires-2 c κs = omega arith
+finish-requires : tie.Need-finish-requires
+finish-requires c κs = search needs
 
 same-length : tie.Need-same-length
-same-length c = omega arith
+same-length c = search needs
 
 returns-2 : tie.Need-returns-2
-returns-2 c = let t = c .before .before .before .before .before .before .before .before in
-    let d = done t in
-    let f = filled d .fill in
-    take-done (bytes d) (whole d) (counted d .counts .result) (f .last .1 .0) (f .last .1 .1 .0) (f .last .1 .1 .1 .0) (reads-at d) (start d .args .message .now)
-    (d .take-lent .result) (d .take-lent .last .1 .0) (d .take-lent .last .1 .1 .0) (d .take-lent .last .1 .1 .1 .0) (d .take-lent .ensures)
-    (c .before .before .before .write .last .1 .1 .1 .1 .0) (c .answer2 .result) (t .if2 .taken) (c .before .before .before .write .ensures) (c .answer2 .ensures)
-
-answer-requires-3 : tie.Need-answer-requires-3
-answer-requires-3 c κs = omega arith
-
-same-length-2 : tie.Need-same-length-2
-same-length-2 c = omega arith
-
-returns-3 : tie.Need-returns-3
-returns-3 c = let d = c .before .before .before in
-    let f = filled d .fill in
-    take-no (bytes d) (whole d) (counted d .counts .result) (f .last .1 .0) (f .last .1 .1 .0) (f .last .1 .1 .1 .0) (reads-at d) (start d .args .message .now)
-    (d .take-lent .result) (d .take-lent .last .1 .0) (d .take-lent .last .1 .1 .0) (d .take-lent .last .1 .1 .1 .0) (d .take-lent .ensures) (c .answer3 .result) (c .before .if2 .left) (c .answer3 .ensures)
+unfolding takenIn
+returns-2 c =
+    let f = c .before .before in
+    let d = done f in
+    let k = numbered d in
+    let g = got k in
+    let l = long g in
+    let a = start l .args in
+    call-answered (now (a .end)) (λ m. takeServer m (now (a .message))) (serverOf (k .counts .result) (g .get .last .1 .1 .0))
+    (answerOf (d .take .result) (d .take .last .1 .0)) (f .finish .result) (f .finish .last .0) (omega (arith, l .if1 .left)) (end-read (now (a .end)) (g .get .last .1 .1 .0) (k .counts .result) (g .get .ensures) (k .counts .ensures))
+    (d .take .ensures) (f .finish .ensures)
 
 pub take-spec : {M : Type 1} → statement M
 take-spec =
@@ -158,28 +80,12 @@ take-spec =
     (tie.spec
     answer-requires
     returns
-    sub-fill
-    part-fill-start
-    part-fill-end
-    slice-aggregate-fill
-    slice-aggregate-fill-2
-    slice-aggregate-fill-3
-    fill-requires
-    sub-counts
-    part-counts-start
-    part-counts-end
+    slice-aggregate-get
+    get-requires
     counts-requires
-    take-lent-requires
-    slice-aggregate-write
-    slice-aggregate-write-2
-    slice-aggregate-write-3
-    sub-write
-    part-write-start
-    part-write-end
-    write-requires
-    answer-requires-2
+    slice-aggregate-take
+    take-requires
+    slice-aggregate-finish
+    finish-requires
     same-length
-    returns-2
-    answer-requires-3
-    same-length-2
-    returns-3)
+    returns-2)

@@ -2,15 +2,12 @@ use borrow.Author.Needs.{needs}
 use Rattle.lubdranit.proofs.lub_client_acknowledge.Statement.{statement}
 use Rattle.lubdranit.proofs.lub_client_acknowledge.Tie as tie
 
--- src/lib.rt:46:5
 acknowledge-requires : tie.Need-acknowledge-requires
 acknowledge-requires c κs = search needs
 
--- src/lib.rt:42:1
 same-length : tie.Need-same-length
 same-length c = search needs
 
--- src/lib.rt:42:1
 returns : tie.Need-returns
 returns c = search needs
 

@@ -2,7 +2,6 @@ use mathlib.Core.Path.{refl}
 use Rattle.lubdranit.proofs.lub_client_bytes.Statement.{statement}
 use Rattle.lubdranit.proofs.lub_client_bytes.Tie as tie
 
--- src/lib.rt:88:1
 returns : tie.Need-returns
 returns c = refl
 

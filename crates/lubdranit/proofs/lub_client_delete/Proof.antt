@@ -2,15 +2,12 @@ use borrow.Author.Needs.{needs}
 use Rattle.lubdranit.proofs.lub_client_delete.Statement.{statement}
 use Rattle.lubdranit.proofs.lub_client_delete.Tie as tie
 
--- src/lib.rt:32:5
 delete-requires : tie.Need-delete-requires
 delete-requires c κs = search needs
 
--- src/lib.rt:28:1
 same-length : tie.Need-same-length
 same-length c = search needs
 
--- src/lib.rt:28:1
 returns : tie.Need-returns
 returns c = search needs
 

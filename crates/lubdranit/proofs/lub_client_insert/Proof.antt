@@ -2,15 +2,12 @@ use borrow.Author.Needs.{needs}
 use Rattle.lubdranit.proofs.lub_client_insert.Statement.{statement}
 use Rattle.lubdranit.proofs.lub_client_insert.Tie as tie
 
--- src/lib.rt:25:5
 insert-requires : tie.Need-insert-requires
 insert-requires c κs = search needs
 
--- src/lib.rt:21:1
 same-length : tie.Need-same-length
 same-length c = search needs
 
--- src/lib.rt:21:1
 returns : tie.Need-returns
 returns c = search needs
 

@@ -2,7 +2,6 @@ use mathlib.Core.Path.{refl}
 use Rattle.lubdranit.proofs.lub_server_bytes.Statement.{statement}
 use Rattle.lubdranit.proofs.lub_server_bytes.Tie as tie
 
--- src/lib.rt:95:1
 returns : tie.Need-returns
 returns c = refl
 

@@ -2,15 +2,12 @@ use borrow.Author.Needs.{needs}
 use Rattle.lubdranit.proofs.lub_server_open.Statement.{statement}
 use Rattle.lubdranit.proofs.lub_server_open.Tie as tie
 
--- src/lib.rt:62:5
 open-requires : tie.Need-open-requires
 open-requires c κs = search needs
 
--- src/lib.rt:58:1
 same-length : tie.Need-same-length
 same-length c = search needs
 
--- src/lib.rt:58:1
 returns : tie.Need-returns
 returns c = search needs
 

@@ -1,0 +1,82 @@
+use mathlib.Core.Path.{ap, _∙_}
+use mathlib.Core.List.{List}
+use Prim.Native.Nat.{ℕ}
+use denote.Ref.{now}
+use Rattle.c_layout.specs.Words.{bytesOf, putAt}
+use Rattle.c_client.proofs.Ends.{end-written}
+use borrow.Author.Needs.{needs}
+use Rattle.c_client.proofs.layout.write.Statement.{statement}
+use Rattle.c_client.proofs.layout.write.Tie as tie
+
+abbrev first : tie.After-put2 → tie.After-put
+first c = c .before .before .before .before
+
+abbrev line : tie.After-put → tie.After-put-line
+line c = c .before .before .before .before
+
+abbrev start : tie.After-put-line → tie.Start
+start c = c .before .before .before .before .before .before .before .before
+
+cast-numbers : tie.Need-cast-numbers
+cast-numbers c = search needs
+
+array-write-numbers : tie.Need-array-write-numbers
+array-write-numbers c = search needs
+
+cast-numbers-2 : tie.Need-cast-numbers-2
+cast-numbers-2 c = search needs
+
+array-write-numbers-2 : tie.Need-array-write-numbers-2
+array-write-numbers-2 c = search needs
+
+cast-numbers-3 : tie.Need-cast-numbers-3
+cast-numbers-3 c = search needs
+
+array-write-numbers-3 : tie.Need-array-write-numbers-3
+array-write-numbers-3 c = search needs
+
+slice-aggregate-put-line : tie.Need-slice-aggregate-put-line
+slice-aggregate-put-line c = search needs
+
+put-line-requires : tie.Need-put-line-requires
+put-line-requires c κs = search needs
+
+slice-aggregate-put : tie.Need-slice-aggregate-put
+slice-aggregate-put c = search needs
+
+put-requires : tie.Need-put-requires
+put-requires c κs = search needs
+
+put-requires-2 : tie.Need-put-requires-2
+put-requires-2 c κs = search needs
+
+same-length : tie.Need-same-length
+same-length c = search needs
+
+returns : tie.Need-returns
+returns c =
+    let p₂ = c .before .before in
+    let p₁ = first p₂ in
+    let l = line p₁ in
+    let s = start l in
+    let a = s .args in
+    end-written (a .k) (now (a .words)) (now (a .bytes)) (p₁ .put .last .0) (p₂ .put2 .last .0) (s .pre .1)
+    (p₁ .put .ensures ∙ ap (λ (ns : List ℕ). putAt 0 (bytesOf ns) (now (a .bytes))) (l .put-line .ensures)) (p₂ .put2 .ensures)
+
+pub write-spec : {M : Type 1} → statement M
+write-spec =
+    tie.close
+    (tie.spec
+    cast-numbers
+    array-write-numbers
+    cast-numbers-2
+    array-write-numbers-2
+    cast-numbers-3
+    array-write-numbers-3
+    slice-aggregate-put-line
+    put-line-requires
+    slice-aggregate-put
+    put-requires
+    put-requires-2
+    same-length
+    returns)
