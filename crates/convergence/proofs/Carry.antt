@@ -36,7 +36,7 @@ module _ (S T : Sheet) (R : S .End → T .End → Type 0) where
     pub inserts : (a : S .End) (b : T .End) → R a b → (p x : ℕ) → Alike R (S .insert a p x) (T .insert b p x)
     pub deletes : (a : S .End) (b : T .End) → R a b → (p : ℕ) → Alike R (S .delete a p) (T .delete b p)
     pub takes : (a : S .End) (b : T .End) → R a b → (bytes : List ℕ) → Alike R (S .take a bytes) (T .take b bytes)
-    pub sends : (a : S .End) (b : T .End) → R a b → (l k : ℕ) (lent : List ℕ) → S .send a l k lent ≡ T .send b l k lent
+    pub sends : (a : S .End) (b : T .End) → R a b → (l number : ℕ) (lent : List ℕ) → S .send a l number lent ≡ T .send b l number lent
     pub tells : (a : S .End) (b : T .End) → R a b → (l : ℕ) (lent : List ℕ) → S .tell a l lent ≡ T .tell b l lent
     pub alone : LeavesAlone S
 
@@ -77,9 +77,9 @@ module _ (S T : Sheet) (R : S .End → T .End → Type 0) where
     same-call s t m (delete l p) ok =
         let h = between-true 1 n l (and-left (between 1 n l) (ltb p 65536) ok) in
         same-answered s t m l (delete l p) (S .delete (s .ends l) p) (T .delete (t .ends l) p) (f .deletes (s .ends l) (t .ends l) (m .ends l (h .1)) p)
-    same-call s t m (send a l k lent) ok =
-        let h = leb-true a n (three (leb a n) (ltb l 256) (ltb k 65536) (and-left (leb a n && ltb l 256 && ltb k 65536) (areBytes lent) ok) .0) in
-        same-written s t m (send a l k lent) (S .send (s .ends a) l k lent) (T .send (t .ends a) l k lent) (f .sends (s .ends a) (t .ends a) (m .ends a h) l k lent)
+    same-call s t m (send a l number lent) ok =
+        let h = leb-true a n (three (leb a n) (ltb l 256) (ltb number 65536) (and-left (leb a n && ltb l 256 && ltb number 65536) (areBytes lent) ok) .0) in
+        same-written s t m (send a l number lent) (S .send (s .ends a) l number lent) (T .send (t .ends a) l number lent) (f .sends (s .ends a) (t .ends a) (m .ends a h) l number lent)
     same-call s t m (tell a l lent) ok =
         let h = leb-true a n (three (leb a n) (ltb l 256) (areBytes lent) ok .0) in
         same-written s t m (tell a l lent) (S .tell (s .ends a) l lent) (T .tell (t .ends a) l lent) (f .tells (s .ends a) (t .ends a) (m .ends a h) l lent)
@@ -110,9 +110,9 @@ module _ (S T : Sheet) (R : S .End → T .End → Type 0) where
     same-number s t m (delete l p) ok =
         let h = between-true 1 n l (and-left (between 1 n l) (ltb p 65536) ok) in
         f .deletes (s .ends l) (t .ends l) (m .ends l (h .1)) p .refusal
-    same-number s t m (send a l k lent) ok =
-        let h = leb-true a n (three (leb a n) (ltb l 256) (ltb k 65536) (and-left (leb a n && ltb l 256 && ltb k 65536) (areBytes lent) ok) .0) in
-        ap (λ (x : Sent). x .refusal) (f .sends (s .ends a) (t .ends a) (m .ends a h) l k lent)
+    same-number s t m (send a l number lent) ok =
+        let h = leb-true a n (three (leb a n) (ltb l 256) (ltb number 65536) (and-left (leb a n && ltb l 256 && ltb number 65536) (areBytes lent) ok) .0) in
+        ap (λ (x : Sent). x .refusal) (f .sends (s .ends a) (t .ends a) (m .ends a h) l number lent)
     same-number s t m (tell a l lent) ok =
         let h = leb-true a n (three (leb a n) (ltb l 256) (areBytes lent) ok .0) in
         ap (λ (x : Sent). x .refusal) (f .tells (s .ends a) (t .ends a) (m .ends a h) l lent)
@@ -126,10 +126,10 @@ module _ (S T : Sheet) (R : S .End → T .End → Type 0) where
         f .takes (s .ends a) (t .ends a) (m .ends a h) bytes .refusal
 
     -- ---- the claim
-    delivered : (a a′ : S .End) (b b′ : T .End) → R a b → R a′ b′ → (l k : ℕ) (lent : List ℕ) → Delivered T b b′ l k lent → Delivered S a a′ l k lent
-    delivered a a′ b b′ r r′ l k lent d =
-        let same = f .sends a b r l k lent in
-        let bytes = take (T .send b l k lent .written) (T .send b l k lent .buffer) in
+    delivered : (a a′ : S .End) (b b′ : T .End) → R a b → R a′ b′ → (l number : ℕ) (lent : List ℕ) → Delivered T b b′ l number lent → Delivered S a a′ l number lent
+    delivered a a′ b b′ r r′ l number lent d =
+        let same = f .sends a b r l number lent in
+        let bytes = take (T .send b l number lent .written) (T .send b l number lent .buffer) in
         record {
           sends = ap (λ (x : Sent). x .refusal) same ∙ d .sends;
           takes = ap (λ (x : Sent). S .take a′ (take (x .written) (x .buffer)) .refusal) same ∙ f .takes a′ b′ r′ bytes .refusal ∙ d .takes;

@@ -1,5 +1,6 @@
 pub mod Carry
 pub mod Pairs
+pub mod Stored
 pub mod Built
 pub mod Unpack
 pub mod Small

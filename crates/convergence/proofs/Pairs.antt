@@ -15,7 +15,7 @@ pub record ClientFollows (c d : ClientCalls) (R : c .Client → d .Client → Ty
   pub inserts : (a : c .Client) (b : d .Client) → R a b → (p x : ℕ) → Alike R (c .insert a p x) (d .insert b p x)
   pub deletes : (a : c .Client) (b : d .Client) → R a b → (p : ℕ) → Alike R (c .delete a p) (d .delete b p)
   pub takes : (a : c .Client) (b : d .Client) → R a b → (bytes : List ℕ) → Alike R (c .take a bytes) (d .take b bytes)
-  pub sends : (a : c .Client) (b : d .Client) → R a b → (l k : ℕ) (lent : List ℕ) → c .send a l k lent ≡ d .send b l k lent
+  pub sends : (a : c .Client) (b : d .Client) → R a b → (l number : ℕ) (lent : List ℕ) → c .send a l number lent ≡ d .send b l number lent
   pub tells : (a : c .Client) (b : d .Client) → R a b → (l : ℕ) (lent : List ℕ) → c .tell a l lent ≡ d .tell b l lent
   pub alone : ClientAlone c
 
@@ -26,7 +26,7 @@ pub record ServerFollows (v w : ServerCalls) (R : v .Server → w .Server → Ty
   pub opens-refusal : (n : ℕ) (xs : List ℕ) → v .opens n xs .refusal ≡ w .opens n xs .refusal
   pub opens : (n : ℕ) (xs : List ℕ) → w .opens n xs .refusal ≡ 0 → R (v .opens n xs .end) (w .opens n xs .end)
   pub takes : (a : v .Server) (b : w .Server) → R a b → (bytes : List ℕ) → Alike R (v .take a bytes) (w .take b bytes)
-  pub sends : (a : v .Server) (b : w .Server) → R a b → (l k : ℕ) (lent : List ℕ) → v .send a l k lent ≡ w .send b l k lent
+  pub sends : (a : v .Server) (b : w .Server) → R a b → (l number : ℕ) (lent : List ℕ) → v .send a l number lent ≡ w .send b l number lent
   pub tells : (a : v .Server) (b : w .Server) → R a b → (l : ℕ) (lent : List ℕ) → v .tell a l lent ≡ w .tell b l lent
   pub alone : ServerAlone v
 
@@ -64,7 +64,7 @@ module _ (c d : ClientCalls) (v w : ServerCalls) (P : c .Client → d .Client �
         inserts = either (λ a b r. (p x : ℕ) → Alike Both (sheetOf c v .insert a p x) (sheetOf d w .insert b p x)) (λ a b r p x. asClient _ _ (f .inserts a b r p x)) (λ a b r p x. unmade a b r);
         deletes = either (λ a b r. (p : ℕ) → Alike Both (sheetOf c v .delete a p) (sheetOf d w .delete b p)) (λ a b r p. asClient _ _ (f .deletes a b r p)) (λ a b r p. unmade a b r);
         takes = either (λ a b r. (bytes : List ℕ) → Alike Both (sheetOf c v .take a bytes) (sheetOf d w .take b bytes)) (λ a b r bytes. asClient _ _ (f .takes a b r bytes)) (λ a b r bytes. asServer _ _ (g .takes a b r bytes));
-        sends = either (λ a b r. (l k : ℕ) (lent : List ℕ) → sheetOf c v .send a l k lent ≡ sheetOf d w .send b l k lent) (f .sends) (g .sends);
+        sends = either (λ a b r. (l number : ℕ) (lent : List ℕ) → sheetOf c v .send a l number lent ≡ sheetOf d w .send b l number lent) (f .sends) (g .sends);
         tells = either (λ a b r. (l : ℕ) (lent : List ℕ) → sheetOf c v .tell a l lent ≡ sheetOf d w .tell b l lent) (f .tells) (g .tells);
         alone = both-alone c v (f .alone) (g .alone);
       }

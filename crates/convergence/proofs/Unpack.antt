@@ -9,14 +9,14 @@ use lib.ListN.{length, drop, length-append}
 use borrow.Author.Tests.{eq-eqb, ne-eqb, eqb-true, eqb-false, le-ltb}
 use Rattle.model.specs.Questions.{Answer, Sent}
 use Rattle.model.specs.Claim.{Back}
-use Rattle.c_layout.specs.Called.{Called, called, laidOut}
+use Rattle.c_layout.specs.Called.{Called, called, laidOut, changing, opening, sending}
 use Rattle.c_layout.specs.Words.{itemsOf}
 use Rattle.c_layout.specs.ItemBytes.{itemBytes}
 use Rattle.c_layout.proofs.Called.{unpacks}
 use Rattle.c_layout.proofs.ItemBytes.{items-read-back}
 use Rattle.convergence.specs.Lent.{answerOf, sentOf}
 use Rattle.convergence.proofs.Carry.{Alike}
-use Rattle.convergence.proofs.Built.{Alone}
+use Rattle.convergence.proofs.Stored.{Alone}
 
 -- the form of an end in bytes; the arrays of a whole end have their lengths
 pub record Form (E : Type 0) : Type 1 where
@@ -54,11 +54,12 @@ module _ {E : Type 0} (form : Form E) where
 
   -- ---- calls that may change their end
 
+  abbrev packedAnswer : Answer E → List ℕ → Called
+  packedAnswer a b = changing (form .size) (a .refusal) (a .passed) (form .write (a .end)) b
+
+  -- its bytes, accepted or not
   abbrev after : Bool → E → List ℕ → List ℕ
   after accepted e b = cond accepted (form .write e ++ drop (form .size) b) b
-
-  abbrev packedAnswer : Answer E → List ℕ → Called
-  packedAnswer a b = called (a .refusal) (a .passed) (after (eqb (a .refusal) 0) (a .end) b)
 
   module _ (a : Answer E) (b : List ℕ) (f : Fits (form .Whole) a) where
     pub same-refusal : answerOf (packedAnswer a b) .refusal ≡ a .refusal
@@ -109,24 +110,21 @@ module _ {E : Type 0} (form : Form E) where
 
   -- an opening in lent bytes: its items are whole, and those that were meant
   module _ (b : List ℕ) (h : form .size ≤ length b) (opens : List ℕ → Answer E) where
-    abbrev opening : Bool → Bool → List ℕ → Called
-    opening short whole items = cond short (called 18 0 b) (cond whole (packedAnswer (opens items) b) (called 1 0 b))
+    abbrev askedOpening : Bool → Bool → List ℕ → Called
+    askedOpening short whole items = cond short (called 18 0 b) (cond whole (packedAnswer (opens items) b) (called 1 0 b))
 
     pub open-same : (P : Called → Type 0) (items : List ℕ) → P (packedAnswer (opens items) b)
-        → P (laidOut (form .size) b b (cond (eqb (length (itemBytes items) % 4) 0) (packedAnswer (opens (itemsOf (itemBytes items))) b) (called 1 0 b)))
+        → P (opening (form .size) b (itemBytes items) (packedAnswer (opens (itemsOf (itemBytes items))) b))
     unfolding laidOut
     open-same P items p =
         let short = sym (le-ltb (length b) (form .size) h) in
         let whole = sym (eq-eqb (length (itemBytes items) % 4) 0 (items-read-back .whole items)) in
         let same = sym (items-read-back .read-back items) in
-        subst P (λ i. opening (short i) (whole i) (same i)) p
+        subst P (λ i. askedOpening (short i) (whole i) (same i)) p
 
   -- ---- sendings
 
-  abbrev packedSent : Sent → Called
-  packedSent s = called (s .refusal) (s .written) (s .buffer)
-
-  same-sent : (s : Sent) → Little s → sentOf (packedSent s) ≡ s
+  same-sent : (s : Sent) → Little s → sentOf (sending s) ≡ s
   same-sent s h =
       let u = unpacks (s .refusal) (s .written) (h .refusal) (h .written) in
       λ i. record { refusal = u .0 i; written = u .1 i; buffer = s .buffer }
@@ -136,13 +134,13 @@ module _ {E : Type 0} (form : Form E) where
     sent = call (form .read b)
 
     abbrev lent : Bool → Sent
-    lent short = sentOf (cond short (called 18 0 out) (packedSent sent))
+    lent short = sentOf (cond short (called 18 0 out) (sending sent))
 
-    pub sending-same : (e : E) → Are b e → sentOf (laidOut (form .size) b out (packedSent sent)) ≡ call e
+    pub sending-same : (e : E) → Are b e → sentOf (laidOut (form .size) b out (sending sent)) ≡ call e
     unfolding laidOut
     sending-same e r = ap lent (le-ltb (length b) (form .size) (r .1)) ∙ same-sent sent (c .little (form .read b)) ∙ ap call (r .0)
 
-    pub sending-alone : Alone out (sentOf (laidOut (form .size) b out (packedSent sent)))
+    pub sending-alone : Alone out (sentOf (laidOut (form .size) b out (sending sent)))
     unfolding laidOut
     sending-alone = go (ltb (length b) (form .size))
       where

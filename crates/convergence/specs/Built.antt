@@ -1,4 +1,5 @@
 -- The sheet of the structs that run: each call is what the contract of its method says that it answers.
+use Prim.Native.Nat.{_-_}
 use lib.ListN.{take}
 use Rattle.model.specs.Questions.{Answer}
 use Rattle.model.specs.Sheet.{Sheet}
@@ -7,14 +8,14 @@ use Rattle.model.specs.SheetOf.{ClientCalls, ServerCalls, End, answerAs, sheetO
 use Rattle.model.specs.Claim.{Converges}
 use Rattle.model.specs.Consequences.{Consistent, TakingRefusals, Agree}
 use Rattle.model.specs.Ours.{ours}
-use Rattle.model.specs.Server as model
 use Rattle.client.specs.declared.Client.{Client}
 use Rattle.client.specs.declared.Answer as clients
+use Rattle.client.specs.View as clientView
 use Rattle.client.specs.Answers as client
 use Rattle.server.specs.declared.Server.{Server}
 use Rattle.server.specs.declared.Answer as servers
-use Rattle.server.specs.View.{view}
-use Rattle.server.specs.Calls as server
+use Rattle.server.specs.View as serverView
+use Rattle.server.specs.Answers as server
 
 abbrev pub clientAnswer : clients.Answer → Answer Client
 clientAnswer a = record { refusal = a .refusal; end = a .client; passed = a .passed }
@@ -27,9 +28,9 @@ abbrev pub clientCalls : ClientCalls
 clientCalls =
     record {
       Client = Client;
-      items = λ c. take (c .len) (c .items);
-      made = λ c. c .made;
-      taken = λ c. c .taken;
+      items = λ c. take (c .counts .len) (clientView.itemsIn (c .words));
+      made = λ c. c .counts .own .made;
+      taken = λ c. c .counts .own .taken;
       opens = λ n l items. clientAnswer (client.opened n l items);
       insert = λ c p x. clientAnswer (client.inserted c p x);
       delete = λ c p. clientAnswer (client.deleted c p);
@@ -42,13 +43,13 @@ abbrev pub serverCalls : ServerCalls
 serverCalls =
     record {
       Server = Server;
-      items = λ s. take (s .len) (s .items);
-      made = λ s l. model.lineOf (view s) l .made;
-      taken = λ s l. model.lineOf (view s) l .taken;
+      items = λ s. take (s .counts .len) (serverView.itemsIn (s .words));
+      made = λ s l. serverView.countsAt (s .counts) (l - 1) .made;
+      taken = λ s l. serverView.countsAt (s .counts) (l - 1) .taken;
       opens = λ n items. serverAnswer (server.opened n items);
-      send = server.sends;
-      tell = server.tells;
-      take = λ s bytes. serverAnswer (server.takes s bytes);
+      send = server.sentEdit;
+      tell = server.sentAck;
+      take = λ s bytes. serverAnswer (server.taken s bytes);
     }
 
 abbrev pub built : Sheet

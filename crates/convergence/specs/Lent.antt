@@ -37,7 +37,7 @@ clientsLent lent =
       opens = λ n l items. answerOf (client.openedIn (lent l) n l (itemBytes items));
       insert = λ b p x. answerOf (client.insertedIn b p x);
       delete = λ b p. answerOf (client.deletedIn b p);
-      send = λ b l k out. sentOf (client.sentIn b l k out);
+      send = λ b l number out. sentOf (client.sentIn b l number out);
       tell = λ b l out. sentOf (client.acknowledgedIn b l out);
       take = λ b message. answerOf (client.takenIn b message);
     }
@@ -50,7 +50,7 @@ serverLent lent =
       made = λ b. serverCalls .made (servers.endIn b);
       taken = λ b. serverCalls .taken (servers.endIn b);
       opens = λ n items. answerOf (server.openedIn lent n (itemBytes items));
-      send = λ b l k out. sentOf (server.sentIn b l k out);
+      send = λ b l number out. sentOf (server.sentIn b l number out);
       tell = λ b l out. sentOf (server.acknowledgedIn b l out);
       take = λ b message. answerOf (server.takenIn b message);
     }

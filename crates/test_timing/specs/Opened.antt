@@ -8,7 +8,7 @@ use Rattle.client.specs.declared.Answer as clients
 use Rattle.client.specs.Answers as client
 use Rattle.server.specs.declared.Server.{Server}
 use Rattle.server.specs.declared.Answer as servers
-use Rattle.server.specs.Calls as server
+use Rattle.server.specs.Answers as server
 
 abbrev pub items : ℕ → List ℕ
 items count = take count (replicate 256 0)

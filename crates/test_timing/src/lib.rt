@@ -1,8 +1,8 @@
 // For benchmarks alone: methods by value, each called again and again on the same end. The loops stand inside the library, so that what is
 // timed is the method with the copy of its end. Each function answers what one call of the method answers.
 ghost use mathlib.Core.Path.{_≡_};
-ghost use Rattle.client.specs.Answers.{inserted, taken};
-ghost use Rattle.server.specs.Calls.{takes};
+ghost use Rattle.client.specs.Answers as client;
+ghost use Rattle.server.specs.Answers as server;
 ghost use Rattle.test_timing.specs.Opened.{clientWith, serverWith, clientAnswered, serverAnswered};
 use c_layout::answer;
 use client::Client;
@@ -29,7 +29,7 @@ fn server_with(count: u8) -> Server
 
 #[no_mangle]
 pub extern "C" fn lub_time_client_insert(count: u8, position: u16, item: u32, times: u32) -> u64
-    ensures { λ r. ⌜ r ≡ clientAnswered (inserted (clientWith count) position item) ⌝ }
+    ensures { λ r. ⌜ r ≡ clientAnswered (client.inserted (clientWith count) position item) ⌝ }
 {
     let c = client_with(count);
     let mut i = 1;
@@ -44,7 +44,7 @@ pub extern "C" fn lub_time_client_insert(count: u8, position: u16, item: u32, ti
 
 #[no_mangle]
 pub extern "C" fn lub_time_client_take(count: u8, message: &[u8], times: u32) -> u64
-    ensures { λ r. ⌜ r ≡ clientAnswered (taken (clientWith count) (now (message .entry))) ⌝ }
+    ensures { λ r. ⌜ r ≡ clientAnswered (client.taken (clientWith count) (now (message .entry))) ⌝ }
 {
     let c = client_with(count);
     let mut i = 1;
@@ -59,7 +59,7 @@ pub extern "C" fn lub_time_client_take(count: u8, message: &[u8], times: u32) ->
 
 #[no_mangle]
 pub extern "C" fn lub_time_server_take(count: u8, message: &[u8], times: u32) -> u64
-    ensures { λ r. ⌜ r ≡ serverAnswered (takes (serverWith count) (now (message .entry))) ⌝ }
+    ensures { λ r. ⌜ r ≡ serverAnswered (server.taken (serverWith count) (now (message .entry))) ⌝ }
 {
     let s = server_with(count);
     let mut i = 1;

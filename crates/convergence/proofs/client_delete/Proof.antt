@@ -4,11 +4,9 @@ use Rattle.convergence.proofs.client_delete.Statement.{statement}
 use Rattle.convergence.specs.Built.{fromClient}
 use Rattle.convergence.proofs.client_delete.Tie as tie
 
--- src/lib.rt:27:5
 delete-requires : tie.Need-delete-requires
 delete-requires c κs = search needs
 
--- src/lib.rt:24:1
 returns : tie.Need-returns
 returns c = ap fromClient (c .delete .ensures)
 

@@ -4,11 +4,9 @@ use Rattle.convergence.proofs.client_insert.Statement.{statement}
 use Rattle.convergence.specs.Built.{fromClient}
 use Rattle.convergence.proofs.client_insert.Tie as tie
 
--- src/lib.rt:21:5
 insert-requires : tie.Need-insert-requires
 insert-requires c κs = search needs
 
--- src/lib.rt:18:1
 returns : tie.Need-returns
 returns c = ap fromClient (c .insert .ensures)
 

@@ -4,11 +4,9 @@ use Rattle.convergence.proofs.client_open.Statement.{statement}
 use Rattle.convergence.specs.Built.{fromClient}
 use Rattle.convergence.proofs.client_open.Tie as tie
 
--- src/lib.rt:15:5
 open-requires : tie.Need-open-requires
 open-requires c κs = search needs
 
--- src/lib.rt:12:1
 returns : tie.Need-returns
 returns c = ap fromClient (c .«open» .ensures)
 

@@ -4,11 +4,9 @@ use Rattle.convergence.proofs.client_take.Statement.{statement}
 use Rattle.convergence.specs.Built.{fromClient}
 use Rattle.convergence.proofs.client_take.Tie as tie
 
--- src/lib.rt:45:5
 take-requires : tie.Need-take-requires
 take-requires c κs = search needs
 
--- src/lib.rt:42:1
 returns : tie.Need-returns
 returns c = ap fromClient (c .take .ensures)
 

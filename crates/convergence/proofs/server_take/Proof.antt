@@ -4,11 +4,9 @@ use Rattle.convergence.proofs.server_take.Statement.{statement}
 use Rattle.convergence.specs.Built.{fromServer}
 use Rattle.convergence.proofs.server_take.Tie as tie
 
--- src/lib.rt:71:5
 take-requires : tie.Need-take-requires
 take-requires c κs = search needs
 
--- src/lib.rt:68:1
 returns : tie.Need-returns
 returns c = ap fromServer (c .take .ensures)
 

@@ -26,11 +26,19 @@ insert-requires c κs = search needs
 answer-requires : tie.Need-answer-requires Inv-loop μ-loop
 answer-requires c κs = search needs
 
+abbrev called : tie.After-answer Inv-loop μ-loop → tie.After-insert Inv-loop μ-loop
+called c = c .before .before
+
+abbrev opened : tie.After-answer Inv-loop μ-loop → tie.After-client-with Inv-loop μ-loop
+opened c = called c .before .before
+
+abbrev start : tie.After-answer Inv-loop μ-loop → tie.Start Inv-loop μ-loop
+start c = opened c .before
+
 returns : tie.Need-returns Inv-loop μ-loop
 returns c =
-    let s = c .before .before .before .before .before in
     c .answer .ensures
-    ∙ ap clientAnswered (c .before .before .insert .ensures ∙ ap (λ (e : Client). inserted e (s .args .position) (s .args .item)) (c .before .before .before .before .client-with .ensures))
+    ∙ ap clientAnswered (called c .insert .ensures ∙ ap (λ (e : Client). inserted e (start c .args .position) (start c .args .item)) (opened c .client-with .ensures))
 
 add-i : tie.Need-add-i Inv-loop μ-loop
 add-i c = omega arith

@@ -27,11 +27,19 @@ take-requires c κs = search needs
 answer-requires : tie.Need-answer-requires Inv-loop μ-loop
 answer-requires c κs = search needs
 
+abbrev called : tie.After-answer Inv-loop μ-loop → tie.After-take Inv-loop μ-loop
+called c = c .before .before
+
+abbrev opened : tie.After-answer Inv-loop μ-loop → tie.After-client-with Inv-loop μ-loop
+opened c = called c .before .before
+
+abbrev start : tie.After-answer Inv-loop μ-loop → tie.Start Inv-loop μ-loop
+start c = opened c .before .before
+
 returns : tie.Need-returns Inv-loop μ-loop
 returns c =
-    let s = c .before .before .before .before .before .before in
     c .answer .ensures
-    ∙ ap clientAnswered (c .before .before .take .ensures ∙ ap (λ (e : Client). taken e (now (s .args .message))) (c .before .before .before .before .client-with .ensures))
+    ∙ ap clientAnswered (called c .take .ensures ∙ ap (λ (e : Client). taken e (now (start c .args .message))) (opened c .client-with .ensures))
 
 add-i : tie.Need-add-i Inv-loop μ-loop
 add-i c = omega arith

@@ -4,7 +4,7 @@ use native.Mathlib.Omega.{arith}
 use borrow.Author.Needs.{needs}
 use denote.Ref.{now}
 use Rattle.server.specs.declared.Server.{Server}
-use Rattle.server.specs.Calls.{takes}
+use Rattle.server.specs.Answers.{taken}
 use Rattle.test_timing.specs.Opened.{serverAnswered}
 use Rattle.test_timing.proofs.lub_time_server_take.Statement.{statement}
 use Rattle.test_timing.proofs.lub_time_server_take.Tie as tie
@@ -27,11 +27,19 @@ take-requires c κs = search needs
 answer-requires : tie.Need-answer-requires Inv-loop μ-loop
 answer-requires c κs = search needs
 
+abbrev called : tie.After-answer Inv-loop μ-loop → tie.After-take Inv-loop μ-loop
+called c = c .before .before
+
+abbrev opened : tie.After-answer Inv-loop μ-loop → tie.After-server-with Inv-loop μ-loop
+opened c = called c .before .before
+
+abbrev start : tie.After-answer Inv-loop μ-loop → tie.Start Inv-loop μ-loop
+start c = opened c .before .before
+
 returns : tie.Need-returns Inv-loop μ-loop
 returns c =
-    let s = c .before .before .before .before .before .before in
     c .answer .ensures
-    ∙ ap serverAnswered (c .before .before .take .ensures ∙ ap (λ (e : Server). takes e (now (s .args .message))) (c .before .before .before .before .server-with .ensures))
+    ∙ ap serverAnswered (called c .take .ensures ∙ ap (λ (e : Server). taken e (now (start c .args .message))) (opened c .server-with .ensures))
 
 add-i : tie.Need-add-i Inv-loop μ-loop
 add-i c = omega arith

@@ -1,14 +1,14 @@
 use Prim.Native.Nat.{_-_, _≤_}
 use native.Mathlib.Omega.{arith}
 use borrow.Author.Needs.{needs}
-use Rattle.slips.proofs.gathered_counts.Statement.{statement}
-use Rattle.slips.proofs.gathered_counts.Tie as tie
+use Rattle.test_slips.proofs.gathered.Statement.{statement}
+use Rattle.test_slips.proofs.gathered.Tie as tie
 
 abbrev Inv-loop : tie.InvT-loop
-Inv-loop counts all₀ i₀ i-end all i = i ≤ i-end
+Inv-loop words all₀ i₀ i-end all i = i ≤ i-end
 
 abbrev μ-loop : tie.MeasureT-loop
-μ-loop counts all₀ i₀ i-end all i = i-end - i
+μ-loop words all₀ i₀ i-end all i = i-end - i
 
 loop-holds : tie.Need-loop-holds Inv-loop μ-loop
 loop-holds c = omega arith
@@ -31,8 +31,8 @@ loop-again c = omega arith
 returns : tie.Need-returns Inv-loop μ-loop
 returns c = search needs
 
-pub gathered-counts-spec : {M : Type 1} → statement M
-gathered-counts-spec =
+pub gathered-spec : {M : Type 1} → statement M
+gathered-spec =
     tie.close
     (tie.spec
     Inv-loop

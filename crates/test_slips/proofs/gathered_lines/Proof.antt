@@ -1,23 +1,23 @@
 use Prim.Native.Nat.{_-_, _≤_}
 use native.Mathlib.Omega.{arith}
 use borrow.Author.Needs.{needs}
-use Rattle.slips.proofs.gathered.Statement.{statement}
-use Rattle.slips.proofs.gathered.Tie as tie
+use Rattle.test_slips.proofs.gathered_lines.Statement.{statement}
+use Rattle.test_slips.proofs.gathered_lines.Tie as tie
 
 abbrev Inv-loop : tie.InvT-loop
-Inv-loop words all₀ i₀ i-end all i = i ≤ i-end
+Inv-loop k made₀ taken₀ acked₀ inserts₀ i₀ made taken acked inserts i = i ≤ 8
 
 abbrev μ-loop : tie.MeasureT-loop
-μ-loop words all₀ i₀ i-end all i = i-end - i
+μ-loop k made₀ taken₀ acked₀ inserts₀ i₀ made taken acked inserts i = 8 - i
 
 loop-holds : tie.Need-loop-holds Inv-loop μ-loop
 loop-holds c = omega arith
 
-mul-all : tie.Need-mul-all Inv-loop μ-loop
-mul-all c = omega arith
+mul-v : tie.Need-mul-v Inv-loop μ-loop
+mul-v c = omega arith
 
-shared-slice-read-all : tie.Need-shared-slice-read-all Inv-loop μ-loop
-shared-slice-read-all c = omega arith
+element-copy-out-v : tie.Need-element-copy-out-v Inv-loop μ-loop
+element-copy-out-v c = omega arith
 
 add-i : tie.Need-add-i Inv-loop μ-loop
 add-i c = omega arith
@@ -31,15 +31,15 @@ loop-again c = omega arith
 returns : tie.Need-returns Inv-loop μ-loop
 returns c = search needs
 
-pub gathered-spec : {M : Type 1} → statement M
-gathered-spec =
+pub gathered-lines-spec : {M : Type 1} → statement M
+gathered-lines-spec =
     tie.close
     (tie.spec
     Inv-loop
     μ-loop
     loop-holds
-    mul-all
-    shared-slice-read-all
+    mul-v
+    element-copy-out-v
     add-i
     loop-less
     loop-again

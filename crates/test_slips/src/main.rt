@@ -4,6 +4,8 @@ ghost use mathlib.Core.Path.{_≡_};
 ghost use mathlib.Core.List.{[], _∷_};
 ghost use Rattle.client.specs.Answers.{taken};
 use client::Client;
+use line::Line;
+use server::Counts;
 use server::Server;
 
 fn number(n: u64) {
@@ -24,10 +26,10 @@ fn count(x: u16) {
 }
 
 // Client 1 takes an insert of client 2 at the front.
-fn take_insert(c: Client, k: u8, seen: u8) -> client::Answer
-    ensures { λ r. ⌜ r ≡ taken c (1 ∷ 1 ∷ 1 ∷ 0 ∷ k ∷ 0 ∷ seen ∷ 0 ∷ 1 ∷ 0 ∷ 0 ∷ 0 ∷ 9 ∷ 2 ∷ []) ⌝ }
+fn take_insert(c: Client, number: u8, seen: u8) -> client::Answer
+    ensures { λ r. ⌜ r ≡ taken c (1 ∷ 1 ∷ 1 ∷ 0 ∷ number ∷ 0 ∷ seen ∷ 0 ∷ 1 ∷ 0 ∷ 0 ∷ 0 ∷ 9 ∷ 2 ∷ []) ⌝ }
 {
-    let m = [1u8, 1, 1, 0, k, 0, seen, 0, 1, 0, 0, 0, 9, 2];
+    let m = [1u8, 1, 1, 0, number, 0, seen, 0, 1, 0, 0, 0, 9, 2];
     c.take(&m)
 }
 
@@ -43,11 +45,11 @@ fn refusal(a: client::Answer) {
     number(a.refusal as u64);
 }
 
-// Sending its edit number k is not refused while the edit is pending.
-fn send(c: Client, k: u16) {
+// Sending an edit is not refused while it is pending.
+fn send(c: Client, number: u16) {
     let mut m = [0u8; 14];
-    let s = c.send(1, k, &mut m);
-    number(s.refusal as u64);
+    let s = c.send(1, number, &mut m);
+    byte(s.refusal);
 }
 
 // Seen as acknowledged, as made, and one more or less; then a repeat and a gap.
@@ -99,9 +101,9 @@ fn kept(c: Client) {
     let a = take_insert(c, 1, 0);
     number(a.passed as u64);
     let d = a.client;
-    item(d.items[0]);
-    item(d.items[1]);
-    item(d.items[2]);
+    item(d.words[0]);
+    item(d.words[1]);
+    item(d.words[2]);
     let mut m = [0u8; 14];
     d.send(1, 1, &mut m);
     byte(m[8]);
@@ -140,13 +142,25 @@ fn gathered(words: &[u32]) -> u32 {
     all
 }
 
-// The same of counts.
-fn gathered_counts(counts: &[u16]) -> u16 {
-    let mut all = 0u16;
-    for i in 0..counts.len() {
-        all = all | counts[i];
+// The same of the numbers of all lines.
+fn gathered_lines(k: Counts) -> Line {
+    let mut made = 0u16;
+    let mut taken = 0u16;
+    let mut acked = 0u16;
+    let mut inserts = 0u16;
+    for i in 0..Server::LINES {
+        let v = k.lines[i];
+        made = made | v.made;
+        taken = taken | v.taken;
+        acked = acked | v.acked;
+        inserts = inserts | v.inserts;
     }
-    all
+    Line {
+        made,
+        taken,
+        acked,
+        inserts,
+    }
 }
 
 // A refused opening hands back an end that is all zeros.
@@ -155,9 +169,11 @@ fn refused_client() {
     let a = Client::open(9, 1, &[10u32, 20]);
     number(a.refusal as u64);
     let c = a.client;
-    item(gathered(&c.items) | gathered(&c.pending_places) | gathered(&c.pending_items));
-    count(c.made | c.taken | c.acked | c.inserts | c.len);
-    byte(c.n | c.line);
+    item(gathered(&c.words));
+    let k = c.counts;
+    let v = k.own;
+    count(v.made | v.taken | v.acked | v.inserts | k.len);
+    byte(k.n | k.line);
     io::write_all(1, b"\n");
 }
 
@@ -166,11 +182,13 @@ fn refused_server() {
     let a = Server::open(9, &[10u32, 20]);
     number(a.refusal as u64);
     let s = a.server;
-    item(gathered(&s.items) | gathered(&s.pending_places) | gathered(&s.pending_items));
-    count(gathered_counts(&s.made) | gathered_counts(&s.taken));
-    count(gathered_counts(&s.acked) | gathered_counts(&s.inserts));
-    count(s.initial | s.len);
-    byte(s.n);
+    item(gathered(&s.words));
+    let k = s.counts;
+    let v = gathered_lines(k);
+    count(v.made | v.taken);
+    count(v.acked | v.inserts);
+    count(k.initial | k.len);
+    byte(k.n);
     io::write_all(1, b"\n");
 }
 
