@@ -1,4 +1,0 @@
-pub mod Lists
-pub mod Flat
-pub mod Places
-pub mod Beside

@@ -1,6 +1,0 @@
-pub mod Showing
-pub mod Examples
-pub mod Room
-pub mod Turns
-pub mod Lines
-pub mod Opened
