@@ -58,12 +58,12 @@ pub fn word(end: u8, line: u8, field: Field) -> Option<u16> {
         Field::Length => Some(2),
         Field::Item(index) => (index < ITEMS as u16).then_some(items + index),
         _ if at >= lines => None,
-        Field::Made => Some(head + at),
-        Field::Taken => Some(head + lines + at),
-        Field::Acked => Some(head + 2 * lines + at),
-        Field::Inserts => Some(head + 3 * lines + at),
-        Field::Place(index) => (index < pending).then_some(places + at * pending + index),
-        Field::Brought(index) => (index < pending).then_some(places + (lines + at) * pending + index),
+        Field::Made => Some(head + 4 * at),
+        Field::Taken => Some(head + 4 * at + 1),
+        Field::Acked => Some(head + 4 * at + 2),
+        Field::Inserts => Some(head + 4 * at + 3),
+        Field::Place(index) => (index < pending).then_some(places + 2 * pending * at + index),
+        Field::Brought(index) => (index < pending).then_some(places + 2 * pending * at + pending + index),
     }
 }
 
@@ -82,7 +82,7 @@ pub fn name(end: u8, index: u16) -> String {
         let names = if end == 0 { ["n", "initial", "length"] } else { ["n", "line", "length"] };
         names[index as usize].to_string()
     } else if index < items {
-        let (which, line) = ((index - 3) / lines, (index - 3) % lines + 1);
+        let (line, which) = ((index - 3) / 4 + 1, (index - 3) % 4);
         let name = ["made", "taken", "acked", "inserts"][which as usize];
         if end == 0 {
             format!("{name} of line {line}")
@@ -93,8 +93,8 @@ pub fn name(end: u8, index: u16) -> String {
         format!("items[{}]", index - items)
     } else {
         let (at, pending) = (index - places, PENDING as u16);
-        let which = if at < lines * pending { "place" } else { "item" };
-        let (line, slot) = (at / pending % lines + 1, at % pending);
+        let (line, at) = (at / (2 * pending) + 1, at % (2 * pending));
+        let (which, slot) = if at < pending { ("place", at) } else { ("item", at - pending) };
         let of = if end == 0 { format!(" of line {line}") } else { String::new() };
         format!("{which} of pending edit {slot}{of}")
     }
@@ -114,14 +114,14 @@ mod tests {
             (1, 1, Field::Place(0), 519),
             (1, 1, Field::Brought(63), 646),
             (0, 0, Field::Initial, 1),
-            (0, 8, Field::Made, 10),
-            (0, 1, Field::Taken, 11),
-            (0, 8, Field::Acked, 26),
-            (0, 1, Field::Inserts, 27),
+            (0, 1, Field::Made, 3),
+            (0, 1, Field::Inserts, 6),
+            (0, 2, Field::Taken, 8),
+            (0, 8, Field::Acked, 33),
             (0, 0, Field::Item(0), 35),
             (0, 1, Field::Place(0), 547),
-            (0, 8, Field::Place(63), 1058),
-            (0, 1, Field::Brought(0), 1059),
+            (0, 1, Field::Brought(0), 611),
+            (0, 2, Field::Place(63), 738),
             (0, 8, Field::Brought(63), 1570),
         ] {
             assert_eq!(word(end, line, field), Some(at), "{end} {line} {field:?}");

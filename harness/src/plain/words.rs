@@ -98,9 +98,10 @@ impl End for Server {
         self.initial = small(1);
         self.length = small(2);
         for (at, line) in self.lines.iter_mut().enumerate() {
-            (line.made, line.taken, line.acked, line.inserts) = (small(3 + at), small(11 + at), small(19 + at), small(27 + at));
-            let (place, item) = (547 + PENDING * at, 1059 + PENDING * at);
-            read_pending::<R>(&mut line.pending, &words[place..place + PENDING], &words[item..item + PENDING]);
+            let count = 3 + 4 * at;
+            (line.made, line.taken, line.acked, line.inserts) = (small(count), small(count + 1), small(count + 2), small(count + 3));
+            let (places, items) = words[547 + 2 * PENDING * at..][..2 * PENDING].split_at(PENDING);
+            read_pending::<R>(&mut line.pending, places, items);
         }
         read_all(&mut self.items, &words[35..547]);
         !is_wide::<R>(number(words[0]), &words[1..35])
@@ -110,11 +111,10 @@ impl End for Server {
     fn write(&self, words: &mut [Word]) {
         write_all(&mut words[..3], &[self.n as u32, self.initial as u32, self.length as u32]);
         for (at, line) in self.lines.iter().enumerate() {
-            for (row, count) in [line.made, line.taken, line.acked, line.inserts].into_iter().enumerate() {
-                words[3 + LINES * row + at] = (count as u32).to_le_bytes();
-            }
-            write_all(&mut words[547 + PENDING * at..][..PENDING], &line.pending.places);
-            write_all(&mut words[1059 + PENDING * at..][..PENDING], &line.pending.items);
+            write_all(&mut words[3 + 4 * at..][..4], &[line.made, line.taken, line.acked, line.inserts].map(u32::from));
+            let (places, items) = words[547 + 2 * PENDING * at..][..2 * PENDING].split_at_mut(PENDING);
+            write_all(places, &line.pending.places);
+            write_all(items, &line.pending.items);
         }
         write_all(&mut words[35..547], &self.items);
     }
