@@ -10,7 +10,7 @@ use Rattle.wire.specs.declared.Read.{Read}
 use Rattle.wire.specs.declared.Read.the-variants as read
 use Rattle.wire.specs.Bytes.{bytesOf, parsed}
 use Rattle.model.specs.Questions.{asks, Answer, answer, Sent, sent}
-use Rattle.model.specs.Client.{Client, editClient, clientMessage, sendClientQuestions, sendClient, tellClientQuestions, tellClient, clientTakesEdit, clientTakesAck, clientReads, takeClient}
+use Rattle.model.specs.Client.{Client, ownRank, editClient, clientMessage, sendClientQuestions, sendClient, tellClientQuestions, tellClient, clientTakesEdit, clientTakesAck, clientReads, takeClient}
 use Rattle.model.specs.Server.{Server, lineOf, serverMessage, sendServerQuestions, sendServer, tellServerQuestions, tellServer, serverTakesEdit, serverTakesAck, serverReads, takeServer}
 use Rattle.model.specs.Claim.{Back, Unwritten, PastStays, LeavesAlone}
 use Rattle.model.specs.SheetOf.{ClientCalls, ServerCalls, End, client, server, answerAs, sheetOf}
@@ -107,7 +107,7 @@ pub client-alone : ClientAlone clientCalls
 unfolding sendClient tellClient
 client-alone =
     record {
-      inserts = λ m p x. edit-back m (Insert p x (m .line));
+      inserts = λ m p x. edit-back m (Insert p x (ownRank m));
       deletes = λ m p. edit-back m (Delete p);
       takes = client-back;
       sends = λ m l number lent. sent-alone (asks (sendClientQuestions m l number lent)) (bytesOf (clientMessage m number)) lent;

@@ -8,6 +8,7 @@ use lib.Dec.{eqb}
 use lib.ListN.{length, getD}
 use borrow.Author.Tests.{eqb-true, eqb-false, ne-eqb}
 use Rattle.ot.specs.Edit.{Edit, Nothing, fits}
+use Rattle.jupiter.specs.Algebra.{Algebra, Laws}
 use Rattle.jupiter.specs.Made.{Made, select, isBy, mine, others}
 use Rattle.jupiter.specs.Point.{blank, point, ownForm, othForm}
 use Rattle.jupiter.specs.History.{History, order}
@@ -22,36 +23,36 @@ use Rattle.jupiter.proofs.World.{mine-served}
 use Rattle.jupiter.proofs.Size.{size-bound, inserts-append, inserts-point, inserts-total, sumTo-bound}
 use Rattle.model.specs.Limits.{maxInserts, maxLines}
 use Rattle.model.specs.Cross.{placed, allPlaced}
-use Rattle.model.specs.Edits.{edits}
+use Rattle.model.specs.Edits.{Rule, editsBy, edits}
 use Rattle.model.specs.Run.{State}
 use Rattle.model.specs.Ours.{ours}
 use Rattle.model.proofs.Tests.{both}
 use Rattle.model.proofs.Cross.{fits-placed}
-use Rattle.model.proofs.Instance.{edit-laws, from-T}
+use Rattle.model.proofs.Instance.{from-T}
 use Rattle.model.proofs.SoundClient.{client-facts}
 use Rattle.model.proofs.SoundServer.{server-facts, line-fact}
 use Rattle.model.proofs.Sim.{clientFrom, serverFrom, line-from, OfLines, Moment, Sim}
 
 -- of edits that are all line l's, none is another line's
-mine-none : (l k : ℕ) → eqb l k ≡ false → (ys : List (Made edits)) → All (λ y. isBy l y ≡ true) ys → mine k ys ≡ []
+mine-none : {𝓐 : Algebra} (l k : ℕ) → eqb l k ≡ false → (ys : List (Made 𝓐)) → All (λ y. isBy l y ≡ true) ys → mine k ys ≡ []
 unfolding select
 mine-none l k d [] a = refl
 mine-none l k d (y ∷ ys) a = rw (ne-eqb k (y .name .line) (λ e. eqb-false l k d (eqb-true l (y .name .line) (a .0) ∙ sym e))) (mine-none l k d ys (a .1))
 
-module _ (n : ℕ) (items : List ℕ) {from : Moment} (s : State ours) (sim : Sim n items from s) (few : length items ≤ 128) where
-  abbrev h : History edits
+module _ (n : ℕ) (items : List ℕ) {ranks : List ℕ} {from : Moment ranks} (s : State ours ranks) (sim : Sim n items from s) (few : length items ≤ 128) where
+  abbrev h : History (edits ranks)
   h = s .recorded .history
 
   pub lines-most : n ≤ maxLines
-  lines-most = server-facts (serverFrom n (length items) (sim .E .doc) (sim .E .lines) (sim .si)) (sim .server-sound) .n .1
+  lines-most = server-facts (serverFrom n (length items) ranks (sim .E .doc) (sim .E .lines) (sim .si)) (sim .server-sound) .n .1
 
   server-most : (j : ℕ) → 1 ≤ j → j ≤ n → sim .si j ≤ maxInserts
   server-most j a b =
-      let S = serverFrom n (length items) (sim .E .doc) (sim .E .lines) (sim .si) in
-      omega (arith, line-fact S (server-facts S (sim .server-sound)) j a b .line .inserts, ap (λ v. v .inserts) (line-from n (length items) (sim .E .doc) (sim .E .lines) (sim .si) j a b))
+      let S = serverFrom n (length items) ranks (sim .E .doc) (sim .E .lines) (sim .si) in
+      omega (arith, line-fact S (server-facts S (sim .server-sound)) j a b .line .inserts, ap (λ v. v .inserts) (line-from n (length items) ranks (sim .E .doc) (sim .E .lines) (sim .si) j a b))
 
   pub client-most : (l : ℕ) → 1 ≤ l → l ≤ n → sim .ci l ≤ maxInserts
-  client-most l a b = client-facts (clientFrom n l (sim .E .clients l) (sim .E .docs l) (sim .ci l)) (sim .client-sound l a b) .own .inserts
+  client-most l a b = client-facts (clientFrom n l ranks (sim .E .clients l) (sim .E .docs l) (sim .ci l)) (sim .client-sound l a b) .own .inserts
 
   -- a client counts what the server counts of it and what the server has not taken
   pub client-more : (l : ℕ) → sim .ci l ≡ sim .si l + inserts (h .untaken l)
@@ -72,23 +73,23 @@ module _ (n : ℕ) (items : List ℕ) {from : Moment} (s : State ours) (sim : Si
           subst (λ (i : ℕ). inserts (mine i (order h l)) ≤ 48) (eqb-true l k e) (omega (arith, client-most l a b, sim .ci-is l))
       each k c d false e =
           let same : mine k (order h l) ≡ mine k (h .served) =
-          L.select-append (isBy k) blank (h .served) (h .untaken l) ∙ ap (λ (r : List (Made edits)). mine k (h .served) ++ r) (mine-none l k e (h .untaken l) (sim .inv .lines l .untaken-own))
+          L.select-append (isBy k) blank (h .served) (h .untaken l) ∙ ap (λ (r : List (Made (edits ranks))). mine k (h .served) ++ r) (mine-none l k e (h .untaken l) (sim .inv .lines l .untaken-own))
           ∙ append-nil (mine k (h .served)) in
           omega (arith, ap inserts same, server-most k c d, sim .si-is k)
 
 -- ---- lists at points, and the pending edits there
-pub doc-most : (items : List ℕ) (w : List (Made edits)) → length items + inserts w ≤ 512 → (l i j : ℕ) → length (docAt items l w i j) ≤ 512
-doc-most items w m l i j = omega (arith, size-bound edit-laws items (point l w i j), inserts-point l w i j)
+pub doc-most : {by : Rule} → Laws (editsBy by) → (items : List ℕ) (w : List (Made (editsBy by))) → length items + inserts w ≤ 512 → (l i j : ℕ) → length (docAt items l w i j) ≤ 512
+doc-most laws items w m l i j = omega (arith, size-bound laws items (point l w i j), inserts-point l w i j)
 
 placed-all : (es : List Edit) → ((i : ℕ) → i < length es → placed (getD es i Nothing) ≡ true) → allPlaced es ≡ true
 unfolding allPlaced
 placed-all [] p = refl
 placed-all (e ∷ es) p = both (placed e) (allPlaced es) (p 0 (omega arith)) (placed-all es (λ i lt. p (suc i) (omega arith)))
 
-edge-placed : (e : Edit) (d d′ : List ℕ) → Edge edits e d d′ → length d ≤ 512 → length d′ ≤ 512 → placed e ≡ true
+edge-placed : {by : Rule} (e : Edit) (d d′ : List ℕ) → Edge (editsBy by) e d d′ → length d ≤ 512 → length d′ ≤ 512 → placed e ≡ true
 edge-placed e d d′ g a b = fits-placed e d a (from-T (fits e (length d)) (g .fits)) (subst (λ (x : List ℕ). length x ≤ 512) (g .gives) b)
 
-module _ (items : List ℕ) (l : ℕ) (w served applied′ : List (Made edits)) (c v : ends.End edits) (doc : List ℕ) (line : LineAt items l w served applied′ c v doc)
+module _ {by : Rule} (laws : Laws (editsBy by)) (items : List ℕ) (l : ℕ) (w served applied′ : List (Made (editsBy by))) (c v : ends.End (editsBy by)) (doc : List ℕ) (line : LineAt items l w served applied′ c v doc)
     (m : length items + inserts w ≤ 512) where
   pub client-placed : allPlaced (c .pending) ≡ true
   client-placed =
@@ -104,7 +105,7 @@ module _ (items : List ℕ) (l : ℕ) (w served applied′ : List (Made edits)) 
       ap placed is
       ∙ edge-placed (f k) (docAt items l w k (c .taken)) (docAt items l w (suc k) (c .taken))
       (line .grid .own-edge k (c .taken) (pending-good-c items l w served applied′ c v doc line k (omega arith) (omega arith)) km (line .seen-le k km))
-      (doc-most items w m l k (c .taken)) (doc-most items w m l (suc k) (c .taken)))
+      (doc-most laws items w m l k (c .taken)) (doc-most laws items w m l (suc k) (c .taken)))
 
   pub server-placed : allPlaced (v .pending) ≡ true
   server-placed =
@@ -120,4 +121,4 @@ module _ (items : List ℕ) (l : ℕ) (w served applied′ : List (Made edits)) 
       ap placed is
       ∙ edge-placed (f k) (docAt items l w (v .taken) k) (docAt items l w (v .taken) (suc k))
       (line .grid .oth-edge (v .taken) k (pending-good-v items l w served applied′ c v doc line k (omega arith) (omega arith)) km (line .lag-le k km))
-      (doc-most items w m l (v .taken) k) (doc-most items w m l (v .taken) (suc k)))
+      (doc-most laws items w m l (v .taken) k) (doc-most laws items w m l (v .taken) (suc k)))

@@ -20,6 +20,7 @@ use Rattle.wire.specs.Message.{messageOf, headerInRange, inRange, between}
 use Rattle.wire.specs.Bytes.{bytesOf, parsed}
 use Rattle.wire.proofs.Codec.{codec}
 use Rattle.wire.proofs.Ranges.{insert-bounds, delete-bounds}
+use Rattle.jupiter.specs.Algebra.{Algebra}
 use Rattle.jupiter.specs.Made.{mine, others}
 use Rattle.jupiter.specs.Point.{ownForm, othForm}
 use Rattle.jupiter.specs.History.{History, at, order}
@@ -34,7 +35,8 @@ use Rattle.model.specs.Cross.{priority}
 use Rattle.model.specs.Line.{Line, other, lineMessage}
 use Rattle.model.specs.Client.{Client, soundClient, edited, editQuestions, editClient, clientMessage, sendClientQuestions, sendClient, tellClientQuestions, tellClient, clientTaken, clientAcked, clientEditQuestions, clientTakesEdit, clientAckQuestions, clientTakesAck, clientTakes, clientReads, takeClient}
 use Rattle.model.specs.Server.{Server, lineOf, soundServer, serverMessage, sendServerQuestions, sendServer, tellServerQuestions, tellServer, serverTaken, serverAcked, serverEditQuestions, serverTakesEdit, serverAckQuestions, serverTakesAck, serverTakes, serverReads, takeServer}
-use Rattle.model.specs.Edits.{edits}
+use Rattle.model.specs.Ranks.{rankOf}
+use Rattle.model.specs.Edits.{Rule, editsBy, edits}
 use Rattle.model.specs.Sheet.{Call, insert, delete, send, tell, receive, junk}
 use Rattle.model.specs.Log as logs
 use Rattle.model.specs.Log.{Log, wireMessage, messageBytes, takenAt, editMessage, ackMessage, hears, writes, took, tookUp, tookDown, logged, refusedLog, log}
@@ -49,11 +51,11 @@ use Rattle.model.proofs.Small.{Small}
 use Rattle.model.proofs.Outcome as outcomes
 use Rattle.model.proofs.Outcome.{Outcome, outcome, Posted, posted}
 use Rattle.model.proofs.Ranges.{line-bytes, line-priority, line-range, up-range, down-range, up-ack-range, down-ack-range}
-use Rattle.model.proofs.Sim.{clientFrom, serverFrom, lineFrom, headerOf, line-from, MessageOk, Moment, Sim}
+use Rattle.model.proofs.Sim.{clientFrom, serverFrom, lineFrom, headerOf, line-from, MessageOk, Moment, Sim, ranked}
 use Rattle.model.proofs.Follow.{refused, edits-on, takes-down, takes-up, acks-down, acks-up, writes-on}
 
 -- the log of a refused call, and of one that was not
-log-no : (w : Log) (c : Call) (r : ℕ) → (r ≡ 0 → ⊥) → log w c r ≡ refusedLog w c
+log-no : {ranks : List ℕ} (w : Log ranks) (c : Call) (r : ℕ) → (r ≡ 0 → ⊥) → log w c r ≡ refusedLog w c
 unfolding log
 log-no w c r h = rw (ne-eqb r 0 h)
 
@@ -80,34 +82,34 @@ small-range h (Delete p) r = refl
 small-range h (Insert p x q) r = le-leb x 4294967295 (insert-bounds h p x q r .item-high)
 
 -- the messages of a client's and of the server's sending
-client-edit-message : (h : History edits) (l line number t : ℕ) → 1 ≤ l → length (others l (h .applied l)) ≡ t
+client-edit-message : {𝓐 : Algebra} (h : History 𝓐) (l line number t : ℕ) → 1 ≤ l → length (others l (h .applied l)) ≡ t
     → editMessage h l line number ≡ up l (record { number = number; seen = t; edit = ownForm l (order h l) (number - 1) t })
 unfolding editMessage takenAt
 client-edit-message h zero line number t a e = absurd (omega arith)
 client-edit-message h (suc l) line number t a e = ap (λ (i : ℕ). up (suc l) (record { number = number; seen = i; edit = ownForm (suc l) (order h (suc l)) (number - 1) i })) e
 
-client-ack-message : (h : History edits) (l line t : ℕ) → 1 ≤ l → length (others l (h .applied l)) ≡ t → ackMessage h l line ≡ upAck l t
+client-ack-message : {𝓐 : Algebra} (h : History 𝓐) (l line t : ℕ) → 1 ≤ l → length (others l (h .applied l)) ≡ t → ackMessage h l line ≡ upAck l t
 unfolding ackMessage takenAt
 client-ack-message h zero line t a e = absurd (omega arith)
 client-ack-message h (suc l) line t a e = ap (upAck (suc l)) e
 
-server-edit-message : (h : History edits) (line number t : ℕ) → length (mine line (h .served)) ≡ t
+server-edit-message : {𝓐 : Algebra} (h : History 𝓐) (line number t : ℕ) → length (mine line (h .served)) ≡ t
     → editMessage h 0 line number ≡ down line (record { number = number; seen = t; edit = othForm line (order h line) t (number - 1) })
 unfolding editMessage takenAt
 server-edit-message h line number t e = ap (λ (i : ℕ). down line (record { number = number; seen = i; edit = othForm line (order h line) i (number - 1) })) e
 
-server-ack-message : (h : History edits) (line t : ℕ) → length (mine line (h .served)) ≡ t → ackMessage h 0 line ≡ downAck line t
+server-ack-message : {𝓐 : Algebra} (h : History 𝓐) (line t : ℕ) → length (mine line (h .served)) ≡ t → ackMessage h 0 line ≡ downAck line t
 unfolding ackMessage takenAt
 server-ack-message h line t e = ap (downAck line) e
 
-module _ (n : ℕ) (items : List ℕ) {from : Moment} (s : State ours) (sim : Sim n items from s) where
-  abbrev w : Log
+module _ (n : ℕ) (items : List ℕ) {ranks : List ℕ} {from : Moment ranks} (s : State ours ranks) (sim : Sim n items from s) where
+  abbrev w : Log ranks
   w = s .recorded
 
-  abbrev h : History edits
+  abbrev h : History (edits ranks)
   h = s .recorded .history
 
-  abbrev E : Ends edits
+  abbrev E : Ends (edits ranks)
   E = sim .E
 
   -- the end comes back as it was handed in
@@ -115,7 +117,7 @@ module _ (n : ℕ) (items : List ℕ) {from : Moment} (s : State ours) (sim : Si
       → Sim n items from (answered ours s a c (record { refusal = r; end = e; passed = 0 }))
   turned-down a c r e d same quiet =
       subst
-      (λ (z : Log). Sim n items from (record { ends = at a e (s .ends); messages = s .messages; passed = s .passed ++ (0 ∷ []); recorded = z }))
+      (λ (z : Log ranks). Sim n items from (record { ends = at a e (s .ends); messages = s .messages; passed = s .passed ++ (0 ∷ []); recorded = z }))
       (sym (log-no w c r d ∙ quiet))
       (subst (λ (y : End). Sim n items from (record { ends = at a y (s .ends); messages = s .messages; passed = s .passed ++ (0 ∷ []); recorded = hears w (w .heard) })) same
       (refused n items s sim a))
@@ -123,12 +125,12 @@ module _ (n : ℕ) (items : List ℕ) {from : Moment} (s : State ours) (sim : Si
   -- ---- at client l
   module _ (l : ℕ) (lo : 1 ≤ l) (hi : l ≤ n) where
     abbrev C : Client
-    C = clientFrom n l (E .clients l) (E .docs l) (sim .ci l)
+    C = clientFrom n l ranks (E .clients l) (E .docs l) (sim .ci l)
 
     abbrev sound : soundClient C ≡ true
     sound = sim .client-sound l lo hi
 
-    edit-call : (c : Call) (e : Edit) → priority (eqb l) e ≡ true → Small e → logged w c ≡ logs.edited w l e → refusedLog w c ≡ hears w (w .heard)
+    edit-call : (c : Call) (e : Edit) → priority (eqb (rankOf ranks l)) e ≡ true → Small e → logged w c ≡ logs.edited w l e → refusedLog w c ≡ hears w (w .heard)
         → (a : Answer Client) → Outcome (asks (editQuestions C e)) C (edited C e) 0 a → soundClient (a .end) ≡ true
         → Sim n items from (answered ours s l c (answerAs client a))
     unfolding log
@@ -136,11 +138,11 @@ module _ (n : ℕ) (items : List ℕ) {from : Moment} (s : State ours) (sim : Si
     edit-call c e pr sm made quiet a (outcomes.Outcome.yes r) ok =
         let y = yes-all (editQuestions C e) (omega arith) r in
         let q9 = and-left (fits e (length (E .docs l))) (leb (length (applied e (E .docs l))) maxItems) (y .1 .0) in
-        subst (λ (z : Log). Sim n items from (record { ends = at l (client (edited C e)) (s .ends); messages = s .messages; passed = s .passed ++ (0 ∷ []); recorded = z })) (sym made)
+        subst (λ (z : Log ranks). Sim n items from (record { ends = at l (client (edited C e)) (s .ends); messages = s .messages; passed = s .passed ++ (0 ∷ []); recorded = z })) (sym made)
         (edits-on n items s sim l lo hi e pr sm q9 ok)
 
     -- an edit message
-    take-edit : (c : Call) (m : ends.EditMessage edits) (k : ℕ) (direction : ℕ) → inRange (messageOf (headerOf k direction m) (m .edit)) ≡ true
+    take-edit : (c : Call) (m : ends.EditMessage (edits ranks)) (k : ℕ) (direction : ℕ) → inRange (messageOf (headerOf k direction m) (m .edit)) ≡ true
         → (direction ≡ 1 → DownMessage items E h k m) → (direction ≡ 1 → logged w c ≡ cond (eqb l k) (tookDown w k (m .seen)) (hears w (w .heard)))
         → refusedLog w c ≡ hears w (w .heard)
         → (a : Answer Client)
@@ -152,11 +154,11 @@ module _ (n : ℕ) (items : List ℕ) {from : Moment} (s : State ours) (sim : Si
     take-edit c m k direction range fine made quiet a (outcomes.Outcome.yes r) ok =
         let hd : Header = headerOf k direction m in
         let y = yes-all (clientEditQuestions C hd (m .edit)) (omega arith) r in
-        let q4 = three (eqb direction 1) (eqb k l) (priority (other n l) (m .edit)) (y .1 .0) in
+        let q4 = three (eqb direction 1) (eqb k l) (priority (other n (rankOf ranks l)) (m .edit)) (y .1 .0) in
         let down-way : direction ≡ 1 = eqb-true direction 1 (q4 .0) in
         let mine-way : k ≡ l = eqb-true k l (q4 .1) in
         let q = asked (C .own) (E .docs l) hd (m .edit) [] (y .1 .1) in
-        subst (λ (z : Log). Sim n items from (record { ends = at l (client (clientTaken C (m .seen) (m .edit))) (s .ends); messages = s .messages; passed = s .passed ++ ((E .clients l .made - m .seen) ∷ []); recorded = z }))
+        subst (λ (z : Log ranks). Sim n items from (record { ends = at l (client (clientTaken C (m .seen) (m .edit))) (s .ends); messages = s .messages; passed = s .passed ++ ((E .clients l .made - m .seen) ∷ []); recorded = z }))
         (sym (made down-way ∙ ap (λ (i : ℕ). cond (eqb l i) (tookDown w i (m .seen)) (hears w (w .heard))) mine-way ∙ rw (eq-eqb l l refl)))
         (takes-down n items s sim l lo hi m (subst (λ (i : ℕ). DownMessage items E h i m) mine-way (fine down-way)) (q .next ∙ add-one (E .clients l .taken)) (q .low)
         (small-range hd (m .edit) range) ok)
@@ -171,12 +173,12 @@ module _ (n : ℕ) (items : List ℕ) {from : Moment} (s : State ours) (sim : Si
         let y = yes-all (clientAckQuestions C k direction seen) (omega arith) r in
         let down-way : direction ≡ 1 = eqb-true direction 1 (and-left (eqb direction 1) (eqb k l) (y .1 .0)) in
         let mine-way : k ≡ l = eqb-true k l (and-right (eqb direction 1) (eqb k l) (y .1 .0)) in
-        subst (λ (z : Log). Sim n items from (record { ends = at l (client (clientAcked C seen)) (s .ends); messages = s .messages; passed = s .passed ++ (0 ∷ []); recorded = z }))
+        subst (λ (z : Log ranks). Sim n items from (record { ends = at l (client (clientAcked C seen)) (s .ends); messages = s .messages; passed = s .passed ++ (0 ∷ []); recorded = z }))
         (sym (made down-way ∙ ap (λ (i : ℕ). cond (eqb l i) (hears w (logs.hearing w i i seen)) (hears w (w .heard))) mine-way ∙ rw (eq-eqb l l refl)))
         (acks-down n items s sim l lo hi seen (leb-true (E .clients l .acked) seen (y .1 .1 .0)) (subst (λ (i : ℕ). seen ≤ E .lines i .taken) mine-way (fine down-way)) ok)
 
     -- a message that some sending wrote
-    take-message : (c : Call) (x : Message edits) → MessageOk n items E h x → logged w c ≡ took w l (some x) → refusedLog w c ≡ hears w (w .heard)
+    take-message : (c : Call) (x : Message (edits ranks)) → MessageOk n ranks items E h x → logged w c ≡ took w l (some x) → refusedLog w c ≡ hears w (w .heard)
         → Sim n items from (answered ours s l c (answerAs client (clientTakes C (wireMessage x))))
     unfolding took clientTakesEdit clientTakesAck
     take-message c (up k m) ok made quiet =
@@ -204,13 +206,13 @@ module _ (n : ℕ) (items : List ℕ) {from : Moment} (s : State ours) (sim : Si
 
   -- ---- at the server
   abbrev S : Server
-  S = serverFrom n (length items) (E .doc) (E .lines) (sim .si)
+  S = serverFrom n (length items) ranks (E .doc) (E .lines) (sim .si)
 
   -- what the server asks of line k is what it keeps of it
   line-of : (k : ℕ) → 1 ≤ k → k ≤ n → lineOf S k ≡ lineFrom (E .lines k) (sim .si k)
-  line-of k a b = line-from n (length items) (E .doc) (E .lines) (sim .si) k a b
+  line-of k a b = line-from n (length items) ranks (E .doc) (E .lines) (sim .si) k a b
 
-  serve-edit : (c : Call) (m : ends.EditMessage edits) (k : ℕ) (direction : ℕ) → inRange (messageOf (headerOf k direction m) (m .edit)) ≡ true
+  serve-edit : (c : Call) (m : ends.EditMessage (edits ranks)) (k : ℕ) (direction : ℕ) → inRange (messageOf (headerOf k direction m) (m .edit)) ≡ true
       → (direction ≡ 0 → UpMessage items E h k m) → (direction ≡ 0 → logged w c ≡ tookUp w k (m .seen))
       → refusedLog w c ≡ hears w (w .heard)
       → (a : Answer Server)
@@ -222,14 +224,14 @@ module _ (n : ℕ) (items : List ℕ) {from : Moment} (s : State ours) (sim : Si
   serve-edit c m k direction range fine made quiet a (outcomes.Outcome.yes r) ok =
       let hd : Header = headerOf k direction m in
       let y = yes-all (serverEditQuestions S hd (m .edit)) (omega arith) r in
-      let q4 = three (eqb direction 0) (between 1 n k) (priority (eqb k) (m .edit)) (y .1 .0) in
+      let q4 = three (eqb direction 0) (between 1 n k) (priority (eqb (rankOf ranks k)) (m .edit)) (y .1 .0) in
       let up-way : direction ≡ 0 = eqb-true direction 0 (q4 .0) in
       let there = between-true 1 n k (q4 .1) in
       let same = line-of k (there .0) (there .1) in
       let q = subst (λ (v : Line). Asked v (E .doc) hd (m .edit)) same (asked (lineOf S k) (E .doc) hd (m .edit) (lastQuestions S hd (m .edit)) (y .1 .1)) in
       subst (λ (v : Line). Sim n items from (record { ends = at 0 (server (serverTaken S k (m .seen) (m .edit))) (s .ends); messages = s .messages; passed = s .passed ++ ((v .made - m .seen) ∷ []); recorded = logged w c }))
       (sym same)
-      (subst (λ (z : Log). Sim n items from (record { ends = at 0 (server (serverTaken S k (m .seen) (m .edit))) (s .ends); messages = s .messages; passed = s .passed ++ ((E .lines k .made - m .seen) ∷ []); recorded = z }))
+      (subst (λ (z : Log ranks). Sim n items from (record { ends = at 0 (server (serverTaken S k (m .seen) (m .edit))) (s .ends); messages = s .messages; passed = s .passed ++ ((E .lines k .made - m .seen) ∷ []); recorded = z }))
       (sym (made up-way))
       (takes-up n items s sim k (there .0) (there .1) m (fine up-way) (q .next ∙ add-one (E .lines k .taken)) (q .low) (small-range hd (m .edit) range) ok))
 
@@ -243,10 +245,10 @@ module _ (n : ℕ) (items : List ℕ) {from : Moment} (s : State ours) (sim : Si
       let up-way : direction ≡ 0 = eqb-true direction 0 (and-left (eqb direction 0) (between 1 n k) (y .1 .0)) in
       let there = between-true 1 n k (and-right (eqb direction 0) (between 1 n k) (y .1 .0)) in
       let low : E .lines k .acked ≤ seen = subst (λ (v : Line). v .acked ≤ seen) (line-of k (there .0) (there .1)) (leb-true (lineOf S k .acked) seen (y .1 .1 .0)) in
-      subst (λ (z : Log). Sim n items from (record { ends = at 0 (server (serverAcked S k seen)) (s .ends); messages = s .messages; passed = s .passed ++ (0 ∷ []); recorded = z })) (sym (made up-way))
+      subst (λ (z : Log ranks). Sim n items from (record { ends = at 0 (server (serverAcked S k seen)) (s .ends); messages = s .messages; passed = s .passed ++ (0 ∷ []); recorded = z })) (sym (made up-way))
       (acks-up n items s sim k (there .0) (there .1) seen low (fine up-way) ok)
 
-  serve-message : (c : Call) (x : Message edits) → MessageOk n items E h x → logged w c ≡ took w 0 (some x) → refusedLog w c ≡ hears w (w .heard)
+  serve-message : (c : Call) (x : Message (edits ranks)) → MessageOk n ranks items E h x → logged w c ≡ took w 0 (some x) → refusedLog w c ≡ hears w (w .heard)
       → Sim n items from (answered ours s 0 c (answerAs server (serverTakes S (wireMessage x))))
   unfolding took serverTakesEdit serverTakesAck
   serve-message c (up k m) ok made quiet =
@@ -274,24 +276,24 @@ module _ (n : ℕ) (items : List ℕ) {from : Moment} (s : State ours) (sim : Si
   -- ---- sending
 
   -- a sending writes the message of the definitions, or nothing
-  post : (c : Call) (r : ℕ) (bytes lent : List ℕ) (x : Message edits) → logged w c ≡ writes w x → refusedLog w c ≡ w → (r ≡ 0 → MessageOk n items E h x × (bytes ≡ messageBytes x))
+  post : (c : Call) (r : ℕ) (bytes lent : List ℕ) (x : Message (edits ranks)) → logged w c ≡ writes w x → refusedLog w c ≡ w → (r ≡ 0 → MessageOk n ranks items E h x × (bytes ≡ messageBytes x))
       → (a : Sent) → Posted r bytes lent a → Sim n items from (written ours s c a)
   unfolding log
   post c r bytes lent x made quiet ok a (outcomes.Posted.no d) =
-      subst (λ (z : Log). Sim n items from (record { ends = s .ends; messages = cond (eqb r 0) (s .messages ++ (take 0 lent ∷ [])) (s .messages); passed = s .passed; recorded = z }))
+      subst (λ (z : Log ranks). Sim n items from (record { ends = s .ends; messages = cond (eqb r 0) (s .messages ++ (take 0 lent ∷ [])) (s .messages); passed = s .passed; recorded = z }))
       (sym (log-no w c r d ∙ quiet))
       (subst (λ (b : Bool). Sim n items from (record { ends = s .ends; messages = cond b (s .messages ++ (take 0 lent ∷ [])) (s .messages); passed = s .passed; recorded = w }))
       (sym (ne-eqb r 0 d)) sim)
   post c r bytes lent x made quiet ok a (outcomes.Posted.yes z) =
-      subst (λ (y : Log). Sim n items from (record { ends = s .ends; messages = s .messages ++ (take (length bytes) (bytes ++ drop (length bytes) lent) ∷ []); passed = s .passed; recorded = y }))
+      subst (λ (y : Log ranks). Sim n items from (record { ends = s .ends; messages = s .messages ++ (take (length bytes) (bytes ++ drop (length bytes) lent) ∷ []); passed = s .passed; recorded = y }))
       (sym made)
       (subst (λ (b : List ℕ). Sim n items from (record { ends = s .ends; messages = s .messages ++ (b ∷ []); passed = s .passed; recorded = writes w x }))
       (sym (take-append-seam bytes (drop (length bytes) lent) ∙ ok z .1)) (writes-on n items s sim x (ok z .0)))
 
   -- client l sends the edit of a number
   module _ (l : ℕ) (lo : 1 ≤ l) (hi : l ≤ n) where
-    abbrev F : ClientFacts (clientFrom n l (E .clients l) (E .docs l) (sim .ci l))
-    F = client-facts (clientFrom n l (E .clients l) (E .docs l) (sim .ci l)) (sim .client-sound l lo hi)
+    abbrev F : ClientFacts (clientFrom n l ranks (E .clients l) (E .docs l) (sim .ci l))
+    F = client-facts (clientFrom n l ranks (E .clients l) (E .docs l) (sim .ci l)) (sim .client-sound l lo hi)
 
     module _ (number : ℕ) (low : E .clients l .acked < number) (high : number ≤ E .clients l .made) where
       pub up-is : (line : ℕ) → editMessage h l line number ≡ up l (ends.message number (E .clients l))
@@ -301,39 +303,39 @@ module _ (n : ℕ) (items : List ℕ) {from : Moment} (s : State ours) (sim : Si
           ∙ ap (λ (e : Edit). up l (record { number = number; seen = E .clients l .taken; edit = e }))
           (ap (λ (i : ℕ). ownForm l (order h l) i (E .clients l .taken)) (omega (arith, ok .number)) ∙ sym (ok .edit))
 
-      pub up-bytes : bytesOf (clientMessage (clientFrom n l (E .clients l) (E .docs l) (sim .ci l)) number) ≡ messageBytes (up l (ends.message number (E .clients l)))
+      pub up-bytes : bytesOf (clientMessage (clientFrom n l ranks (E .clients l) (E .docs l) (sim .ci l)) number) ≡ messageBytes (up l (ends.message number (E .clients l)))
       up-bytes = line-bytes (E .clients l) (sim .ci l) number l 0
 
-      pub up-ok : MessageOk n items E h (up l (ends.message number (E .clients l)))
+      pub up-ok : MessageOk n ranks items E h (up l (ends.message number (E .clients l)))
       up-ok = (
         up-message items E h (sim .inv) l number low high,
-        line-range (E .clients l) (sim .ci l) number (E .clients l .made) (eqb l) (F .own) low high (headerOf l 0 (ends.message number (E .clients l)))
+        line-range (E .clients l) (sim .ci l) number (E .clients l .made) (eqb (rankOf ranks l)) (F .own) low high (headerOf l 0 (ends.message number (E .clients l)))
             (up-range l number (E .clients l .taken) lo (omega (arith, F .lines .1)) (omega arith) (omega (arith, F .own .edits)) (F .taken))
-            (λ r e. let z : l ≡ r = eqb-true l r e in (omega arith, omega (arith, F .lines .1)))
+            (λ r e. let z : rankOf ranks l ≡ r = eqb-true (rankOf ranks l) r e in let k = ranked sim .each l lo hi in (omega arith, omega (arith, F .lines .1)))
             (sim .client-small l),
-        (lo, hi, line-priority (E .clients l) (sim .ci l) number (E .clients l .made) (eqb l) (F .own) low high),
+        (lo, hi, line-priority (E .clients l) (sim .ci l) number (E .clients l .made) (eqb (rankOf ranks l)) (F .own) low high),
       )
 
-    client-sends : (line number : ℕ) (lent : List ℕ) → Sim n items from (written ours s (send l line number lent) (sendClient (clientFrom n l (E .clients l) (E .docs l) (sim .ci l)) line number lent))
+    client-sends : (line number : ℕ) (lent : List ℕ) → Sim n items from (written ours s (send l line number lent) (sendClient (clientFrom n l ranks (E .clients l) (E .docs l) (sim .ci l)) line number lent))
     unfolding sendClient logged refusedLog
     client-sends line number lent =
-        let C = clientFrom n l (E .clients l) (E .docs l) (sim .ci l) in
+        let C = clientFrom n l ranks (E .clients l) (E .docs l) (sim .ci l) in
         post (send l line number lent) (asks (sendClientQuestions C line number lent)) (bytesOf (clientMessage C number)) lent (editMessage h l line number) refl refl
         (λ z.
         let y = yes-all (sendClientQuestions C line number lent) (omega arith) z in
         let q13 = between-true (E .clients l .acked + 1) (E .clients l .made) number (y .1 .1 .0) in
         let low : E .clients l .acked < number = omega arith in
-        (subst (MessageOk n items E h) (sym (up-is number low (q13 .1) line)) (up-ok number low (q13 .1)), up-bytes number low (q13 .1) ∙ ap messageBytes (sym (up-is number low (q13 .1) line))))
+        (subst (MessageOk n ranks items E h) (sym (up-is number low (q13 .1) line)) (up-ok number low (q13 .1)), up-bytes number low (q13 .1) ∙ ap messageBytes (sym (up-is number low (q13 .1) line))))
         (sendClient C line number lent) (posted (asks (sendClientQuestions C line number lent)) (bytesOf (clientMessage C number)) lent)
 
-    client-tells : (line : ℕ) (lent : List ℕ) → Sim n items from (written ours s (tell l line lent) (tellClient (clientFrom n l (E .clients l) (E .docs l) (sim .ci l)) line lent))
+    client-tells : (line : ℕ) (lent : List ℕ) → Sim n items from (written ours s (tell l line lent) (tellClient (clientFrom n l ranks (E .clients l) (E .docs l) (sim .ci l)) line lent))
     unfolding tellClient logged refusedLog
     client-tells line lent =
-        let C = clientFrom n l (E .clients l) (E .docs l) (sim .ci l) in
+        let C = clientFrom n l ranks (E .clients l) (E .docs l) (sim .ci l) in
         let is = client-ack-message h l line (E .clients l .taken) lo (sim .taken l) in
         post (tell l line lent) (asks (tellClientQuestions C line lent)) (bytesOf (message.Ack l 0 (E .clients l .taken))) lent (ackMessage h l line) refl refl
         (λ z. (
-          subst (MessageOk n items E h) (sym is) (le-refl (E .clients l .taken), up-ack-range l (E .clients l .taken) lo (omega (arith, F .lines .1)) (F .taken), (lo, hi)),
+          subst (MessageOk n ranks items E h) (sym is) (le-refl (E .clients l .taken), up-ack-range l (E .clients l .taken) lo (omega (arith, F .lines .1)) (F .taken), (lo, hi)),
           ap messageBytes (sym is),
         ))
         (tellClient C line lent) (posted (asks (tellClientQuestions C line lent)) (bytesOf (message.Ack l 0 (E .clients l .taken))) lent)
@@ -343,8 +345,8 @@ module _ (n : ℕ) (items : List ℕ) {from : Moment} (s : State ours) (sim : Si
     abbrev G : ServerFacts S
     G = server-facts S (sim .server-sound)
 
-    abbrev K : ServerLine n (takenSum (S .lines)) l (lineFrom (E .lines l) (sim .si l))
-    K = subst (λ (v : Line). ServerLine n (takenSum (S .lines)) l v) (line-of l lo hi) (line-fact S G l lo hi)
+    abbrev K : ServerLine n ranks (takenSum (S .lines)) l (lineFrom (E .lines l) (sim .si l))
+    K = subst (λ (v : Line). ServerLine n ranks (takenSum (S .lines)) l v) (line-of l lo hi) (line-fact S G l lo hi)
 
     module _ (number : ℕ) (low : E .lines l .acked < number) (high : number ≤ E .lines l .made) where
       pub down-is : editMessage h 0 l number ≡ down l (ends.message number (E .lines l))
@@ -357,28 +359,28 @@ module _ (n : ℕ) (items : List ℕ) {from : Moment} (s : State ours) (sim : Si
       pub down-bytes : bytesOf (serverMessage S l number) ≡ messageBytes (down l (ends.message number (E .lines l)))
       down-bytes = ap (λ (v : Line). bytesOf (lineMessage l 1 v number)) (line-of l lo hi) ∙ line-bytes (E .lines l) (sim .si l) number l 1
 
-      pub down-ok : MessageOk n items E h (down l (ends.message number (E .lines l)))
+      pub down-ok : MessageOk n ranks items E h (down l (ends.message number (E .lines l)))
       down-ok = (
         down-message items E h (sim .inv) l number low high,
-        line-range (E .lines l) (sim .si l) number (E .lines l .taken) (other n l) (K .line) low high (headerOf l 1 (ends.message number (E .lines l)))
+        line-range (E .lines l) (sim .si l) number (E .lines l .taken) (other n (rankOf ranks l)) (K .line) low high (headerOf l 1 (ends.message number (E .lines l)))
             (down-range l number (E .lines l .taken) lo (omega (arith, G .n .1)) (omega arith) (omega (arith, subst (λ (v : Line). v .made ≤ 2800) (line-of l lo hi) (made-most S G l lo hi))) (K .line .edits))
-            (λ r e. let z = between-true 1 n r (and-left (between 1 n r) (not (eqb r l)) e) in (z .0, omega (arith, G .n .1)))
+            (λ r e. let z = between-true 1 n r (and-left (between 1 n r) (not (eqb r (rankOf ranks l))) e) in (z .0, omega (arith, G .n .1)))
             (sim .server-small l),
-        (lo, hi, line-priority (E .lines l) (sim .si l) number (E .lines l .taken) (other n l) (K .line) low high),
+        (lo, hi, line-priority (E .lines l) (sim .si l) number (E .lines l .taken) (other n (rankOf ranks l)) (K .line) low high),
       )
 
-    server-sends : (number : ℕ) (lent : List ℕ) → asks (sendServerQuestions S l number lent) ≡ 0 → MessageOk n items E h (editMessage h 0 l number) × (bytesOf (serverMessage S l number) ≡ messageBytes (editMessage h 0 l number))
+    server-sends : (number : ℕ) (lent : List ℕ) → asks (sendServerQuestions S l number lent) ≡ 0 → MessageOk n ranks items E h (editMessage h 0 l number) × (bytesOf (serverMessage S l number) ≡ messageBytes (editMessage h 0 l number))
     server-sends number lent z =
         let y = yes-all (sendServerQuestions S l number lent) (omega arith) z in
         let q13 = between-true (lineOf S l .acked + 1) (lineOf S l .made) number (y .1 .1 .0) in
         let low : E .lines l .acked < number = subst (λ (v : Line). v .acked < number) (line-of l lo hi) (omega arith) in
         let high : number ≤ E .lines l .made = subst (λ (v : Line). number ≤ v .made) (line-of l lo hi) (q13 .1) in
-        (subst (MessageOk n items E h) (sym (down-is number low high)) (down-ok number low high), down-bytes number low high ∙ ap messageBytes (sym (down-is number low high)))
+        (subst (MessageOk n ranks items E h) (sym (down-is number low high)) (down-ok number low high), down-bytes number low high ∙ ap messageBytes (sym (down-is number low high)))
 
-    server-tells : MessageOk n items E h (ackMessage h 0 l) × (bytesOf (message.Ack l 1 (lineOf S l .taken)) ≡ messageBytes (ackMessage h 0 l))
+    server-tells : MessageOk n ranks items E h (ackMessage h 0 l) × (bytesOf (message.Ack l 1 (lineOf S l .taken)) ≡ messageBytes (ackMessage h 0 l))
     server-tells =
         let is = server-ack-message h l (E .lines l .taken) (sym (sim .inv .lines l .v-count)) in (
-          subst (MessageOk n items E h) (sym is) (le-refl (E .lines l .taken), down-ack-range l (E .lines l .taken) lo (omega (arith, G .n .1)) (K .line .edits), (lo, hi)),
+          subst (MessageOk n ranks items E h) (sym is) (le-refl (E .lines l .taken), down-ack-range l (E .lines l .taken) lo (omega (arith, G .n .1)) (K .line .edits), (lo, hi)),
           ap (λ (v : Line). bytesOf (message.Ack l 1 (v .taken))) (line-of l lo hi) ∙ ap messageBytes (sym is),
         )
 
@@ -406,8 +408,8 @@ module _ (n : ℕ) (items : List ℕ) {from : Moment} (s : State ours) (sim : Si
 some-eq : (x y : List ℕ) → some x ≡ some y → x ≡ y
 some-eq x y e = cc
 
-pub written-as : (xs : List (Message edits)) (i : ℕ) (b : List ℕ) → getElem? (map messageBytes xs) i ≡ some b → (P : Message edits → Type 0) → All P xs
-    → (x : Message edits) × (getElem? xs i ≡ some x) × (b ≡ messageBytes x) × P x
+pub written-as : {by : Rule} (xs : List (Message (editsBy by))) (i : ℕ) (b : List ℕ) → getElem? (map messageBytes xs) i ≡ some b → (P : Message (editsBy by) → Type 0) → All P xs
+    → (x : Message (editsBy by)) × (getElem? xs i ≡ some x) × (b ≡ messageBytes x) × P x
 written-as [] i b e P a = absurd (let z : _≡_ {A = ℕ} 0 1 = cc in omega arith)
 written-as (x ∷ xs) zero b e P a = (x, refl, some-eq b (messageBytes x) (sym e), a .0)
 written-as (x ∷ xs) (suc i) b e P a = written-as xs i b e P (a .1)
@@ -416,23 +418,23 @@ pub unread : (r : Read) → unreadable r ≡ true → r ≡ read.Refused
 unread read.Refused e = refl
 unread (read.Message m) e = never e
 
-module _ (n : ℕ) (items : List ℕ) {from : Moment} (s : State ours) (sim : Sim n items from s) where
+module _ (n : ℕ) (items : List ℕ) {ranks : List ℕ} {from : Moment ranks} (s : State ours ranks) (sim : Sim n items from s) where
   -- a message taken at end a
   takes-at : (a i : ℕ) → a ≤ n → (b : List ℕ) → getElem? (s .messages) i ≡ some b → Sim n items from (answered ours s a (receive a i) (ours .take (s .ends a) b))
   unfolding takeClient takeServer logged refusedLog
   takes-at a i hi b e =
-      let m = written-as (s .recorded .messages) i b (ap (λ (ms : List (List ℕ)). getElem? ms i) (sym (sim .messages)) ∙ e) (MessageOk n items (sim .E) (s .recorded .history)) (sim .written) in
+      let m = written-as (s .recorded .messages) i b (ap (λ (ms : List (List ℕ)). getElem? ms i) (sym (sim .messages)) ∙ e) (MessageOk n ranks items (sim .E) (s .recorded .history)) (sim .written) in
       go a hi (m .0) (m .1) (m .2) (m .3)
     where
-      go : (a : ℕ) → a ≤ n → (x : Message edits) → getElem? (s .recorded .messages) i ≡ some x → b ≡ messageBytes x → MessageOk n items (sim .E) (s .recorded .history) x
+      go : (a : ℕ) → a ≤ n → (x : Message (edits ranks)) → getElem? (s .recorded .messages) i ≡ some x → b ≡ messageBytes x → MessageOk n ranks items (sim .E) (s .recorded .history) x
           → Sim n items from (answered ours s a (receive a i) (ours .take (s .ends a) b))
       go zero hi x is same ok =
-          let S = serverFrom n (length items) (sim .E .doc) (sim .E .lines) (sim .si) in
+          let S = serverFrom n (length items) ranks (sim .E .doc) (sim .E .lines) (sim .si) in
           subst (λ (e : End). Sim n items from (answered ours s 0 (receive 0 i) (ours .take e b))) (sym (sim .server-is))
           (subst (λ (r : Read). Sim n items from (answered ours s 0 (receive 0 i) (answerAs server (serverReads S r)))) (sym (ap parsed same ∙ codec .written-read (wireMessage x) (ok .1)))
           (serve-message n items s sim (receive 0 i) x ok (ap (took (s .recorded) 0) is) refl))
       go (suc a) hi x is same ok =
-          let C = clientFrom n (suc a) (sim .E .clients (suc a)) (sim .E .docs (suc a)) (sim .ci (suc a)) in
+          let C = clientFrom n (suc a) ranks (sim .E .clients (suc a)) (sim .E .docs (suc a)) (sim .ci (suc a)) in
           subst (λ (e : End). Sim n items from (answered ours s (suc a) (receive (suc a) i) (ours .take e b))) (sym (sim .client-is (suc a) (omega arith) hi))
           (subst (λ (r : Read). Sim n items from (answered ours s (suc a) (receive (suc a) i) (answerAs client (clientReads C r)))) (sym (ap parsed same ∙ codec .written-read (wireMessage x) (ok .1)))
           (take-message n items s sim (suc a) (omega arith) hi (receive (suc a) i) x ok (ap (took (s .recorded) (suc a)) is) refl))
@@ -440,12 +442,12 @@ module _ (n : ℕ) (items : List ℕ) {from : Moment} (s : State ours) (sim : Si
   junks-at : (a : ℕ) (bytes : List ℕ) → a ≤ n → parsed bytes ≡ read.Refused → Sim n items from (answered ours s a (junk a bytes) (ours .take (s .ends a) bytes))
   unfolding takeClient takeServer refusedLog
   junks-at zero bytes hi e =
-      let S = serverFrom n (length items) (sim .E .doc) (sim .E .lines) (sim .si) in
+      let S = serverFrom n (length items) ranks (sim .E .doc) (sim .E .lines) (sim .si) in
       subst (λ (d : End). Sim n items from (answered ours s 0 (junk 0 bytes) (ours .take d bytes))) (sym (sim .server-is))
       (subst (λ (r : Read). Sim n items from (answered ours s 0 (junk 0 bytes) (answerAs server (serverReads S r)))) (sym e)
       (serve-junk n items s sim (junk 0 bytes) (answer (asks (ask 2 (soundServer S) ∷ ask 3 false ∷ [])) S S 0) (outcome (asks (ask 2 (soundServer S) ∷ ask 3 false ∷ [])) S S 0) refl))
   junks-at (suc a) bytes hi e =
-      let C = clientFrom n (suc a) (sim .E .clients (suc a)) (sim .E .docs (suc a)) (sim .ci (suc a)) in
+      let C = clientFrom n (suc a) ranks (sim .E .clients (suc a)) (sim .E .docs (suc a)) (sim .ci (suc a)) in
       subst (λ (d : End). Sim n items from (answered ours s (suc a) (junk (suc a) bytes) (ours .take d bytes))) (sym (sim .client-is (suc a) (omega arith) hi))
       (subst (λ (r : Read). Sim n items from (answered ours s (suc a) (junk (suc a) bytes) (answerAs client (clientReads C r)))) (sym e)
       (take-junk n items s sim (suc a) (omega arith) hi (junk (suc a) bytes) (answer (asks (ask 2 (soundClient C) ∷ ask 3 false ∷ [])) C C 0)
@@ -463,12 +465,12 @@ module _ (n : ℕ) (items : List ℕ) {from : Moment} (s : State ours) (sim : Si
       subst (λ (e : End). Sim n items from (written ours s (tell (suc a) l lent) (ours .tell e l lent))) (sym (sim .client-is (suc a) (omega arith) hi))
       (client-tells n items s sim (suc a) (omega arith) hi l lent)
 
-  edits-at : (c : Call) (l : ℕ) (e : Edit) → 1 ≤ l → l ≤ n → priority (eqb l) e ≡ true → Small e → logged (s .recorded) c ≡ logs.edited (s .recorded) l e
+  edits-at : (c : Call) (l : ℕ) (e : Edit) → 1 ≤ l → l ≤ n → priority (eqb (rankOf ranks l)) e ≡ true → Small e → logged (s .recorded) c ≡ logs.edited (s .recorded) l e
       → refusedLog (s .recorded) c ≡ hears (s .recorded) (s .recorded .heard)
-      → Sim n items from (answered ours s l c (answerAs client (editClient (clientFrom n l (sim .E .clients l) (sim .E .docs l) (sim .ci l)) e)))
+      → Sim n items from (answered ours s l c (answerAs client (editClient (clientFrom n l ranks (sim .E .clients l) (sim .E .docs l) (sim .ci l)) e)))
   unfolding editClient
   edits-at c l e lo hi pr sm made quiet =
-      let C = clientFrom n l (sim .E .clients l) (sim .E .docs l) (sim .ci l) in
+      let C = clientFrom n l ranks (sim .E .clients l) (sim .E .docs l) (sim .ci l) in
       edit-call n items s sim l lo hi c e pr sm made quiet (editClient C e) (outcome (asks (editQuestions C e)) C (edited C e) 0) (edits-sound C e pr (sim .client-sound l lo hi))
 
   pub called : (c : Call) → callable n c ≡ true → Sim n items from (call ours s c)
@@ -477,7 +479,7 @@ module _ (n : ℕ) (items : List ℕ) {from : Moment} (s : State ours) (sim : Si
       let t = three (between 1 n l) (ltb p 65536) (ltb x 4294967296) ok in
       let at-l = between-true 1 n l (t .0) in
       subst (λ (e : End). Sim n items from (answered ours s l (insert l p x) (ours .insert e p x))) (sym (sim .client-is l (at-l .0) (at-l .1)))
-      (edits-at (insert l p x) l (Insert p x l) (at-l .0) (at-l .1) (eq-eqb l l refl) (le-leb x 4294967295 (omega (arith, ltb-true x 4294967296 (t .2)))) refl refl)
+      (edits-at (insert l p x) l (Insert p x (rankOf ranks l)) (at-l .0) (at-l .1) (eq-eqb (rankOf ranks l) (rankOf ranks l) refl) (le-leb x 4294967295 (omega (arith, ltb-true x 4294967296 (t .2)))) refl refl)
   called (delete l p) ok =
       let at-l = between-true 1 n l (and-left (between 1 n l) (ltb p 65536) ok) in
       subst (λ (e : End). Sim n items from (answered ours s l (delete l p) (ours .delete e p))) (sym (sim .client-is l (at-l .0) (at-l .1)))

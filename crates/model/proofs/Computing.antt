@@ -10,6 +10,7 @@ use Rattle.jupiter.specs.Claims.{inserts}
 use Rattle.jupiter.specs.History.{missing, afterEdit, serves, applies}
 use Rattle.model.specs.Questions.{answer, sent}
 use Rattle.model.specs.Cross.{past, over, allPlaced, priorities}
+use Rattle.model.specs.Ranks.{among, eachOnce, ranking}
 use Rattle.model.specs.Client.{soundClient, openClient, editClient, sendClient, tellClient, clientTakesEdit, clientTakesAck, takeClient}
 use Rattle.model.specs.Server.{soundLine, soundLines, soundServer, openServer, sendServer, tellServer, atPlace, othersRoomy, serverTakesEdit, serverTakesAck, takeServer}
 use Rattle.model.specs.Log.{setOf, madeAt, takenAt, editMessage, ackMessage, took, logged, refusedLog, log}
@@ -17,5 +18,5 @@ use Rattle.model.specs.Numbers.{allBut, number}
 use Rattle.model.specs.Run.{areBytes, areItems, callable, handed, call, numberOf, run}
 
 unfoldable pub computing : Unit {0}
-unfolding inserts applied fits transformed within inRange bytesOf parsed answer sent past over allPlaced priorities soundClient openClient editClient sendClient tellClient clientTakesEdit clientTakesAck takeClient soundLine soundLines soundServer openServer sendServer tellServer atPlace othersRoomy serverTakesEdit serverTakesAck takeServer holds select reject further lastOutside formBy formIn form inOrder enter firsts missing afterEdit serves applies setOf madeAt takenAt editMessage ackMessage took logged refusedLog log allBut number areBytes areItems callable handed call numberOf run
+unfolding inserts applied fits transformed within inRange bytesOf parsed answer sent past over allPlaced priorities among eachOnce ranking soundClient openClient editClient sendClient tellClient clientTakesEdit clientTakesAck takeClient soundLine soundLines soundServer openServer sendServer tellServer atPlace othersRoomy serverTakesEdit serverTakesAck takeServer holds select reject further lastOutside formBy formIn form inOrder enter firsts missing afterEdit serves applies setOf madeAt takenAt editMessage ackMessage took logged refusedLog log allBut number areBytes areItems callable handed call numberOf run
 computing = tt

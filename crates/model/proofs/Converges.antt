@@ -19,6 +19,7 @@ use Rattle.model.specs.Questions.{asks, between, Answer}
 use Rattle.model.specs.Line.{Line, noLine}
 use Rattle.model.specs.Client.{Client, noClient, openClientQuestions, openClient}
 use Rattle.model.specs.Server.{Server, noServer, soundServer, openServerQuestions, openServer}
+use Rattle.model.specs.Ranks.{ranking}
 use Rattle.model.specs.Edits.{edits}
 use Rattle.model.specs.Sheet.{Call}
 use Rattle.model.specs.Log.{editMessage, messageBytes}
@@ -43,22 +44,22 @@ some-left : {A : Type 0} (xs : List A) → (xs ≡ [] → ⊥) → 1 ≤ length 
 some-left [] h = absurd (h refl)
 some-left (x ∷ xs) h = omega arith
 
-module _ (n : ℕ) (items : List ℕ) {from : Moment} (s : State ours) (sim : Sim n items from s) (few : length items ≤ maxInitial) where
-  abbrev h : History edits
+module _ (n : ℕ) (items : List ℕ) {ranks : List ℕ} {from : Moment ranks} (s : State ours ranks) (sim : Sim n items from s) (few : length items ≤ maxInitial) where
+  abbrev h : History (edits ranks)
   h = s .recorded .history
 
-  abbrev E : Ends edits
+  abbrev E : Ends (edits ranks)
   E = sim .E
 
   abbrev S : Server
-  S = serverFrom n (length items) (E .doc) (E .lines) (sim .si)
+  S = serverFrom n (length items) ranks (E .doc) (E .lines) (sim .si)
 
   -- the claim on line l, at ends a and b that are what the theory says
   on-line : (l : ℕ) → 1 ≤ l → l ≤ n → OnLine ours n s l
   on-line l lo hi =
-      let C = clientFrom n l (E .clients l) (E .docs l) (sim .ci l) in
+      let C = clientFrom n l ranks (E .clients l) (E .docs l) (sim .ci l) in
       let line : LineClaim items h l 0 (E .clients l) (E .lines l) (E .docs l) (E .doc) = counts.line n items s sim l in
-      let same = line-from n (length items) (E .doc) (E .lines) (sim .si) l lo hi in
+      let same = line-from n (length items) ranks (E .doc) (E .lines) (sim .si) l lo hi in
       let here : s .ends l ≡ client C = sim .client-is l lo hi in
       let base : s .ends 0 ≡ server S = sim .server-is in
       let cm : ours .made (s .ends l) l ≡ E .clients l .made = ap (λ (e : End). ours .made e l) here in
@@ -86,8 +87,8 @@ module _ (n : ℕ) (items : List ℕ) {from : Moment} (s : State ours) (sim : Si
       -- question 12 asks what "full" says: 64 above the last seen
       room : ((j : ℕ) → 1 ≤ j → j ≤ n → (j ≡ l → ⊥) → Full ours n s j → ⊥) → (j : ℕ) → 1 ≤ j → j ≤ n → (j ≡ l → ⊥) → E .lines j .made - E .lines j .acked < maxPending
       room free j a b d =
-          let same = line-from n (length items) (E .doc) (E .lines) (sim .si) j a b in
-          let facts = subst (λ (v : Line). ServerLine n (takenSum (S .lines)) j v) same (line-fact S (server-facts S (sim .server-sound)) j a b) in
+          let same = line-from n (length items) ranks (E .doc) (E .lines) (sim .si) j a b in
+          let facts = subst (λ (v : Line). ServerLine n ranks (takenSum (S .lines)) j v) same (line-fact S (server-facts S (sim .server-sound)) j a b) in
           let made : ours .made (s .ends 0) j ≡ E .lines j .made = ap (λ (e : End). ours .made e j) (sim .server-is) ∙ ap (λ (v : Line). v .made) same in
           below (E .lines j .made) (E .lines j .acked) (facts .line .room) (facts .line .acked)
           (λ e. free j a b d (made ∙ e ∙ ap (λ (k : ℕ). k + maxPending) (sym (sim .server-heard j))))
@@ -112,22 +113,22 @@ module _ (n : ℕ) (items : List ℕ) {from : Moment} (s : State ours) (sim : Si
 
 -- ---- opening
 
-abbrev pub opening : List ℕ → Moment
+abbrev pub opening : {ranks : List ℕ} → List ℕ → Moment ranks
 opening items = record { ends = ends.opened items; history = noHistory }
 
-module _ (n : ℕ) (items : List ℕ) (lo : 1 ≤ n) (hi : n ≤ maxLines) (few : length items ≤ maxInitial) where
-  fresh : ends.End edits
+module _ (n : ℕ) (ranks items : List ℕ) (lo : 1 ≤ n) (hi : n ≤ maxLines) (few : length items ≤ maxInitial) (good : ranking n ranks ≡ true) where
+  abbrev fresh : ends.End (edits ranks)
   fresh = record { made = 0; taken = 0; acked = 0; pending = [] }
 
-  server-starts : openServer n items .end ≡ serverFrom n (length items) items (λ l. record { made = 0; taken = 0; acked = 0; pending = [] }) (λ l. 0)
+  server-starts : openServer n ranks items .end ≡ serverFrom n (length items) ranks items (λ l. fresh) (λ l. 0)
   server-starts =
-      ap (λ (a : Answer Server). a .end) (server-opens n items lo hi few)
-      ∙ ap (λ (vs : List Line). record { n = n; initial = length items; items = items; lines = vs }) (table-replicate noLine 1 n)
+      ap (λ (a : Answer Server). a .end) (server-opens n ranks items lo hi few good)
+      ∙ ap (λ (vs : List Line). record { n = n; initial = length items; ranks = ranks; items = items; lines = vs }) (table-replicate noLine 1 n)
 
-  client-starts : (l : ℕ) → 1 ≤ l → l ≤ n → openClient n l items .end ≡ clientFrom n l (record { made = 0; taken = 0; acked = 0; pending = [] }) items 0
-  client-starts l a b = ap (λ (r : Answer Client). r .end) (client-opens n l items lo hi a b few)
+  client-starts : (l : ℕ) → 1 ≤ l → l ≤ n → openClient n l ranks items .end ≡ clientFrom n l ranks fresh items 0
+  client-starts l a b = ap (λ (r : Answer Client). r .end) (client-opens n l ranks items lo hi a b few good)
 
-  pub starts : Sim n items (opening items) (start ours n items)
+  pub starts : Sim n items (opening items) (start ours n ranks items)
   unfolding select reject inserts
   starts =
       record {
@@ -138,8 +139,8 @@ module _ (n : ℕ) (items : List ℕ) (lo : 1 ≤ n) (hi : n ≤ maxLines) (few 
         later = later-refl (ends.opened items) noHistory;
         server-is = ap server server-starts;
         client-is = opened;
-        server-sound = ap soundServer (sym server-starts) ∙ opens-server n items (ap (λ (a : Answer Server). a .refusal) (server-opens n items lo hi few));
-        client-sound = λ l a b. ap Rattle.model.specs.Client.soundClient (sym (client-starts l a b)) ∙ opens-client n l items (ap (λ (r : Answer Client). r .refusal) (client-opens n l items lo hi a b few));
+        server-sound = ap soundServer (sym server-starts) ∙ opens-server n ranks items (ap (λ (a : Answer Server). a .refusal) (server-opens n ranks items lo hi few good));
+        client-sound = λ l a b. ap Rattle.model.specs.Client.soundClient (sym (client-starts l a b)) ∙ opens-client n l ranks items (ap (λ (r : Answer Client). r .refusal) (client-opens n l ranks items lo hi a b few good));
         server-shown = refl;
         client-shown = λ l a b. refl;
         server-heard = λ l. refl;
@@ -155,13 +156,13 @@ module _ (n : ℕ) (items : List ℕ) (lo : 1 ≤ n) (hi : n ≤ maxLines) (few 
         server-small = λ l. tt;
       }
     where
-      opened : (l : ℕ) → 1 ≤ l → l ≤ n → Rattle.model.specs.Run.opened ours n items l ≡ client (clientFrom n l (record { made = 0; taken = 0; acked = 0; pending = [] }) items 0)
+      opened : (l : ℕ) → 1 ≤ l → l ≤ n → Rattle.model.specs.Run.opened ours n ranks items l ≡ client (clientFrom n l ranks fresh items 0)
       opened zero a b = absurd (omega arith)
       opened (suc l) a b = ap client (client-starts (suc l) a b)
 
 -- ---- every list of calls
 
-pub runs : (n : ℕ) (items : List ℕ) {from : Moment} (calls : List Call) (s : State ours) → Sim n items from s → Sim n items from (run ours n s calls)
+pub runs : (n : ℕ) (items : List ℕ) {ranks : List ℕ} {from : Moment ranks} (calls : List Call) (s : State ours ranks) → Sim n items from s → Sim n items from (run ours n s calls)
 unfolding run
 runs n items {from = from} [] s sim = sim
 runs n items {from = from} (c ∷ cs) s sim = runs n items cs (cond (callable n c) (call ours s c) s) (go (callable n c) refl)
@@ -171,21 +172,22 @@ runs n items {from = from} (c ∷ cs) s sim = runs n items cs (cond (callable n 
     go false e = sim
 
 -- what an opening that was not refused was asked
-pub server-asked : (n : ℕ) (items : List ℕ) → openServer n items .refusal ≡ 0 → (1 ≤ n) × (n ≤ maxLines) × (length items ≤ maxInitial)
+pub server-asked : (n : ℕ) (ranks items : List ℕ) → openServer n ranks items .refusal ≡ 0 → (1 ≤ n) × (n ≤ maxLines) × (length items ≤ maxInitial) × (ranking n ranks ≡ true)
 unfolding openServer
-server-asked n items e =
-    let z = accepted (asks (openServerQuestions n items)) noServer (freshServer n items) 0 e in
-    let t = hold (between 1 maxLines n ∷ leb (length items) maxInitial ∷ []) (yes-all (openServerQuestions n items) (omega arith) z .0) in
+server-asked n ranks items e =
+    let z = accepted (asks (openServerQuestions n ranks items)) noServer (freshServer n ranks items) 0 e in
+    let y = yes-all (openServerQuestions n ranks items) (omega arith) z in
+    let t = hold (between 1 maxLines n ∷ leb (length items) maxInitial ∷ []) (y .0) in
     let b = between-true 1 maxLines n (t .0) in
-    (b .0, b .1, leb-true (length items) maxInitial (t .1 .0))
+    (b .0, b .1, leb-true (length items) maxInitial (t .1 .0), y .1 .0)
 
 pub converges : Converges ours
 converges =
     record {
-      opens-server = λ n items a. unfold openServer in (refusal-is (asks (openServerQuestions n items)) noServer (freshServer n items) 0);
-      opens-client = λ n l items a. unfold openClient in (refusal-is (asks (openClientQuestions n l items)) noClient (freshClient n l items) 0);
+      opens-server = λ n ranks items a. unfold openServer in (refusal-is (asks (openServerQuestions n ranks items)) noServer (freshServer n ranks items) 0);
+      opens-client = λ n l ranks items a. unfold openClient in (refusal-is (asks (openClientQuestions n l ranks items)) noClient (freshClient n l ranks items) 0);
       alone = alone;
-      holds = λ n items opened calls.
-          let asked = server-asked n items (opened .server) in
-          holds n items (run ours n (start ours n items) calls) (runs n items calls (start ours n items) (starts n items (asked .0) (asked .1) (asked .2))) (asked .2);
+      holds = λ n ranks items opened calls.
+          let asked = server-asked n ranks items (opened .server) in
+          holds n items (run ours n (start ours n ranks items) calls) (runs n items calls (start ours n ranks items) (starts n ranks items (asked .0) (asked .1) (asked .2) (asked .3))) (asked .2);
     }

@@ -5,6 +5,7 @@ use Prim.Native.Nat.{ℕ, zero, suc, _≤_}
 use native.Mathlib.Nat.{zero-add}
 use native.Mathlib.Omega.{arith}
 use lib.ListN.{length, length-append}
+use Rattle.jupiter.specs.Algebra.{Algebra}
 use Rattle.jupiter.specs.Made.{mine, others}
 use Rattle.jupiter.specs.History.{History, madeBy}
 use Rattle.jupiter.specs.Ends.{Ends}
@@ -18,29 +19,29 @@ use Rattle.model.specs.Run.{State}
 use Rattle.model.specs.Ours.{ours}
 use Rattle.model.proofs.Sim.{Moment, Sim}
 
-client-made-at : (h : History edits) (l : ℕ) → 1 ≤ l → madeAt h l l ≡ madeBy h l
+client-made-at : {𝓐 : Algebra} (h : History 𝓐) (l : ℕ) → 1 ≤ l → madeAt h l l ≡ madeBy h l
 unfolding madeAt
 client-made-at h zero a = absurd (omega arith)
 client-made-at h (suc l) a = refl
 
-client-taken-at : (h : History edits) (l : ℕ) → 1 ≤ l → takenAt h l l ≡ length (others l (h .applied l))
+client-taken-at : {𝓐 : Algebra} (h : History 𝓐) (l : ℕ) → 1 ≤ l → takenAt h l l ≡ length (others l (h .applied l))
 unfolding takenAt
 client-taken-at h zero a = absurd (omega arith)
 client-taken-at h (suc l) a = refl
 
-server-made-at : (h : History edits) (l : ℕ) → madeAt h 0 l ≡ length (others l (h .served))
+server-made-at : {𝓐 : Algebra} (h : History 𝓐) (l : ℕ) → madeAt h 0 l ≡ length (others l (h .served))
 unfolding madeAt
 server-made-at h l = refl
 
-server-taken-at : (h : History edits) (l : ℕ) → takenAt h 0 l ≡ length (mine l (h .served))
+server-taken-at : {𝓐 : Algebra} (h : History 𝓐) (l : ℕ) → takenAt h 0 l ≡ length (mine l (h .served))
 unfolding takenAt
 server-taken-at h l = refl
 
-module _ (n : ℕ) (items : List ℕ) {from : Moment} (s : State ours) (sim : Sim n items from s) (l : ℕ) where
-  abbrev h : History edits
+module _ (n : ℕ) (items : List ℕ) {ranks : List ℕ} {from : Moment ranks} (s : State ours ranks) (sim : Sim n items from s) (l : ℕ) where
+  abbrev h : History (edits ranks)
   h = s .recorded .history
 
-  abbrev E : Ends edits
+  abbrev E : Ends (edits ranks)
   E = sim .E
 
   -- what the theory claims of line l

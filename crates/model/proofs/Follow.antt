@@ -9,6 +9,7 @@ use lib.ListN.{length, getD, drop, length-append}
 use lib.Seq.{getD-append-seam}
 use borrow.Author.Tests.{eqb-true, ne-eqb, eq-eqb}
 use Rattle.ot.specs.Edit.{Edit, applied, fits}
+use Rattle.jupiter.specs.Algebra.{Algebra}
 use Rattle.jupiter.specs.Made.{Made, holds, select, reject, isBy, mine, others}
 use Rattle.jupiter.specs.Form.{form, inOrder}
 use Rattle.jupiter.specs.Point.{blank, own, oth, point}
@@ -28,17 +29,18 @@ use Rattle.jupiter.proofs.Runs.{fine-later}
 use Rattle.model.specs.Cross.{priority, insertsOf}
 use Rattle.model.specs.Client.{Client, soundClient, edited, clientTaken, clientAcked}
 use Rattle.model.specs.Server.{Server, soundServer, serverTaken, serverAcked}
-use Rattle.model.specs.Edits.{edits}
+use Rattle.model.specs.Ranks.{rankOf}
+use Rattle.model.specs.Edits.{Rule, editsBy, edits}
 use Rattle.model.specs.Log as logs
 use Rattle.model.specs.Log.{Log, messageBytes, setOf, madeAt, hears, tookUp, tookDown, writes}
 use Rattle.model.specs.Run.{State}
 use Rattle.model.specs.Ours.{client, server, ours}
-use Rattle.model.proofs.Instance.{to-T, edit-laws, past-same, over-same}
+use Rattle.model.proofs.Instance.{to-T, by-rank, past-same, over-same}
 use Rattle.model.proofs.Small.{Small, small-past, small-over, all-drop}
-use Rattle.model.proofs.Sim.{clientFrom, serverFrom, MessageOk, OfLines, Moment, Sim, at-line, at-other, edited-from, taken-from, server-taken-from, server-acked-from}
+use Rattle.model.proofs.Sim.{clientFrom, serverFrom, MessageOk, OfLines, Moment, Sim, ranked, laws, at-line, at-other, edited-from, taken-from, server-taken-from, server-acked-from}
 
 -- what passes a test, passes it
-selected : (p : Made edits → Bool) (xs : List (Made edits)) → All (λ x. p x ≡ true) (select p xs)
+selected : {𝓐 : Algebra} (p : Made 𝓐 → Bool) (xs : List (Made 𝓐)) → All (λ x. p x ≡ true) (select p xs)
 unfolding select
 selected p [] = tt
 selected p (x ∷ xs) = go (p x) refl (selected p xs)
@@ -48,40 +50,40 @@ selected p (x ∷ xs) = go (p x) refl (selected p xs)
     go false e ih = ih
 
 -- the set of a client: what it has applied, in order
-client-set : (h : History edits) (k : ℕ) (e : Made edits) (x : Edit) → 1 ≤ k → form e (inOrder (order h k) (h .applied k)) ≡ x → form e (setOf h k) ≡ x
+client-set : {𝓐 : Algebra} (h : History 𝓐) (k : ℕ) (e : Made 𝓐) (x : 𝓐 .Edit) → 1 ≤ k → form e (inOrder (order h k) (h .applied k)) ≡ x → form e (setOf h k) ≡ x
 unfolding setOf
 client-set h zero e x a q = absurd (omega arith)
 client-set h (suc k) e x a q = q
 
 -- one edit more of line l
-inserts-one-more : (l : ℕ) (xs : List (Made edits)) (o : Made edits) → isBy l o ≡ true → inserts (mine l (xs ++ (o ∷ []))) ≡ inserts (mine l xs) + insertsOf (o .edit)
+inserts-one-more : {by : Rule} (l : ℕ) (xs : List (Made (editsBy by))) (o : Made (editsBy by)) → isBy l o ≡ true → inserts (mine l (xs ++ (o ∷ []))) ≡ inserts (mine l xs) + insertsOf (o .edit)
 unfolding inserts select
 inserts-one-more l xs o by =
     ap inserts (L.select-in (isBy l) blank xs o [] by) ∙ inserts-append (mine l xs) (o ∷ []) ∙ omega arith
 
-pub inserts-cons : (o : Made edits) (us : List (Made edits)) → inserts (o ∷ us) ≡ insertsOf (o .edit) + inserts us
+pub inserts-cons : {by : Rule} (o : Made (editsBy by)) (us : List (Made (editsBy by))) → inserts (o ∷ us) ≡ insertsOf (o .edit) + inserts us
 unfolding inserts
 inserts-cons o us = refl
 
-inserts-more : (l : ℕ) (xs ys : List (Made edits)) (o : Made edits) → isBy l o ≡ true
+inserts-more : {by : Rule} (l : ℕ) (xs ys : List (Made (editsBy by))) (o : Made (editsBy by)) → isBy l o ≡ true
     → inserts (mine l (xs ++ (ys ++ (o ∷ [])))) ≡ inserts (mine l (xs ++ ys)) + insertsOf (o .edit)
-inserts-more l xs ys o by = ap (λ (zs : List (Made edits)). inserts (mine l zs)) (sym (append-assoc xs ys (o ∷ []))) ∙ inserts-one-more l (xs ++ ys) o by
+inserts-more {by = rule} l xs ys o by = ap (λ (zs : List (Made (editsBy rule))). inserts (mine l zs)) (sym (append-assoc xs ys (o ∷ []))) ∙ inserts-one-more l (xs ++ ys) o by
 
 -- an edit of another line more
-others-snoc : (l : ℕ) (xs : List (Made edits)) (g : Made edits) → isBy l g ≡ false → others l (xs ++ (g ∷ [])) ≡ others l xs ++ (g ∷ [])
+others-snoc : {𝓐 : Algebra} (l : ℕ) (xs : List (Made 𝓐)) (g : Made 𝓐) → isBy l g ≡ false → others l (xs ++ (g ∷ [])) ≡ others l xs ++ (g ∷ [])
 unfolding reject
 others-snoc l xs g by = L.reject-in (isBy l) blank xs g [] by
 
 -- the history's count of a client's edits
-client-count : (h : History edits) (l made : ℕ) → 1 ≤ l → made ≡ madeBy h l → made ≡ madeAt h l l
+client-count : {𝓐 : Algebra} (h : History 𝓐) (l made : ℕ) → 1 ≤ l → made ≡ madeBy h l → made ≡ madeAt h l l
 unfolding madeAt
 client-count h zero made a e = absurd (omega arith)
 client-count h (suc l) made a e = e
 
 -- the pending edits of an end that takes an edit
-small-taken : (x : EditMessage edits) (v : ends.End edits) → All Small (v .pending) → All Small (takes x v .pending)
+small-taken : {by : Rule} (x : EditMessage (editsBy by)) (v : ends.End (editsBy by)) → All Small (v .pending) → All Small (takes x v .pending)
 small-taken x v a =
-    subst (All Small) (over-same (x .edit) (drop (x .seen - v .acked) (v .pending))) (small-over (x .edit) (drop (x .seen - v .acked) (v .pending)) (all-drop Small (x .seen - v .acked) (v .pending) a))
+    subst (All Small) (over-same _ (x .edit) (drop (x .seen - v .acked) (v .pending))) (small-over (x .edit) (drop (x .seen - v .acked) (v .pending)) (all-drop Small (x .seen - v .acked) (v .pending) a))
 
 -- what was heard, at the line where it was and at another end
 at-here : (l k : ℕ) (f : ℕ → ℕ) → at l k f l ≡ k
@@ -91,16 +93,16 @@ unheard : (a : ℕ) (f : ℕ → ℕ) (g : ℕ → ℕ → ℕ) (j i : ℕ) → 
 unheard a f g j i h = ap (λ (k : ℕ → ℕ). k i) (at-other a f g j h)
 
 -- every message stays one that can be taken
-messages-later : (n : ℕ) (items : List ℕ) (E E′ : Ends edits) (h h′ : History edits) → Inv items E h → Later E h E′ h′ → (xs : List (Message edits))
-    → All (MessageOk n items E h) xs → All (MessageOk n items E′ h′) xs
-messages-later n items E E′ h h′ inv f xs ok =
-    all-map (MessageOk n items E h) (MessageOk n items E′ h′) xs (λ x o. (fine-later items E h E′ h′ inv f x (o .0), o .1, o .2)) ok
+messages-later : (n : ℕ) (ranks items : List ℕ) (E E′ : Ends (edits ranks)) (h h′ : History (edits ranks)) → Inv items E h → Later E h E′ h′ → (xs : List (Message (edits ranks)))
+    → All (MessageOk n ranks items E h) xs → All (MessageOk n ranks items E′ h′) xs
+messages-later n ranks items E E′ h h′ inv f xs ok =
+    all-map (MessageOk n ranks items E h) (MessageOk n ranks items E′ h′) xs (λ x o. (fine-later items E h E′ h′ inv f x (o .0), o .1, o .2)) ok
 
-module _ (n : ℕ) (items : List ℕ) {from : Moment} (s : State ours) (sim : Sim n items from s) where
-  abbrev w : Log
+module _ (n : ℕ) (items : List ℕ) {ranks : List ℕ} {from : Moment ranks} (s : State ours ranks) (sim : Sim n items from s) where
+  abbrev w : Log ranks
   w = s .recorded
 
-  abbrev h : History edits
+  abbrev h : History (edits ranks)
   h = s .recorded .history
 
   -- ---- refused
@@ -143,17 +145,17 @@ module _ (n : ℕ) (items : List ℕ) {from : Moment} (s : State ours) (sim : Si
   -- ---- a client edits
 
   module _ (l : ℕ) (lo : 1 ≤ l) (hi : l ≤ n) where
-    abbrev E : Ends edits
+    abbrev E : Ends (edits ranks)
     E = sim .E
 
     abbrev C : Client
-    C = clientFrom n l (E .clients l) (E .docs l) (sim .ci l)
+    C = clientFrom n l ranks (E .clients l) (E .docs l) (sim .ci l)
 
-    module _ (e : Edit) (pr : priority (eqb l) e ≡ true) (sm : Small e) (ok : fits e (length (E .docs l)) ≡ true) (sound : soundClient (edited C e) ≡ true) where
+    module _ (e : Edit) (pr : priority (eqb (rankOf ranks l)) e ≡ true) (sm : Small e) (ok : fits e (length (E .docs l)) ≡ true) (sound : soundClient (edited C e) ≡ true) where
       step : Step items E h (editing l e E) (afterEdit l e h)
-      step = step-edit items edit-laws E h (sim .inv) l e (to-T (priority (eqb l) e) pr) (to-T (fits e (length (E .docs l))) ok)
+      step = step-edit items (laws sim) E h (sim .inv) l e (by-rank (ranked sim) l lo hi e pr) (to-T (fits e (length (E .docs l))) ok)
 
-      abbrev o : Made edits
+      abbrev o : Made (edits ranks)
       o = newEdit h l e
 
       -- an edit is made in its form at what its client has applied: all of that is in its context
@@ -172,12 +174,12 @@ module _ (n : ℕ) (items : List ℕ) {from : Moment} (s : State ours) (sim : Si
             later = later-trans _ _ _ _ _ _ (sim .later) (step .later);
             server-is = at-other l (client (edited C e)) (s .ends) 0 (λ z. omega arith) ∙ sim .server-is;
             client-is = λ j a b.
-                at-line (λ i x v d k. x ≡ client (clientFrom n i v d k)) l (client (edited C e)) (keeps e (E .clients l)) (applied e (E .docs l)) (sim .ci l + insertsOf e)
-                (s .ends) (E .clients) (E .docs) (sim .ci) j (ap client (edited-from n l (E .clients l) (E .docs l) (sim .ci l) e)) (sim .client-is j a b);
+                at-line (λ i x v d k. x ≡ client (clientFrom n i ranks v d k)) l (client (edited C e)) (keeps e (E .clients l)) (applied e (E .docs l)) (sim .ci l + insertsOf e)
+                (s .ends) (E .clients) (E .docs) (sim .ci) j (ap client (edited-from n l ranks (E .clients l) (E .docs l) (sim .ci l) e)) (sim .client-is j a b);
             server-sound = sim .server-sound;
             client-sound = λ j a b.
-                at-line (λ i (x : Unit {0}) v d k. soundClient (clientFrom n i v d k) ≡ true) l tt (keeps e (E .clients l)) (applied e (E .docs l)) (sim .ci l + insertsOf e)
-                (λ i. tt) (E .clients) (E .docs) (sim .ci) j (ap soundClient (sym (edited-from n l (E .clients l) (E .docs l) (sim .ci l) e)) ∙ sound) (sim .client-sound j a b);
+                at-line (λ i (x : Unit {0}) v d k. soundClient (clientFrom n i ranks v d k) ≡ true) l tt (keeps e (E .clients l)) (applied e (E .docs l)) (sim .ci l + insertsOf e)
+                (λ i. tt) (E .clients) (E .docs) (sim .ci) j (ap soundClient (sym (edited-from n l ranks (E .clients l) (E .docs l) (sim .ci l) e)) ∙ sound) (sim .client-sound j a b);
             server-shown = at-other l (applied (form o (setOf h l)) (w .shown l)) (w .shown) 0 (λ z. omega arith) ∙ sim .server-shown;
             client-shown = λ j a b.
                 at-line (λ i x d (y : Unit {0}) (z : Unit {0}). x ≡ d) l (applied (form o (setOf h l)) (w .shown l)) (applied e (E .docs l)) tt tt
@@ -188,7 +190,7 @@ module _ (n : ℕ) (items : List ℕ) {from : Moment} (s : State ours) (sim : Si
                 at-line (λ i v (x : Unit {0}) (y : Unit {0}) (z : Unit {0}). w .heard i i ≡ v .acked) l (keeps e (E .clients l)) tt tt tt
                 (E .clients) (λ i. tt) (λ i. tt) (λ i. tt) j (sim .client-heard l lo) (sim .client-heard j a);
             messages = sim .messages;
-            written = messages-later n items E (editing l e E) h (afterEdit l e h) (sim .inv) (step .later) (w .messages) (sim .written);
+            written = messages-later n ranks items E (editing l e E) h (afterEdit l e h) (sim .inv) (step .later) (w .messages) (sim .written);
             passed = ap (λ (ks : List ℕ). ks ++ (0 ∷ [])) (sim .passed);
             taken = λ j.
                 at-line (λ i xs v (y : Unit {0}) (z : Unit {0}). length (others i xs) ≡ v .taken) l (h .applied l ++ (o ∷ [])) (keeps e (E .clients l)) tt tt
@@ -208,12 +210,12 @@ module _ (n : ℕ) (items : List ℕ) {from : Moment} (s : State ours) (sim : Si
 
     -- ---- a client takes its next edit
 
-    module _ (x : EditMessage edits) (ok : DownMessage items E h l x) (next : x .number ≡ suc (E .clients l .taken)) (cur : E .clients l .acked ≤ x .seen) (sm : Small (x .edit))
+    module _ (x : EditMessage (edits ranks)) (ok : DownMessage items E h l x) (next : x .number ≡ suc (E .clients l .taken)) (cur : E .clients l .acked ≤ x .seen) (sm : Small (x .edit))
         (sound : soundClient (clientTaken C (x .seen) (x .edit)) ≡ true) where
       down-step : Step items E h (takingDown l x E) (afterDown l h)
       down-step = step-down items E h (sim .inv) l x ok next cur
 
-      abbrev g : Made edits
+      abbrev g : Made (edits ranks)
       g = oth l (order h l) (E .clients l .taken)
 
       abbrev line : LineAt items l (order h l) (h .served) (h .applied l) (E .clients l) (E .lines l) (E .docs l)
@@ -247,35 +249,35 @@ module _ (n : ℕ) (items : List ℕ) {from : Moment} (s : State ours) (sim : Si
             later = later-trans _ _ _ _ _ _ (sim .later) (down-step .later);
             server-is = at-other l (client (clientTaken C (x .seen) (x .edit))) (s .ends) 0 (λ z. omega arith) ∙ sim .server-is;
             client-is = λ j a b.
-                at-line (λ i y v d (k : Unit {0}). y ≡ client (clientFrom n i v d (sim .ci i))) l (client (clientTaken C (x .seen) (x .edit))) (takes x (E .clients l))
+                at-line (λ i y v d (k : Unit {0}). y ≡ client (clientFrom n i ranks v d (sim .ci i))) l (client (clientTaken C (x .seen) (x .edit))) (takes x (E .clients l))
                 (applied (arrived x (E .clients l)) (E .docs l)) tt (s .ends) (E .clients) (E .docs) (λ i. tt) j
-                (ap client (taken-from n l (E .clients l) (E .docs l) (sim .ci l) x)) (sim .client-is j a b);
+                (ap client (taken-from n l ranks (E .clients l) (E .docs l) (sim .ci l) x)) (sim .client-is j a b);
             server-sound = sim .server-sound;
             client-sound = λ j a b.
-                at-line (λ i (y : Unit {0}) v d (k : Unit {0}). soundClient (clientFrom n i v d (sim .ci i)) ≡ true) l tt (takes x (E .clients l))
+                at-line (λ i (y : Unit {0}) v d (k : Unit {0}). soundClient (clientFrom n i ranks v d (sim .ci i)) ≡ true) l tt (takes x (E .clients l))
                 (applied (arrived x (E .clients l)) (E .docs l)) tt (λ i. tt) (E .clients) (E .docs) (λ i. tt) j
-                (ap soundClient (sym (taken-from n l (E .clients l) (E .docs l) (sim .ci l) x)) ∙ sound) (sim .client-sound j a b);
+                (ap soundClient (sym (taken-from n l ranks (E .clients l) (E .docs l) (sim .ci l) x)) ∙ sound) (sim .client-sound j a b);
             server-shown = at-other l (applied (form (logs.first (missing h l)) (setOf h l)) (w .shown l)) (w .shown) 0 (λ z. omega arith) ∙ sim .server-shown;
             client-shown = λ j a b.
                 at-line (λ i y d (u : Unit {0}) (z : Unit {0}). y ≡ d) l (applied (form (logs.first (missing h l)) (setOf h l)) (w .shown l))
                 (applied (arrived x (E .clients l)) (E .docs l)) tt tt (w .shown) (E .docs) (λ i. tt) (λ i. tt) j
-                (ap₂ applied (ap (λ (es : List (Made edits)). form (logs.first es) (setOf h l)) missing-first ∙ client-set h l g (arrived x (E .clients l)) lo down-form) (sim .client-shown l lo hi))
+                (ap₂ applied (ap (λ (es : List (Made (edits ranks))). form (logs.first es) (setOf h l)) missing-first ∙ client-set h l g (arrived x (E .clients l)) lo down-form) (sim .client-shown l lo hi))
                 (sim .client-shown j a b);
             server-heard = λ j. unheard l (at l (x .seen) (w .heard l)) (w .heard) 0 j (λ z. omega arith) ∙ sim .server-heard j;
             client-heard = λ j a.
                 at-line (λ i f v (y : Unit {0}) (z : Unit {0}). f i ≡ v .acked) l (at l (x .seen) (w .heard l)) (takes x (E .clients l)) tt tt
                 (w .heard) (E .clients) (λ i. tt) (λ i. tt) j (at-here l (x .seen) (w .heard l)) (sim .client-heard j a);
             messages = sim .messages;
-            written = messages-later n items E (takingDown l x E) h (afterDown l h) (sim .inv) (down-step .later) (w .messages) (sim .written);
+            written = messages-later n ranks items E (takingDown l x E) h (afterDown l h) (sim .inv) (down-step .later) (w .messages) (sim .written);
             passed = ap₂ (λ (ks : List ℕ) (k : ℕ). ks ++ ((k - x .seen) ∷ [])) (sim .passed) (client-count h l (E .clients l .made) lo (line .c-made ∙ ap length (mine-served l (h .served) (h .untaken l) (sim .inv .lines l .untaken-own)) ∙ length-append (mine l (h .served)) (h .untaken l)));
             taken = λ j.
-                subst (λ (es : List (Made edits)). length (others j (applies l es h .applied j)) ≡ at l (takes x (E .clients l)) (E .clients) j .taken) (sym missing-first)
+                subst (λ (es : List (Made (edits ranks))). length (others j (applies l es h .applied j)) ≡ at l (takes x (E .clients l)) (E .clients) j .taken) (sym missing-first)
                 (at-line (λ i xs v (y : Unit {0}) (z : Unit {0}). length (others i xs) ≡ v .taken) l (h .applied l ++ (g ∷ [])) (takes x (E .clients l)) tt tt
                 (h .applied) (E .clients) (λ i. tt) (λ i. tt) j
                 (ap length (others-snoc l (h .applied l) g g-other) ∙ length-append (others l (h .applied l)) (g ∷ []) ∙ omega (arith, sim .taken l)) (sim .taken j));
-            served-lines = subst (λ (es : List (Made edits)). All (OfLines n) (applies l es h .served)) (sym missing-first) (sim .served-lines);
-            ci-is = λ j. subst (λ (es : List (Made edits)). sim .ci j ≡ inserts (mine j (order (applies l es h) j))) (sym missing-first) (sim .ci-is j);
-            si-is = λ j. subst (λ (es : List (Made edits)). sim .si j ≡ inserts (mine j (applies l es h .served))) (sym missing-first) (sim .si-is j);
+            served-lines = subst (λ (es : List (Made (edits ranks))). All (OfLines n) (applies l es h .served)) (sym missing-first) (sim .served-lines);
+            ci-is = λ j. subst (λ (es : List (Made (edits ranks))). sim .ci j ≡ inserts (mine j (order (applies l es h) j))) (sym missing-first) (sim .ci-is j);
+            si-is = λ j. subst (λ (es : List (Made (edits ranks))). sim .si j ≡ inserts (mine j (applies l es h .served))) (sym missing-first) (sim .si-is j);
             client-small = λ j.
                 at-line (λ i v (y : Unit {0}) (z : Unit {0}) (k : Unit {0}). All Small (v .pending)) l (takes x (E .clients l)) tt tt tt
                 (E .clients) (λ i. tt) (λ i. tt) (λ i. tt) j (small-taken x (E .clients l) (sim .client-small l)) (sim .client-small j);
@@ -285,21 +287,21 @@ module _ (n : ℕ) (items : List ℕ) {from : Moment} (s : State ours) (sim : Si
     -- ---- the server takes a client's next edit
 
     abbrev S : Server
-    S = serverFrom n (length items) (E .doc) (E .lines) (sim .si)
+    S = serverFrom n (length items) ranks (E .doc) (E .lines) (sim .si)
 
     -- the message's edit is the first that the server lacks
-    pub first-inserts : (x : EditMessage edits) → UpMessage items E h l x → x .number ≡ suc (E .lines l .taken) → (o : Made edits) (us : List (Made edits)) → h .untaken l ≡ o ∷ us
+    pub first-inserts : (x : EditMessage (edits ranks)) → UpMessage items E h l x → x .number ≡ suc (E .lines l .taken) → (o : Made (edits ranks)) (us : List (Made (edits ranks))) → h .untaken l ≡ o ∷ us
         → insertsOf (x .edit) ≡ insertsOf (o .edit)
     first-inserts x ok next o us split =
-        let o-by : isBy l o ≡ true = subst (λ (r : List (Made edits)). All (λ y. isBy l y ≡ true) r) split (sim .inv .lines l .untaken-own) .0 in
-        ap insertsOf (ok .edit) ∙ form-grows edit-laws (own l (order h l) (ok .index)) (point l (order h l) (ok .index) (x .seen))
-        ∙ ap (λ (y : Made edits). insertsOf (y .edit))
+        let o-by : isBy l o ≡ true = subst (λ (r : List (Made (edits ranks))). All (λ y. isBy l y ≡ true) r) split (sim .inv .lines l .untaken-own) .0 in
+        ap insertsOf (ok .edit) ∙ form-grows (laws sim) (own l (order h l) (ok .index)) (point l (order h l) (ok .index) (x .seen))
+        ∙ ap (λ (y : Made (edits ranks)). insertsOf (y .edit))
         (ap (λ (i : ℕ). getD (mine l (order h l)) i blank) (omega (arith, ok .number, sim .inv .lines l .v-count))
-        ∙ ap (λ (r : List (Made edits)). getD (mine l (h .served ++ r)) (length (mine l (h .served))) blank) split
-        ∙ ap (λ (r : List (Made edits)). getD r (length (mine l (h .served))) blank) (L.select-in (isBy l) blank (h .served) o us o-by)
+        ∙ ap (λ (r : List (Made (edits ranks))). getD (mine l (h .served ++ r)) (length (mine l (h .served))) blank) split
+        ∙ ap (λ (r : List (Made (edits ranks))). getD r (length (mine l (h .served))) blank) (L.select-in (isBy l) blank (h .served) o us o-by)
         ∙ getD-append-seam (mine l (h .served)) o (mine l us) blank)
 
-    module _ (x : EditMessage edits) (ok : UpMessage items E h l x) (next : x .number ≡ suc (E .lines l .taken)) (cur : E .lines l .acked ≤ x .seen) (sm : Small (x .edit))
+    module _ (x : EditMessage (edits ranks)) (ok : UpMessage items E h l x) (next : x .number ≡ suc (E .lines l .taken)) (cur : E .lines l .acked ≤ x .seen) (sm : Small (x .edit))
         (sound : soundServer (serverTaken S l (x .seen) (x .edit)) ≡ true) where
       abbrev up-line : LineAt items l (order h l) (h .served) (h .applied l) (E .clients l) (E .lines l) (E .docs l)
       up-line = sim .inv .lines l .line
@@ -307,20 +309,20 @@ module _ (n : ℕ) (items : List ℕ) {from : Moment} (s : State ours) (sim : Si
       abbrev a : Edit
       a = arrived x (E .lines l)
 
-      abbrev lines′ : ℕ → ends.End edits
+      abbrev lines′ : ℕ → ends.End (edits ranks)
       lines′ = at l (takes x (E .lines l)) (λ k. keeps a (E .lines k))
 
       a-small : Small a
       a-small =
-          subst Small (past-same (x .edit) (drop (x .seen - E .lines l .acked) (E .lines l .pending)))
+          subst Small (past-same _ (x .edit) (drop (x .seen - E .lines l .acked) (E .lines l .pending)))
           (small-past (x .edit) (drop (x .seen - E .lines l .acked) (E .lines l .pending)) sm)
 
-      module _ (o : Made edits) (us : List (Made edits)) (split : h .untaken l ≡ o ∷ us) where
+      module _ (o : Made (edits ranks)) (us : List (Made (edits ranks))) (split : h .untaken l ≡ o ∷ us) where
         up-step : Step items E h (takingUp l x E) (serves l (o ∷ us) h)
-        up-step = subst (λ (r : List (Made edits)). Step items E h (takingUp l x E) (serves l r h)) split (step-up items edit-laws E h (sim .inv) l x ok next cur)
+        up-step = subst (λ (r : List (Made (edits ranks))). Step items E h (takingUp l x E) (serves l r h)) split (step-up items (laws sim) E h (sim .inv) l x ok next cur)
 
         o-by : isBy l o ≡ true
-        o-by = subst (λ (r : List (Made edits)). All (λ y. isBy l y ≡ true) r) split (sim .inv .lines l .untaken-own) .0
+        o-by = subst (λ (r : List (Made (edits ranks))). All (λ y. isBy l y ≡ true) r) split (sim .inv .lines l .untaken-own) .0
 
         o-not : (j : ℕ) → eqb l j ≡ false → isBy j o ≡ false
         o-not j e = ne-eqb j (o .name .line) (λ z. differ (sym e ∙ eq-eqb l j (eqb-true l (o .name .line) o-by ∙ sym z)))
@@ -348,18 +350,18 @@ module _ (n : ℕ) (items : List ℕ) {from : Moment} (s : State ours) (sim : Si
               si = at l (sim .si l + insertsOf (x .edit)) (sim .si);
               inv = up-step .inv;
               later = later-trans _ _ _ _ _ _ (sim .later) (up-step .later);
-              server-is = ap server (server-taken-from n (length items) (E .doc) (E .lines) (sim .si) l lo hi x);
+              server-is = ap server (server-taken-from n (length items) ranks (E .doc) (E .lines) (sim .si) l lo hi x);
               client-is = λ j b c. at-other 0 (server (serverTaken S l (x .seen) (x .edit))) (s .ends) j (λ z. omega arith) ∙ sim .client-is j b c;
-              server-sound = ap soundServer (sym (server-taken-from n (length items) (E .doc) (E .lines) (sim .si) l lo hi x)) ∙ sound;
+              server-sound = ap soundServer (sym (server-taken-from n (length items) ranks (E .doc) (E .lines) (sim .si) l lo hi x)) ∙ sound;
               client-sound = sim .client-sound;
-              server-shown = ap₂ applied (sym (arrives items edit-laws E h (sim .inv) l x ok next cur o us split)) (sim .server-shown);
+              server-shown = ap₂ applied (sym (arrives items (laws sim) E h (sim .inv) l x ok next cur o us split)) (sim .server-shown);
               client-shown = λ j b c. at-other 0 (applied (form o (h .served)) (w .shown 0)) (w .shown) j (λ z. omega arith) ∙ sim .client-shown j b c;
               client-heard = λ j b. unheard 0 (at l (x .seen) (w .heard 0)) (w .heard) j j (λ z. omega arith) ∙ sim .client-heard j b;
               server-heard = λ j.
                   at-line (λ i k v (y : Unit {0}) (z : Unit {0}). k ≡ v .acked) l (x .seen) (takes x (E .lines l)) tt tt (w .heard 0) (λ k. keeps a (E .lines k)) (λ i. tt) (λ i. tt) j
                   refl (sim .server-heard j);
               messages = sim .messages;
-              written = messages-later n items E (takingUp l x E) h (serves l (o ∷ us) h) (sim .inv) (up-step .later) (w .messages) (sim .written);
+              written = messages-later n ranks items E (takingUp l x E) h (serves l (o ∷ us) h) (sim .inv) (up-step .later) (w .messages) (sim .written);
               passed =
                   ap₂ (λ (ks : List ℕ) (k : ℕ). ks ++ ((k - x .seen) ∷ [])) (sim .passed)
                   (up-line .v-made ∙ ap length (others-served l (h .served) (h .untaken l) (sim .inv .lines l .untaken-own)));
@@ -379,19 +381,19 @@ module _ (n : ℕ) (items : List ℕ) {from : Moment} (s : State ours) (sim : Si
             client-inserts : (j : ℕ) (b : Bool) → eqb l j ≡ b → sim .ci j ≡ inserts (mine j ((h .served ++ (o ∷ [])) ++ cond b us (h .untaken j)))
             client-inserts j true e =
                 sim .ci-is j
-                ∙ ap (λ (r : List (Made edits)). inserts (mine j (h .served ++ r))) (ap (h .untaken) (sym (eqb-true l j e)) ∙ split)
-                ∙ ap (λ (r : List (Made edits)). inserts (mine j r)) (sym (append-assoc (h .served) (o ∷ []) us))
+                ∙ ap (λ (r : List (Made (edits ranks))). inserts (mine j (h .served ++ r))) (ap (h .untaken) (sym (eqb-true l j e)) ∙ split)
+                ∙ ap (λ (r : List (Made (edits ranks))). inserts (mine j r)) (sym (append-assoc (h .served) (o ∷ []) us))
             client-inserts j false e =
                 sim .ci-is j
                 ∙ ap inserts (sym (L.select-out (isBy j) blank (h .served) o (h .untaken j) (o-not j e)))
-                ∙ ap (λ (r : List (Made edits)). inserts (mine j r)) (sym (append-assoc (h .served) (o ∷ []) (h .untaken j)))
+                ∙ ap (λ (r : List (Made (edits ranks))). inserts (mine j r)) (sym (append-assoc (h .served) (o ∷ []) (h .untaken j)))
 
             server-inserts : (j : ℕ) (b : Bool) → eqb l j ≡ b → cond b (sim .si l + insertsOf (x .edit)) (sim .si j) ≡ inserts (mine j (h .served ++ (o ∷ [])))
             server-inserts j true e =
                 subst (λ (i : ℕ). sim .si l + insertsOf (x .edit) ≡ inserts (mine i (h .served ++ (o ∷ [])))) (eqb-true l j e)
                 (omega (arith, sim .si-is l, first-inserts x ok next o us split, inserts-one-more l (h .served) o o-by))
             server-inserts j false e =
-                sim .si-is j ∙ ap (λ (r : List (Made edits)). inserts (mine j r)) (sym (append-nil (h .served))) ∙ ap inserts (sym (L.select-out (isBy j) blank (h .served) o [] (o-not j e)))
+                sim .si-is j ∙ ap (λ (r : List (Made (edits ranks))). inserts (mine j r)) (sym (append-nil (h .served))) ∙ ap inserts (sym (L.select-out (isBy j) blank (h .served) o [] (o-not j e)))
 
       pub takes-up : Sim n items from (record {
         ends = at 0 (server (serverTaken S l (x .seen) (x .edit))) (s .ends);
@@ -400,7 +402,7 @@ module _ (n : ℕ) (items : List ℕ) {from : Moment} (s : State ours) (sim : Si
         recorded = tookUp w l (x .seen);
       })
       takes-up =
-          first-untaken items edit-laws E h (sim .inv) l x ok next cur (h .untaken l) refl
+          first-untaken items (laws sim) E h (sim .inv) l x ok next cur (h .untaken l) refl
           (λ r. Sim n items from (record {
             ends = at 0 (server (serverTaken S l (x .seen) (x .edit))) (s .ends);
             messages = s .messages;
@@ -436,11 +438,11 @@ module _ (n : ℕ) (items : List ℕ) {from : Moment} (s : State ours) (sim : Si
             later = later-trans _ _ _ _ _ _ (sim .later) (acked-down .later);
             server-is = at-other l (client (clientAcked C seen)) (s .ends) 0 (λ z. omega arith) ∙ sim .server-is;
             client-is = λ j b c.
-                at-line (λ i y v (d : Unit {0}) (k : Unit {0}). y ≡ client (clientFrom n i v (E .docs i) (sim .ci i))) l (client (clientAcked C seen)) (acks seen (E .clients l)) tt tt
+                at-line (λ i y v (d : Unit {0}) (k : Unit {0}). y ≡ client (clientFrom n i ranks v (E .docs i) (sim .ci i))) l (client (clientAcked C seen)) (acks seen (E .clients l)) tt tt
                 (s .ends) (E .clients) (λ i. tt) (λ i. tt) j refl (sim .client-is j b c);
             server-sound = sim .server-sound;
             client-sound = λ j b c.
-                at-line (λ i v (y : Unit {0}) (d : Unit {0}) (k : Unit {0}). soundClient (clientFrom n i v (E .docs i) (sim .ci i)) ≡ true) l (acks seen (E .clients l)) tt tt tt
+                at-line (λ i v (y : Unit {0}) (d : Unit {0}) (k : Unit {0}). soundClient (clientFrom n i ranks v (E .docs i) (sim .ci i)) ≡ true) l (acks seen (E .clients l)) tt tt tt
                 (E .clients) (λ i. tt) (λ i. tt) (λ i. tt) j sound (sim .client-sound j b c);
             server-shown = sim .server-shown;
             client-shown = sim .client-shown;
@@ -449,7 +451,7 @@ module _ (n : ℕ) (items : List ℕ) {from : Moment} (s : State ours) (sim : Si
                 at-line (λ i f v (y : Unit {0}) (z : Unit {0}). f i ≡ v .acked) l (at l seen (w .heard l)) (acks seen (E .clients l)) tt tt
                 (w .heard) (E .clients) (λ i. tt) (λ i. tt) j (at-here l seen (w .heard l)) (sim .client-heard j a);
             messages = sim .messages;
-            written = messages-later n items E (ackingDown l seen E) h h (sim .inv) (acked-down .later) (w .messages) (sim .written);
+            written = messages-later n ranks items E (ackingDown l seen E) h h (sim .inv) (acked-down .later) (w .messages) (sim .written);
             passed = ap (λ (ks : List ℕ). ks ++ (0 ∷ [])) (sim .passed);
             taken = λ j.
                 at-line (λ i v (y : Unit {0}) (d : Unit {0}) (k : Unit {0}). length (others i (h .applied i)) ≡ v .taken) l (acks seen (E .clients l)) tt tt tt
@@ -480,9 +482,9 @@ module _ (n : ℕ) (items : List ℕ) {from : Moment} (s : State ours) (sim : Si
             si = sim .si;
             inv = acked-up .inv;
             later = later-trans _ _ _ _ _ _ (sim .later) (acked-up .later);
-            server-is = ap server (server-acked-from n (length items) (E .doc) (E .lines) (sim .si) l lo hi seen);
+            server-is = ap server (server-acked-from n (length items) ranks (E .doc) (E .lines) (sim .si) l lo hi seen);
             client-is = λ j b c. at-other 0 (server (serverAcked S l seen)) (s .ends) j (λ z. omega arith) ∙ sim .client-is j b c;
-            server-sound = ap soundServer (sym (server-acked-from n (length items) (E .doc) (E .lines) (sim .si) l lo hi seen)) ∙ sound;
+            server-sound = ap soundServer (sym (server-acked-from n (length items) ranks (E .doc) (E .lines) (sim .si) l lo hi seen)) ∙ sound;
             client-sound = sim .client-sound;
             server-shown = sim .server-shown;
             client-shown = sim .client-shown;
@@ -490,7 +492,7 @@ module _ (n : ℕ) (items : List ℕ) {from : Moment} (s : State ours) (sim : Si
             server-heard = λ j.
                 at-line (λ i k v (y : Unit {0}) (z : Unit {0}). k ≡ v .acked) l seen (acks seen (E .lines l)) tt tt (w .heard 0) (E .lines) (λ i. tt) (λ i. tt) j refl (sim .server-heard j);
             messages = sim .messages;
-            written = messages-later n items E (ackingUp l seen E) h h (sim .inv) (acked-up .later) (w .messages) (sim .written);
+            written = messages-later n ranks items E (ackingUp l seen E) h h (sim .inv) (acked-up .later) (w .messages) (sim .written);
             passed = ap (λ (ks : List ℕ). ks ++ (0 ∷ [])) (sim .passed);
             taken = sim .taken;
             served-lines = sim .served-lines;
@@ -503,7 +505,7 @@ module _ (n : ℕ) (items : List ℕ) {from : Moment} (s : State ours) (sim : Si
           }
 
   -- ---- a message is written
-  pub writes-on : (x : Message edits) → MessageOk n items (sim .E) h x
+  pub writes-on : (x : Message (edits ranks)) → MessageOk n ranks items (sim .E) h x
       → Sim n items from (record { ends = s .ends; messages = s .messages ++ (messageBytes x ∷ []); passed = s .passed; recorded = writes w x })
   writes-on x ok =
       record {
@@ -521,7 +523,7 @@ module _ (n : ℕ) (items : List ℕ) {from : Moment} (s : State ours) (sim : Si
         server-heard = sim .server-heard;
         client-heard = sim .client-heard;
         messages = ap (λ (ms : List (List ℕ)). ms ++ (messageBytes x ∷ [])) (sim .messages) ∙ sym (map-append messageBytes (w .messages) (x ∷ []));
-        written = all-append (MessageOk n items (sim .E) h) (w .messages) (x ∷ []) (sim .written) (ok, tt);
+        written = all-append (MessageOk n ranks items (sim .E) h) (w .messages) (x ∷ []) (sim .written) (ok, tt);
         passed = sim .passed;
         taken = sim .taken;
         served-lines = sim .served-lines;

@@ -1,4 +1,5 @@
 pub mod Tests
+pub mod Ranks
 pub mod Cross
 pub mod SoundLine
 pub mod SoundClient

@@ -7,4 +7,14 @@ use Rattle.model.proofs.Computing.{computing}
 
 pub marked : MarkedCases
 unfolding computing
-marked = record { p1-p8 = edits.cases; p9-p10 = bytes.cases; p11-lists = refl; p12-lists = refl }
+marked =
+    record {
+      p1-p8 = edits.cases;
+      p9-p10 = bytes.cases;
+      p11-lists = refl;
+      p12-lists = refl;
+      by-line = refl;
+      lead-first = refl;
+      ranked = refl;
+      one-first = (refl, refl);
+    }

@@ -32,7 +32,8 @@ use Rattle.model.specs.Cross.{allPlaced, priority, insertsOf}
 use Rattle.model.specs.Line.{Line, other, sendQuestions}
 use Rattle.model.specs.Client.{Client, clientMessage, sendClientQuestions, sendClient, clientTaken, clientEditQuestions, clientTakesEdit, clientReads, takeClient}
 use Rattle.model.specs.Server.{Server, lineOf, serverMessage, sendServerQuestions, sendServer, serverTaken, othersRoomy, serverEditQuestions, serverTakesEdit, serverReads, takeServer}
-use Rattle.model.specs.Edits.{edits}
+use Rattle.model.specs.Ranks.{rankOf}
+use Rattle.model.specs.Edits.{Rule, editsBy, edits}
 use Rattle.model.specs.Log.{wireMessage, messageBytes, editMessage}
 use Rattle.model.specs.Run.{State}
 use Rattle.model.specs.Ours.{client, server, ours}
@@ -43,9 +44,9 @@ use Rattle.model.proofs.SoundClient.{ClientFacts, client-facts}
 use Rattle.model.proofs.SoundServer.{server-facts, ServerLine, line-fact, takenSum, lastQuestions}
 use Rattle.model.proofs.Sound.{new-end}
 use Rattle.model.proofs.Table.{table-roomy}
-use Rattle.model.proofs.Instance.{edit-laws, from-T, past-same, over-same}
+use Rattle.model.proofs.Instance.{from-T, past-same, over-same}
 use Rattle.model.proofs.Ranges.{line-priority}
-use Rattle.model.proofs.Sim.{clientFrom, serverFrom, lineFrom, headerOf, line-from, server-taken-from, Moment, Sim}
+use Rattle.model.proofs.Sim.{clientFrom, serverFrom, lineFrom, headerOf, line-from, server-taken-from, Moment, Sim, laws}
 use Rattle.model.proofs.Follow.{first-inserts, inserts-cons}
 use Rattle.model.proofs.Calls.{client-message, server-message, up-is, up-bytes, up-ok, down-is, down-bytes, down-ok}
 use Rattle.model.proofs.Bounds.{inserts-most, client-most, client-more, doc-most, client-placed, server-placed}
@@ -61,56 +62,56 @@ yes-sends : (v : Line) (number : ℕ) (m : message.Message) (lent : List ℕ) �
 yes-sends v number m lent low high long = (true-between (v .acked + 1) (v .made) number (omega arith) high, (le-leb (length (bytesOf m)) (length lent) long, tt))
 
 -- the next edit message, which fits as the theory says: questions 5 to 9
-arrives : (v : ends.End edits) (i l direction : ℕ) (doc : List ℕ) (x : ends.EditMessage edits) → x .number ≡ suc (v .taken) → v .acked ≤ x .seen → x .seen ≤ v .made
+arrives : {by : Rule} (v : ends.End (editsBy by)) (i l direction : ℕ) (doc : List ℕ) (x : ends.EditMessage (editsBy by)) → x .number ≡ suc (v .taken) → v .acked ≤ x .seen → x .seen ≤ v .made
     → fits (arrived x v) (length doc) ≡ true → allPlaced (takes x v .pending) ≡ true → length (applied (arrived x v) doc) ≤ maxItems
     → Asked (lineFrom v i) doc (headerOf l direction x) (x .edit)
 arrives v i l direction doc x next low high fit placed size =
-    let same = past-same (x .edit) (drop (x .seen - v .acked) (v .pending)) in
+    let same = past-same _ (x .edit) (drop (x .seen - v .acked) (v .pending)) in
     record {
       next = next ∙ sym (add-one (v .taken));
       low = low;
       high = high;
       fit = ap (λ (e : Edit). fits e (length doc)) same ∙ fit;
-      placed = ap allPlaced (over-same (x .edit) (drop (x .seen - v .acked) (v .pending))) ∙ placed;
+      placed = ap allPlaced (over-same _ (x .edit) (drop (x .seen - v .acked) (v .pending))) ∙ placed;
       size = subst (λ (e : Edit). length (applied e doc) ≤ maxItems) (sym same) size;
     }
 
-module _ (n : ℕ) (items : List ℕ) {from : Moment} (s : State ours) (sim : Sim n items from s) (few : length items ≤ 128) (l : ℕ) (lo : 1 ≤ l) (hi : l ≤ n) where
-  abbrev h : History edits
+module _ (n : ℕ) (items : List ℕ) {ranks : List ℕ} {from : Moment ranks} (s : State ours ranks) (sim : Sim n items from s) (few : length items ≤ 128) (l : ℕ) (lo : 1 ≤ l) (hi : l ≤ n) where
+  abbrev h : History (edits ranks)
   h = s .recorded .history
 
-  abbrev E : Ends edits
+  abbrev E : Ends (edits ranks)
   E = sim .E
 
-  abbrev c : ends.End edits
+  abbrev c : ends.End (edits ranks)
   c = E .clients l
 
-  abbrev v : ends.End edits
+  abbrev v : ends.End (edits ranks)
   v = E .lines l
 
   abbrev C : Client
-  C = clientFrom n l c (E .docs l) (sim .ci l)
+  C = clientFrom n l ranks c (E .docs l) (sim .ci l)
 
   abbrev S : Server
-  S = serverFrom n (length items) (E .doc) (E .lines) (sim .si)
+  S = serverFrom n (length items) ranks (E .doc) (E .lines) (sim .si)
 
   abbrev line : LineAt items l (order h l) (h .served) (h .applied l) c v (E .docs l)
   line = sim .inv .lines l .line
 
   same-line : lineOf S l ≡ lineFrom v (sim .si l)
-  same-line = line-from n (length items) (E .doc) (E .lines) (sim .si) l lo hi
+  same-line = line-from n (length items) ranks (E .doc) (E .lines) (sim .si) l lo hi
 
   on-line : (P : Line → Type 0) → P (lineFrom v (sim .si l)) → P (lineOf S l)
   on-line P p = subst P (sym same-line) p
 
-  K : ServerLine n (takenSum (S .lines)) l (lineFrom v (sim .si l))
-  K = subst (λ (u : Line). ServerLine n (takenSum (S .lines)) l u) same-line (line-fact S (server-facts S (sim .server-sound)) l lo hi)
+  K : ServerLine n ranks (takenSum (S .lines)) l (lineFrom v (sim .si l))
+  K = subst (λ (u : Line). ServerLine n ranks (takenSum (S .lines)) l u) same-line (line-fact S (server-facts S (sim .server-sound)) l lo hi)
 
   room : length items + inserts (order h l) ≤ 512
   room = omega (arith, inserts-most n items s sim few l lo hi)
 
   -- ---- a message that goes down, whenever it was written: where questions 4 to 7 say yes, so do 8 and 9
-  module _ (x : ends.EditMessage edits) (ok : DownMessage items E h l x) (next : x .number ≡ suc (c .taken)) (cur : c .acked ≤ x .seen) where
+  module _ (x : ends.EditMessage (edits ranks)) (ok : DownMessage items E h l x) (next : x .number ≡ suc (c .taken)) (cur : c .acked ≤ x .seen) where
     -- the line once it is taken
     after : LineAt items l (order h l) (h .served) (h .applied l ++ (oth l (order h l) (c .taken) ∷ [])) (takes x c) v (applied (arrived x c) (E .docs l))
     after = line-down items l (order h l) (h .served) (h .applied l) c v (E .docs l) line x ok next cur
@@ -119,15 +120,15 @@ module _ (n : ℕ) (items : List ℕ) {from : Moment} (s : State ours) (sim : Si
     down-asked =
         arrives c (sim .ci l) l 1 (E .docs l) x next cur (omega (arith, ok .seen-le, line .v-taken, line .c-made))
         (from-T (fits (arrived x c) (length (E .docs l))) (down-fits items E h (sim .inv) l x ok next cur))
-        (client-placed items l (order h l) (h .served) (h .applied l ++ (oth l (order h l) (c .taken) ∷ [])) (takes x c) v (applied (arrived x c) (E .docs l)) after room)
-        (subst (λ (d : List ℕ). length d ≤ maxItems) (sym (after .c-doc)) (doc-most items (order h l) room l (length (mine l (order h l))) (suc (c .taken))))
+        (client-placed (laws sim) items l (order h l) (h .served) (h .applied l ++ (oth l (order h l) (c .taken) ∷ [])) (takes x c) v (applied (arrived x c) (E .docs l)) after room)
+        (subst (λ (d : List ℕ). length d ≤ maxItems) (sym (after .c-doc)) (doc-most (laws sim) items (order h l) room l (length (mine l (order h l))) (suc (c .taken))))
 
   -- ---- the next edit going down
   module _ (more : c .taken < v .made) (lent : List ℕ) (long : length (messageBytes (editMessage h 0 l (suc (c .taken)))) ≤ length lent) where
     abbrev number : ℕ
     number = suc (c .taken)
 
-    abbrev x : ends.EditMessage edits
+    abbrev x : ends.EditMessage (edits ranks)
     x = ends.message number v
 
     abbrev hd : Header
@@ -162,7 +163,7 @@ module _ (n : ℕ) (items : List ℕ) {from : Moment} (s : State ours) (sim : Si
         all-yes (clientEditQuestions C hd (x .edit)) (
           sim .client-sound l lo hi,
           (
-            both (eqb l l) (priority (other n l) (x .edit)) (eq-eqb l l refl) (line-priority v (sim .si l) number (v .taken) (other n l) (K .line) low more),
+            both (eqb l l) (priority (other n (rankOf ranks l)) (x .edit)) (eq-eqb l l refl) (line-priority v (sim .si l) number (v .taken) (other n (rankOf ranks l)) (K .line) low more),
             yes-asked (C .own) (E .docs l) hd (x .edit) [] (down-asked x ok refl (line .c-acked)) tt,
           ),
         )
@@ -187,7 +188,7 @@ module _ (n : ℕ) (items : List ℕ) {from : Moment} (s : State ours) (sim : Si
         }
 
   -- ---- a message that goes up, whenever it was written: where questions 4 to 7 say yes, so do 8 to 10
-  module _ (y : ends.EditMessage edits) (okay : UpMessage items E h l y) (following : y .number ≡ suc (v .taken)) (current : v .acked ≤ y .seen) where
+  module _ (y : ends.EditMessage (edits ranks)) (okay : UpMessage items E h l y) (following : y .number ≡ suc (v .taken)) (current : v .acked ≤ y .seen) where
     up-after : LineAt items l (order h l) (h .served ++ (own l (order h l) (v .taken) ∷ [])) (h .applied l) c (takes y v) (E .docs l)
     up-after = line-up items l (order h l) (h .served) (h .applied l) c v (E .docs l) line y okay following current
 
@@ -196,12 +197,12 @@ module _ (n : ℕ) (items : List ℕ) {from : Moment} (s : State ours) (sim : Si
         let edge = up-edge items l (order h l) (h .served) (h .applied l) c v (E .docs l) line y okay following current in
         subst (λ (d : List ℕ). length d ≤ maxItems)
         (edge .gives ∙ ap₂ applied (sym (up-arrives items l (order h l) (h .served) (h .applied l) c v (E .docs l) line y okay following current)) (sym (server-doc items E h (sim .inv) l)))
-        (doc-most items (order h l) room l (suc (v .taken)) (length (others l (order h l))))
+        (doc-most (laws sim) items (order h l) room l (suc (v .taken)) (length (others l (order h l))))
 
     -- the insert that goes up is one that the client has counted
     up-inserts : sim .si l + insertsOf (y .edit) ≤ maxInserts
     up-inserts =
-        first-untaken items edit-laws E h (sim .inv) l y okay following current (h .untaken l) refl (λ r. sim .si l + insertsOf (y .edit) ≤ maxInserts)
+        first-untaken items (laws sim) E h (sim .inv) l y okay following current (h .untaken l) refl (λ r. sim .si l + insertsOf (y .edit) ≤ maxInserts)
         (λ o us split.
         omega (
           arith,
@@ -216,7 +217,7 @@ module _ (n : ℕ) (items : List ℕ) {from : Moment} (s : State ours) (sim : Si
         on-line (λ u. Asked u (E .doc) (headerOf l 0 y) (y .edit))
         (arrives v (sim .si l) l 0 (E .doc) y following current (omega (arith, okay .seen-le, line .c-taken, line .v-made))
         (from-T (fits (arrived y v) (length (E .doc))) (up-fits items E h (sim .inv) l y okay following current))
-        (server-placed items l (order h l) (h .served ++ (own l (order h l) (v .taken) ∷ [])) (h .applied l) c (takes y v) (E .docs l) up-after room)
+        (server-placed (laws sim) items l (order h l) (h .served ++ (own l (order h l) (v .taken) ∷ [])) (h .applied l) c (takes y v) (E .docs l) up-after room)
         up-length)
 
     pub up-10 : leb (lineOf S l .inserts + insertsOf (y .edit)) maxInserts ≡ true
@@ -228,7 +229,7 @@ module _ (n : ℕ) (items : List ℕ) {from : Moment} (s : State ours) (sim : Si
     abbrev up-number : ℕ
     up-number = suc (v .taken)
 
-    abbrev y : ends.EditMessage edits
+    abbrev y : ends.EditMessage (edits ranks)
     y = ends.message up-number c
 
     abbrev up-hd : Header
@@ -269,7 +270,7 @@ module _ (n : ℕ) (items : List ℕ) {from : Moment} (s : State ours) (sim : Si
         all-yes (serverEditQuestions S up-hd (y .edit)) (
           sim .server-sound,
           (
-            both (between 1 n l) (priority (eqb l) (y .edit)) (true-between 1 n l lo hi) (line-priority c (sim .ci l) up-number (c .made) (eqb l) (F .own) up-low more),
+            both (between 1 n l) (priority (eqb (rankOf ranks l)) (y .edit)) (true-between 1 n l lo hi) (line-priority c (sim .ci l) up-number (c .made) (eqb (rankOf ranks l)) (F .own) up-low more),
             yes-asked (lineOf S l) (E .doc) up-hd (y .edit) (lastQuestions S up-hd (y .edit)) (up-asked y okay refl (line .v-acked))
                 (up-10 y okay refl (line .v-acked), (up-roomy, tt)),
           ),
@@ -287,9 +288,9 @@ module _ (n : ℕ) (items : List ℕ) {from : Moment} (s : State ours) (sim : Si
 
     up-rises : lineOf (serverTaken S l (c .taken) (y .edit)) l .taken ≡ suc (lineOf S l .taken)
     up-rises =
-        ap (λ (z : Server). lineOf z l .taken) (server-taken-from n (length items) (E .doc) (E .lines) (sim .si) l lo hi y)
+        ap (λ (z : Server). lineOf z l .taken) (server-taken-from n (length items) ranks (E .doc) (E .lines) (sim .si) l lo hi y)
         ∙ ap (λ (u : Line). u .taken)
-        (line-from n (length items) (applied (arrived y v) (E .doc)) (at l (takes y v) (λ j. ends.keeps (arrived y v) (E .lines j))) (at l (sim .si l + insertsOf (y .edit)) (sim .si)) l lo hi)
+        (line-from n (length items) ranks (applied (arrived y v) (E .doc)) (at l (takes y v) (λ j. ends.keeps (arrived y v) (E .lines j))) (at l (sim .si l + insertsOf (y .edit)) (sim .si)) l lo hi)
         ∙ ap (λ (b : Bool). cond b (takes y v) (ends.keeps (arrived y v) v) .taken) (eq-eqb l l refl)
         ∙ ap (λ (u : Line). suc (u .taken)) (sym same-line)
 

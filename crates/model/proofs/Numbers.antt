@@ -30,6 +30,7 @@ use Rattle.model.specs.Cross.{priority, insertsOf}
 use Rattle.model.specs.Line.{Line, other, takeQuestions}
 use Rattle.model.specs.Client.{Client, soundClient, edited, editQuestions, editClient, clientMessage, sendClientQuestions, sendClient, tellClientQuestions, tellClient, clientTaken, clientAcked, clientEditQuestions, clientTakesEdit, clientAckQuestions, clientTakesAck, clientTakes, clientReads, takeClient}
 use Rattle.model.specs.Server.{Server, lineOf, soundServer, serverMessage, sendServerQuestions, sendServer, tellServerQuestions, tellServer, serverTaken, serverAcked, othersRoomy, serverEditQuestions, serverTakesEdit, serverAckQuestions, serverTakesAck, serverTakes, serverReads, takeServer}
+use Rattle.model.specs.Ranks.{rankOf}
 use Rattle.model.specs.Edits.{edits}
 use Rattle.model.specs.Sheet.{Call, insert, delete, send, tell, receive, junk}
 use Rattle.model.specs.Log.{Log, wireMessage, messageBytes, madeAt, takenAt}
@@ -62,18 +63,18 @@ sent-is r bytes lent = go (eqb r 0) refl
     go true e = sym (eqb-true r 0 e)
     go false e = refl
 
-module _ (n : ℕ) (items : List ℕ) {from : Moment} (s : State ours) (sim : Sim n items from s) (few : length items ≤ 128) where
-  abbrev w : Log
+module _ (n : ℕ) (items : List ℕ) {ranks : List ℕ} {from : Moment ranks} (s : State ours ranks) (sim : Sim n items from s) (few : length items ≤ 128) where
+  abbrev w : Log ranks
   w = s .recorded
 
-  abbrev h : History edits
+  abbrev h : History (edits ranks)
   h = s .recorded .history
 
-  abbrev E : Ends edits
+  abbrev E : Ends (edits ranks)
   E = sim .E
 
   -- Questions 5 to 9 of a line whose counts are the log's: the log asks 5 to 7, and where these say yes, so do 8 and 9.
-  asks-next : (a k direction : ℕ) (u : Line) (doc : List ℕ) (m : ends.EditMessage edits) (more log : List Question) → u .taken ≡ takenAt h a k → u .acked ≡ w .heard a k
+  asks-next : (a k direction : ℕ) (u : Line) (doc : List ℕ) (m : ends.EditMessage (edits ranks)) (more log : List Question) → u .taken ≡ takenAt h a k → u .acked ≡ w .heard a k
       → (m .number ≡ suc (u .taken) → u .acked ≤ m .seen → Asked u doc (headerOf k direction m) (m .edit) × Alike more log)
       → Alike (takeQuestions u doc (headerOf k direction m) (m .edit) more) (next w a k m log)
   asks-next a k direction u doc m more log taken acked rest =
@@ -89,11 +90,11 @@ module _ (n : ℕ) (items : List ℕ) {from : Moment} (s : State ours) (sim : Si
     abbrev l : ℕ
     l = suc a
 
-    abbrev c : ends.End edits
+    abbrev c : ends.End (edits ranks)
     c = E .clients l
 
     abbrev C : Client
-    C = clientFrom n l c (E .docs l) (sim .ci l)
+    C = clientFrom n l ranks c (E .docs l) (sim .ci l)
 
     lo : 1 ≤ l
     lo = omega arith
@@ -135,14 +136,14 @@ module _ (n : ℕ) (items : List ℕ) {from : Moment} (s : State ours) (sim : Si
     client-tells k lent = alike (tellClientQuestions C k lent) (telling n l k lent) (Alike.over (sim .client-sound l lo hi) (Alike.same refl (λ y4. Alike.same refl (λ y14. Alike.done))))
 
     -- question 4: an edit that goes down on this line is another client's
-    own-edit : (k : ℕ) (m : ends.EditMessage edits) → Lined n (down k m) → (eqb k l && priority (other n l) (m .edit)) ≡ eqb k l
+    own-edit : (k : ℕ) (m : ends.EditMessage (edits ranks)) → Lined n ranks (down k m) → (eqb k l && priority (other n (rankOf ranks l)) (m .edit)) ≡ eqb k l
     own-edit k m ok = go (eqb k l) refl
       where
-        go : (b : Bool) → eqb k l ≡ b → (b && priority (other n l) (m .edit)) ≡ b
-        go true e = subst (λ (i : ℕ). priority (other n i) (m .edit) ≡ true) (eqb-true k l e) (ok .2)
+        go : (b : Bool) → eqb k l ≡ b → (b && priority (other n (rankOf ranks l)) (m .edit)) ≡ b
+        go true e = subst (λ (i : ℕ). priority (other n (rankOf ranks i)) (m .edit) ≡ true) (eqb-true k l e) (ok .2)
         go false e = refl
 
-    client-takes : (x : Message edits) → MessageOk n items E h x → clientTakes C (wireMessage x) .refusal ≡ asks (taking n w l x)
+    client-takes : (x : Message (edits ranks)) → MessageOk n ranks items E h x → clientTakes C (wireMessage x) .refusal ≡ asks (taking n w l x)
     unfolding clientTakesEdit clientTakesAck takenAt
     client-takes (up k m) ok =
         let hd : Header = headerOf k 0 m in
@@ -152,7 +153,7 @@ module _ (n : ℕ) (items : List ℕ) {from : Moment} (s : State ours) (sim : Si
         let hd : Header = headerOf k 1 m in
         ap (λ (r : Answer Client). r .refusal) (client-message C hd (m .edit)) ∙ refusal-is (asks (clientEditQuestions C hd (m .edit))) C (clientTaken C (m .seen) (m .edit)) (c .made - m .seen)
         ∙ alike (clientEditQuestions C hd (m .edit)) (taking n w l (down k m)) (Alike.over (sim .client-sound l lo hi) (Alike.same (own-edit k m (ok .2)) (λ y4.
-        let own : k ≡ l = eqb-true k l (and-left (eqb k l) (priority (other n l) (m .edit)) y4) in
+        let own : k ≡ l = eqb-true k l (and-left (eqb k l) (priority (other n (rankOf ranks l)) (m .edit)) y4) in
         asks-next l k 1 (C .own) (E .docs l) m [] [] taken-is (heard-on k own)
         (λ next cur. (
           subst (λ (i : ℕ). Asked (C .own) (E .docs l) (headerOf i 1 m) (m .edit)) (sym own)
@@ -170,12 +171,12 @@ module _ (n : ℕ) (items : List ℕ) {from : Moment} (s : State ours) (sim : Si
 
   -- ---- at the server
   abbrev S : Server
-  S = serverFrom n (length items) (E .doc) (E .lines) (sim .si)
+  S = serverFrom n (length items) ranks (E .doc) (E .lines) (sim .si)
 
   -- the counts of a line
   module _ (k : ℕ) (lo : 1 ≤ k) (hi : k ≤ n) where
     line-is : lineOf S k ≡ lineFrom (E .lines k) (sim .si k)
-    line-is = line-from n (length items) (E .doc) (E .lines) (sim .si) k lo hi
+    line-is = line-from n (length items) ranks (E .doc) (E .lines) (sim .si) k lo hi
 
     server-made-is : lineOf S k .made ≡ madeAt h 0 k
     server-made-is = ap (λ (v : Line). v .made) line-is ∙ server-made n items s sim k
@@ -207,7 +208,7 @@ module _ (n : ℕ) (items : List ℕ) {from : Moment} (s : State ours) (sim : Si
   server-tells : (k : ℕ) (lent : List ℕ) → asks (tellServerQuestions S k lent) ≡ asks (telling n 0 k lent)
   server-tells k lent = alike (tellServerQuestions S k lent) (telling n 0 k lent) (Alike.over (sim .server-sound) (Alike.same refl (λ y4. Alike.same refl (λ y14. Alike.done))))
 
-  server-takes : (x : Message edits) → MessageOk n items E h x → serverTakes S (wireMessage x) .refusal ≡ asks (taking n w 0 x)
+  server-takes : (x : Message (edits ranks)) → MessageOk n ranks items E h x → serverTakes S (wireMessage x) .refusal ≡ asks (taking n w 0 x)
   unfolding serverTakesEdit serverTakesAck
   server-takes (up k m) ok =
       let hd : Header = headerOf k 0 m in
@@ -215,7 +216,7 @@ module _ (n : ℕ) (items : List ℕ) {from : Moment} (s : State ours) (sim : Si
       let hi = ok .2 .1 in
       let same = line-is k lo hi in
       ap (λ (r : Answer Server). r .refusal) (server-message S hd (m .edit)) ∙ refusal-is (asks (serverEditQuestions S hd (m .edit))) S (serverTaken S k (m .seen) (m .edit)) (lineOf S k .made - m .seen)
-      ∙ alike (serverEditQuestions S hd (m .edit)) (taking n w 0 (up k m)) (Alike.over (sim .server-sound) (Alike.same (both (between 1 n k) (priority (eqb k) (m .edit)) (true-between 1 n k lo hi) (ok .2 .2) ∙ sym (true-between 1 n k lo hi)) (λ y4.
+      ∙ alike (serverEditQuestions S hd (m .edit)) (taking n w 0 (up k m)) (Alike.over (sim .server-sound) (Alike.same (both (between 1 n k) (priority (eqb (rankOf ranks k)) (m .edit)) (true-between 1 n k lo hi) (ok .2 .2) ∙ sym (true-between 1 n k lo hi)) (λ y4.
       asks-next 0 k 0 (lineOf S k) (E .doc) m (lastQuestions S hd (m .edit)) (ask 12 (allBut (roomOn w) k n) ∷ []) (server-taken-is k lo hi) (server-acked-is k lo hi)
       (λ next cur.
       let following : m .number ≡ suc (E .lines k .taken) = next ∙ ap (λ (v : Line). suc (v .taken)) same in
@@ -238,7 +239,7 @@ module _ (n : ℕ) (items : List ℕ) {from : Moment} (s : State ours) (sim : Si
   server-takes (downAck k seen) ok = refusal-is (asks (serverAckQuestions S k 1 seen)) S (serverAcked S k seen) 0 ∙ alike (serverAckQuestions S k 1 seen) (taking n w 0 (downAck k seen)) (Alike.over (sim .server-sound) (Alike.same refl (λ y4. never y4)))
 
   -- ---- at any end
-  edits-at : (l : ℕ) → 1 ≤ l → l ≤ n → (e : Edit) → editClient (clientFrom n l (E .clients l) (E .docs l) (sim .ci l)) e .refusal ≡ asks (editing w l e)
+  edits-at : (l : ℕ) → 1 ≤ l → l ≤ n → (e : Edit) → editClient (clientFrom n l ranks (E .clients l) (E .docs l) (sim .ci l)) e .refusal ≡ asks (editing w l e)
   unfolding editClient
   edits-at zero lo hi e = absurd (omega arith)
   edits-at (suc a) lo hi e = refusal-is (asks (editQuestions (C a hi) e)) (C a hi) (edited (C a hi) e) 0 ∙ edit-number a hi e
@@ -259,7 +260,7 @@ module _ (n : ℕ) (items : List ℕ) {from : Moment} (s : State ours) (sim : Si
       ap (λ (e : End). ours .tell e l lent .refusal) (sim .client-is (suc a) (omega arith) hi)
       ∙ sent-is (asks (tellClientQuestions (C a hi) l lent)) (bytesOf (message.Ack (suc a) 0 (E .clients (suc a) .taken))) lent ∙ client-tells a hi l lent
 
-  takes-at : (a : ℕ) → a ≤ n → (x : Message edits) → MessageOk n items E h x → ours .take (s .ends a) (messageBytes x) .refusal ≡ asks (taking n w a x)
+  takes-at : (a : ℕ) → a ≤ n → (x : Message (edits ranks)) → MessageOk n ranks items E h x → ours .take (s .ends a) (messageBytes x) .refusal ≡ asks (taking n w a x)
   unfolding takeClient takeServer
   takes-at zero hi x ok =
       ap (λ (e : End). ours .take e (messageBytes x) .refusal) (sim .server-is) ∙ ap (λ (r : Read). serverReads S r .refusal) (codec .written-read (wireMessage x) (ok .1)) ∙ server-takes x ok
@@ -281,7 +282,7 @@ module _ (n : ℕ) (items : List ℕ) {from : Moment} (s : State ours) (sim : Si
   hands-at a i hi =
       ap (λ (ms : List (List ℕ)). handedNumber ours s a (getElem? ms i)) (sim .messages) ∙ go (w .messages) i (sim .written)
     where
-      go : (xs : List (Message edits)) (i : ℕ) → All (MessageOk n items E h) xs → handedNumber ours s a (getElem? (map messageBytes xs) i) ≡ handing n w a (getElem? xs i)
+      go : (xs : List (Message (edits ranks))) (i : ℕ) → All (MessageOk n ranks items E h) xs → handedNumber ours s a (getElem? (map messageBytes xs) i) ≡ handing n w a (getElem? xs i)
       go [] i ok = refl
       go (x ∷ xs) zero ok = takes-at a hi x (ok .0)
       go (x ∷ xs) (suc i) ok = go xs i (ok .1)
@@ -290,7 +291,7 @@ module _ (n : ℕ) (items : List ℕ) {from : Moment} (s : State ours) (sim : Si
   unfolding numberOf number callable
   numbered (insert l p x) ok =
       let there = between-true 1 n l (three (between 1 n l) (ltb p 65536) (ltb x 4294967296) ok .0) in
-      ap (λ (e : End). ours .insert e p x .refusal) (sim .client-is l (there .0) (there .1)) ∙ edits-at l (there .0) (there .1) (Insert p x l)
+      ap (λ (e : End). ours .insert e p x .refusal) (sim .client-is l (there .0) (there .1)) ∙ edits-at l (there .0) (there .1) (Insert p x (rankOf ranks l))
   numbered (delete l p) ok =
       let there = between-true 1 n l (and-left (between 1 n l) (ltb p 65536) ok) in
       ap (λ (e : End). ours .delete e p .refusal) (sim .client-is l (there .0) (there .1)) ∙ edits-at l (there .0) (there .1) (Delete p)
@@ -305,6 +306,6 @@ module _ (n : ℕ) (items : List ℕ) {from : Moment} (s : State ours) (sim : Si
   pub reads-back : map parsed (s .messages) ≡ map (λ x. read.Message (wireMessage x)) (w .messages)
   reads-back = ap (map parsed) (sim .messages) ∙ go (w .messages) (sim .written)
     where
-      go : (xs : List (Message edits)) → All (MessageOk n items E h) xs → map parsed (map messageBytes xs) ≡ map (λ x. read.Message (wireMessage x)) xs
+      go : (xs : List (Message (edits ranks))) → All (MessageOk n ranks items E h) xs → map parsed (map messageBytes xs) ≡ map (λ x. read.Message (wireMessage x)) xs
       go [] ok = refl
       go (x ∷ xs) ok = ap₂ _∷_ (codec .written-read (wireMessage x) (ok .0 .1)) (go xs (ok .1))

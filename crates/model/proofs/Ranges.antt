@@ -20,7 +20,7 @@ use Rattle.jupiter.specs.Ends as ends
 use Rattle.jupiter.proofs.Lists.{All}
 use Rattle.model.specs.Cross.{placed, allPlaced, priority, priorities}
 use Rattle.model.specs.Line.{lineMessage}
-use Rattle.model.specs.Edits.{edits}
+use Rattle.model.specs.Edits.{Rule, editsBy}
 use Rattle.model.proofs.Tests.{both, and-left, and-right, true-between}
 use Rattle.model.proofs.SoundLine.{LineFacts}
 use Rattle.model.proofs.Small.{Small, all-get}
@@ -50,7 +50,7 @@ priority-get good (e ∷ es) zero lt a = and-left (priority good e) (priorities 
 priority-get good (e ∷ es) (suc i) lt a = priority-get good es i (omega arith) (and-right (priority good e) (priorities good es) a)
 
 -- ---- the message of a pending edit
-module _ (v : ends.End edits) (i number : ℕ) where
+module _ {by : Rule} (v : ends.End (editsBy by)) (i number : ℕ) where
   pub line-bytes : (line direction : ℕ)
       → bytesOf (lineMessage line direction (lineFrom v i) number) ≡ bytesOf (messageOf (headerOf line direction (ends.message number v)) (ends.message number v .edit))
   line-bytes line direction = ap (λ (j : ℕ). bytesOf (messageOf (headerOf line direction (ends.message number v)) (getD (v .pending) (number - j) Nothing))) (add-one (v .acked))

@@ -11,6 +11,7 @@ use borrow.Author.Tests.{eqb-true}
 use Rattle.ot.specs.Edit.{Edit, applied}
 use Rattle.wire.specs.declared.Header.{Header}
 use Rattle.wire.specs.Message.{inRange}
+use Rattle.jupiter.specs.Algebra.{Algebra, Laws}
 use Rattle.jupiter.specs.Made.{Made, mine, others}
 use Rattle.jupiter.specs.History.{History, at, order}
 use Rattle.jupiter.specs.Ends as ends
@@ -25,65 +26,68 @@ use Rattle.model.specs.Cross.{past, priority, insertsOf}
 use Rattle.model.specs.Line.{Line, noLine, other, lineKeeps, unacked, lineAcked, lineTaken, carried}
 use Rattle.model.specs.Client.{Client, soundClient, with, edited, clientTaken, clientAcked}
 use Rattle.model.specs.Server.{Server, lineOf, soundServer, atPlace, serverTaken, serverAcked}
-use Rattle.model.specs.Edits.{edits}
+use Rattle.model.specs.Ranks.{rankOf}
+use Rattle.model.specs.Edits.{Rule, editsBy, edits}
 use Rattle.model.specs.Log.{wireMessage, messageBytes}
 use Rattle.model.specs.Run.{State}
 use Rattle.model.specs.Ours.{client, server, ours}
 use Rattle.model.proofs.Table.{table, table-cong, table-get, table-at, cond-ne}
-use Rattle.model.proofs.Instance.{past-same, over-same}
+use Rattle.model.proofs.Ranks.{Ranking, ranking-facts}
+use Rattle.model.proofs.SoundServer.{server-facts}
+use Rattle.model.proofs.Instance.{edit-laws, past-same, over-same}
 use Rattle.model.proofs.Small.{Small}
 
 -- the theory's end of a line, as a line, and as the client's end
-abbrev pub lineFrom : ends.End edits → ℕ → Line
+abbrev pub lineFrom : {by : Rule} → ends.End (editsBy by) → ℕ → Line
 lineFrom v i = record { made = v .made; taken = v .taken; acked = v .acked; inserts = i; pending = v .pending }
 
-abbrev pub clientFrom : ℕ → ℕ → ends.End edits → List ℕ → ℕ → Client
-clientFrom n l v items i = record { n = n; line = l; items = items; own = lineFrom v i }
+abbrev pub clientFrom : {by : Rule} → ℕ → ℕ → List ℕ → ends.End (editsBy by) → List ℕ → ℕ → Client
+clientFrom n l ranks v items i = record { n = n; line = l; ranks = ranks; items = items; own = lineFrom v i }
 
-abbrev pub serverFrom : ℕ → ℕ → List ℕ → (ℕ → ends.End edits) → (ℕ → ℕ) → Server
-serverFrom n initial items vs is = record { n = n; initial = initial; items = items; lines = table (λ j. lineFrom (vs j) (is j)) 1 n }
+abbrev pub serverFrom : {by : Rule} → ℕ → ℕ → List ℕ → List ℕ → (ℕ → ends.End (editsBy by)) → (ℕ → ℕ) → Server
+serverFrom n initial ranks items vs is = record { n = n; initial = initial; ranks = ranks; items = items; lines = table (λ j. lineFrom (vs j) (is j)) 1 n }
 
 -- the header of an edit message; direction 0 goes up to the server, 1 down
-abbrev pub headerOf : ℕ → ℕ → EditMessage edits → Header
+abbrev pub headerOf : {by : Rule} → ℕ → ℕ → EditMessage (editsBy by) → Header
 headerOf l direction m = record { line = l; direction = direction; number = m .number; seen = m .seen }
 
--- it goes on a line that there is, and an insert has a priority that question 4 lets through at the end it goes to
-abbrev pub Lined : ℕ → Message edits → Type 0
-Lined n (up l m) = (1 ≤ l) × (l ≤ n) × (priority (eqb l) (m .edit) ≡ true)
-Lined n (down l m) = (1 ≤ l) × (l ≤ n) × (priority (other n l) (m .edit) ≡ true)
-Lined n (upAck l seen) = (1 ≤ l) × (l ≤ n)
-Lined n (downAck l seen) = (1 ≤ l) × (l ≤ n)
+-- it goes on a line that there is, and an insert has a rank that question 4 lets through at the end it goes to
+abbrev pub Lined : {by : Rule} → ℕ → List ℕ → Message (editsBy by) → Type 0
+Lined n ranks (up l m) = (1 ≤ l) × (l ≤ n) × (priority (eqb (rankOf ranks l)) (m .edit) ≡ true)
+Lined n ranks (down l m) = (1 ≤ l) × (l ≤ n) × (priority (other n (rankOf ranks l)) (m .edit) ≡ true)
+Lined n ranks (upAck l seen) = (1 ≤ l) × (l ≤ n)
+Lined n ranks (downAck l seen) = (1 ≤ l) × (l ≤ n)
 
 -- a message that was written: it can be taken at any time, and its fields are in range
-abbrev pub MessageOk : ℕ → List ℕ → Ends edits → History edits → Message edits → Type 0
-MessageOk n items E h x = Fine items E h x × (inRange (wireMessage x) ≡ true) × Lined n x
+abbrev pub MessageOk : ℕ → (ranks : List ℕ) → List ℕ → Ends (edits ranks) → History (edits ranks) → Message (edits ranks) → Type 0
+MessageOk n ranks items E h x = Fine items E h x × (inRange (wireMessage x) ≡ true) × Lined n ranks x
 
-abbrev pub OfLines : ℕ → Made edits → Type 0
+abbrev pub OfLines : {𝓐 : Algebra} → ℕ → Made 𝓐 → Type 0
 OfLines n e = (1 ≤ e .name .line) × (e .name .line ≤ n)
 
 -- the theory's ends and the history at some moment
-pub record Moment : Type 0 where
-  pub ends : Ends edits
-  pub history : History edits
+pub record Moment (ranks : List ℕ) : Type 0 where
+  pub ends : Ends (edits ranks)
+  pub history : History (edits ranks)
 
 -- where the calls since the moment `from` have led
-pub record Sim (n : ℕ) (items : List ℕ) (from : Moment) (s : State ours) : Type 0 where
+pub record Sim (n : ℕ) (items : List ℕ) {ranks : List ℕ} (from : Moment ranks) (s : State ours ranks) : Type 0 where
   -- the theory's ends, and the inserts that the client and the server count on each line
-  pub E : Ends edits
+  pub E : Ends (edits ranks)
   pub ci : ℕ → ℕ
   pub si : ℕ → ℕ
   pub inv : Inv items E (s .recorded .history)
   pub later : Later (from .ends) (from .history) E (s .recorded .history)
-  pub server-is : s .ends 0 ≡ server (serverFrom n (length items) (E .doc) (E .lines) si)
-  pub client-is : (l : ℕ) → 1 ≤ l → l ≤ n → s .ends l ≡ client (clientFrom n l (E .clients l) (E .docs l) (ci l))
-  pub server-sound : soundServer (serverFrom n (length items) (E .doc) (E .lines) si) ≡ true
-  pub client-sound : (l : ℕ) → 1 ≤ l → l ≤ n → soundClient (clientFrom n l (E .clients l) (E .docs l) (ci l)) ≡ true
+  pub server-is : s .ends 0 ≡ server (serverFrom n (length items) ranks (E .doc) (E .lines) si)
+  pub client-is : (l : ℕ) → 1 ≤ l → l ≤ n → s .ends l ≡ client (clientFrom n l ranks (E .clients l) (E .docs l) (ci l))
+  pub server-sound : soundServer (serverFrom n (length items) ranks (E .doc) (E .lines) si) ≡ true
+  pub client-sound : (l : ℕ) → 1 ≤ l → l ≤ n → soundClient (clientFrom n l ranks (E .clients l) (E .docs l) (ci l)) ≡ true
   pub server-shown : s .recorded .shown 0 ≡ E .doc
   pub client-shown : (l : ℕ) → 1 ≤ l → l ≤ n → s .recorded .shown l ≡ E .docs l
   pub server-heard : (l : ℕ) → s .recorded .heard 0 l ≡ E .lines l .acked
   pub client-heard : (l : ℕ) → 1 ≤ l → s .recorded .heard l l ≡ E .clients l .acked
   pub messages : s .messages ≡ map messageBytes (s .recorded .messages)
-  pub written : All (MessageOk n items E (s .recorded .history)) (s .recorded .messages)
+  pub written : All (MessageOk n ranks items E (s .recorded .history)) (s .recorded .messages)
   pub passed : s .passed ≡ s .recorded .passed
   pub taken : (l : ℕ) → length (others l (s .recorded .history .applied l)) ≡ E .clients l .taken
   pub served-lines : All (OfLines n) (s .recorded .history .served)
@@ -93,10 +97,10 @@ pub record Sim (n : ℕ) (items : List ℕ) (from : Moment) (s : State ours) : T
   pub server-small : (l : ℕ) → All Small (E .lines l .pending)
 
 -- the moment that a simulation has come to, and from which it may go on
-abbrev pub present : {n : ℕ} {items : List ℕ} {from : Moment} {s : State ours} → Sim n items from s → Moment
+abbrev pub present : {n : ℕ} {items ranks : List ℕ} {from : Moment ranks} {s : State ours ranks} → Sim n items from s → Moment ranks
 present {s = s} sim = record { ends = sim .E; history = s .recorded .history }
 
-pub from-here : {n : ℕ} {items : List ℕ} {from : Moment} {s : State ours} (sim : Sim n items from s) → Sim n items (present sim) s
+pub from-here : {n : ℕ} {items ranks : List ℕ} {from : Moment ranks} {s : State ours ranks} (sim : Sim n items from s) → Sim n items (present sim) s
 from-here {s = s} sim =
     record {
       E = sim .E;
@@ -123,6 +127,14 @@ from-here {s = s} sim =
       server-small = sim .server-small;
     }
 
+-- question 2 has found a ranking, and so the edits have the theory's laws
+pub ranked : {n : ℕ} {items ranks : List ℕ} {from : Moment ranks} {s : State ours ranks} → Sim n items from s → Ranking n ranks
+ranked {n = n} {items = items} {ranks = ranks} sim =
+    ranking-facts n ranks (server-facts (serverFrom n (length items) ranks (sim .E .doc) (sim .E .lines) (sim .si)) (sim .server-sound) .ranked)
+
+pub laws : {n : ℕ} {items ranks : List ℕ} {from : Moment ranks} {s : State ours ranks} → Sim n items from s → Laws (edits ranks)
+laws sim = edit-laws (ranked sim)
+
 -- ---- one line changed, the others as they were
 module _ {A B C D : Type 0} (R : ℕ → A → B → C → D → Type 0) (l : ℕ) (v : A) (w : B) (x : C) (y : D) (f : ℕ → A) (g : ℕ → B) (h : ℕ → C) (k : ℕ → D) where
   pub at-line : (j : ℕ) → R l v w x y → R j (f j) (g j) (h j) (k j) → R j (at l v f j) (at l w g j) (at l x h j) (at l y k j)
@@ -137,47 +149,48 @@ at-other l v f j h = cond-ne l j v (f j) h
 
 -- ---- a line and the ends after a call, as the theory's
 
-kept-line-from : (v : ends.End edits) (i k : ℕ) (e : Edit) → lineKeeps k e (lineFrom v i) ≡ lineFrom (keeps e v) k
+kept-line-from : {by : Rule} (v : ends.End (editsBy by)) (i k : ℕ) (e : Edit) → lineKeeps k e (lineFrom v i) ≡ lineFrom (keeps e v) k
 kept-line-from v i k e = rw (add-one (v .made))
 
-taken-line-from : (v : ends.End edits) (i k : ℕ) (x : EditMessage edits) → lineTaken k (x .seen) (x .edit) (lineFrom v i) ≡ lineFrom (takes x v) k
-taken-line-from v i k x = rw (add-one (v .taken), over-same (x .edit) (drop (x .seen - v .acked) (v .pending)))
+taken-line-from : {by : Rule} (v : ends.End (editsBy by)) (i k : ℕ) (x : EditMessage (editsBy by)) → lineTaken k (x .seen) (x .edit) (lineFrom v i) ≡ lineFrom (takes x v) k
+taken-line-from {by} v i k x = rw (add-one (v .taken), over-same by (x .edit) (drop (x .seen - v .acked) (v .pending)))
 
-pub edited-from : (n l : ℕ) (v : ends.End edits) (items : List ℕ) (i : ℕ) (e : Edit) → edited (clientFrom n l v items i) e ≡ clientFrom n l (keeps e v) (applied e items) (i + insertsOf e)
-edited-from n l v items i e = ap (with (clientFrom n l v items i) (applied e items)) (kept-line-from v i (i + insertsOf e) e)
+pub edited-from : {by : Rule} (n l : ℕ) (ranks : List ℕ) (v : ends.End (editsBy by)) (items : List ℕ) (i : ℕ) (e : Edit) → edited (clientFrom n l ranks v items i) e ≡ clientFrom n l ranks (keeps e v) (applied e items) (i + insertsOf e)
+edited-from n l ranks v items i e = ap (with (clientFrom n l ranks v items i) (applied e items)) (kept-line-from v i (i + insertsOf e) e)
 
-pub taken-from : (n l : ℕ) (v : ends.End edits) (items : List ℕ) (i : ℕ) (x : EditMessage edits)
-    → clientTaken (clientFrom n l v items i) (x .seen) (x .edit) ≡ clientFrom n l (takes x v) (applied (arrived x v) items) i
-taken-from n l v items i x =
-    ap₂ (λ (e : Edit) (w : Line). with (clientFrom n l v items i) (applied e items) w) (past-same (x .edit) (drop (x .seen - v .acked) (v .pending)))
+pub taken-from : {by : Rule} (n l : ℕ) (ranks : List ℕ) (v : ends.End (editsBy by)) (items : List ℕ) (i : ℕ) (x : EditMessage (editsBy by))
+    → clientTaken (clientFrom n l ranks v items i) (x .seen) (x .edit) ≡ clientFrom n l ranks (takes x v) (applied (arrived x v) items) i
+taken-from n l ranks v items i x =
+    ap₂ (λ (e : Edit) (w : Line). with (clientFrom n l ranks v items i) (applied e items) w) (past-same _ (x .edit) (drop (x .seen - v .acked) (v .pending)))
     (taken-line-from v i i x)
 
-pub acked-from : (n l : ℕ) (v : ends.End edits) (items : List ℕ) (i seen : ℕ) → clientAcked (clientFrom n l v items i) seen ≡ clientFrom n l (acks seen v) items i
-acked-from n l v items i seen = refl
+pub acked-from : {by : Rule} (n l : ℕ) (ranks : List ℕ) (v : ends.End (editsBy by)) (items : List ℕ) (i seen : ℕ) → clientAcked (clientFrom n l ranks v items i) seen ≡ clientFrom n l ranks (acks seen v) items i
+acked-from n l ranks v items i seen = refl
 
 -- the line l of the server
-pub line-from : (n initial : ℕ) (items : List ℕ) (vs : ℕ → ends.End edits) (is : ℕ → ℕ) (l : ℕ) → 1 ≤ l → l ≤ n
-    → lineOf (serverFrom n initial items vs is) l ≡ lineFrom (vs l) (is l)
-line-from n initial items vs is l a b =
+pub line-from : {by : Rule} (n initial : ℕ) (ranks items : List ℕ) (vs : ℕ → ends.End (editsBy by)) (is : ℕ → ℕ) (l : ℕ) → 1 ≤ l → l ≤ n
+    → lineOf (serverFrom n initial ranks items vs is) l ≡ lineFrom (vs l) (is l)
+line-from n initial ranks items vs is l a b =
     let f : ℕ → Line = λ j. lineFrom (vs j) (is j) in
     table-get f noLine 1 n (l - 1) (omega arith) ∙ ap f (omega arith)
 
-pub carried-from : (n initial : ℕ) (items : List ℕ) (vs : ℕ → ends.End edits) (is : ℕ → ℕ) (l : ℕ) → 1 ≤ l → l ≤ n → (x : EditMessage edits)
-    → carried (lineOf (serverFrom n initial items vs is) l) (x .seen) (x .edit) ≡ arrived x (vs l)
-carried-from n initial items vs is l a b x =
-    ap (λ (v : Line). past (x .edit) (unacked v (x .seen))) (line-from n initial items vs is l a b) ∙ past-same (x .edit) (drop (x .seen - vs l .acked) (vs l .pending))
+pub carried-from : {by : Rule} (n initial : ℕ) (ranks items : List ℕ) (vs : ℕ → ends.End (editsBy by)) (is : ℕ → ℕ) (l : ℕ) → 1 ≤ l → l ≤ n → (x : EditMessage (editsBy by))
+    → carried (lineOf (serverFrom n initial ranks items vs is) l) (x .seen) (x .edit) ≡ arrived x (vs l)
+carried-from n initial ranks items vs is l a b x =
+    ap (λ (v : Line). past (x .edit) (unacked v (x .seen))) (line-from n initial ranks items vs is l a b) ∙ past-same _ (x .edit) (drop (x .seen - vs l .acked) (vs l .pending))
 
-pub server-taken-from : (n initial : ℕ) (items : List ℕ) (vs : ℕ → ends.End edits) (is : ℕ → ℕ) (l : ℕ) → 1 ≤ l → l ≤ n → (x : EditMessage edits)
-    → serverTaken (serverFrom n initial items vs is) l (x .seen) (x .edit)
-    ≡ serverFrom n initial (applied (arrived x (vs l)) items) (at l (takes x (vs l)) (λ k. keeps (arrived x (vs l)) (vs k))) (at l (is l + insertsOf (x .edit)) is)
-server-taken-from n initial items vs is l a b x =
-    let s = serverFrom n initial items vs is in
+pub server-taken-from : {by : Rule} (n initial : ℕ) (ranks items : List ℕ) (vs : ℕ → ends.End (editsBy by)) (is : ℕ → ℕ) (l : ℕ) → 1 ≤ l → l ≤ n → (x : EditMessage (editsBy by))
+    → serverTaken (serverFrom n initial ranks items vs is) l (x .seen) (x .edit)
+    ≡ serverFrom n initial ranks (applied (arrived x (vs l)) items) (at l (takes x (vs l)) (λ k. keeps (arrived x (vs l)) (vs k))) (at l (is l + insertsOf (x .edit)) is)
+server-taken-from n initial ranks items vs is l a b x =
+    let s = serverFrom n initial ranks items vs is in
     let c = carried (lineOf s l) (x .seen) (x .edit) in
     let t = arrived x (vs l) in
-    let same : c ≡ t = carried-from n initial items vs is l a b x in
+    let same : c ≡ t = carried-from n initial ranks items vs is l a b x in
     λ i. record {
       n = n;
       initial = initial;
+      ranks = ranks;
       items = applied (same i) items;
       lines = lines c same i;
     }
@@ -207,9 +220,9 @@ server-taken-from n initial items vs is l a b x =
         (λ j. lineFrom (at l (takes x (vs l)) (λ k. keeps (arrived x (vs l)) (vs k)) j) (at l (is l + insertsOf (x .edit)) is j)) 1 n
         (λ j lo hi. one j c q (eqb l j) refl)
 
-pub server-acked-from : (n initial : ℕ) (items : List ℕ) (vs : ℕ → ends.End edits) (is : ℕ → ℕ) (l : ℕ) → 1 ≤ l → l ≤ n → (seen : ℕ)
-    → serverAcked (serverFrom n initial items vs is) l seen ≡ serverFrom n initial items (at l (acks seen (vs l)) vs) is
-server-acked-from n initial items vs is l a b seen = λ i. record { n = n; initial = initial; items = items; lines = lines i }
+pub server-acked-from : {by : Rule} (n initial : ℕ) (ranks items : List ℕ) (vs : ℕ → ends.End (editsBy by)) (is : ℕ → ℕ) (l : ℕ) → 1 ≤ l → l ≤ n → (seen : ℕ)
+    → serverAcked (serverFrom n initial ranks items vs is) l seen ≡ serverFrom n initial ranks items (at l (acks seen (vs l)) vs) is
+server-acked-from n initial ranks items vs is l a b seen = λ i. record { n = n; initial = initial; ranks = ranks; items = items; lines = lines i }
   where
     one : (j : ℕ) (y : Bool) → eqb l j ≡ y
         → cond y (lineAcked seen (lineFrom (vs j) (is j))) (lineFrom (vs j) (is j)) ≡ lineFrom (cond y (acks seen (vs l)) (vs j)) (is j)

@@ -20,8 +20,9 @@ use Rattle.wire.proofs.Codec.{codec}
 use Rattle.model.specs.Limits.{maxLines, maxInserts, maxEdits, maxPending, maxItems, maxInitial, maxOthers}
 use Rattle.model.specs.Questions.{ask, asks, between, Answer, answer}
 use Rattle.model.specs.Cross.{priority, insertsOf}
+use Rattle.model.specs.Ranks.{rankOf}
 use Rattle.model.specs.Line.{Line, noLine, other}
-use Rattle.model.specs.Client.{Client, noClient, soundClient, openClientQuestions, openClient, edited, editQuestions, editClient, clientTaken, clientAcked, clientEditQuestions, clientTakesEdit, clientAckQuestions, clientTakesAck, clientReads, takeClient}
+use Rattle.model.specs.Client.{Client, ownRank, noClient, soundClient, openClientQuestions, openClient, edited, editQuestions, editClient, clientTaken, clientAcked, clientEditQuestions, clientTakesEdit, clientAckQuestions, clientTakesAck, clientReads, takeClient}
 use Rattle.model.specs.Server.{Server, noServer, lineOf, total, soundServer, openServerQuestions, openServer, serverTaken, serverAcked, serverEditQuestions, serverTakesEdit, serverAckQuestions, serverTakesAck, serverReads, takeServer}
 use Rattle.model.specs.Sound.{KeepsSound}
 pub use Rattle.model.proofs.Tests.{three}
@@ -43,25 +44,27 @@ pub new-end : {E : Type 0} (r : ℕ) (old new : E) (k : ℕ) → r ≡ 0 → ans
 unfolding answer
 new-end r old new k e = rw e
 
-pub opens-client : (n line : ℕ) (items : List ℕ) → openClient n line items .refusal ≡ 0 → soundClient (openClient n line items .end) ≡ true
+pub opens-client : (n line : ℕ) (ranks items : List ℕ) → openClient n line ranks items .refusal ≡ 0 → soundClient (openClient n line ranks items .end) ≡ true
 unfolding openClient
-opens-client n line items e =
-    let c : Client = record { n = n; line = line; items = items; own = noLine } in
-    let r = asks (openClientQuestions n line items) in
+opens-client n line ranks items e =
+    let c : Client = record { n = n; line = line; ranks = ranks; items = items; own = noLine } in
+    let r = asks (openClientQuestions n line ranks items) in
     let z : r ≡ 0 = accepted r noClient c 0 e in
-    let h = hold (between 1 maxLines n ∷ between 1 n line ∷ leb (length items) maxInitial ∷ []) (yes-all (openClientQuestions n line items) (omega arith) z .0) in
+    let y = yes-all (openClientQuestions n line ranks items) (omega arith) z in
+    let h = hold (between 1 maxLines n ∷ between 1 n line ∷ leb (length items) maxInitial ∷ []) (y .0) in
     subst (λ (a : Answer Client). soundClient (a .end) ≡ true) (sym (new-end r noClient c 0 z))
     (facts-client c
     (record {
       lines = between-true 1 maxLines n (h .0);
       line = between-true 1 n line (h .1 .0);
+      ranked = y .1 .0;
       items = omega (arith, leb-true (length items) maxInitial (h .1 .1 .0));
       taken = omega arith;
-      own = no-line (eqb line);
+      own = no-line (eqb (ownRank c));
     }))
 
--- An edit of the client's own: its priority, where it has one, is the line.
-pub edits-sound : (c : Client) (e : Edit) → priority (eqb (c .line)) e ≡ true → soundClient c ≡ true → soundClient (editClient c e .end) ≡ true
+-- An edit of the client's own: its priority, where it has one, is the client's rank.
+pub edits-sound : (c : Client) (e : Edit) → priority (eqb (ownRank c)) e ≡ true → soundClient c ≡ true → soundClient (editClient c e .end) ≡ true
 unfolding editClient
 edits-sound c e p s =
     answer-keeps (λ d. soundClient d ≡ true) (asks (editQuestions c e)) c (edited c e) 0 s
@@ -113,33 +116,35 @@ client-takes c bytes s = client-reads c (parsed bytes) (λ m e. codec .read-in-r
 
 -- ---- the server
 
-fresh-lines : (n l k : ℕ) → LinesFacts n 0 l (replicate k noLine)
-fresh-lines n l zero = tt
-fresh-lines n l (suc k) = (
-  record { made = refl; line = no-line (other n l) },
-  fresh-lines n (suc l) k,
+fresh-lines : (n : ℕ) (ranks : List ℕ) (l k : ℕ) → LinesFacts n ranks 0 l (replicate k noLine)
+fresh-lines n ranks l zero = tt
+fresh-lines n ranks l (suc k) = (
+  record { made = refl; line = no-line (other n (rankOf ranks l)) },
+  fresh-lines n ranks (suc l) k,
 )
 
 fresh-total : (f : Line → ℕ) → f noLine ≡ 0 → (k : ℕ) → total f (replicate k noLine) ≡ 0
 fresh-total f e zero = refl
 fresh-total f e (suc k) = omega (arith, e, fresh-total f e k)
 
-pub opens-server : (n : ℕ) (items : List ℕ) → openServer n items .refusal ≡ 0 → soundServer (openServer n items .end) ≡ true
+pub opens-server : (n : ℕ) (ranks items : List ℕ) → openServer n ranks items .refusal ≡ 0 → soundServer (openServer n ranks items .end) ≡ true
 unfolding openServer
-opens-server n items e =
-    let s : Server = record { n = n; initial = length items; items = items; lines = replicate n noLine } in
-    let r = asks (openServerQuestions n items) in
+opens-server n ranks items e =
+    let s : Server = record { n = n; initial = length items; ranks = ranks; items = items; lines = replicate n noLine } in
+    let r = asks (openServerQuestions n ranks items) in
     let z : r ≡ 0 = accepted r noServer s 0 e in
-    let h = hold (between 1 maxLines n ∷ leb (length items) maxInitial ∷ []) (yes-all (openServerQuestions n items) (omega arith) z .0) in
+    let y = yes-all (openServerQuestions n ranks items) (omega arith) z in
+    let h = hold (between 1 maxLines n ∷ leb (length items) maxInitial ∷ []) (y .0) in
     let most = leb-true (length items) maxInitial (h .1 .0) in
     subst (λ (a : Answer Server). soundServer (a .end) ≡ true) (sym (new-end r noServer s 0 z))
     (facts-server s
     (record {
       n = between-true 1 maxLines n (h .0);
       initial = most;
+      ranked = y .1 .0;
       items = omega arith;
       count = length-replicate n noLine;
-      lines = subst (λ (k : ℕ). LinesFacts n k 1 (replicate n noLine)) (sym (fresh-total (λ v. v .taken) refl n)) (fresh-lines n 1 n);
+      lines = subst (λ (k : ℕ). LinesFacts n ranks k 1 (replicate n noLine)) (sym (fresh-total (λ v. v .taken) refl n)) (fresh-lines n ranks 1 n);
       inserted = omega arith;
     }))
 
@@ -163,7 +168,7 @@ server-takes-edit s h e range t =
     (λ z.
     let y = yes-all (serverEditQuestions s h e) (omega arith) z in
     let v = lineOf s (h .line) in
-    let q4 = three (eqb (h .direction) 0) (between 1 (s .n) (h .line)) (priority (eqb (h .line)) e) (y .1 .0) in
+    let q4 = three (eqb (h .direction) 0) (between 1 (s .n) (h .line)) (priority (eqb (rankOf (s .ranks) (h .line))) e) (y .1 .0) in
     let lines = between-true 1 (s .n) (h .line) (q4 .1) in
     let q = asked v (s .items) h e (lastQuestions s h e) (y .1 .1) in
     let more : Yes (lastQuestions s h e) = y .1 .1 .1 .1 .1 .1 .1 in
@@ -202,7 +207,7 @@ pub keeps-sound : KeepsSound
 keeps-sound =
     record {
       opens-client = opens-client;
-      inserts = λ c p x s. edits-sound c (Insert p x (c .line)) (eq-eqb (c .line) (c .line) refl) s;
+      inserts = λ c p x s. edits-sound c (Insert p x (ownRank c)) (eq-eqb (ownRank c) (ownRank c) refl) s;
       deletes = λ c p s. edits-sound c (Delete p) refl s;
       client-takes = client-takes;
       opens-server = opens-server;

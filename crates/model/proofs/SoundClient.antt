@@ -10,7 +10,8 @@ use Rattle.ot.specs.Edit.{Edit, applied, fits}
 use Rattle.wire.specs.declared.Header.{Header}
 use Rattle.model.specs.Limits.{maxLines, maxInserts, maxEdits, maxOthers, maxPending, maxItems}
 use Rattle.model.specs.Cross.{priority, insertsOf}
-use Rattle.model.specs.Client.{Client, clientTests, soundClient, edited, clientTaken, clientAcked}
+use Rattle.model.specs.Ranks.{ranking}
+use Rattle.model.specs.Client.{Client, ownRank, clientTests, soundClient, edited, clientTaken, clientAcked}
 use Rattle.model.proofs.Tests.{hold, held, between-true, true-between}
 use Rattle.model.proofs.Cross.{fits-placed}
 use Rattle.model.proofs.SoundLine.{LineFacts, line-facts, facts-line, Asked, kept-line, taken-line, acked-line}
@@ -19,9 +20,10 @@ use Rattle.model.proofs.SoundLine.{LineFacts, line-facts, facts-line, A
 pub record ClientFacts (c : Client) : Type 0 where
   pub lines : (1 ≤ c .n) × (c .n ≤ maxLines)
   pub line : (1 ≤ c .line) × (c .line ≤ c .n)
+  pub ranked : ranking (c .n) (c .ranks) ≡ true
   pub items : length (c .items) ≤ maxItems
   pub taken : c .own .taken ≤ maxOthers
-  pub own : LineFacts (c .own .made) (eqb (c .line)) (c .own)
+  pub own : LineFacts (c .own .made) (eqb (ownRank c)) (c .own)
 
 pub client-facts : (c : Client) → soundClient c ≡ true → ClientFacts c
 unfolding soundClient
@@ -30,9 +32,10 @@ client-facts c s =
     record {
       lines = between-true 1 maxLines (c .n) (h .0);
       line = between-true 1 (c .n) (c .line) (h .1 .0);
-      items = leb-true (length (c .items)) maxItems (h .1 .1 .0);
-      taken = leb-true (c .own .taken) maxOthers (h .1 .1 .1 .0);
-      own = line-facts (c .own .made) (eqb (c .line)) (c .own) (h .1 .1 .1 .1);
+      ranked = h .1 .1 .0;
+      items = leb-true (length (c .items)) maxItems (h .1 .1 .1 .0);
+      taken = leb-true (c .own .taken) maxOthers (h .1 .1 .1 .1 .0);
+      own = line-facts (c .own .made) (eqb (ownRank c)) (c .own) (h .1 .1 .1 .1 .1);
     }
 
 pub facts-client : (c : Client) → ClientFacts c → soundClient c ≡ true
@@ -43,24 +46,28 @@ facts-client c f =
       (
         true-between 1 (c .n) (c .line) (f .line .0) (f .line .1),
         (
-          le-leb (length (c .items)) maxItems (f .items),
-          (le-leb (c .own .taken) maxOthers (f .taken), facts-line (c .own .made) (eqb (c .line)) (c .own) (f .own)),
+          f .ranked,
+          (
+            le-leb (length (c .items)) maxItems (f .items),
+            (le-leb (c .own .taken) maxOthers (f .taken), facts-line (c .own .made) (eqb (ownRank c)) (c .own) (f .own)),
+          ),
         ),
       ),
     )
 
 -- An edit of its own, where no question said no.
-pub edited-sound : (c : Client) (e : Edit) → ClientFacts c → priority (eqb (c .line)) e ≡ true
+pub edited-sound : (c : Client) (e : Edit) → ClientFacts c → priority (eqb (ownRank c)) e ≡ true
     → fits e (length (c .items)) ≡ true → length (applied e (c .items)) ≤ maxItems → c .own .inserts + insertsOf e ≤ maxInserts → c .own .made < maxEdits
     → c .own .made - c .own .acked < maxPending → insertsOf e ≤ 1 → ClientFacts (edited c e)
 edited-sound c e f p q9 q9′ q10 q11 q12 one =
     record {
       lines = f .lines;
       line = f .line;
+      ranked = f .ranked;
       items = omega (arith, q9′, f .items);
       taken = f .taken;
       own =
-          kept-line (c .own .made) (c .own .made + 1) (eqb (c .line)) (c .own .inserts + insertsOf e) e (c .own) (f .own)
+          kept-line (c .own .made) (c .own .made + 1) (eqb (ownRank c)) (c .own .inserts + insertsOf e) e (c .own) (f .own)
           (omega arith) q10 (omega (arith, f .own .inserts-edits)) q12 (fits-placed e (c .items) (f .items) q9 q9′) p;
     }
 
@@ -70,10 +77,11 @@ taken-sound c h e f q t =
     record {
       lines = f .lines;
       line = f .line;
+      ranked = f .ranked;
       items = q .size;
       taken = omega arith;
       own =
-          taken-line (c .own .made) (c .own .made) (eqb (c .line)) (c .own .inserts) (c .own) (c .items) h e (f .own) q
+          taken-line (c .own .made) (c .own .made) (eqb (ownRank c)) (c .own .inserts) (c .own) (c .items) h e (f .own) q
           (f .own .edits) (f .own .inserts) (f .own .inserts-edits);
     }
 
@@ -82,7 +90,8 @@ acked-sound c seen f q7 q8 =
     record {
       lines = f .lines;
       line = f .line;
+      ranked = f .ranked;
       items = f .items;
       taken = f .taken;
-      own = acked-line (c .own .made) (eqb (c .line)) seen (c .own) (f .own) q7 q8;
+      own = acked-line (c .own .made) (eqb (ownRank c)) seen (c .own) (f .own) q7 q8;
     }

@@ -1,5 +1,5 @@
 -- Every call keeps a sound server sound.
-use mathlib.Core.Path.{_≡_, refl, ap, _∙_, subst}
+use mathlib.Core.Path.{_≡_, refl, ap, sym, _∙_, subst}
 use mathlib.Core.Bool.{true, not}
 use mathlib.Core.List.{List, [], _∷_, map}
 use Prim.Native.Nat.{ℕ, zero, suc, _+_, _-_, _*_, _≤_, _<_}
@@ -13,46 +13,48 @@ use Rattle.wire.specs.declared.Header.{Header}
 use Rattle.model.specs.Limits.{maxLines, maxInserts, maxEdits, maxPending, maxItems, maxInitial}
 use Rattle.model.specs.Questions.{Question, ask, every, between}
 use Rattle.model.specs.Cross.{placed, priority, insertsOf}
+use Rattle.model.specs.Ranks.{rankOf, ranking}
 use Rattle.model.specs.Line.{Line, noLine, other, unacked, carried, lineAcked, lineTaken, lineKeeps, roomy}
 use Rattle.model.specs.Server.{Server, lineOf, total, serverLineTests, soundLine, soundLines, serverTests, soundServer, atPlace, serverAcked, serverTaken, othersRoomy}
 use Rattle.model.proofs.Tests.{both, and-left, and-right, hold, held, between-true, true-between}
+use Rattle.model.proofs.Ranks.{Ranking, ranking-facts}
 use Rattle.model.proofs.Cross.{fits-placed, priority-past, inserts-past}
 use Rattle.model.proofs.SoundLine.{LineFacts, line-facts, facts-line, Asked, kept-line, taken-line, acked-line}
 
 -- question 2 of line l as facts
-pub record ServerLine (n sum l : ℕ) (v : Line) : Type 0 where
+pub record ServerLine (n : ℕ) (ranks : List ℕ) (sum l : ℕ) (v : Line) : Type 0 where
   pub made : v .made ≡ sum - v .taken
-  pub line : LineFacts (v .taken) (other n l) v
+  pub line : LineFacts (v .taken) (other n (rankOf ranks l)) v
 
-pub server-line : (n sum l : ℕ) (v : Line) → soundLine n sum l v ≡ true → ServerLine n sum l v
+pub server-line : (n : ℕ) (ranks : List ℕ) (sum l : ℕ) (v : Line) → soundLine n ranks sum l v ≡ true → ServerLine n ranks sum l v
 unfolding soundLine
-server-line n sum l v s =
-    let h = hold (serverLineTests n sum l v) s in
-    record { made = eqb-true (v .made) (sum - v .taken) (h .0); line = line-facts (v .taken) (other n l) v (h .1) }
+server-line n ranks sum l v s =
+    let h = hold (serverLineTests n ranks sum l v) s in
+    record { made = eqb-true (v .made) (sum - v .taken) (h .0); line = line-facts (v .taken) (other n (rankOf ranks l)) v (h .1) }
 
-pub line-server : (n sum l : ℕ) (v : Line) → ServerLine n sum l v → soundLine n sum l v ≡ true
+pub line-server : (n : ℕ) (ranks : List ℕ) (sum l : ℕ) (v : Line) → ServerLine n ranks sum l v → soundLine n ranks sum l v ≡ true
 unfolding soundLine
-line-server n sum l v f =
-    held (serverLineTests n sum l v) (eq-eqb (v .made) (sum - v .taken) (f .made), facts-line (v .taken) (other n l) v (f .line))
+line-server n ranks sum l v f =
+    held (serverLineTests n ranks sum l v) (eq-eqb (v .made) (sum - v .taken) (f .made), facts-line (v .taken) (other n (rankOf ranks l)) v (f .line))
 
 -- the facts of each line, from line l on
-abbrev pub LinesFacts : ℕ → ℕ → ℕ → List Line → Type 0
-LinesFacts n sum l [] = Unit {0}
-LinesFacts n sum l (v ∷ vs) = ServerLine n sum l v × LinesFacts n sum (suc l) vs
+abbrev pub LinesFacts : ℕ → List ℕ → ℕ → ℕ → List Line → Type 0
+LinesFacts n ranks sum l [] = Unit {0}
+LinesFacts n ranks sum l (v ∷ vs) = ServerLine n ranks sum l v × LinesFacts n ranks sum (suc l) vs
 
-pub lines-facts : (n sum l : ℕ) (vs : List Line) → soundLines n sum l vs ≡ true → LinesFacts n sum l vs
+pub lines-facts : (n : ℕ) (ranks : List ℕ) (sum l : ℕ) (vs : List Line) → soundLines n ranks sum l vs ≡ true → LinesFacts n ranks sum l vs
 unfolding soundLines
-lines-facts n sum l [] s = tt
-lines-facts n sum l (v ∷ vs) s = (
-  server-line n sum l v (and-left (soundLine n sum l v) (soundLines n sum (suc l) vs) s),
-  lines-facts n sum (suc l) vs (and-right (soundLine n sum l v) (soundLines n sum (suc l) vs) s),
+lines-facts n ranks sum l [] s = tt
+lines-facts n ranks sum l (v ∷ vs) s = (
+  server-line n ranks sum l v (and-left (soundLine n ranks sum l v) (soundLines n ranks sum (suc l) vs) s),
+  lines-facts n ranks sum (suc l) vs (and-right (soundLine n ranks sum l v) (soundLines n ranks sum (suc l) vs) s),
 )
 
-pub facts-lines : (n sum l : ℕ) (vs : List Line) → LinesFacts n sum l vs → soundLines n sum l vs ≡ true
+pub facts-lines : (n : ℕ) (ranks : List ℕ) (sum l : ℕ) (vs : List Line) → LinesFacts n ranks sum l vs → soundLines n ranks sum l vs ≡ true
 unfolding soundLines
-facts-lines n sum l [] f = refl
-facts-lines n sum l (v ∷ vs) f =
-    both (soundLine n sum l v) (soundLines n sum (suc l) vs) (line-server n sum l v (f .0)) (facts-lines n sum (suc l) vs (f .1))
+facts-lines n ranks sum l [] f = refl
+facts-lines n ranks sum l (v ∷ vs) f =
+    both (soundLine n ranks sum l v) (soundLines n ranks sum (suc l) vs) (line-server n ranks sum l v (f .0)) (facts-lines n ranks sum (suc l) vs (f .1))
 
 abbrev pub takenSum : List Line → ℕ
 takenSum vs = total (λ v. v .taken) vs
@@ -63,9 +65,10 @@ insertSum vs = total (λ v. v .inserts) vs
 pub record ServerFacts (s : Server) : Type 0 where
   pub n : (1 ≤ s .n) × (s .n ≤ maxLines)
   pub initial : s .initial ≤ maxInitial
+  pub ranked : ranking (s .n) (s .ranks) ≡ true
   pub items : length (s .items) ≤ maxItems
   pub count : length (s .lines) ≡ s .n
-  pub lines : LinesFacts (s .n) (takenSum (s .lines)) 1 (s .lines)
+  pub lines : LinesFacts (s .n) (s .ranks) (takenSum (s .lines)) 1 (s .lines)
   pub inserted : length (s .items) ≤ s .initial + insertSum (s .lines)
 
 pub server-facts : (s : Server) → soundServer s ≡ true → ServerFacts s
@@ -75,10 +78,11 @@ server-facts s e =
     record {
       n = between-true 1 maxLines (s .n) (h .0);
       initial = leb-true (s .initial) maxInitial (h .1 .0);
-      items = leb-true (length (s .items)) maxItems (h .1 .1 .0);
-      count = eqb-true (length (s .lines)) (s .n) (h .1 .1 .1 .0);
-      lines = lines-facts (s .n) (takenSum (s .lines)) 1 (s .lines) (h .1 .1 .1 .1 .0);
-      inserted = leb-true (length (s .items)) (s .initial + insertSum (s .lines)) (h .1 .1 .1 .1 .1 .0);
+      ranked = h .1 .1 .0;
+      items = leb-true (length (s .items)) maxItems (h .1 .1 .1 .0);
+      count = eqb-true (length (s .lines)) (s .n) (h .1 .1 .1 .1 .0);
+      lines = lines-facts (s .n) (s .ranks) (takenSum (s .lines)) 1 (s .lines) (h .1 .1 .1 .1 .1 .0);
+      inserted = leb-true (length (s .items)) (s .initial + insertSum (s .lines)) (h .1 .1 .1 .1 .1 .1 .0);
     }
 
 pub facts-server : (s : Server) → ServerFacts s → soundServer s ≡ true
@@ -89,12 +93,15 @@ facts-server s f =
       (
         le-leb (s .initial) maxInitial (f .initial),
         (
-          le-leb (length (s .items)) maxItems (f .items),
+          f .ranked,
           (
-            eq-eqb (length (s .lines)) (s .n) (f .count),
+            le-leb (length (s .items)) maxItems (f .items),
             (
-              facts-lines (s .n) (takenSum (s .lines)) 1 (s .lines) (f .lines),
-              (le-leb (length (s .items)) (s .initial + insertSum (s .lines)) (f .inserted), tt),
+              eq-eqb (length (s .lines)) (s .n) (f .count),
+              (
+                facts-lines (s .n) (s .ranks) (takenSum (s .lines)) 1 (s .lines) (f .lines),
+                (le-leb (length (s .items)) (s .initial + insertSum (s .lines)) (f .inserted), tt),
+              ),
             ),
           ),
         ),
@@ -107,23 +114,23 @@ inserts-one (Delete p) = omega arith
 inserts-one (Insert p x r) = omega arith
 
 -- One line of a taking. The line that the edit came on, and any other.
-taken-one : (n sum l : ℕ) (v : Line) (items : List ℕ) (h : Header) (e : Edit) → ServerLine n sum l v → v .taken ≤ sum → Asked v items h e
-    → v .taken < maxEdits → v .inserts + insertsOf e ≤ maxInserts → ServerLine n (suc sum) l (lineTaken (v .inserts + insertsOf e) (h .seen) e v)
-taken-one n sum l v items h e f t q most q10 =
+taken-one : (n : ℕ) (ranks : List ℕ) (sum l : ℕ) (v : Line) (items : List ℕ) (h : Header) (e : Edit) → ServerLine n ranks sum l v → v .taken ≤ sum → Asked v items h e
+    → v .taken < maxEdits → v .inserts + insertsOf e ≤ maxInserts → ServerLine n ranks (suc sum) l (lineTaken (v .inserts + insertsOf e) (h .seen) e v)
+taken-one n ranks sum l v items h e f t q most q10 =
     record {
       made = omega (arith, f .made);
       line =
-          taken-line (v .taken) (v .taken + 1) (other n l) (v .inserts + insertsOf e) v items h e (f .line) q
+          taken-line (v .taken) (v .taken + 1) (other n (rankOf ranks l)) (v .inserts + insertsOf e) v items h e (f .line) q
           (omega arith) q10 (omega (arith, f .line .inserts-edits, inserts-one e));
     }
 
-kept-one : (n sum l : ℕ) (e : Edit) (v : Line) → ServerLine n sum l v → v .taken ≤ sum → v .made - v .acked < maxPending → placed e ≡ true
-    → priority (other n l) e ≡ true → ServerLine n (suc sum) l (lineKeeps (v .inserts) e v)
-kept-one n sum l e v f t room p r =
+kept-one : (n : ℕ) (ranks : List ℕ) (sum l : ℕ) (e : Edit) (v : Line) → ServerLine n ranks sum l v → v .taken ≤ sum → v .made - v .acked < maxPending → placed e ≡ true
+    → priority (other n (rankOf ranks l)) e ≡ true → ServerLine n ranks (suc sum) l (lineKeeps (v .inserts) e v)
+kept-one n ranks sum l e v f t room p r =
     record {
       made = omega (arith, f .made);
       line =
-          kept-line (v .taken) (v .taken) (other n l) (v .inserts) e v (f .line)
+          kept-line (v .taken) (v .taken) (other n (rankOf ranks l)) (v .inserts) e v (f .line)
           (f .line .edits) (f .line .inserts) (f .line .inserts-edits) room p r;
     }
 
@@ -148,39 +155,39 @@ total-atPlace h f g k more same i [] lt = absurd (omega arith)
 total-atPlace h f g k more same zero (v ∷ vs) lt = omega (arith, more v, total-map h g same vs)
 total-atPlace h f g k more same (suc i) (v ∷ vs) lt = omega (arith, same v, total-atPlace h f g k more same i vs (omega arith))
 
-kept-lines : (n sum l : ℕ) (e : Edit) (vs : List Line) → LinesFacts n sum l vs → takenSum vs ≤ sum → every (map roomy vs) ≡ true → placed e ≡ true
-    → ((j : ℕ) → l ≤ j → priority (other n j) e ≡ true) → LinesFacts n (suc sum) l (map (λ v. lineKeeps (v .inserts) e v) vs)
-kept-lines n sum l e [] f s r p o = tt
-kept-lines n sum l e (v ∷ vs) f s r p o = (
-  kept-one n sum l e v (f .0) (omega arith) (ltb-true (v .made - v .acked) maxPending (and-left (roomy v) (every (map roomy vs)) r)) p (o l (omega arith)),
-  kept-lines n sum (suc l) e vs (f .1) (omega arith) (and-right (roomy v) (every (map roomy vs)) r) p (λ j h. o j (omega arith)),
+kept-lines : (n : ℕ) (ranks : List ℕ) (sum l : ℕ) (e : Edit) (vs : List Line) → LinesFacts n ranks sum l vs → takenSum vs ≤ sum → every (map roomy vs) ≡ true → placed e ≡ true
+    → ((j : ℕ) → l ≤ j → j < l + length vs → priority (other n (rankOf ranks j)) e ≡ true) → LinesFacts n ranks (suc sum) l (map (λ v. lineKeeps (v .inserts) e v) vs)
+kept-lines n ranks sum l e [] f s r p o = tt
+kept-lines n ranks sum l e (v ∷ vs) f s r p o = (
+  kept-one n ranks sum l e v (f .0) (omega arith) (ltb-true (v .made - v .acked) maxPending (and-left (roomy v) (every (map roomy vs)) r)) p (o l (omega arith) (omega arith)),
+  kept-lines n ranks sum (suc l) e vs (f .1) (omega arith) (and-right (roomy v) (every (map roomy vs)) r) p (λ j h t. o j (omega arith) (omega arith)),
 )
 
-taken-lines : (n sum l i : ℕ) (items : List ℕ) (h : Header) (e c : Edit) (vs : List Line) → i < length vs → LinesFacts n sum l vs → takenSum vs ≤ sum → othersRoomy i vs ≡ true
-    → placed c ≡ true → ((j : ℕ) → (j ≡ l + i → ⊥) → priority (other n j) c ≡ true) → Asked (getD vs i noLine) items h e
+taken-lines : (n : ℕ) (ranks : List ℕ) (sum l i : ℕ) (items : List ℕ) (h : Header) (e c : Edit) (vs : List Line) → i < length vs → LinesFacts n ranks sum l vs → takenSum vs ≤ sum → othersRoomy i vs ≡ true
+    → placed c ≡ true → ((j : ℕ) → l ≤ j → j < l + length vs → (j ≡ l + i → ⊥) → priority (other n (rankOf ranks j)) c ≡ true) → Asked (getD vs i noLine) items h e
     → getD vs i noLine .taken < maxEdits → getD vs i noLine .inserts + insertsOf e ≤ maxInserts
-    → LinesFacts n (suc sum) l (atPlace i (λ v. lineTaken (v .inserts + insertsOf e) (h .seen) e v) (λ v. lineKeeps (v .inserts) c v) vs)
+    → LinesFacts n ranks (suc sum) l (atPlace i (λ v. lineTaken (v .inserts + insertsOf e) (h .seen) e v) (λ v. lineKeeps (v .inserts) c v) vs)
 unfolding atPlace othersRoomy
-taken-lines n sum l i items h e c [] lt f s r p o q most q10 = absurd (omega arith)
-taken-lines n sum l zero items h e c (v ∷ vs) lt f s r p o q most q10 = (
-  taken-one n sum l v items h e (f .0) (omega arith) q most q10,
-  kept-lines n sum (suc l) c vs (f .1) (omega arith) r p (λ j a. o j (λ d. omega arith)),
+taken-lines n ranks sum l i items h e c [] lt f s r p o q most q10 = absurd (omega arith)
+taken-lines n ranks sum l zero items h e c (v ∷ vs) lt f s r p o q most q10 = (
+  taken-one n ranks sum l v items h e (f .0) (omega arith) q most q10,
+  kept-lines n ranks sum (suc l) c vs (f .1) (omega arith) r p (λ j a b. o j (omega arith) (omega arith) (λ d. omega arith)),
 )
-taken-lines n sum l (suc i) items h e c (v ∷ vs) lt f s r p o q most q10 = (
-  kept-one n sum l c v (f .0) (omega arith) (ltb-true (v .made - v .acked) maxPending (and-left (roomy v) (othersRoomy i vs) r)) p (o l (λ d. omega arith)),
-  taken-lines n sum (suc l) i items h e c vs (omega arith) (f .1) (omega arith) (and-right (roomy v) (othersRoomy i vs) r) p (λ j a. o j (λ d. a (omega arith))) q most q10,
+taken-lines n ranks sum l (suc i) items h e c (v ∷ vs) lt f s r p o q most q10 = (
+  kept-one n ranks sum l c v (f .0) (omega arith) (ltb-true (v .made - v .acked) maxPending (and-left (roomy v) (othersRoomy i vs) r)) p (o l (omega arith) (omega arith) (λ d. omega arith)),
+  taken-lines n ranks sum (suc l) i items h e c vs (omega arith) (f .1) (omega arith) (and-right (roomy v) (othersRoomy i vs) r) p (λ j a b t. o j (omega arith) (omega arith) (λ d. t (omega arith))) q most q10,
 )
 
-acked-lines : (n sum l i seen : ℕ) (vs : List Line) → LinesFacts n sum l vs → getD vs i noLine .acked ≤ seen → seen ≤ getD vs i noLine .made
-    → LinesFacts n sum l (atPlace i (lineAcked seen) (λ v. v) vs)
+acked-lines : (n : ℕ) (ranks : List ℕ) (sum l i seen : ℕ) (vs : List Line) → LinesFacts n ranks sum l vs → getD vs i noLine .acked ≤ seen → seen ≤ getD vs i noLine .made
+    → LinesFacts n ranks sum l (atPlace i (lineAcked seen) (λ v. v) vs)
 unfolding atPlace
-acked-lines n sum l i seen [] f q7 q8 = tt
-acked-lines n sum l zero seen (v ∷ vs) f q7 q8 = (record { made = f .0 .made; line = acked-line (v .taken) (other n l) seen v (f .0 .line) q7 q8 }, rest (suc l) vs (f .1))
+acked-lines n ranks sum l i seen [] f q7 q8 = tt
+acked-lines n ranks sum l zero seen (v ∷ vs) f q7 q8 = (record { made = f .0 .made; line = acked-line (v .taken) (other n (rankOf ranks l)) seen v (f .0 .line) q7 q8 }, rest (suc l) vs (f .1))
   where
-    rest : (k : ℕ) (us : List Line) → LinesFacts n sum k us → LinesFacts n sum k (map (λ u. u) us)
+    rest : (k : ℕ) (us : List Line) → LinesFacts n ranks sum k us → LinesFacts n ranks sum k (map (λ u. u) us)
     rest k [] g = tt
     rest k (u ∷ us) g = (g .0, rest (suc k) us (g .1))
-acked-lines n sum l (suc i) seen (v ∷ vs) f q7 q8 = (f .0, acked-lines n sum (suc l) i seen vs (f .1) q7 q8)
+acked-lines n ranks sum l (suc i) seen (v ∷ vs) f q7 q8 = (f .0, acked-lines n ranks sum (suc l) i seen vs (f .1) q7 q8)
 
 -- the length after an edit that fits, by what it inserts
 size-inserts : (e : Edit) (l : List ℕ) → fits e (length l) ≡ true → length (applied e l) ≤ length l + insertsOf e
@@ -194,7 +201,7 @@ abbrev pub lastQuestions : Server → Header → Edit → List Question
 lastQuestions s h e = ask 10 (leb (lineOf s (h .line) .inserts + insertsOf e) maxInserts) ∷ ask 12 (othersRoomy (h .line - 1) (s .lines)) ∷ []
 
 -- An edit taken, where no question said no.
-pub server-taken-sound : (s : Server) (h : Header) (e : Edit) → ServerFacts s → 1 ≤ h .line → h .line ≤ s .n → priority (eqb (h .line)) e ≡ true
+pub server-taken-sound : (s : Server) (h : Header) (e : Edit) → ServerFacts s → 1 ≤ h .line → h .line ≤ s .n → priority (eqb (rankOf (s .ranks) (h .line))) e ≡ true
     → Asked (lineOf s (h .line)) (s .items) h e → lineOf s (h .line) .taken < maxEdits → lineOf s (h .line) .inserts + insertsOf e ≤ maxInserts
     → othersRoomy (h .line - 1) (s .lines) ≡ true → ServerFacts (serverTaken s (h .line) (h .seen) e)
 server-taken-sound s h e f l1 ln pr q most q10 q12 =
@@ -212,28 +219,35 @@ server-taken-sound s h e f l1 ln pr q most q10 q12 =
     record {
       n = f .n;
       initial = f .initial;
+      ranked = f .ranked;
       items = q .size;
       count = length-atPlace (line - 1) takes keeps vs ∙ f .count;
       lines =
-          subst (λ (k : ℕ). LinesFacts (s .n) k 1 (atPlace (line - 1) takes keeps vs)) (omega (arith, sum))
-          (taken-lines (s .n) (takenSum vs) 1 (line - 1) (s .items) h e c vs here (f .lines) (omega arith) q12
+          subst (λ (k : ℕ). LinesFacts (s .n) (s .ranks) k 1 (atPlace (line - 1) takes keeps vs)) (omega (arith, sum))
+          (taken-lines (s .n) (s .ranks) (takenSum vs) 1 (line - 1) (s .items) h e c vs here (f .lines) (omega arith) q12
           (fits-placed c (s .items) (f .items) (q .fit) (q .size))
-          (λ j d. others j (λ z. d (omega arith)))
+          (λ j a b d. others j a (omega (arith, f .count)) (λ z. d (omega arith)))
           q most q10);
       inserted = omega (arith, more, f .inserted, size-inserts c (s .items) (q .fit), inserts-past e (unacked (lineOf s line) seen));
     }
   where
-    -- the insert bears its own line's priority, which is another line's for all others
-    priority-of : (j : ℕ) (d : Edit) → (j ≡ h .line → ⊥) → priority (eqb (h .line)) d ≡ true → priority (other (s .n) j) d ≡ true
-    priority-of j Nothing a t = refl
-    priority-of j (Delete p) a t = refl
-    priority-of j (Insert p x r) a t =
-        let same : h .line ≡ r = eqb-true (h .line) r t in
-        both (between 1 (s .n) r) (not (eqb r j)) (true-between 1 (s .n) r (omega arith) (omega arith)) (rw (ne-eqb r j (λ z. a (omega arith))))
+    facts : Ranking (s .n) (s .ranks)
+    facts = ranking-facts (s .n) (s .ranks) (f .ranked)
 
-    others : (j : ℕ) → (j ≡ h .line → ⊥) → priority (other (s .n) j) (carried (lineOf s (h .line)) (h .seen) e) ≡ true
-    others j a =
-        priority-past (other (s .n) j) e (unacked (lineOf s (h .line)) (h .seen)) ∙ priority-of j e a pr
+    -- the insert bears its own line's rank, which is another line's for all others
+    priority-of : (j : ℕ) (d : Edit) → 1 ≤ j → j ≤ s .n → (j ≡ h .line → ⊥) → priority (eqb (rankOf (s .ranks) (h .line))) d ≡ true
+        → priority (other (s .n) (rankOf (s .ranks) j)) d ≡ true
+    priority-of j Nothing lo hi a t = refl
+    priority-of j (Delete p) lo hi a t = refl
+    priority-of j (Insert p x r) lo hi a t =
+        let same : rankOf (s .ranks) (h .line) ≡ r = eqb-true (rankOf (s .ranks) (h .line)) r t in
+        let low = facts .each (h .line) l1 ln in
+        both (between 1 (s .n) r) (not (eqb r (rankOf (s .ranks) j))) (true-between 1 (s .n) r (omega arith) (omega arith))
+        (rw (ne-eqb r (rankOf (s .ranks) j) (λ z. facts .apart (h .line) j l1 ln lo hi (λ y. a (sym y)) (same ∙ z))))
+
+    others : (j : ℕ) → 1 ≤ j → j ≤ s .n → (j ≡ h .line → ⊥) → priority (other (s .n) (rankOf (s .ranks) j)) (carried (lineOf s (h .line)) (h .seen) e) ≡ true
+    others j lo hi a =
+        priority-past (other (s .n) (rankOf (s .ranks) j)) e (unacked (lineOf s (h .line)) (h .seen)) ∙ priority-of j e lo hi a pr
 
 pub server-acked-sound : (s : Server) (line seen : ℕ) → ServerFacts s → 1 ≤ line → line ≤ s .n → lineOf s line .acked ≤ seen → seen ≤ lineOf s line .made
     → ServerFacts (serverAcked s line seen)
@@ -247,35 +261,36 @@ server-acked-sound s line seen f l1 ln q7 q8 =
     record {
       n = f .n;
       initial = f .initial;
+      ranked = f .ranked;
       items = f .items;
       count = length-atPlace (line - 1) (lineAcked seen) (λ v. v) vs ∙ f .count;
       lines =
-          subst (λ (k : ℕ). LinesFacts (s .n) k 1 (atPlace (line - 1) (lineAcked seen) (λ v. v) vs)) (omega (arith, sum))
-          (acked-lines (s .n) (takenSum vs) 1 (line - 1) seen vs (f .lines) q7 q8);
+          subst (λ (k : ℕ). LinesFacts (s .n) (s .ranks) k 1 (atPlace (line - 1) (lineAcked seen) (λ v. v) vs)) (omega (arith, sum))
+          (acked-lines (s .n) (s .ranks) (takenSum vs) 1 (line - 1) seen vs (f .lines) q7 q8);
       inserted = omega (arith, more, f .inserted);
     }
 
 -- the facts of one line
-pub lines-get : (n sum l : ℕ) (vs : List Line) → LinesFacts n sum l vs → (i : ℕ) → i < length vs → ServerLine n sum (l + i) (getD vs i noLine)
-lines-get n sum l [] f i lt = absurd (omega arith)
-lines-get n sum l (v ∷ vs) f zero lt = subst (λ (k : ℕ). ServerLine n sum k v) (omega arith) (f .0)
-lines-get n sum l (v ∷ vs) f (suc i) lt = subst (λ (k : ℕ). ServerLine n sum k (getD vs i noLine)) (omega arith) (lines-get n sum (suc l) vs (f .1) i (omega arith))
+pub lines-get : (n : ℕ) (ranks : List ℕ) (sum l : ℕ) (vs : List Line) → LinesFacts n ranks sum l vs → (i : ℕ) → i < length vs → ServerLine n ranks sum (l + i) (getD vs i noLine)
+lines-get n ranks sum l [] f i lt = absurd (omega arith)
+lines-get n ranks sum l (v ∷ vs) f zero lt = subst (λ (k : ℕ). ServerLine n ranks sum k v) (omega arith) (f .0)
+lines-get n ranks sum l (v ∷ vs) f (suc i) lt = subst (λ (k : ℕ). ServerLine n ranks sum k (getD vs i noLine)) (omega arith) (lines-get n ranks sum (suc l) vs (f .1) i (omega arith))
 
-pub line-fact : (s : Server) → ServerFacts s → (l : ℕ) → 1 ≤ l → l ≤ s .n → ServerLine (s .n) (takenSum (s .lines)) l (lineOf s l)
+pub line-fact : (s : Server) → ServerFacts s → (l : ℕ) → 1 ≤ l → l ≤ s .n → ServerLine (s .n) (s .ranks) (takenSum (s .lines)) l (lineOf s l)
 line-fact s f l a b =
-    subst (λ (k : ℕ). ServerLine (s .n) (takenSum (s .lines)) k (lineOf s l)) (omega arith)
-    (lines-get (s .n) (takenSum (s .lines)) 1 (s .lines) (f .lines) (l - 1) (omega (arith, f .count)))
+    subst (λ (k : ℕ). ServerLine (s .n) (s .ranks) (takenSum (s .lines)) k (lineOf s l)) (omega arith)
+    (lines-get (s .n) (s .ranks) (takenSum (s .lines)) 1 (s .lines) (f .lines) (l - 1) (omega (arith, f .count)))
 
 -- all lines but one took at most 400 edits each
-takens-most : (n sum l : ℕ) (vs : List Line) → LinesFacts n sum l vs → takenSum vs ≤ length vs * 400
-takens-most n sum l [] f = omega arith
-takens-most n sum l (v ∷ vs) f = omega (arith, f .0 .line .edits, takens-most n sum (suc l) vs (f .1))
+takens-most : (n : ℕ) (ranks : List ℕ) (sum l : ℕ) (vs : List Line) → LinesFacts n ranks sum l vs → takenSum vs ≤ length vs * 400
+takens-most n ranks sum l [] f = omega arith
+takens-most n ranks sum l (v ∷ vs) f = omega (arith, f .0 .line .edits, takens-most n ranks sum (suc l) vs (f .1))
 
-takens-others : (n sum l : ℕ) (vs : List Line) → LinesFacts n sum l vs → (i : ℕ) → i < length vs → takenSum vs ≤ getD vs i noLine .taken + (length vs - 1) * 400
-takens-others n sum l [] f i lt = absurd (omega arith)
-takens-others n sum l (v ∷ vs) f zero lt = omega (arith, takens-most n sum (suc l) vs (f .1))
-takens-others n sum l (v ∷ vs) f (suc i) lt = omega (arith, f .0 .line .edits, takens-others n sum (suc l) vs (f .1) i (omega arith))
+takens-others : (n : ℕ) (ranks : List ℕ) (sum l : ℕ) (vs : List Line) → LinesFacts n ranks sum l vs → (i : ℕ) → i < length vs → takenSum vs ≤ getD vs i noLine .taken + (length vs - 1) * 400
+takens-others n ranks sum l [] f i lt = absurd (omega arith)
+takens-others n ranks sum l (v ∷ vs) f zero lt = omega (arith, takens-most n ranks sum (suc l) vs (f .1))
+takens-others n ranks sum l (v ∷ vs) f (suc i) lt = omega (arith, f .0 .line .edits, takens-others n ranks sum (suc l) vs (f .1) i (omega arith))
 
 pub made-most : (s : Server) → ServerFacts s → (l : ℕ) → 1 ≤ l → l ≤ s .n → lineOf s l .made ≤ 2800
 made-most s f l a b =
-    omega (arith, line-fact s f l a b .made, takens-others (s .n) (takenSum (s .lines)) 1 (s .lines) (f .lines) (l - 1) (omega (arith, f .count)), f .count, f .n .1)
+    omega (arith, line-fact s f l a b .made, takens-others (s .n) (s .ranks) (takenSum (s .lines)) 1 (s .lines) (f .lines) (l - 1) (omega (arith, f .count)), f .count, f .n .1)

@@ -8,31 +8,39 @@ use lib.Dec.{ltb}
 use lib.ListN.{take}
 use borrow.Author.Tests.{ltb-true}
 use Rattle.model.specs.Questions.{Sent}
+use Rattle.model.specs.Ranks.{ranking, lineRanks}
 use Rattle.model.specs.Log.{wireMessage, editMessage}
 use Rattle.model.specs.Sheet.{Sheet, Call, insert, delete, send, tell, receive, junk}
 use Rattle.model.specs.Run.{State, run, start}
 use Rattle.model.specs.Claim.{Delivered, Enough, Opened, Holds, Converges, Full}
 use Rattle.model.specs.Marked.{lent}
-use Rattle.model.specs.Wrong.{leaving, repeating, firstOnly, refusing, miscounting, forgiving, listening, early, frozen, Refuted}
+use Rattle.model.specs.Wrong.{leaving, repeating, firstOnly, refusing, miscounting, forgiving, listening, early, frozen, byLine, otherRanks, Refuted}
+use Rattle.model.proofs.Ranks.{line-ranking}
 use Rattle.model.proofs.Ranges.{short}
 use Rattle.model.proofs.Opens.{client-asks, server-asks}
 use Rattle.model.proofs.Computing.{computing}
 
--- A sheet that converges opens with one or two clients and an empty list.
-opened : (S : Sheet) → Converges S → (n : ℕ) → 1 ≤ n → n ≤ 8 → Opened S n []
-opened S c n a b =
+-- A sheet that converges opens with up to eight clients, any ranking and an empty list.
+opened : (S : Sheet) → Converges S → (n : ℕ) → 1 ≤ n → n ≤ 8 → (ranks : List ℕ) → ranking n ranks ≡ true → Opened S n ranks []
+opened S c n a b ranks r =
     record {
       numbers = unfold computing in refl;
-      server = c .opens-server n [] (unfold computing in refl) ∙ server-asks n [] a b (omega arith);
-      clients = λ l lo hi. c .opens-client n l [] (unfold computing in refl) ∙ client-asks n l [] a b lo hi (omega arith);
+      server = c .opens-server n ranks [] (unfold computing in refl) ∙ server-asks n ranks [] a b (omega arith) r;
+      clients = λ l lo hi. c .opens-client n l ranks [] (unfold computing in refl) ∙ client-asks n l ranks [] a b lo hi (omega arith) r;
     }
 
--- what it then claims of a list of calls at a sheet with one client, or with two
-one : (S : Sheet) → Converges S → (calls : List Call) → Holds S 1 (run S 1 (start S 1 []) calls)
-one S c calls = c .holds 1 [] (opened S c 1 (omega arith) (omega arith)) calls
+-- what it then claims of a list of calls at a sheet with one client, or with two; and with two where client 2 has rank 1
+one : (S : Sheet) → Converges S → (calls : List Call) → Holds S 1 (run S 1 (start S 1 (lineRanks 1) []) calls)
+one S c calls = c .holds 1 (lineRanks 1) [] (opened S c 1 (omega arith) (omega arith) (lineRanks 1) (line-ranking 1)) calls
 
-two : (S : Sheet) → Converges S → (calls : List Call) → Holds S 2 (run S 2 (start S 2 []) calls)
-two S c calls = c .holds 2 [] (opened S c 2 (omega arith) (omega arith)) calls
+two : (S : Sheet) → Converges S → (calls : List Call) → Holds S 2 (run S 2 (start S 2 (lineRanks 2) []) calls)
+two S c calls = c .holds 2 (lineRanks 2) [] (opened S c 2 (omega arith) (omega arith) (lineRanks 2) (line-ranking 2)) calls
+
+abbrev turned : List ℕ
+turned = 2 ∷ 1 ∷ []
+
+two-turned : (S : Sheet) → Converges S → (calls : List Call) → Holds S 2 (run S 2 (start S 2 turned []) calls)
+two-turned S c calls = c .holds 2 turned [] (opened S c 2 (omega arith) (omega arith) turned (unfold computing in refl)) calls
 
 nil-cons : {A : Type 0} {x : A} {xs : List A} → [] ≡ x ∷ xs → ⊥
 nil-cons e = let z : _≡_ {A = ℕ} 0 1 = cc in omega arith
@@ -69,7 +77,7 @@ differ : (a b : ℕ) → ltb a b ≡ true → a ≡ b → ⊥
 differ a b l e = omega (arith, ltb-true a b l)
 
 -- 14 bytes are enough for any message
-enough : (S : Sheet) (n : ℕ) (s : State S) (a l k : ℕ) → Enough S n s a l k lent
+enough : (S : Sheet) (n : ℕ) {ranks : List ℕ} (s : State S ranks) (a l k : ℕ) → Enough S n s a l k lent
 unfolding computing
 enough S n s a l k = (refl, short (wireMessage (editMessage (s .recorded .history) a l k)))
 
@@ -77,7 +85,7 @@ refusing-fails : Converges refusing → ⊥
 unfolding computing
 refusing-fails c =
     differ 0 4 refl
-    (sym (one refusing c (insert 1 1 7 ∷ []) .lines 1 (omega arith) (omega arith) .next-up lent (enough refusing 1 (run refusing 1 (start refusing 1 []) (insert 1 1 7 ∷ [])) 1 1 1) (λ e. nil-cons (sym e)) (λ j a b o f. o (omega arith)) .takes))
+    (sym (one refusing c (insert 1 1 7 ∷ []) .lines 1 (omega arith) (omega arith) .next-up lent (enough refusing 1 (run refusing 1 (start refusing 1 (lineRanks 1) []) (insert 1 1 7 ∷ [])) 1 1 1) (λ e. nil-cons (sym e)) (λ j a b o f. o (omega arith)) .takes))
 
 miscounting-fails : Converges miscounting → ⊥
 unfolding computing
@@ -125,7 +133,7 @@ frozen-fails c = differ 0 9 refl (sym (one frozen c [] .numbers (insert 1 1 7) r
 pendingOne : List Call
 pendingOne = insert 1 1 7 ∷ send 1 1 1 lent ∷ receive 0 0 ∷ insert 1 1 8 ∷ []
 
-early-full : (j : ℕ) → j ≡ 2 → Full (early 1) 2 (run (early 1) 2 (start (early 1) 2 []) pendingOne) j → ⊥
+early-full : (j : ℕ) → j ≡ 2 → Full (early 1) 2 (run (early 1) 2 (start (early 1) 2 (lineRanks 2) []) pendingOne) j → ⊥
 unfolding pendingOne computing
 early-full j e f = differ 1 64 refl (rw e at f)
 
@@ -133,7 +141,7 @@ early-fails : Converges (early 1) → ⊥
 unfolding pendingOne computing
 early-fails c =
     differ 0 12 refl
-    (sym (two (early 1) c pendingOne .lines 1 (omega arith) (omega arith) .next-up lent (enough (early 1) 2 (run (early 1) 2 (start (early 1) 2 []) pendingOne) 1 1 2) (λ e. nil-cons (sym e)) (λ j a b o f. early-full j (omega arith) f) .takes))
+    (sym (two (early 1) c pendingOne .lines 1 (omega arith) (omega arith) .next-up lent (enough (early 1) 2 (run (early 1) 2 (start (early 1) 2 (lineRanks 2) []) pendingOne) 1 1 2) (λ e. nil-cons (sym e)) (λ j a b o f. early-full j (omega arith) f) .takes))
 
 -- Client 1 inserts and deletes in turn, and the server takes each edit: 63 are pending for client 2 when the next goes up.
 turns : ℕ → ℕ → List Call → List Call
@@ -146,8 +154,8 @@ unfolding turns
 pending63 = turns 31 0 (insert 1 1 7 ∷ send 1 1 63 lent ∷ receive 0 62 ∷ delete 1 1 ∷ [])
 
 -- where the calls leave it
-after63 : State (early 63)
-after63 = run (early 63) 2 (start (early 63) 2 []) pending63
+after63 : State (early 63) (lineRanks 2)
+after63 = run (early 63) 2 (start (early 63) 2 (lineRanks 2) []) pending63
 
 nearly-full : Full (early 63) 2 after63 2 → ⊥
 unfolding after63 pending63 computing
@@ -177,6 +185,19 @@ nearly-fails c =
     (λ j a b o. subst (λ (i : ℕ). Full (early 63) 2 after63 i → ⊥) {x = 2} {y = j} (omega arith) nearly-full) in
     differ 0 12 refl (sym (subst (λ (k : ℕ). Delivered (early 63) (after63 .ends 1) (after63 .ends 0) 1 (suc k) lent) nearly-taken taken .takes) ∙ nearly-refused)
 
+-- Clients 1 and 2 insert at one place, and client 1 takes client 2's: it belongs before its own.
+tied : List Call
+tied = insert 1 1 7 ∷ insert 2 1 8 ∷ send 2 2 1 lent ∷ receive 0 0 ∷ send 0 1 1 lent ∷ receive 1 1 ∷ []
+
+by-line-fails : Converges byLine → ⊥
+unfolding tied computing
+by-line-fails c = differ 7 8 refl (heads (two-turned byLine c tied .lists 1 (omega arith)))
+
+-- The server turns client 1's insert down: there line 1 has rank 1.
+other-ranks-fails : Converges otherRanks → ⊥
+unfolding computing
+other-ranks-fails c = differ 0 4 refl (sym (two-turned otherRanks c (insert 1 1 7 ∷ send 1 1 1 lent ∷ []) .numbers (receive 0 0) refl))
+
 pub refuted : Refuted
 refuted =
     record {
@@ -194,4 +215,6 @@ refuted =
       early-fails = early-fails;
       nearly-fails = nearly-fails;
       frozen-fails = frozen-fails;
+      by-line-fails = by-line-fails;
+      other-ranks-fails = other-ranks-fails;
     }

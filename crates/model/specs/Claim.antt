@@ -38,8 +38,8 @@ module _ (S : Sheet) where
     pub rises : S .taken (S .take to (take (S .send from line number lent .written) (S .send from line number lent .buffer)) .end) line
         ≡ suc (S .taken to line)
 
-  module _ (n : ℕ) (s : State S) where
-    abbrev pub history : History edits
+  module _ (n : ℕ) {ranks : List ℕ} (s : State S ranks) where
+    abbrev pub history : History (edits ranks)
     history = s .recorded .history
 
     -- 01: the line's buffer is full: made there is 64 above the last seen that the server took there
@@ -92,14 +92,16 @@ module _ (S : Sheet) where
     pub tells : (e : S .End) (l : ℕ) (lent : List ℕ) → Unwritten lent (S .tell e l lent) × PastStays lent (S .tell e l lent)
 
   -- the server and the clients as openings, not refused, returned them
-  pub record Opened (n : ℕ) (items : List ℕ) : Type 0 where
+  pub record Opened (n : ℕ) (ranks items : List ℕ) : Type 0 where
     pub numbers : areItems items ≡ true
-    pub server : S .openServer n items .refusal ≡ 0
-    pub clients : (l : ℕ) → 1 ≤ l → l ≤ n → S .openClient n l items .refusal ≡ 0
+    pub server : S .openServer n ranks items .refusal ≡ 0
+    pub clients : (l : ℕ) → 1 ≤ l → l ≤ n → S .openClient n l ranks items .refusal ≡ 0
 
-  -- Opening is answered by question 1, and after openings that were not refused every list of calls leaves what is claimed.
+  -- Opening is answered by questions 1 and 16, and after openings that were not refused, with the same ranks at all ends, every list of calls
+  -- leaves what is claimed.
   pub record Converges : Type 0 where
-    pub opens-server : (n : ℕ) (items : List ℕ) → areItems items ≡ true → S .openServer n items .refusal ≡ asks (openServerQuestions n items)
-    pub opens-client : (n l : ℕ) (items : List ℕ) → areItems items ≡ true → S .openClient n l items .refusal ≡ asks (openClientQuestions n l items)
+    pub opens-server : (n : ℕ) (ranks items : List ℕ) → areItems items ≡ true → S .openServer n ranks items .refusal ≡ asks (openServerQuestions n ranks items)
+    pub opens-client : (n l : ℕ) (ranks items : List ℕ) → areItems items ≡ true
+        → S .openClient n l ranks items .refusal ≡ asks (openClientQuestions n l ranks items)
     pub alone : LeavesAlone
-    pub holds : (n : ℕ) (items : List ℕ) → Opened n items → (calls : List Call) → Holds n (run S n (start S n items) calls)
+    pub holds : (n : ℕ) (ranks items : List ℕ) → Opened n ranks items → (calls : List Call) → Holds n (run S n (start S n ranks items) calls)

@@ -14,47 +14,55 @@ use Rattle.wire.specs.Bytes.{bytesOf, parsed}
 use Rattle.model.specs.Limits.{maxLines, maxInserts, maxEdits, maxOthers, maxItems, maxInitial}
 use Rattle.model.specs.Questions.{Question, ask, asks, every, between, Answer, answer, Sent, sent}
 use Rattle.model.specs.Cross.{priority, insertsOf}
+use Rattle.model.specs.Ranks.{rankOf, ranking}
 use Rattle.model.specs.Line.{Line, noLine, other, lineTests, roomy, lineKeeps, lineMessage, sendQuestions, lineAcked, lineTaken, carried, seenQuestions, takeQuestions}
 
 pub record Client : Type 0 where
   -- how many clients the sheet has, and which this one is
   pub n : ℕ
   pub line : ℕ
+  -- the ranks of lines 1 to n
+  pub ranks : List ℕ
   pub items : List ℕ
   -- what it keeps of its line
   pub own : Line
 
+-- the rank of its own line
+abbrev pub ownRank : Client → ℕ
+ownRank c = rankOf (c .ranks) (c .line)
+
 -- what a refused opening returns
 abbrev pub noClient : Client
-noClient = record { n = 0; line = 0; items = []; own = noLine }
+noClient = record { n = 0; line = 0; ranks = []; items = []; own = noLine }
 
 -- question 2, test by test
 abbrev pub clientTests : Client → List Bool
 clientTests c =
     between 1 maxLines (c .n)
     ∷ between 1 (c .n) (c .line)
+    ∷ ranking (c .n) (c .ranks)
     ∷ leb (length (c .items)) maxItems
     ∷ leb (c .own .taken) maxOthers
-    ∷ lineTests (c .own .made) (eqb (c .line)) (c .own)
+    ∷ lineTests (c .own .made) (eqb (ownRank c)) (c .own)
 
 unfoldable pub soundClient : Client → Bool
 soundClient c = every (clientTests c)
 
-abbrev pub openClientQuestions : ℕ → ℕ → List ℕ → List Question
-openClientQuestions n line items =
-    ask 1 (every (between 1 maxLines n ∷ between 1 n line ∷ leb (length items) maxInitial ∷ [])) ∷ []
+abbrev pub openClientQuestions : ℕ → ℕ → List ℕ → List ℕ → List Question
+openClientQuestions n line ranks items =
+    ask 1 (every (between 1 maxLines n ∷ between 1 n line ∷ leb (length items) maxInitial ∷ [])) ∷ ask 16 (ranking n ranks) ∷ []
 
-unfoldable pub openClient : ℕ → ℕ → List ℕ → Answer Client
-openClient n line items =
+unfoldable pub openClient : ℕ → ℕ → List ℕ → List ℕ → Answer Client
+openClient n line ranks items =
     answer
-    (asks (openClientQuestions n line items))
+    (asks (openClientQuestions n line ranks items))
     noClient
-    (record { n = n; line = line; items = items; own = noLine })
+    (record { n = n; line = line; ranks = ranks; items = items; own = noLine })
     0
 
 -- the client with another list and line
 abbrev pub with : Client → List ℕ → Line → Client
-with c items v = record { n = c .n; line = c .line; items = items; own = v }
+with c items v = record { n = c .n; line = c .line; ranks = c .ranks; items = items; own = v }
 
 -- An edit made here: applied, counted and kept.
 abbrev pub edited : Client → Edit → Client
@@ -77,9 +85,9 @@ editClient c e =
     (edited c e)
     0
 
--- the item goes before the one at the position; its priority is the line
+-- the item goes before the one at the position; its priority is the line's rank
 abbrev pub insertClient : Client → ℕ → ℕ → Answer Client
-insertClient c p x = editClient c (Insert p x (c .line))
+insertClient c p x = editClient c (Insert p x (ownRank c))
 
 abbrev pub deleteClient : Client → ℕ → Answer Client
 deleteClient c p = editClient c (Delete p)
@@ -118,7 +126,7 @@ clientTaken c seen e = with c (applied (carried (c .own) seen e) (c .items)) (li
 abbrev pub clientEditQuestions : Client → Header → Edit → List Question
 clientEditQuestions c h e =
     ask 2 (soundClient c)
-    ∷ ask 4 (eqb (h .direction) 1 && eqb (h .line) (c .line) && priority (other (c .n) (c .line)) e)
+    ∷ ask 4 (eqb (h .direction) 1 && eqb (h .line) (c .line) && priority (other (c .n) (ownRank c)) e)
     ∷ takeQuestions (c .own) (c .items) h e []
 
 unfoldable pub clientTakesEdit : Client → Header → Edit → Answer Client

@@ -1,67 +1,63 @@
 -- What every sheet that converges has with it: the claim alone gives it.
 use Prim.Native.Nat.{ℕ, zero, suc, _≤_}
 use mathlib.Core.Path.{_≡_}
-use mathlib.Core.Bool.{Bool, true, false, _||_}
+use mathlib.Core.Bool.{true}
 use mathlib.Core.List.{List, [], _∷_}
-use lib.Dec.{eqb}
+use Rattle.jupiter.specs.Algebra.{Algebra}
 use Rattle.jupiter.specs.Made.{Made}
 use Rattle.jupiter.specs.History.{History}
 use Rattle.jupiter.specs.Claims.{SameSet}
-use Rattle.model.specs.Edits.{edits}
+use Rattle.model.specs.Ranks.{among}
 use Rattle.model.specs.Sheet.{Sheet, Call, receive}
 use Rattle.model.specs.Run.{State, areItems, callable, numberOf, run, start}
 use Rattle.model.specs.Claim.{Opened, Converges}
 
-unfoldable pub among : List ℕ → ℕ → Bool
-among [] r = false
-among (k ∷ ks) r = eqb r k || among ks r
-
 -- the edits that end a has applied
-abbrev pub appliedAt : History edits → ℕ → List (Made edits)
+abbrev pub appliedAt : {𝓐 : Algebra} → History 𝓐 → ℕ → List (Made 𝓐)
 appliedAt h zero = h .served
 appliedAt h (suc a) = h .applied (suc a)
 
 -- where a list of calls leads
-abbrev pub after : (S : Sheet) → ℕ → List ℕ → List Call → State S
-after S n items calls = run S n (start S n items) calls
+abbrev pub after : (S : Sheet) → ℕ → (ranks : List ℕ) → List ℕ → List Call → State S ranks
+after S n ranks items calls = run S n (start S n ranks items) calls
 
 module _ (S : Sheet) where
   -- nothing is outstanding on line l: the server has taken what its client has made, and the client what the server has for it
-  abbrev pub Quiet : State S → ℕ → Type 0
+  abbrev pub Quiet : {ranks : List ℕ} → State S ranks → ℕ → Type 0
   Quiet s l = (S .made (s .ends l) l ≡ S .taken (s .ends 0) l) × (S .taken (s .ends l) l ≡ S .made (s .ends 0) l)
 
   pub record Consistent : Type 0 where
     -- Quiescent consistency: the clients on whose lines nothing is outstanding, and the server, show one list.
-    pub quiescent : (n : ℕ) (items : List ℕ) → Opened S n items → (calls : List Call) (l : ℕ) → 1 ≤ l → l ≤ n → Quiet (after S n items calls) l
-        → S .items (after S n items calls .ends l) ≡ S .items (after S n items calls .ends 0)
+    pub quiescent : (n : ℕ) (ranks items : List ℕ) → Opened S n ranks items → (calls : List Call) (l : ℕ) → 1 ≤ l → l ≤ n → Quiet (after S n ranks items calls) l
+        → S .items (after S n ranks items calls .ends l) ≡ S .items (after S n ranks items calls .ends 0)
     -- Strong eventual consistency: two ends, at any two moments of a list of calls, that have applied the same set of edits show the same list.
-    pub strong : (n : ℕ) (items : List ℕ) → Opened S n items → (calls more : List Call) (a b : ℕ) → a ≤ n → b ≤ n
-        → SameSet (appliedAt (after S n items calls .recorded .history) a) (appliedAt (run S n (after S n items calls) more .recorded .history) b)
-        → S .items (after S n items calls .ends a) ≡ S .items (run S n (after S n items calls) more .ends b)
+    pub strong : (n : ℕ) (ranks items : List ℕ) → Opened S n ranks items → (calls more : List Call) (a b : ℕ) → a ≤ n → b ≤ n
+        → SameSet (appliedAt (after S n ranks items calls .recorded .history) a) (appliedAt (run S n (after S n ranks items calls) more .recorded .history) b)
+        → S .items (after S n ranks items calls .ends a) ≡ S .items (run S n (after S n ranks items calls) more .ends b)
 
   -- Which refusals a message of a list of calls can meet: questions 2, 3 and 8 to 10 never say no to it.
   abbrev pub TakingRefusals : Type 0
   TakingRefusals =
-      (n : ℕ) (items : List ℕ) → Opened S n items → (calls : List Call) (a i : ℕ) → a ≤ n
-      → among (0 ∷ 4 ∷ 5 ∷ 6 ∷ 7 ∷ 12 ∷ []) (numberOf S (after S n items calls) (receive a i)) ≡ true
+      (n : ℕ) (ranks items : List ℕ) → Opened S n ranks items → (calls : List Call) (a i : ℕ) → a ≤ n
+      → among (0 ∷ 4 ∷ 5 ∷ 6 ∷ 7 ∷ 12 ∷ []) (numberOf S (after S n ranks items calls) (receive a i)) ≡ true
 
   -- No list of calls tells two sheets apart that converge: by what opening says, by lists, counts of edits, messages and counts of edits
   -- passed, or by the number that the next call gets.
   pub record Agree (T : Sheet) : Type 0 where
-    pub opens-server : (n : ℕ) (items : List ℕ) → areItems items ≡ true → S .openServer n items .refusal ≡ T .openServer n items .refusal
-    pub opens-client : (n l : ℕ) (items : List ℕ) → areItems items ≡ true → S .openClient n l items .refusal ≡ T .openClient n l items .refusal
-    pub lists : (n : ℕ) (items : List ℕ) → Opened S n items → (calls : List Call) (a : ℕ) → a ≤ n
-        → S .items (after S n items calls .ends a) ≡ T .items (after T n items calls .ends a)
-    pub made : (n : ℕ) (items : List ℕ) → Opened S n items → (calls : List Call) (l : ℕ) → 1 ≤ l → l ≤ n
-        → (S .made (after S n items calls .ends l) l ≡ T .made (after T n items calls .ends l) l)
-        × (S .made (after S n items calls .ends 0) l ≡ T .made (after T n items calls .ends 0) l)
-    pub taken : (n : ℕ) (items : List ℕ) → Opened S n items → (calls : List Call) (l : ℕ) → 1 ≤ l → l ≤ n
-        → (S .taken (after S n items calls .ends l) l ≡ T .taken (after T n items calls .ends l) l)
-        × (S .taken (after S n items calls .ends 0) l ≡ T .taken (after T n items calls .ends 0) l)
-    pub messages : (n : ℕ) (items : List ℕ) → Opened S n items → (calls : List Call) → after S n items calls .messages ≡ after T n items calls .messages
-    pub passed : (n : ℕ) (items : List ℕ) → Opened S n items → (calls : List Call) → after S n items calls .passed ≡ after T n items calls .passed
-    pub numbers : (n : ℕ) (items : List ℕ) → Opened S n items → (calls : List Call) (c : Call) → callable n c ≡ true
-        → numberOf S (after S n items calls) c ≡ numberOf T (after T n items calls) c
+    pub opens-server : (n : ℕ) (ranks items : List ℕ) → areItems items ≡ true → S .openServer n ranks items .refusal ≡ T .openServer n ranks items .refusal
+    pub opens-client : (n l : ℕ) (ranks items : List ℕ) → areItems items ≡ true → S .openClient n l ranks items .refusal ≡ T .openClient n l ranks items .refusal
+    pub lists : (n : ℕ) (ranks items : List ℕ) → Opened S n ranks items → (calls : List Call) (a : ℕ) → a ≤ n
+        → S .items (after S n ranks items calls .ends a) ≡ T .items (after T n ranks items calls .ends a)
+    pub made : (n : ℕ) (ranks items : List ℕ) → Opened S n ranks items → (calls : List Call) (l : ℕ) → 1 ≤ l → l ≤ n
+        → (S .made (after S n ranks items calls .ends l) l ≡ T .made (after T n ranks items calls .ends l) l)
+        × (S .made (after S n ranks items calls .ends 0) l ≡ T .made (after T n ranks items calls .ends 0) l)
+    pub taken : (n : ℕ) (ranks items : List ℕ) → Opened S n ranks items → (calls : List Call) (l : ℕ) → 1 ≤ l → l ≤ n
+        → (S .taken (after S n ranks items calls .ends l) l ≡ T .taken (after T n ranks items calls .ends l) l)
+        × (S .taken (after S n ranks items calls .ends 0) l ≡ T .taken (after T n ranks items calls .ends 0) l)
+    pub messages : (n : ℕ) (ranks items : List ℕ) → Opened S n ranks items → (calls : List Call) → after S n ranks items calls .messages ≡ after T n ranks items calls .messages
+    pub passed : (n : ℕ) (ranks items : List ℕ) → Opened S n ranks items → (calls : List Call) → after S n ranks items calls .passed ≡ after T n ranks items calls .passed
+    pub numbers : (n : ℕ) (ranks items : List ℕ) → Opened S n ranks items → (calls : List Call) (c : Call) → callable n c ≡ true
+        → numberOf S (after S n ranks items calls) c ≡ numberOf T (after T n ranks items calls) c
 
 pub record Consequences : Type 1 where
   pub consistent : (S : Sheet) → Converges S → Consistent S

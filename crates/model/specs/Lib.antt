@@ -1,6 +1,7 @@
 pub mod Limits
 pub mod Questions
 pub mod Cross
+pub mod Ranks
 pub mod Line
 pub mod Client
 pub mod Server

@@ -27,9 +27,9 @@ pub record Line : Type 0 where
 abbrev pub noLine : Line
 noLine = record { made = 0; taken = 0; acked = 0; inserts = 0; pending = [] }
 
--- another client's priority, of 1 to n
+-- another client's rank, of 1 to n
 abbrev pub other : ℕ → ℕ → ℕ → Bool
-other n line r = between 1 n r && not (eqb r line)
+other n own r = between 1 n r && not (eqb r own)
 
 -- Question 2 of a line, test by test: the line's client made so many edits, and the priorities of pending inserts pass a test.
 abbrev pub lineTests : ℕ → (ℕ → Bool) → Line → List Bool

@@ -12,55 +12,57 @@ use Rattle.wire.specs.declared.Message as wire
 use Rattle.wire.specs.declared.Message.the-variants as message
 use Rattle.wire.specs.Message.{messageOf}
 use Rattle.wire.specs.Bytes.{bytesOf}
+use Rattle.jupiter.specs.Algebra.{Algebra}
 use Rattle.jupiter.specs.Made.{Made, mine, others}
 use Rattle.jupiter.specs.Form.{form, inOrder}
 use Rattle.jupiter.specs.Point.{blank, ownForm, othForm}
 use Rattle.jupiter.specs.Run.{Message, up, down, upAck, downAck}
 use Rattle.jupiter.specs.History.{History, noHistory, at, order, madeBy, missing, afterEdit, afterUp, afterDown, newEdit}
-use Rattle.model.specs.Edits.{edits}
+use Rattle.model.specs.Ranks.{rankOf}
+use Rattle.model.specs.Edits.{Rule, editsBy, edits}
 use Rattle.model.specs.Sheet.{Call, insert, delete, send, tell, receive, junk}
 
 -- a message of the theory as one with its fields; direction 0 goes up to the server, 1 down
-abbrev pub wireMessage : Message edits → wire.Message
+abbrev pub wireMessage : {by : Rule} → Message (editsBy by) → wire.Message
 wireMessage (up l m) = messageOf (record { line = l; direction = 0; number = m .number; seen = m .seen }) (m .edit)
 wireMessage (down l m) = messageOf (record { line = l; direction = 1; number = m .number; seen = m .seen }) (m .edit)
 wireMessage (upAck l seen) = message.Ack l 0 seen
 wireMessage (downAck l seen) = message.Ack l 1 seen
 
-abbrev pub messageBytes : Message edits → List ℕ
+abbrev pub messageBytes : {by : Rule} → Message (editsBy by) → List ℕ
 messageBytes x = bytesOf (wireMessage x)
 
-pub record Log : Type 0 where
+pub record Log (ranks : List ℕ) : Type 0 where
   -- which edits were made, served and applied
-  pub history : History edits
+  pub history : History (edits ranks)
   -- the list of each end: the initial list with each edit applied in its form at what the end had applied (0: the server's)
   pub shown : ℕ → List ℕ
   -- the last seen that end a took on line l, 0 before any
   pub heard : ℕ → ℕ → ℕ
   -- the messages written, and the count of pending edits passed that each editing and taking owes
-  pub messages : List (Message edits)
+  pub messages : List (Message (edits ranks))
   pub passed : List ℕ
 
-abbrev pub noLog : List ℕ → Log
+abbrev pub noLog : {ranks : List ℕ} → List ℕ → Log ranks
 noLog initial = record { history = noHistory; shown = λ a. initial; heard = λ a l. 0; messages = []; passed = [] }
 
 -- the edits that end a has applied, in the order of the definition
-unfoldable pub setOf : History edits → ℕ → List (Made edits)
+unfoldable pub setOf : {𝓐 : Algebra} → History 𝓐 → ℕ → List (Made 𝓐)
 setOf h zero = h .served
 setOf h (suc l) = inOrder (order h (suc l)) (h .applied (suc l))
 
 -- the counts of an end on line l: edits made there, edits taken there
-unfoldable pub madeAt : History edits → ℕ → ℕ → ℕ
+unfoldable pub madeAt : {𝓐 : Algebra} → History 𝓐 → ℕ → ℕ → ℕ
 madeAt h zero l = length (others l (h .served))
 madeAt h (suc a) l = madeBy h (suc a)
 
-unfoldable pub takenAt : History edits → ℕ → ℕ → ℕ
+unfoldable pub takenAt : {𝓐 : Algebra} → History 𝓐 → ℕ → ℕ → ℕ
 takenAt h zero l = length (mine l (h .served))
 takenAt h (suc a) l = length (others (suc a) (h .applied (suc a)))
 
 -- An edit goes out in its form at what its sender has applied, less the edits that go out on that line from its number on: at the client
 -- the first number - 1 of its own and all that it took; at the server all that it took on the line and the first number - 1 of the others.
-unfoldable pub editMessage : History edits → ℕ → ℕ → ℕ → Message edits
+unfoldable pub editMessage : {𝓐 : Algebra} → History 𝓐 → ℕ → ℕ → ℕ → Message 𝓐
 editMessage h zero l number =
     let seen = takenAt h zero l in
     down l (record { number = number; seen = seen; edit = othForm l (order h l) seen (number - 1) })
@@ -68,28 +70,28 @@ editMessage h (suc a) l number =
     let seen = takenAt h (suc a) (suc a) in
     up (suc a) (record { number = number; seen = seen; edit = ownForm (suc a) (order h (suc a)) (number - 1) seen })
 
-unfoldable pub ackMessage : History edits → ℕ → ℕ → Message edits
+unfoldable pub ackMessage : {𝓐 : Algebra} → History 𝓐 → ℕ → ℕ → Message 𝓐
 ackMessage h zero l = downAck l (takenAt h zero l)
 ackMessage h (suc a) l = upAck (suc a) (takenAt h (suc a) (suc a))
 
 -- an end applies an edit in its form at what it has applied
-abbrev pub shows : Log → ℕ → Made edits → ℕ → List ℕ
+abbrev pub shows : {ranks : List ℕ} → Log ranks → ℕ → Made (edits ranks) → ℕ → List ℕ
 shows w a e = at a (applied (form e (setOf (w .history) a)) (w .shown a)) (w .shown)
 
-abbrev pub writes : Log → Message edits → Log
+abbrev pub writes : {ranks : List ℕ} → Log ranks → Message (edits ranks) → Log ranks
 writes w m =
     record { history = w .history; shown = w .shown; heard = w .heard; messages = w .messages ++ (m ∷ []); passed = w .passed }
 
 -- end a took a message with this seen on line l
-abbrev pub hearing : Log → ℕ → ℕ → ℕ → ℕ → ℕ → ℕ
+abbrev pub hearing : {ranks : List ℕ} → Log ranks → ℕ → ℕ → ℕ → ℕ → ℕ → ℕ
 hearing w a l seen = at a (at l seen (w .heard a)) (w .heard)
 
 -- an editing or taking that changes nothing, or only what was heard
-abbrev pub hears : Log → (ℕ → ℕ → ℕ) → Log
+abbrev pub hears : {ranks : List ℕ} → Log ranks → (ℕ → ℕ → ℕ) → Log ranks
 hears w heard =
     record { history = w .history; shown = w .shown; heard = heard; messages = w .messages; passed = w .passed ++ (0 ∷ []) }
 
-abbrev pub edited : Log → ℕ → Edit → Log
+abbrev pub edited : {ranks : List ℕ} → Log ranks → ℕ → Edit → Log ranks
 edited w l e =
     record {
       history = afterEdit l e (w .history);
@@ -100,11 +102,11 @@ edited w l e =
     }
 
 -- the first edit of a list, where there is one
-abbrev pub first : List (Made edits) → Made edits
+abbrev pub first : {𝓐 : Algebra} → List (Made 𝓐) → Made 𝓐
 first es = getD es 0 blank
 
 -- the server takes client l's next edit; client l takes its next one
-abbrev pub tookUp : Log → ℕ → ℕ → Log
+abbrev pub tookUp : {ranks : List ℕ} → Log ranks → ℕ → ℕ → Log ranks
 tookUp w l seen =
     record {
       history = afterUp l (w .history);
@@ -114,7 +116,7 @@ tookUp w l seen =
       passed = w .passed ++ ((madeAt (w .history) 0 l - seen) ∷ []);
     }
 
-abbrev pub tookDown : Log → ℕ → ℕ → Log
+abbrev pub tookDown : {ranks : List ℕ} → Log ranks → ℕ → ℕ → Log ranks
 tookDown w l seen =
     record {
       history = afterDown l (w .history);
@@ -126,7 +128,7 @@ tookDown w l seen =
 
 -- The message is known from the sending that wrote it. One that an end had no right to take (another line's, or going the other way)
 -- leaves the log as it is, whatever the end answered.
-unfoldable pub took : Log → ℕ → Option (Message edits) → Log
+unfoldable pub took : {ranks : List ℕ} → Log ranks → ℕ → Option (Message (edits ranks)) → Log ranks
 took w a none = hears w (w .heard)
 took w a (some (up l m)) = cond (eqb a 0) (tookUp w l (m .seen)) (hears w (w .heard))
 took w a (some (down l m)) = cond (eqb a l) (tookDown w l (m .seen)) (hears w (w .heard))
@@ -134,8 +136,8 @@ took w a (some (upAck l seen)) = cond (eqb a 0) (hears w (hearing w 0 l seen)) (
 took w a (some (downAck l seen)) = cond (eqb a l) (hears w (hearing w l l seen)) (hears w (w .heard))
 
 -- a call that was not refused
-unfoldable pub logged : Log → Call → Log
-logged w (insert l p x) = edited w l (edit.Insert p x l)
+unfoldable pub logged : {ranks : List ℕ} → Log ranks → Call → Log ranks
+logged {ranks} w (insert l p x) = edited w l (edit.Insert p x (rankOf ranks l))
 logged w (delete l p) = edited w l (edit.Delete p)
 logged w (send a l number lent) = writes w (editMessage (w .history) a l number)
 logged w (tell a l lent) = writes w (ackMessage (w .history) a l)
@@ -143,7 +145,7 @@ logged w (receive a i) = took w a (getElem? (w .messages) i)
 logged w (junk a bytes) = hears w (w .heard)
 
 -- a call that was refused: an editing or taking owes the count 0
-unfoldable pub refusedLog : Log → Call → Log
+unfoldable pub refusedLog : {ranks : List ℕ} → Log ranks → Call → Log ranks
 refusedLog w (insert l p x) = hears w (w .heard)
 refusedLog w (delete l p) = hears w (w .heard)
 refusedLog w (send a l number lent) = w
@@ -152,5 +154,5 @@ refusedLog w (receive a i) = hears w (w .heard)
 refusedLog w (junk a bytes) = hears w (w .heard)
 
 -- the log after a call, by the number of its refusal or 0
-unfoldable pub log : Log → Call → ℕ → Log
+unfoldable pub log : {ranks : List ℕ} → Log ranks → Call → ℕ → Log ranks
 log w c r = cond (eqb r 0) (logged w c) (refusedLog w c)

@@ -1,10 +1,13 @@
--- The marked cases of 01, as one statement about the definitions.
+-- The marked cases of 01 and ours for ranks, as one statement about the definitions.
 use Prim.Native.Nat.{ℕ}
 use mathlib.Core.Path.{_≡_}
 use mathlib.Core.List.{List, [], _∷_, map}
 use lib.ListN.{replicate}
 use Rattle.ot.specs.Cases.{TransformCases}
 use Rattle.wire.specs.Cases as bytes
+use Rattle.model.specs.Ranks.{lineRanks}
+use Rattle.model.specs.Client.{openClient}
+use Rattle.model.specs.Server.{openServer}
 use Rattle.model.specs.Sheet.{Call, insert, delete, send, receive}
 use Rattle.model.specs.Run.{run, start}
 use Rattle.model.specs.Ours.{ours}
@@ -13,11 +16,15 @@ use Rattle.model.specs.Ours.{ours}
 abbrev pub lent : List ℕ
 lent = replicate 14 0
 
--- the lists of the server and of two clients after these calls
-abbrev pub listsAfter : List ℕ → List Call → List (List ℕ)
-listsAfter items calls =
-    let s = run ours 2 (start ours 2 items) calls in
-    map (λ a. ours .items (s .ends a)) (0 ∷ 1 ∷ 2 ∷ [])
+-- the lists of these ends after these calls, at a sheet of n clients
+abbrev pub listsAfter : ℕ → List ℕ → List ℕ → List ℕ → List Call → List (List ℕ)
+listsAfter n ranks items ends calls =
+    let s = run ours n (start ours n ranks items) calls in
+    map (λ a. ours .items (s .ends a)) ends
+
+-- of the server and of two clients, whose lines are their ranks
+abbrev pub twoAfter : List ℕ → List Call → List (List ℕ)
+twoAfter items calls = listsAfter 2 (lineRanks 2) items (0 ∷ 1 ∷ 2 ∷ []) calls
 
 -- P11: line by line, each `up` and `down` a sending and a taking
 abbrev pub p11 : List Call
@@ -54,8 +61,34 @@ p12 =
     ∷ receive 2 5
     ∷ []
 
+-- The lead: clients 1 and 5 insert at one place, and each takes the other's.
+abbrev pub tie : List Call
+tie =
+    insert 1 1 30
+    ∷ insert 5 1 50
+    ∷ send 1 1 1 lent
+    ∷ receive 0 0
+    ∷ send 5 5 1 lent
+    ∷ receive 0 1
+    ∷ send 0 1 1 lent
+    ∷ receive 1 2
+    ∷ send 0 5 1 lent
+    ∷ receive 5 3
+    ∷ []
+
+abbrev pub tieAfter : List ℕ → List (List ℕ)
+tieAfter ranks = listsAfter 5 ranks (10 ∷ []) (0 ∷ 1 ∷ 5 ∷ []) tie
+
 pub record MarkedCases : Type 0 where
   pub p1-p8 : TransformCases
   pub p9-p10 : bytes.Cases
-  pub p11-lists : listsAfter (10 ∷ 20 ∷ []) p11 ≡ (30 ∷ 10 ∷ []) ∷ (30 ∷ 10 ∷ []) ∷ (30 ∷ 10 ∷ []) ∷ []
-  pub p12-lists : listsAfter (10 ∷ 20 ∷ 30 ∷ []) p12 ≡ (40 ∷ 50 ∷ 20 ∷ 30 ∷ []) ∷ (40 ∷ 50 ∷ 20 ∷ 30 ∷ []) ∷ (40 ∷ 50 ∷ 20 ∷ 30 ∷ []) ∷ []
+  pub p11-lists : twoAfter (10 ∷ 20 ∷ []) p11 ≡ (30 ∷ 10 ∷ []) ∷ (30 ∷ 10 ∷ []) ∷ (30 ∷ 10 ∷ []) ∷ []
+  pub p12-lists : twoAfter (10 ∷ 20 ∷ 30 ∷ []) p12 ≡ (40 ∷ 50 ∷ 20 ∷ 30 ∷ []) ∷ (40 ∷ 50 ∷ 20 ∷ 30 ∷ []) ∷ (40 ∷ 50 ∷ 20 ∷ 30 ∷ []) ∷ []
+  -- client 1 stays where lines are ranks, client 5 where it has rank 1
+  pub by-line : tieAfter (lineRanks 5) ≡ (30 ∷ 50 ∷ 10 ∷ []) ∷ (30 ∷ 50 ∷ 10 ∷ []) ∷ (30 ∷ 50 ∷ 10 ∷ []) ∷ []
+  pub lead-first : tieAfter (2 ∷ 3 ∷ 4 ∷ 5 ∷ 1 ∷ []) ≡ (50 ∷ 30 ∷ 10 ∷ []) ∷ (50 ∷ 30 ∷ 10 ∷ []) ∷ (50 ∷ 30 ∷ 10 ∷ []) ∷ []
+  -- two alike, one past n, one 0, too few, too many; and a ranking
+  pub ranked : map (λ ranks. openServer 2 ranks [] .refusal) ((1 ∷ 1 ∷ []) ∷ (1 ∷ 3 ∷ []) ∷ (0 ∷ 1 ∷ []) ∷ (1 ∷ []) ∷ (2 ∷ 1 ∷ 3 ∷ []) ∷ (2 ∷ 1 ∷ []) ∷ [])
+      ≡ 16 ∷ 16 ∷ 16 ∷ 16 ∷ 16 ∷ 0 ∷ []
+  -- question 1 comes first
+  pub one-first : (openServer 9 [] [] .refusal ≡ 1) × (openClient 2 3 [] [] .refusal ≡ 1)

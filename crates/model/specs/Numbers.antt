@@ -16,6 +16,7 @@ use Rattle.jupiter.specs.Claims.{inserts}
 use Rattle.model.specs.Limits.{maxInserts, maxEdits, maxPending, maxItems}
 use Rattle.model.specs.Questions.{Question, ask, asks, between}
 use Rattle.model.specs.Cross.{insertsOf}
+use Rattle.model.specs.Ranks.{rankOf}
 use Rattle.model.specs.Edits.{edits}
 use Rattle.model.specs.Sheet.{Call, insert, delete, send, tell, receive, junk}
 use Rattle.model.specs.Log.{Log, madeAt, takenAt, editMessage, messageBytes}
@@ -35,10 +36,10 @@ downTo n zero l = false
 downTo n (suc a) l = owns n (suc a) l
 
 -- how many edits are pending at end a for line l: made there, less the last seen that came
-abbrev pub pendingAt : Log → ℕ → ℕ → ℕ
+abbrev pub pendingAt : {ranks : List ℕ} → Log ranks → ℕ → ℕ → ℕ
 pendingAt w a l = madeAt (w .history) a l - w .heard a l
 
-abbrev pub editing : Log → ℕ → Edit → List Question
+abbrev pub editing : {ranks : List ℕ} → Log ranks → ℕ → Edit → List Question
 editing w l e =
     ask 9 (fits e (length (w .shown l)) && leb (length (applied e (w .shown l))) maxItems)
     ∷ ask 10 (leb (inserts (mine l (order (w .history) l)) + insertsOf e) maxInserts)
@@ -46,7 +47,7 @@ editing w l e =
     ∷ ask 12 (ltb (pendingAt w l l) maxPending)
     ∷ []
 
-abbrev pub sending : ℕ → Log → ℕ → ℕ → ℕ → List ℕ → List Question
+abbrev pub sending : {ranks : List ℕ} → ℕ → Log ranks → ℕ → ℕ → ℕ → List ℕ → List Question
 sending n w a l number lent =
     ask 4 (owns n a l)
     ∷ ask 13 (between (w .heard a l + 1) (madeAt (w .history) a l) number)
@@ -62,11 +63,11 @@ allBut test l zero = true
 allBut test l (suc k) = (eqb l (suc k) || test (suc k)) && allBut test l k
 
 -- the server has room for one more pending edit on line l
-abbrev pub roomOn : Log → ℕ → Bool
+abbrev pub roomOn : {ranks : List ℕ} → Log ranks → ℕ → Bool
 roomOn w l = ltb (pendingAt w 0 l) maxPending
 
 -- an edit message that goes to end a on line l: it is the next one, and its seen is not overtaken
-abbrev pub next : Log → ℕ → ℕ → EditMessage edits → List Question → List Question
+abbrev pub next : {ranks : List ℕ} → Log ranks → ℕ → ℕ → EditMessage (edits ranks) → List Question → List Question
 next w a l m more =
     ask 5 (ltb (takenAt (w .history) a l) (m .number))
     ∷ ask 6 (eqb (m .number) (takenAt (w .history) a l + 1))
@@ -74,19 +75,19 @@ next w a l m more =
     ∷ more
 
 -- end a takes a message that was written
-abbrev pub taking : ℕ → Log → ℕ → Message edits → List Question
+abbrev pub taking : {ranks : List ℕ} → ℕ → Log ranks → ℕ → Message (edits ranks) → List Question
 taking n w a (up l m) = ask 4 (upTo n a l) ∷ next w a l m (ask 12 (allBut (roomOn w) l n) ∷ [])
 taking n w a (down l m) = ask 4 (downTo n a l) ∷ next w a l m []
 taking n w a (upAck l seen) = ask 4 (upTo n a l) ∷ ask 7 (leb (w .heard a l) seen) ∷ []
 taking n w a (downAck l seen) = ask 4 (downTo n a l) ∷ ask 7 (leb (w .heard a l) seen) ∷ []
 
 -- no such message was written: no call
-abbrev pub handing : ℕ → Log → ℕ → Option (Message edits) → ℕ
+abbrev pub handing : {ranks : List ℕ} → ℕ → Log ranks → ℕ → Option (Message (edits ranks)) → ℕ
 handing n w a none = 0
 handing n w a (some x) = asks (taking n w a x)
 
-unfoldable pub number : ℕ → Log → Call → ℕ
-number n w (insert l p x) = asks (editing w l (edit.Insert p x l))
+unfoldable pub number : {ranks : List ℕ} → ℕ → Log ranks → Call → ℕ
+number {ranks} n w (insert l p x) = asks (editing w l (edit.Insert p x (rankOf ranks l)))
 number n w (delete l p) = asks (editing w l (edit.Delete p))
 number n w (send a l k lent) = asks (sending n w a l k lent)
 number n w (tell a l lent) = asks (telling n a l lent)

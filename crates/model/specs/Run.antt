@@ -39,14 +39,14 @@ callable n (junk a bytes) = leb a n && areBytes bytes && unreadable (parsed byte
 
 module _ (S : Sheet) where
   -- the ends as the last call on each left them, the messages written, the counts answered, and the log of the definitions
-  pub record State : Type 0 where
+  pub record State (ranks : List ℕ) : Type 0 where
     pub ends : ℕ → S .End
     pub messages : List (List ℕ)
     pub passed : List ℕ
-    pub recorded : Log
+    pub recorded : Log ranks
 
   -- a call that answers an end: that end is the new one, refused or not
-  abbrev pub answered : State → ℕ → Call → Answer (S .End) → State
+  abbrev pub answered : {ranks : List ℕ} → State ranks → ℕ → Call → Answer (S .End) → State ranks
   answered s a c r =
       record {
         ends = at a (r .end) (s .ends);
@@ -56,7 +56,7 @@ module _ (S : Sheet) where
       }
 
   -- a sending changes no end; what it wrote is a message
-  abbrev pub written : State → Call → Sent → State
+  abbrev pub written : {ranks : List ℕ} → State ranks → Call → Sent → State ranks
   written s c r =
       record {
         ends = s .ends;
@@ -66,11 +66,11 @@ module _ (S : Sheet) where
       }
 
   -- no such message was written: no call
-  unfoldable pub handed : State → ℕ → Call → Option (List ℕ) → State
+  unfoldable pub handed : {ranks : List ℕ} → State ranks → ℕ → Call → Option (List ℕ) → State ranks
   handed s a c none = s
   handed s a c (some bytes) = answered s a c (S .take (s .ends a) bytes)
 
-  unfoldable pub call : State → Call → State
+  unfoldable pub call : {ranks : List ℕ} → State ranks → Call → State ranks
   call s (insert l p x) = answered s l (insert l p x) (S .insert (s .ends l) p x)
   call s (delete l p) = answered s l (delete l p) (S .delete (s .ends l) p)
   call s (send a l number lent) = written s (send a l number lent) (S .send (s .ends a) l number lent)
@@ -79,11 +79,11 @@ module _ (S : Sheet) where
   call s (junk a bytes) = answered s a (junk a bytes) (S .take (s .ends a) bytes)
 
   -- the number that it is answered with
-  abbrev pub handedNumber : State → ℕ → Option (List ℕ) → ℕ
+  abbrev pub handedNumber : {ranks : List ℕ} → State ranks → ℕ → Option (List ℕ) → ℕ
   handedNumber s a none = 0
   handedNumber s a (some bytes) = S .take (s .ends a) bytes .refusal
 
-  unfoldable pub numberOf : State → Call → ℕ
+  unfoldable pub numberOf : {ranks : List ℕ} → State ranks → Call → ℕ
   numberOf s (insert l p x) = S .insert (s .ends l) p x .refusal
   numberOf s (delete l p) = S .delete (s .ends l) p .refusal
   numberOf s (send a l number lent) = S .send (s .ends a) l number lent .refusal
@@ -91,14 +91,14 @@ module _ (S : Sheet) where
   numberOf s (receive a i) = handedNumber s a (getElem? (s .messages) i)
   numberOf s (junk a bytes) = S .take (s .ends a) bytes .refusal
 
-  unfoldable pub run : ℕ → State → List Call → State
+  unfoldable pub run : {ranks : List ℕ} → ℕ → State ranks → List Call → State ranks
   run n s [] = s
   run n s (c ∷ cs) = run n (cond (callable n c) (call s c) s) cs
 
   -- the ends as opening returned them
-  abbrev pub opened : ℕ → List ℕ → ℕ → S .End
-  opened n items zero = S .openServer n items .end
-  opened n items (suc l) = S .openClient n (suc l) items .end
+  abbrev pub opened : ℕ → List ℕ → List ℕ → ℕ → S .End
+  opened n ranks items zero = S .openServer n ranks items .end
+  opened n ranks items (suc l) = S .openClient n (suc l) ranks items .end
 
-  abbrev pub start : ℕ → List ℕ → State
-  start n items = record { ends = opened n items; messages = []; passed = []; recorded = noLog items }
+  abbrev pub start : ℕ → (ranks : List ℕ) → List ℕ → State ranks
+  start n ranks items = record { ends = opened n ranks items; messages = []; passed = []; recorded = noLog items }

@@ -14,19 +14,22 @@ use Rattle.wire.specs.Bytes.{bytesOf, parsed}
 use Rattle.model.specs.Limits.{maxLines, maxInserts, maxItems, maxInitial}
 use Rattle.model.specs.Questions.{Question, ask, asks, every, between, Answer, answer, Sent, sent}
 use Rattle.model.specs.Cross.{priority, insertsOf}
+use Rattle.model.specs.Ranks.{rankOf, ranking}
 use Rattle.model.specs.Line.{Line, noLine, other, lineTests, roomy, lineKeeps, lineMessage, sendQuestions, lineAcked, lineTaken, carried, seenQuestions, takeQuestions}
 
 pub record Server : Type 0 where
   pub n : ℕ
   -- how many items it was opened with
   pub initial : ℕ
+  -- of lines 1 to n
+  pub ranks : List ℕ
   pub items : List ℕ
   -- lines 1 to n
   pub lines : List Line
 
 -- what a refused opening returns
 abbrev pub noServer : Server
-noServer = record { n = 0; initial = 0; items = []; lines = [] }
+noServer = record { n = 0; initial = 0; ranks = []; items = []; lines = [] }
 
 -- line l of 1 to n
 abbrev pub lineOf : Server → ℕ → Line
@@ -38,41 +41,42 @@ total f [] = 0
 total f (v ∷ vs) = f v + total f vs
 
 -- question 2 for line l, where all lines together took sum edits
-abbrev pub serverLineTests : ℕ → ℕ → ℕ → Line → List Bool
-serverLineTests n sum l v = eqb (v .made) (sum - v .taken) ∷ lineTests (v .taken) (other n l) v
+abbrev pub serverLineTests : ℕ → List ℕ → ℕ → ℕ → Line → List Bool
+serverLineTests n ranks sum l v = eqb (v .made) (sum - v .taken) ∷ lineTests (v .taken) (other n (rankOf ranks l)) v
 
-unfoldable pub soundLine : ℕ → ℕ → ℕ → Line → Bool
-soundLine n sum l v = every (serverLineTests n sum l v)
+unfoldable pub soundLine : ℕ → List ℕ → ℕ → ℕ → Line → Bool
+soundLine n ranks sum l v = every (serverLineTests n ranks sum l v)
 
 -- the lines from l on
-unfoldable pub soundLines : ℕ → ℕ → ℕ → List Line → Bool
-soundLines n sum l [] = true
-soundLines n sum l (v ∷ vs) = soundLine n sum l v && soundLines n sum (suc l) vs
+unfoldable pub soundLines : ℕ → List ℕ → ℕ → ℕ → List Line → Bool
+soundLines n ranks sum l [] = true
+soundLines n ranks sum l (v ∷ vs) = soundLine n ranks sum l v && soundLines n ranks sum (suc l) vs
 
 -- question 2, test by test
 abbrev pub serverTests : Server → List Bool
 serverTests s =
     between 1 maxLines (s .n)
     ∷ leb (s .initial) maxInitial
+    ∷ ranking (s .n) (s .ranks)
     ∷ leb (length (s .items)) maxItems
     ∷ eqb (length (s .lines)) (s .n)
-    ∷ soundLines (s .n) (total (λ v. v .taken) (s .lines)) 1 (s .lines)
+    ∷ soundLines (s .n) (s .ranks) (total (λ v. v .taken) (s .lines)) 1 (s .lines)
     ∷ leb (length (s .items)) (s .initial + total (λ v. v .inserts) (s .lines))
     ∷ []
 
 unfoldable pub soundServer : Server → Bool
 soundServer s = every (serverTests s)
 
-abbrev pub openServerQuestions : ℕ → List ℕ → List Question
-openServerQuestions n items =
-    ask 1 (every (between 1 maxLines n ∷ leb (length items) maxInitial ∷ [])) ∷ []
+abbrev pub openServerQuestions : ℕ → List ℕ → List ℕ → List Question
+openServerQuestions n ranks items =
+    ask 1 (every (between 1 maxLines n ∷ leb (length items) maxInitial ∷ [])) ∷ ask 16 (ranking n ranks) ∷ []
 
-unfoldable pub openServer : ℕ → List ℕ → Answer Server
-openServer n items =
+unfoldable pub openServer : ℕ → List ℕ → List ℕ → Answer Server
+openServer n ranks items =
     answer
-    (asks (openServerQuestions n items))
+    (asks (openServerQuestions n ranks items))
     noServer
-    (record { n = n; initial = length items; items = items; lines = replicate n noLine })
+    (record { n = n; initial = length items; ranks = ranks; items = items; lines = replicate n noLine })
     0
 
 abbrev pub serverMessage : Server → ℕ → ℕ → Message
@@ -111,6 +115,7 @@ serverAcked s line seen =
     record {
       n = s .n;
       initial = s .initial;
+      ranks = s .ranks;
       items = s .items;
       lines = atPlace (line - 1) (lineAcked seen) (λ v. v) (s .lines);
     }
@@ -120,6 +125,7 @@ serverTaken s line seen e =
     record {
       n = s .n;
       initial = s .initial;
+      ranks = s .ranks;
       items = applied (carried (lineOf s line) seen e) (s .items);
       lines =
           atPlace (line - 1) (λ v. lineTaken (v .inserts + insertsOf e) seen e v)
@@ -135,7 +141,7 @@ othersRoomy (suc i) (v ∷ vs) = roomy v && othersRoomy i vs
 abbrev pub serverEditQuestions : Server → Header → Edit → List Question
 serverEditQuestions s h e =
     ask 2 (soundServer s)
-    ∷ ask 4 (eqb (h .direction) 0 && between 1 (s .n) (h .line) && priority (eqb (h .line)) e)
+    ∷ ask 4 (eqb (h .direction) 0 && between 1 (s .n) (h .line) && priority (eqb (rankOf (s .ranks) (h .line))) e)
     ∷ takeQuestions (lineOf s (h .line)) (s .items) h e
     (ask 10 (leb (lineOf s (h .line) .inserts + insertsOf e) maxInserts) ∷ ask 12 (othersRoomy (h .line - 1) (s .lines)) ∷ [])
 

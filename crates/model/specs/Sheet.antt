@@ -10,9 +10,9 @@ pub record Sheet : Type 1 where
   pub items : End → List ℕ
   pub made : End → ℕ → ℕ
   pub taken : End → ℕ → ℕ
-  -- n, items; n, line, items
-  pub openServer : ℕ → List ℕ → Answer End
-  pub openClient : ℕ → ℕ → List ℕ → Answer End
+  -- n, ranks, items; n, line, ranks, items
+  pub openServer : ℕ → List ℕ → List ℕ → Answer End
+  pub openClient : ℕ → ℕ → List ℕ → List ℕ → Answer End
   -- position, item; position
   pub insert : End → ℕ → ℕ → Answer End
   pub delete : End → ℕ → Answer End

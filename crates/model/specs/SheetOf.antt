@@ -10,7 +10,8 @@ pub record ClientCalls : Type 1 where
   -- on its own line
   pub made : Client → ℕ
   pub taken : Client → ℕ
-  pub opens : ℕ → ℕ → List ℕ → Answer Client
+  -- n, line, ranks, items
+  pub opens : ℕ → ℕ → List ℕ → List ℕ → Answer Client
   pub insert : Client → ℕ → ℕ → Answer Client
   pub delete : Client → ℕ → Answer Client
   pub send : Client → ℕ → ℕ → List ℕ → Sent
@@ -22,7 +23,8 @@ pub record ServerCalls : Type 1 where
   pub items : Server → List ℕ
   pub made : Server → ℕ → ℕ
   pub taken : Server → ℕ → ℕ
-  pub opens : ℕ → List ℕ → Answer Server
+  -- n, ranks, items
+  pub opens : ℕ → List ℕ → List ℕ → Answer Server
   pub send : Server → ℕ → ℕ → List ℕ → Sent
   pub tell : Server → ℕ → List ℕ → Sent
   pub take : Server → List ℕ → Answer Server
@@ -82,8 +84,8 @@ module _ (c : ClientCalls) (v : ServerCalls) where
         items = items;
         made = made;
         taken = taken;
-        openServer = λ n xs. answerAs server (v .opens n xs);
-        openClient = λ n l xs. answerAs client (c .opens n l xs);
+        openServer = λ n ranks xs. answerAs server (v .opens n ranks xs);
+        openClient = λ n l ranks xs. answerAs client (c .opens n l ranks xs);
         insert = insert;
         delete = delete;
         send = send;

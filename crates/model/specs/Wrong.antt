@@ -1,7 +1,7 @@
 -- Sheets that must not pass (01: promise c, and the slips at the bench). Each is ours with one fault.
 use Prim.Native.Nat.{ℕ, suc, _+_, _-_}
 use mathlib.Core.Bool.{not, _&&_, cond}
-use mathlib.Core.List.{List, [], _∷_}
+use mathlib.Core.List.{List, [], _∷_, reverse}
 use lib.Dec.{ltb, eqb}
 use Rattle.ot.specs.Edit.{Edit, Nothing, Delete, Insert, applied, transformed}
 use Rattle.wire.specs.declared.Header.{Header}
@@ -10,6 +10,7 @@ use Rattle.wire.specs.declared.Read.{Read}
 use Rattle.wire.specs.declared.Read.the-variants as read
 use Rattle.wire.specs.Bytes.{parsed}
 use Rattle.model.specs.Questions.{asks, Answer, answer}
+use Rattle.model.specs.Ranks.{lineRanks}
 use Rattle.model.specs.Line.{unacked}
 use Rattle.model.specs.Client.{Client, with, insertClient, clientAcked, clientTakesAck, clientEditQuestions, takeClient}
 use Rattle.model.specs.Server.{Server, lineOf, serverReads, takeServer}
@@ -85,7 +86,7 @@ repeating =
       items = λ e. e .shown;
       made = λ e. e .now .own .made;
       taken = λ e. e .now .own .taken;
-      opens = λ n l items. answerAs shows (clientCalls .opens n l items);
+      opens = λ n l ranks items. answerAs shows (clientCalls .opens n l ranks items);
       insert = λ e p x. repeats e (λ c. record { now = c; shown = e .shown }) (insertClient (e .now) p x);
       delete = λ e p. repeats e shows (clientCalls .delete (e .now) p);
       send = λ e. clientCalls .send (e .now);
@@ -182,6 +183,49 @@ early room = takingAs takeClient (λ s bytes. takesBelow room s (parsed bytes))
 abbrev pub frozen : Sheet
 frozen = insertingAs (λ c p x. record { refusal = 9; end = c; passed = 0 })
 
+-- ---- ranks
+
+-- An opening that is let through gives other ranks: to the clients, and to the server.
+abbrev pub clientRanked : (Client → List ℕ) → Client → Client
+clientRanked ranks c = record { n = c .n; line = c .line; ranks = ranks c; items = c .items; own = c .own }
+
+abbrev pub serverRanked : (Server → List ℕ) → Server → Server
+serverRanked ranks s = record { n = s .n; initial = s .initial; ranks = ranks s; items = s .items; lines = s .lines }
+
+abbrev pub rankingAs : (Client → List ℕ) → (Server → List ℕ) → Sheet
+rankingAs clientRanks serverRanks =
+    sheetOf
+    (record {
+      Client = Client;
+      items = clientCalls .items;
+      made = clientCalls .made;
+      taken = clientCalls .taken;
+      opens = λ n l ranks items. answerAs (clientRanked clientRanks) (clientCalls .opens n l ranks items);
+      insert = clientCalls .insert;
+      delete = clientCalls .delete;
+      send = clientCalls .send;
+      tell = clientCalls .tell;
+      take = clientCalls .take;
+    })
+    (record {
+      Server = Server;
+      items = serverCalls .items;
+      made = serverCalls .made;
+      taken = serverCalls .taken;
+      opens = λ n ranks items. answerAs (serverRanked serverRanks) (serverCalls .opens n ranks items);
+      send = serverCalls .send;
+      tell = serverCalls .tell;
+      take = serverCalls .take;
+    })
+
+-- The ranks are ignored: the lower line stays in a tie.
+abbrev pub byLine : Sheet
+byLine = rankingAs (λ c. lineRanks (c .n)) (λ s. lineRanks (s .n))
+
+-- The server has other ranks than the clients.
+abbrev pub otherRanks : Sheet
+otherRanks = rankingAs (λ c. c .ranks) (λ s. reverse (s .ranks))
+
 -- None of them has what is claimed.
 pub record Refuted : Type 0 where
   pub leaving-fails : Converges leaving → ⊥
@@ -199,3 +243,5 @@ pub record Refuted : Type 0 where
   -- one below the limit
   pub nearly-fails : Converges (early 63) → ⊥
   pub frozen-fails : Converges frozen → ⊥
+  pub by-line-fails : Converges byLine → ⊥
+  pub other-ranks-fails : Converges otherRanks → ⊥
