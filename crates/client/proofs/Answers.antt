@@ -1,7 +1,7 @@
 -- The ways in which a call ends: the end is not sound, a question says no, the call is done.
 use Prim.Native.Nat.{ℕ, _≤_}
 use native.Mathlib.Omega.{arith}
-use mathlib.Core.Path.{_≡_, ap, _∙_, sym}
+use mathlib.Core.Path.{_≡_, refl, ap, _∙_, sym}
 use mathlib.Core.Bool.{Bool, true, false, _&&_, and-true, and-assoc}
 use mathlib.Core.List.{List, [], _∷_, _++_}
 use lib.Dec.{leb}
@@ -13,10 +13,14 @@ use Rattle.limits.specs.Limits.{maxLines, maxItems, maxInitial}
 use Rattle.list.specs.Items.{stored, initialItems}
 use Rattle.list.proofs.Pad.{pad-length}
 use Rattle.model.specs.Questions as model
+use Rattle.model.specs.Ranks.{ranking}
 use Rattle.model.specs.Line.{noLine}
 use Rattle.model.specs.Client as client
-use Rattle.model.proofs.Tests.{and-right}
+use Rattle.model.proofs.Tests.{and-left, and-right}
+use Rattle.ranks.specs.Stored as ranks
 use Rattle.pending.specs.Slots.{slotsOf}
+use Rattle.line.specs.Line.{countsOf}
+use Rattle.client.specs.declared.Counts.{Counts}
 use Rattle.client.specs.declared.Client.{Client}
 use Rattle.client.specs.declared.Answer.{Answer}
 use Rattle.client.specs.View.{size, slotsIn, clientOf, counts, view, store, sound}
@@ -42,35 +46,57 @@ module _ (c : Client) where
 abbrev pub openTests : ℕ → ℕ → List ℕ → Bool
 openTests n line items = (model.between 1 maxLines n && model.between 1 n line) && leb (length items) maxInitial
 
-abbrev opening : ℕ → ℕ → List ℕ → client.Client
-opening n line items = record { n = n; line = line; items = items; own = noLine }
+-- the client that opens, and its numbers with the ranks in their places
+abbrev opening : ℕ → ℕ → List ℕ → List ℕ → client.Client
+opening n line rs items = record { n = n; line = line; ranks = rs; items = items; own = noLine }
 
-module _ (n line : ℕ) (items : List ℕ) where
-  abbrev asked : Bool → Answer
-  asked b = given (store client.noClient) (model.answer (model.asks (model.ask 1 b ∷ [])) client.noClient (opening n line items) 0)
+abbrev pub openCounts : ℕ → ℕ → List ℕ → List ℕ → Counts
+openCounts n line places items = record { own = countsOf noLine; len = length items; n = n; line = line; ranks = places }
+
+module _ (n line : ℕ) (rs items : List ℕ) where
+  abbrev asked : Bool → Bool → Answer
+  asked b r =
+      given (store client.noClient) (model.answer (model.asks (model.ask 1 b ∷ model.ask 16 r ∷ [])) client.noClient (opening n line rs items) 0)
 
   every-is : openTests n line items ≡ model.every (model.between 1 maxLines n ∷ model.between 1 n line ∷ leb (length items) maxInitial ∷ [])
   every-is = simp (and-assoc, and-true)
 
-  pub open-short : openTests n line items ≡ true → length items ≤ maxInitial
-  open-short h =
-      leb-true (length items) maxInitial (and-right (model.between 1 maxLines n && model.between 1 n line) (leb (length items) maxInitial) h)
+  asked-is : (b r : Bool) → openTests n line items ≡ b → ranking n rs ≡ r → asked b r ≡ opened n line rs items
+  unfolding client.openClient
+  asked-is b r eb er = (λ i. asked (sym eb i) (sym er i)) ∙ ap (λ (x : Bool). asked x (ranking n rs)) every-is
 
-  -- the initial list goes into words that are zero
-  pub open-yes : (words list : List ℕ) → openTests n line items ≡ true → words ≡ replicate size 0 → list ≡ initialItems items
-      → record { refusal = 0; passed = 0; client = clientOf (counts (opening n line items)) (putMid 0 maxItems words list) } ≡ opened n line items
-  unfolding client.openClient model.answer
-  open-yes words list h ew el =
-      let all : take maxInitial items ≡ items = take-all maxInitial items (open-short h) in
-      let held : list ≡ stored items = el ∙ ap stored all in
-      let long : length list ≡ maxItems = ap length held ∙ pad-length maxItems 0 items (omega (arith, open-short h)) in
-      let written : putMid 0 maxItems words list ≡ stored items ++ slotsOf [] =
-      items-written words (ap length ew) list long (slotsOf []) (ap slotsIn ew ∙ zero-slots) ∙ ap (λ (l : List ℕ). l ++ slotsOf []) held in
-      ap (λ (ws : List ℕ). record { refusal = 0; passed = 0; client = clientOf (counts (opening n line items)) ws }) written
-      ∙ ap asked (sym h ∙ every-is)
+  -- question 16 as the code found it
+  module _ (ranked : Bool) (er : ranked ≡ ranking n rs) where
+    pub open-short : (openTests n line items && ranked) ≡ true → length items ≤ maxInitial
+    open-short h =
+        leb-true (length items) maxInitial
+        (and-right (model.between 1 maxLines n && model.between 1 n line) (leb (length items) maxInitial) (and-left (openTests n line items) ranked h))
 
-  pub open-no : (words : List ℕ) → openTests n line items ≡ false → words ≡ replicate size 0
-      → refusedWith 1 (clientOf (counts client.noClient) words) ≡ opened n line items
-  unfolding client.openClient model.answer
-  open-no words h ew =
-      ap (λ (ws : List ℕ). refusedWith 1 (clientOf (counts client.noClient) ws)) (ew ∙ zero-words) ∙ ap asked (sym h ∙ every-is)
+    -- the initial list goes into words that are zero
+    pub open-yes : (words list places : List ℕ) → (openTests n line items && ranked) ≡ true → words ≡ replicate size 0 → list ≡ initialItems items
+        → places ≡ ranks.stored rs
+        → record { refusal = 0; passed = 0; client = clientOf (openCounts n line places items) (putMid 0 maxItems words list) } ≡ opened n line rs items
+    unfolding model.answer
+    open-yes words list places h ew el ep =
+        let all : take maxInitial items ≡ items = take-all maxInitial items (open-short h) in
+        let held : list ≡ stored items = el ∙ ap stored all in
+        let long : length list ≡ maxItems = ap length held ∙ pad-length maxItems 0 items (omega (arith, open-short h)) in
+        let written : putMid 0 maxItems words list ≡ stored items ++ slotsOf [] =
+        items-written words (ap length ew) list long (slotsOf []) (ap slotsIn ew ∙ zero-slots) ∙ ap (λ (l : List ℕ). l ++ slotsOf []) held in
+        (λ i. record { refusal = 0; passed = 0; client = clientOf (openCounts n line (ep i) items) (written i) })
+        ∙ asked-is true true (and-left (openTests n line items) ranked h) (sym er ∙ and-right (openTests n line items) ranked h)
+
+    -- refused, the words stay zero
+    abbrev none : ℕ → List ℕ → Answer
+    none refusal words = refusedWith refusal (clientOf (counts client.noClient) words)
+
+    pub open-unranked : (words : List ℕ) → (openTests n line items && ranked) ≡ false → openTests n line items ≡ true → words ≡ replicate size 0
+        → none 16 words ≡ opened n line rs items
+    unfolding model.answer
+    open-unranked words h t ew =
+        let not-ranked : ranking n rs ≡ false = sym er ∙ sym (ap (λ (b : Bool). b && ranked) t) ∙ h in
+        ap (none 16) (ew ∙ zero-words) ∙ asked-is true false t not-ranked
+
+    pub open-no : (words : List ℕ) → openTests n line items ≡ false → words ≡ replicate size 0 → none 1 words ≡ opened n line rs items
+    unfolding model.answer
+    open-no words h ew = ap (none 1) (ew ∙ zero-words) ∙ asked-is false (ranking n rs) h refl

@@ -8,10 +8,11 @@ use lib.Dec.{leb, ltb}
 use lib.ListN.{length, length-append}
 use borrow.Author.Tests.{eqb-false, ltb-true, leb-true, le-leb, lt-leb, lt-ltb, le-ltb}
 use Rattle.limits.specs.Limits.{maxInserts, maxEdits, maxPending, maxItems}
-use Rattle.ot.specs.Edit.{Edit, applied, fits}
+use Rattle.ot.specs.Edit.{Edit, Insert, applied, fits}
 use Rattle.list.specs.Items.{Room, Edited}
 use Rattle.model.specs.Cross.{insertsOf}
 use Rattle.model.specs.Questions.{Question, ask, asks, answer}
+use Rattle.model.specs.Ranks.{rankOf}
 use Rattle.model.specs.Line as line
 use Rattle.model.specs.Client.{editClient}
 use Rattle.model.specs.Client as client
@@ -25,10 +26,11 @@ use Rattle.client.specs.declared.Counts.{Counts}
 use Rattle.client.specs.declared.Client.{Client}
 use Rattle.client.specs.declared.Changed.{Changed}
 use Rattle.client.specs.View.{size, itemsIn, slotsIn, view, sound, Sound}
-use Rattle.client.specs.Answers.{refusedWith, answerOf, guarded, edited, editAsked}
+use Rattle.client.specs.Answers.{refusedWith, answerOf, guarded, edited, inserted, editAsked}
 use Rattle.client.proofs.Words.{withSlots, withBoth}
 use Rattle.client.proofs.Answers.{unsound, refused, done}
-use Rattle.client.proofs.Written.{facts, len-few, list-long, becomes}
+use Rattle.client.proofs.Sound.{sound-rank}
+use Rattle.client.proofs.Written.{counted, facts, len-few, list-long, becomes}
 
 -- ---- questions 9 to 12 as the code asks them
 
@@ -62,7 +64,7 @@ module _ (k : Counts) (e : Edit) (b : Bool) (eb : b ≡ fitsList e (k .len)) whe
 
 -- the answer of an edit that is done
 abbrev pub editDone : Client → Line → ℕ → Changed
-editDone c own len = record { refusal = 0; passed = 0; counts = record { own = own; len = len; n = c .counts .n; line = c .counts .line } }
+editDone c own len = record { refusal = 0; passed = 0; counts = counted c own len }
 
 -- What questions 2 and 9 to 12 leave known of an edit that they let through: what its steps ask, and that they do what the model does.
 pub record Allowed (c : Client) (e : Edit) : Type 0 where
@@ -165,3 +167,13 @@ module _ (c : Client) (e : Edit) (r : ℕ) (f : sound c ≡ true → Sound c) (e
       go : (b : Bool) → sound c ≡ b → refusedWith r c ≡ edited c e
       go true t = edit-refused c (f t) e r (answer-is true t) n
       go false t = ap (λ (k : ℕ). refusedWith k c) (answer-is false t) ∙ unsound c (editClient (view c) e) t
+
+-- ---- an insert
+
+-- at a sound client the rank in its line's place is the one that the model gives
+pub ranked-insert : (c : Client) (p x r : ℕ) → r ≡ rankOf (c .counts .ranks) (c .counts .line) → edited c (Insert p x r) ≡ inserted c p x
+ranked-insert c p x r er = go (sound c) refl
+  where
+    go : (b : Bool) → sound c ≡ b → edited c (Insert p x r) ≡ inserted c p x
+    go true t = ap (λ (q : ℕ). edited c (Insert p x q)) (er ∙ sym (sound-rank c t))
+    go false t = sym (unsound c (editClient (view c) (Insert p x r)) t) ∙ unsound c (client.insertClient (view c) p x) t

@@ -2,7 +2,7 @@
 use Prim.Native.Nat.{ℕ, _-_, _≤_}
 use native.Mathlib.Omega.{arith}
 use mathlib.Core.Path.{_≡_, refl, ap, _∙_, sym}
-use mathlib.Core.Bool.{Bool, true, _&&_, and-true, and-assoc}
+use mathlib.Core.Bool.{Bool, true, false, _&&_, and-true, and-assoc}
 use mathlib.Core.List.{List, [], _∷_, _++_}
 use lib.Dec.{leb, eqb}
 use lib.ListN.{length, take, drop, length-take}
@@ -11,19 +11,32 @@ use Rattle.limits.specs.Limits.{maxLines, maxOthers, maxItems}
 use Rattle.list.specs.Items.{stored, allZero}
 use Rattle.list.proofs.Items.{stored-of}
 use Rattle.model.specs.Questions.{every, between}
+use Rattle.model.specs.Ranks.{rankOf, ranking}
 use Rattle.model.specs.Line.{lineTests}
-use Rattle.model.specs.Client.{clientTests, soundClient}
-use Rattle.model.proofs.Tests.{both, and-left, and-right, hold, held, bool-ext}
+use Rattle.model.specs.Client.{ownRank, clientTests, soundClient}
+use Rattle.model.proofs.Tests.{never, both, and-left, and-right, between-true, hold, held, bool-ext}
+use Rattle.ranks.specs.Stored as ranks
+use Rattle.ranks.proofs.Laws.{take-rank, sound-ranking, sound-zero, sound-stored}
 use Rattle.pending.specs.Slots.{slotsOf}
 use Rattle.line.specs.Line.{lineOf, Kept}
 use Rattle.line_sound.specs.Sound.{tidy, soundLine}
 use Rattle.line_sound.proofs.Words.{sound-kept}
 use Rattle.client.specs.declared.Counts.{Counts}
 use Rattle.client.specs.declared.Client.{Client}
-use Rattle.client.specs.View.{size, itemsIn, slotsIn, clientOf, view, store, soundTests, sound, Sound}
+use Rattle.client.specs.View.{itemsIn, slotsIn, clientOf, view, store, soundTests, sound, Sound, Sizes}
 use Rattle.client.proofs.Words.{in-parts, items-long, slots-long}
 
-module _ (c : Client) (long : length (c .words) ≡ size) where
+-- a line of the sheet has the same rank in its places as among the ranks of the sheet
+pub own-rank : (c : Client) → between 1 (c .counts .n) (c .counts .line) ≡ true → ownRank (view c) ≡ rankOf (c .counts .ranks) (c .counts .line)
+own-rank c h =
+    let b = between-true 1 (c .counts .n) (c .counts .line) h in
+    take-rank (c .counts .n) (c .counts .ranks) (c .counts .line) (b .0) (b .1)
+
+pub sound-rank : (c : Client) → sound c ≡ true → ownRank (view c) ≡ rankOf (c .counts .ranks) (c .counts .line)
+unfolding sound soundClient
+sound-rank c h = own-rank c (hold (clientTests (view c)) (hold (soundTests c) h .0) .1 .0)
+
+module _ (c : Client) (z : Sizes (c .counts) (c .words)) where
   abbrev k : Counts
   k = c .counts
 
@@ -33,89 +46,130 @@ module _ (c : Client) (long : length (c .words) ≡ size) where
   abbrev slots : List ℕ
   slots = slotsIn (c .words)
 
-  abbrev lineSound : Bool
-  lineSound = soundLine (k .own .made) (eqb (k .line)) (k .own) slots
+  abbrev rank : ℕ
+  rank = rankOf (k .ranks) (k .line)
 
-  -- what the code tests
-  abbrev tests : List Bool
-  tests =
-      between 1 maxLines (k .n)
-      ∷ between 1 (k .n) (k .line)
+  abbrev lineSound : ℕ → Bool
+  lineSound r = soundLine (k .own .made) (eqb r) (k .own) slots
+
+  -- what the code tests: how many lines there are, and behind it the rest
+  abbrev rest : List Bool
+  rest =
+      between 1 (k .n) (k .line)
       ∷ leb (k .len) maxItems
       ∷ leb (k .own .taken) maxOthers
+      ∷ ranks.soundRanks (k .n) (k .ranks)
       ∷ allZero (drop (k .len) items)
-      ∷ lineSound
+      ∷ lineSound rank
       ∷ []
 
-  listed : k .len ≤ maxItems → length (take (k .len) items) ≡ k .len
-  listed h = length-take (k .len) items ∙ omega (arith, items-long (c .words) long)
+  abbrev tests : List Bool
+  tests = between 1 maxLines (k .n) ∷ rest
 
-  line-tests : lineSound ≡ (every (lineTests (k .own .made) (eqb (k .line)) (lineOf (k .own) slots)) && tidy (k .own .made - k .own .acked) slots)
+  listed : k .len ≤ maxItems → length (take (k .len) items) ≡ k .len
+  listed h = length-take (k .len) items ∙ omega (arith, items-long (c .words) (z .words))
+
+  -- the tests of the line, at a rank
+  abbrev lineTested : ℕ → List Bool
+  lineTested r = lineTests (k .own .made) (eqb r) (lineOf (k .own) slots)
+
+  abbrev tidied : Bool
+  tidied = tidy (k .own .made - k .own .acked) slots
+
+  line-tests : (r : ℕ) → lineSound r ≡ (every (lineTested r) && tidied)
   unfolding soundLine
-  line-tests = refl
+  line-tests r = refl
 
   tested-sound : every tests ≡ true → sound c ≡ true
   unfolding sound soundClient
   tested-sound h =
       let t = hold tests h in
       let len : k .len ≤ maxItems = leb-true (k .len) maxItems (t .1 .1 .0) in
-      let own : List Bool = lineTests (k .own .made) (eqb (k .line)) (lineOf (k .own) slots) in
-      let l = sym line-tests ∙ t .1 .1 .1 .1 .1 .0 in
+      let right = t .1 .1 .1 .1 .0 in
+      let l : (every (lineTested (ownRank (view c))) && tidied) ≡ true =
+      sym (line-tests (ownRank (view c))) ∙ ap lineSound (own-rank c (t .1 .0)) ∙ t .1 .1 .1 .1 .1 .1 .0 in
       let m : every (clientTests (view c)) ≡ true =
       held (clientTests (view c)) (
         t .0,
         (
           t .1 .0,
           (
-            le-leb (length (take (k .len) items)) maxItems (omega (arith, listed len)),
-            (t .1 .1 .1 .0, hold own (and-left (every own) (tidy (k .own .made - k .own .acked) slots) l)),
+            sound-ranking (k .n) (k .ranks) right,
+            (
+              le-leb (length (take (k .len) items)) maxItems (omega (arith, listed len)),
+              (t .1 .1 .1 .0, hold (lineTested (ownRank (view c))) (and-left (every (lineTested (ownRank (view c)))) tidied l)),
+            ),
           ),
         ),
       ) in
       held (soundTests c) (
         m,
-        (t .1 .1 .0, (t .1 .1 .1 .1 .0, (and-right (every own) (tidy (k .own .made - k .own .acked) slots) l, tt))),
+        (
+          t .1 .1 .0,
+          (
+            sound-zero (k .n) (k .ranks) right,
+            (t .1 .1 .1 .1 .1 .0, (and-right (every (lineTested (ownRank (view c)))) tidied l, tt)),
+          ),
+        ),
       )
 
-  sound-line : sound c ≡ true → lineSound ≡ true
+  sound-ranks : sound c ≡ true → ranks.soundRanks (k .n) (k .ranks) ≡ true
+  unfolding sound soundClient ranks.soundRanks
+  sound-ranks h =
+      let f = hold (soundTests c) h in
+      both (ranking (k .n) (take (k .n) (k .ranks))) (allZero (drop (k .n) (k .ranks))) (hold (clientTests (view c)) (f .0) .1 .1 .0) (f .1 .1 .0)
+
+  sound-line : sound c ≡ true → lineSound rank ≡ true
   unfolding sound soundClient
   sound-line h =
       let f = hold (soundTests c) h in
-      let own : List Bool = lineTests (k .own .made) (eqb (k .line)) (lineOf (k .own) slots) in
       let m = hold (clientTests (view c)) (f .0) in
-      line-tests ∙ both (every own) (tidy (k .own .made - k .own .acked) slots) (held own (m .1 .1 .1 .1)) (f .1 .1 .1 .0)
+      ap lineSound (sym (own-rank c (m .1 .0)))
+      ∙ line-tests (ownRank (view c))
+      ∙ both (every (lineTested (ownRank (view c)))) tidied (held (lineTested (ownRank (view c))) (m .1 .1 .1 .1 .1)) (f .1 .1 .1 .1 .0)
 
   sound-tested : sound c ≡ true → every tests ≡ true
   unfolding sound soundClient
   sound-tested h =
       let f = hold (soundTests c) h in
       let m = hold (clientTests (view c)) (f .0) in
-      held tests (m .0, (m .1 .0, (f .1 .0, (m .1 .1 .1 .0, (f .1 .1 .0, (sound-line h, tt))))))
+      held tests (m .0, (m .1 .0, (f .1 .0, (m .1 .1 .1 .1 .0, (sound-ranks h, (f .1 .1 .1 .0, (sound-line h, tt)))))))
 
-  -- What a sound client is, once its words are as many as they should be.
+  -- What a sound client is, once its words and its ranks are as many as they should be.
   pub sound-facts : sound c ≡ true → Sound c
-  unfolding sound
+  unfolding sound soundClient
   sound-facts h =
       let f = hold (soundTests c) h in
       let len : k .len ≤ maxItems = leb-true (k .len) maxItems (f .1 .0) in
-      let stored-items : items ≡ stored (view c .items) = stored-of items (k .len) (items-long (c .words) long) len (f .1 .1 .0) in
-      let kept : Kept (k .own) slots = sound-kept (k .own .made) (eqb (k .line)) (k .own) slots (slots-long (c .words) long) (sound-line h) in
+      let lines = between-true 1 maxLines (k .n) (hold (clientTests (view c)) (f .0) .0) in
+      let stored-items : items ≡ stored (view c .items) = stored-of items (k .len) (items-long (c .words) (z .words)) len (f .1 .1 .1 .0) in
+      let stored-ranks : k .ranks ≡ ranks.stored (view c .ranks) = sound-stored (k .n) (k .ranks) (sound-ranks h) (z .ranks) (lines .1) in
+      let kept : Kept (k .own) slots = sound-kept (k .own .made) (eqb rank) (k .own) slots (slots-long (c .words) (z .words)) (sound-line h) in
       let words : c .words ≡ stored (view c .items) ++ slotsOf (view c .own .pending) =
-      in-parts (c .words) long ∙ ap (λ (l : List ℕ). l ++ slots) stored-items ∙ ap (λ (l : List ℕ). stored (view c .items) ++ l) (kept .whole) in
+      in-parts (c .words) (z .words) ∙ ap (λ (l : List ℕ). l ++ slots) stored-items ∙ ap (λ (l : List ℕ). stored (view c .items) ++ l) (kept .whole) in
       let whole : c ≡ store (view c) =
-      λ i. clientOf (record { own = k .own; len = sym (listed len) i; n = k .n; line = k .line }) (words i) in
+      λ i. clientOf (record { own = k .own; len = sym (listed len) i; n = k .n; line = k .line; ranks = stored-ranks i }) (words i) in
       record { yes = h; model = f .0; whole = whole; listed = listed len; kept = kept }
 
-  -- the tests as the code joins them
-  abbrev made : Bool → Bool → Bool
-  made unused own =
-      (((between 1 maxLines (k .n) && between 1 (k .n) (k .line)) && (leb (k .len) maxItems && leb (k .own .taken) maxOthers)) && unused) && own
+  -- ---- the tests as the code joins them
 
-  pub answers : (unused own : Bool) → unused ≡ allZero (drop (k .len) items) → own ≡ lineSound
-      → (made unused own ≡ sound c) × (made unused own ≡ true → Sound c)
-  answers unused own eu eo =
-      let joined : made (allZero (drop (k .len) items)) lineSound ≡ every tests = simp (and-assoc, and-true) in
-      let is : made unused own ≡ sound c =
-      ap (λ (b : Bool). made b own) eu ∙ ap (made (allZero (drop (k .len) items))) eo
-      ∙ joined ∙ bool-ext (every tests) (sound c) tested-sound sound-tested in
+  tested : every tests ≡ sound c
+  tested = bool-ext (every tests) (sound c) tested-sound sound-tested
+
+  pub no-lines : between 1 maxLines (k .n) ≡ false → (false ≡ sound c) × (false ≡ true → Sound c)
+  no-lines h = (ap (λ (b : Bool). b && every rest) (sym h) ∙ tested, λ y. never y)
+
+  abbrev made : Bool → Bool → Bool → Bool
+  made right unused own = (((between 1 (k .n) (k .line) && (leb (k .len) maxItems && leb (k .own .taken) maxOthers)) && right) && unused) && own
+
+  pub answers : between 1 maxLines (k .n) ≡ true → (right unused own : Bool) (r : ℕ) → right ≡ ranks.soundRanks (k .n) (k .ranks) → r ≡ rank
+      → unused ≡ allZero (drop (k .len) items) → own ≡ lineSound r → (made right unused own ≡ sound c) × (made right unused own ≡ true → Sound c)
+  answers h right unused own r er ek eu eo =
+      let joined : made (ranks.soundRanks (k .n) (k .ranks)) (allZero (drop (k .len) items)) (lineSound rank) ≡ every rest =
+      simp (and-assoc, and-true) in
+      let first : every rest ≡ every tests = ap (λ (b : Bool). b && every rest) (sym h) in
+      let is : made right unused own ≡ sound c =
+      ap (λ (b : Bool). made b unused own) er ∙ ap (λ (b : Bool). made (ranks.soundRanks (k .n) (k .ranks)) b own) eu
+      ∙ ap (made (ranks.soundRanks (k .n) (k .ranks)) (allZero (drop (k .len) items))) (eo ∙ ap lineSound ek)
+      ∙ joined ∙ first ∙ tested in
       (is, λ y. sound-facts (sym is ∙ y))

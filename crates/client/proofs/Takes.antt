@@ -20,6 +20,7 @@ use Rattle.wire.specs.declared.Read.the-variants as read
 use Rattle.wire.specs.Bytes.{parsed}
 use Rattle.model.specs.Cross.{priority}
 use Rattle.model.specs.Questions.{ask, asks, Answer, answer}
+use Rattle.model.specs.Ranks.{rankOf}
 use Rattle.model.specs.Line as line
 use Rattle.model.specs.Client as client
 use Rattle.pending.specs.Slots.{slotsOf}
@@ -38,18 +39,19 @@ use Rattle.client.specs.Answers.{refusedWith, answerOf, guarded, taken, 
 use Rattle.client.specs.Taking.{downTo}
 use Rattle.client.proofs.Words.{withSlots, withBoth}
 use Rattle.client.proofs.Answers as ends
-use Rattle.client.proofs.Written.{facts, len-few, list-long, becomes}
+use Rattle.client.proofs.Sound.{sound-rank}
+use Rattle.client.proofs.Written.{counted, facts, len-few, all-long, list-long, becomes}
 
 -- the answer of a message that is taken
 abbrev pub takeDone : Client → Decision → ℕ → Changed
-takeDone c d len =
-    record { refusal = 0; passed = d .passed; counts = record { own = d .line; len = len; n = c .counts .n; line = c .counts .line } }
+takeDone c d len = record { refusal = 0; passed = d .passed; counts = counted c (d .line) len }
 
 -- What a decision that refuses nothing leaves known: what the steps that follow ask, and that they do what the model does.
 pub record Accepted (c : Client) (m : Message) (a : Arrival) (d : Decision) (later : List ℕ) : Type 0 where
   pub seen : Between (c .counts .own) (a .seen)
   pub places : length later ≡ maxPending
   pub room : Room (edit (d .form) (a .item)) (c .counts .len) maxItems
+  pub words : (slots : List ℕ) → slots ≡ accepted (c .counts .own) (a .seen) later (slotsIn (c .words)) → length (withSlots (c .words) slots) ≡ size
   pub list : (slots : List ℕ) → slots ≡ accepted (c .counts .own) (a .seen) later (slotsIn (c .words)) → length (itemsIn (withSlots (c .words) slots)) ≡ maxItems
   pub done : (len : ℕ) (slots after : List ℕ) → slots ≡ accepted (c .counts .own) (a .seen) later (slotsIn (c .words))
       → Edited (edit (d .form) (a .item)) (c .counts .len) (itemsIn (withSlots (c .words) slots)) after len
@@ -83,11 +85,13 @@ module _ (c : Client) (s : Sound c) where
   takes-edit h f x =
       let then : client.Client = client.clientTaken (view c) (h .seen) (edit f x) in
       let passed : ℕ = c .counts .own .made - h .seen in
-      let down : Edit → Bool = λ e. eqb (h .direction) 1 && eqb (h .line) (c .counts .line) && priority (line.other (c .counts .n) (c .counts .line)) e in
+      let down : ℕ → Edit → Bool = λ r e. eqb (h .direction) 1 && eqb (h .line) (c .counts .line) && priority (line.other (c .counts .n) r) e in
+      let rank : ℕ = rankOf (c .counts .ranks) (c .counts .line) in
       let asked : ℕ = asks (line.takeQuestions v (view c .items) h (edit f x) []) in
-      ap (λ (b : Bool). answer (asks (ask 2 b ∷ ask 4 (down (edit f x)) ∷ line.takeQuestions v (view c .items) h (edit f x) [])) (view c) then passed) (s .model)
+      ap (λ (b : Bool). answer (asks (ask 2 b ∷ ask 4 (down (client.ownRank (view c)) (edit f x)) ∷ line.takeQuestions v (view c .items) h (edit f x) [])) (view c) then passed) (s .model)
+      ∙ ap (λ (r : ℕ). answer (cond (down r (edit f x)) asked 4) (view c) then passed) (sound-rank c (s .yes))
       ∙ ap (λ (b : Bool). answer (cond (eqb (h .direction) 1 && eqb (h .line) (c .counts .line) && b) asked 4) (view c) then passed)
-      (priority-form (line.other (c .counts .n) (c .counts .line)) f x 0)
+      (priority-form (line.other (c .counts .n) rank) f x 0)
       ∙ ap (λ (r : ℕ). answer (cond (downTo (c .counts) (carrying h f x)) r 4) (view c) then passed)
       (edit-asked (c .counts .own) (slotsIn (c .words)) (view c .items) h f x [] (facts c s .items)
       ∙ then-none (refusalOf (c .counts .own) v (length (view c .items)) (carrying h f x))
@@ -175,6 +179,7 @@ module _ (c : Client) (s : Sound c) where
                 seen = seen;
                 places = later-length (c .counts .own) (slotsIn (c .words)) (a .seen) later (then .pending) (s .kept) seen stay;
                 room = room;
+                words = λ slots es. all-long c s long then then-few slots (slots-then slots es);
                 list = λ slots es. list-long c s long then then-few slots (slots-then slots es);
                 done = take-done;
               }

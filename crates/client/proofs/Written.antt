@@ -12,15 +12,21 @@ use Rattle.list.proofs.Pad.{pad-length}
 use Rattle.model.specs.Line as line
 use Rattle.model.specs.Client as client
 use Rattle.model.proofs.SoundClient.{ClientFacts, client-facts}
+use Rattle.ranks.specs.Stored as ranks
 use Rattle.pending.specs.Slots as pending
 use Rattle.pending.specs.Slots.{slotsOf}
 use Rattle.pending.proofs.Slots.{slots-length}
 use Rattle.line.specs.declared.Line.{Line}
 use Rattle.line.specs.Line.{countsOf}
 use Rattle.line.proofs.Room.{room-stored, room-length}
+use Rattle.client.specs.declared.Counts.{Counts}
 use Rattle.client.specs.declared.Client.{Client}
 use Rattle.client.specs.View.{size, itemsIn, clientOf, view, store, Sound}
 use Rattle.client.proofs.Words.{items-of, withSlots, withBoth, slots-written, items-stay, items-long, both-written}
+
+-- the numbers with another line and another length
+abbrev pub counted : Client → Line → ℕ → Counts
+counted c own len = record { own = own; len = len; n = c .counts .n; line = c .counts .line; ranks = c .counts .ranks }
 
 module _ (c : Client) (s : Sound c) where
   pub facts : ClientFacts (view c)
@@ -41,12 +47,15 @@ module _ (c : Client) (s : Sound c) (long : length (c .words) ≡ size) (v : lin
   slots-long = ap length es ∙ slots-length (v .pending) few
 
   -- the slots are written: the items are as they were
+  pub all-long : length (withSlots (c .words) slots) ≡ size
+  all-long = slots-written (c .words) long slots slots-long
+
   pub list-long : length (itemsIn (withSlots (c .words) slots)) ≡ maxItems
-  list-long = items-long (withSlots (c .words) slots) (slots-written (c .words) long slots slots-long)
+  list-long = items-long (withSlots (c .words) slots) all-long
 
   pub becomes : (e : Edit) (own : Line) (len : ℕ) (after : List ℕ) → Room e (c .counts .len) maxItems → own ≡ countsOf v
       → Edited e (c .counts .len) (itemsIn (withSlots (c .words) slots)) after len
-      → clientOf (record { own = own; len = len; n = c .counts .n; line = c .counts .line }) (withBoth (c .words) slots after)
+      → clientOf (counted c own len) (withBoth (c .words) slots after)
       ≡ store (client.with (view c) (applied e (view c .items)) v)
   becomes e own len after room eo ed =
       let list : after ≡ stored (applied e (view c .items)) =
@@ -57,4 +66,5 @@ module _ (c : Client) (s : Sound c) (long : length (c .words) ≡ size) (v : lin
       let words : withBoth (c .words) slots after ≡ stored (applied e (view c .items)) ++ slotsOf (v .pending) =
       both-written (c .words) long slots slots-long after (ap length list ∙ pad-length maxItems 0 (applied e (view c .items)) most)
       ∙ ap (λ (l : List ℕ). l ++ slots) list ∙ ap (λ (l : List ℕ). stored (applied e (view c .items)) ++ l) es in
-      λ i. clientOf (record { own = eo i; len = size′ i; n = c .counts .n; line = c .counts .line }) (words i)
+      let places : c .counts .ranks ≡ ranks.stored (view c .ranks) = ap (λ (d : Client). d .counts .ranks) (s .whole) in
+      λ i. clientOf (record { own = eo i; len = size′ i; n = c .counts .n; line = c .counts .line; ranks = places i }) (words i)

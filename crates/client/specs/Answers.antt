@@ -4,7 +4,7 @@ use mathlib.Core.Bool.{cond}
 use mathlib.Core.List.{List, [], _∷_}
 use lib.Dec.{eqb, leb, ltb}
 use Rattle.limits.specs.Limits.{maxInserts, maxEdits, maxPending}
-use Rattle.ot.specs.Edit.{Edit, Delete, Insert}
+use Rattle.ot.specs.Edit.{Edit}
 use Rattle.wire.specs.declared.Message.{Message}
 use Rattle.model.specs.Questions as model
 use Rattle.model.specs.Cross.{insertsOf}
@@ -34,18 +34,18 @@ unfoldable pub guarded : Client → model.Answer client.Client → Answer
 guarded c a = cond (sound c) (given c a) (refusedWith 2 c)
 
 -- a refused opening returns an end that is all zeros
-abbrev pub opened : ℕ → ℕ → List ℕ → Answer
-opened n line items = given (store client.noClient) (client.openClient n line items)
+abbrev pub opened : ℕ → ℕ → List ℕ → List ℕ → Answer
+opened n line ranks items = given (store client.noClient) (client.openClient n line ranks items)
 
 abbrev pub edited : Client → Edit → Answer
 edited c e = guarded c (client.editClient (view c) e)
 
--- an insert's priority is the line
+-- an insert's priority is the line's rank
 abbrev pub inserted : Client → ℕ → ℕ → Answer
-inserted c p x = edited c (Insert p x (c .counts .line))
+inserted c p x = guarded c (client.insertClient (view c) p x)
 
 abbrev pub deleted : Client → ℕ → Answer
-deleted c p = edited c (Delete p)
+deleted c p = guarded c (client.deleteClient (view c) p)
 
 -- questions 9 to 12, by the numbers
 abbrev pub editAsked : Counts → Edit → List model.Question

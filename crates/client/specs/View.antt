@@ -5,11 +5,12 @@ use mathlib.Core.Bool.{Bool, true}
 use mathlib.Core.List.{List, [], _∷_, _++_}
 use lib.Dec.{leb}
 use lib.ListN.{length, take, drop}
-use Rattle.limits.specs.Limits.{maxItems}
+use Rattle.limits.specs.Limits.{maxLines, maxItems}
 use Rattle.list.specs.Items.{stored, allZero}
 use Rattle.list.specs.Parts.{part}
 use Rattle.model.specs.Questions.{every}
 use Rattle.model.specs.Client as model
+use Rattle.ranks.specs.Stored as ranks
 use Rattle.pending.specs.Slots as pending
 use Rattle.line.specs.Line.{lineOf, countsOf, Kept}
 use Rattle.line_sound.specs.Sound.{tidy}
@@ -35,13 +36,15 @@ view c =
     record {
       n = c .counts .n;
       line = c .counts .line;
+      ranks = take (c .counts .n) (c .counts .ranks);
       items = take (c .counts .len) (itemsIn (c .words));
       own = lineOf (c .counts .own) (slotsIn (c .words));
     }
 
 -- the one struct for a client: unused places are zero
 abbrev pub counts : model.Client → Counts
-counts m = record { own = countsOf (m .own); len = length (m .items); n = m .n; line = m .line }
+counts m =
+    record { own = countsOf (m .own); len = length (m .items); n = m .n; line = m .line; ranks = ranks.stored (m .ranks) }
 
 abbrev pub store : model.Client → Client
 store m = clientOf (counts m) (stored (m .items) ++ pending.slotsOf (m .own .pending))
@@ -51,6 +54,7 @@ abbrev pub soundTests : Client → List Bool
 soundTests c =
     model.soundClient (view c)
     ∷ leb (c .counts .len) maxItems
+    ∷ allZero (drop (c .counts .n) (c .counts .ranks))
     ∷ allZero (drop (c .counts .len) (itemsIn (c .words)))
     ∷ tidy (c .counts .own .made - c .counts .own .acked) (slotsIn (c .words))
     ∷ []
@@ -65,3 +69,8 @@ pub record Sound (c : Client) : Type 0 where
   pub whole : c ≡ store (view c)
   pub listed : length (view c .items) ≡ c .counts .len
   pub kept : Kept (c .counts .own) (slotsIn (c .words))
+
+-- the lengths of the words and of the ranks
+pub record Sizes (k : Counts) (ws : List ℕ) : Type 0 where
+  pub words : length ws ≡ size
+  pub ranks : length (k .ranks) ≡ maxLines

@@ -2,10 +2,9 @@
 ghost use mathlib.Core.Path.{_≡_};
 ghost use mathlib.Core.Bool.{true, cond};
 ghost use Prim.Native.Nat.{ℕ};
-ghost use lib.ListN.{length};
 ghost use Rattle.ot.specs.Edit.{edit, itemOf};
 ghost use Rattle.model.specs.Questions.{asks};
-ghost use Rattle.client.specs.View.{size, clientOf, sound, Sound};
+ghost use Rattle.client.specs.View.{clientOf, sound, Sound, Sizes};
 ghost use Rattle.client.specs.Answers.{editAsked, answerOf, edited, inserted, deleted};
 use crate::Answer;
 use crate::Changed;
@@ -35,7 +34,7 @@ fn ask_counts(k: Counts, f: Form) -> u8
 
 // Questions 2 and 9 to 12.
 fn ask(k: Counts, words: &[u32], f: Form) -> u8
-    requires { ⌜ length (now words) ≡ size ⌝ }
+    requires { ⌜ Sizes k (now words) ⌝ }
     ensures answer { λ r. ⌜ ((x : ℕ) → r ≡ cond (sound (clientOf k (now (words .entry)))) (asks (editAsked k (edit f x))) 2) ⌝ }
     ensures facts { λ _. ⌜ (sound (clientOf k (now (words .entry))) ≡ true → Sound (clientOf k (now (words .entry)))) ⌝ }
 {
@@ -47,7 +46,7 @@ fn ask(k: Counts, words: &[u32], f: Form) -> u8
 
 // The edit of form f and item x is applied, counted and kept, in place.
 fn edit(k: Counts, words: &mut [u32], f: Form, x: u32) -> Changed
-    requires { ⌜ (length (now words) ≡ size) × (x ≡ itemOf (edit f x)) ⌝ }
+    requires { ⌜ Sizes k (now words) × (x ≡ itemOf (edit f x)) ⌝ }
     ensures { λ r. ⌜ answerOf r (now (words .exit)) ≡ edited (clientOf k (now (words .entry))) (edit f x) ⌝ }
 {
     let refusal = ask(k, words, f);
@@ -58,11 +57,13 @@ fn edit(k: Counts, words: &mut [u32], f: Form, x: u32) -> Changed
     line::keep(&mut words[Client::ITEMS..Client::WORDS], v, f, x);
     let len = list::apply(&mut words[0..Client::ITEMS], k.len, f, x);
     let own = v.kept(v.inserts + line::inserts_of(f));
+    let ranks = k.ranks;
     let counts = Counts {
         own,
         len,
         n: k.n,
         line: k.line,
+        ranks,
     };
     Changed {
         refusal: 0,
@@ -71,23 +72,24 @@ fn edit(k: Counts, words: &mut [u32], f: Form, x: u32) -> Changed
     }
 }
 
-// Inserts x before the item at position p. Its priority is the line.
+// Inserts x before the item at position p. Its priority is the line's rank.
 pub fn insert(k: Counts, words: &mut [u32], p: u16, x: u32) -> Changed
-    requires { ⌜ length (now words) ≡ size ⌝ }
+    requires { ⌜ Sizes k (now words) ⌝ }
     ensures { λ r. ⌜ answerOf r (now (words .exit)) ≡ inserted (clientOf k (now (words .entry))) p x ⌝ }
 {
-    edit(k, words, Form::Insert(p, k.line), x)
+    let rank = ranks::of_line(&k.ranks, k.line);
+    edit(k, words, Form::Insert(p, rank), x)
 }
 
 pub fn delete(k: Counts, words: &mut [u32], p: u16) -> Changed
-    requires { ⌜ length (now words) ≡ size ⌝ }
+    requires { ⌜ Sizes k (now words) ⌝ }
     ensures { λ r. ⌜ answerOf r (now (words .exit)) ≡ deleted (clientOf k (now (words .entry))) p ⌝ }
 {
     edit(k, words, Form::Delete(p), 0)
 }
 
 impl Client {
-    // Inserts x before the item at position p. Its priority is the line.
+    // Inserts x before the item at position p. Its priority is the line's rank.
     pub fn insert(self, p: u16, x: u32) -> Answer
         ensures { λ r. ⌜ r ≡ inserted self p x ⌝ }
     {

@@ -3,8 +3,8 @@
 // take a client by value and hand it back, are thin: they lend its words.
 ghost use mathlib.Core.Path.{_≡_};
 ghost use mathlib.Core.Bool.{true};
-ghost use lib.ListN.{length, replicate};
-ghost use Rattle.client.specs.View.{size, clientOf, sound, Sound};
+ghost use lib.ListN.{replicate};
+ghost use Rattle.client.specs.View.{size, clientOf, sound, Sound, Sizes};
 ghost use Rattle.client.specs.Answers.{opened, refusedCounts, answerOf};
 use line::Line;
 
@@ -20,6 +20,8 @@ pub struct Counts {
     // how many clients the sheet has, and which this one is
     pub n: u8,
     pub line: u8,
+    // the rank of line l at place l - 1, zeros past n
+    pub ranks: [u8; ranks::PLACES],
 }
 
 // All state of a client. Unused places are zero.
@@ -70,23 +72,28 @@ fn joined(a: Changed, words: [u32; Client::WORDS]) -> Answer
 
 // Question 2. Every test is made whatever the others find.
 fn is_sound(k: Counts, words: &[u32]) -> bool
-    requires { ⌜ length (now words) ≡ size ⌝ }
+    requires { ⌜ Sizes k (now words) ⌝ }
     ensures answer { λ r. ⌜ r ≡ sound (clientOf k (now (words .entry))) ⌝ }
     ensures facts { λ r. ⌜ (r ≡ true → Sound (clientOf k (now (words .entry)))) ⌝ }
 {
     let v = k.own;
-    let lines = (1 <= k.n) & (k.n <= Client::LINES);
-    let own = (1 <= k.line) & (k.line <= k.n);
-    let counts = (k.len as usize <= Client::ITEMS) & (v.taken <= Client::OTHERS);
-    let unused = list::zero_from(&words[0..Client::ITEMS], k.len as usize);
-    let slots = &words[Client::ITEMS..Client::WORDS];
-    lines & own & counts & unused & line_sound::is_sound(v.made, v, slots, k.n, k.line, true)
+    if (1 <= k.n) & (k.n <= Client::LINES) {
+        let own = (1 <= k.line) & (k.line <= k.n);
+        let counts = (k.len as usize <= Client::ITEMS) & (v.taken <= Client::OTHERS);
+        let right = ranks::is_sound(k.n, &k.ranks);
+        let rank = ranks::of_line(&k.ranks, k.line);
+        let unused = list::zero_from(&words[0..Client::ITEMS], k.len as usize);
+        let slots = &words[Client::ITEMS..Client::WORDS];
+        let line = line_sound::is_sound(v.made, v, slots, k.n, rank, true);
+        return own & counts & right & unused & line;
+    }
+    false
 }
 
-// Question 1, and the client in words that are zero. Refused, they stay zero, and so are the numbers.
-pub fn open_lent(n: u8, line: u8, items: &[u32], words: &mut [u32]) -> Changed
+// Questions 1 and 16, and the client in words that are zero. Refused, they stay zero, and so are the numbers.
+pub fn open_lent(n: u8, line: u8, ranks: &[u8], items: &[u32], words: &mut [u32]) -> Changed
     requires { ⌜ now words ≡ replicate size 0 ⌝ }
-    ensures { λ r. ⌜ answerOf r (now (words .exit)) ≡ opened n line (now (items .entry)) ⌝ }
+    ensures { λ r. ⌜ answerOf r (now (words .exit)) ≡ opened n line (now (ranks .entry)) (now (items .entry)) ⌝ }
 {
     let own = Line {
         made: 0,
@@ -94,24 +101,38 @@ pub fn open_lent(n: u8, line: u8, items: &[u32], words: &mut [u32]) -> Changed
         acked: 0,
         inserts: 0,
     };
+    let zeros = [0u8; ranks::PLACES];
+    let none = Counts {
+        own,
+        len: 0,
+        n: 0,
+        line: 0,
+        ranks: zeros,
+    };
     let lines = (1 <= n) & (n <= Client::LINES);
     let mine = (1 <= line) & (line <= n);
-    if lines & mine & (items.len() <= Client::INITIAL) {
+    let sizes = lines & mine & (items.len() <= Client::INITIAL);
+    let ranked = ranks::is_ranking(n, ranks);
+    if sizes & ranked {
         list::initial(items, &mut words[0..Client::ITEMS]);
         let len = items.len() as u16;
-        let counts = Counts { own, len, n, line };
+        let stored = ranks::store(ranks);
+        let counts = Counts {
+            own,
+            len,
+            n,
+            line,
+            ranks: stored,
+        };
         return Changed {
             refusal: 0,
             passed: 0,
             counts,
         };
     }
-    let none = Counts {
-        own,
-        len: 0,
-        n: 0,
-        line: 0,
-    };
+    if sizes {
+        return refused(16, none);
+    }
     refused(1, none)
 }
 
@@ -134,12 +155,12 @@ impl Client {
     // The words of a client.
     pub const WORDS: usize = 640;
 
-    // A client of line `line` of n, with the initial list. Refused, it is all zeros.
-    pub fn open(n: u8, line: u8, items: &[u32]) -> Answer
-        ensures { λ r. ⌜ r ≡ opened n line (now (items .entry)) ⌝ }
+    // A client of line `line` of n, with the ranks of all lines and the initial list. Refused, it is all zeros.
+    pub fn open(n: u8, line: u8, ranks: &[u8], items: &[u32]) -> Answer
+        ensures { λ r. ⌜ r ≡ opened n line (now (ranks .entry)) (now (items .entry)) ⌝ }
     {
         let mut words = [0u32; Client::WORDS];
-        let a = open_lent(n, line, items, &mut words);
+        let a = open_lent(n, line, ranks, items, &mut words);
         joined(a, words)
     }
 }

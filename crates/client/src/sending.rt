@@ -1,8 +1,7 @@
 // Sending, which changes no end: a pending edit in its present form, or an acknowledgement of what was taken.
 ghost use mathlib.Core.Path.{_≡_};
-ghost use lib.ListN.{length};
 ghost use Rattle.line.specs.Sending.{answered};
-ghost use Rattle.client.specs.View.{size, clientOf};
+ghost use Rattle.client.specs.View.{clientOf, Sizes};
 ghost use Rattle.client.specs.Answers.{sentEdit, sentAck};
 use crate::Client;
 use crate::Counts;
@@ -15,7 +14,7 @@ use wire::Message;
 
 // Writes the message of the pending edit of that number, unless a question says no.
 pub fn send(k: Counts, words: &[u32], line: u8, number: u16, out: &mut [u8]) -> Sent
-    requires { ⌜ length (now words) ≡ size ⌝ }
+    requires { ⌜ Sizes k (now words) ⌝ }
     ensures { λ r. ⌜ answered r (now (out .exit)) ≡ sentEdit (clientOf k (now (words .entry))) line number (now (out .entry)) ⌝ }
 {
     if crate::is_sound(k, words) {
@@ -35,7 +34,7 @@ pub fn send(k: Counts, words: &[u32], line: u8, number: u16, out: &mut [u8]) -> 
 
 // Writes an acknowledgement of the edits taken, unless a question says no.
 pub fn tell(k: Counts, words: &[u32], line: u8, out: &mut [u8]) -> Sent
-    requires { ⌜ length (now words) ≡ size ⌝ }
+    requires { ⌜ Sizes k (now words) ⌝ }
     ensures { λ r. ⌜ answered r (now (out .exit)) ≡ sentAck (clientOf k (now (words .entry))) line (now (out .entry)) ⌝ }
 {
     if crate::is_sound(k, words) {

@@ -1,9 +1,8 @@
 // Taking: a message from the server, an edit of another client or an acknowledgement.
 ghost use mathlib.Core.Path.{_≡_};
 ghost use mathlib.Core.Bool.{true};
-ghost use lib.ListN.{length};
 ghost use Rattle.wire.specs.Message.{inRange};
-ghost use Rattle.client.specs.View.{size, clientOf, Sound};
+ghost use Rattle.client.specs.View.{clientOf, Sound, Sizes};
 ghost use Rattle.client.specs.Answers.{taken, takenMessage, answerOf};
 ghost use Rattle.client.specs.Taking.{fromOther, downTo};
 use crate::Answer;
@@ -18,14 +17,14 @@ use ot::Form;
 use wire::Message;
 use wire::Read;
 
-// Is an insert's priority another client's, of 1 to n?
-fn from_other(n: u8, line: u8, f: Form) -> bool
-    ensures { λ r. ⌜ r ≡ fromOther n line f ⌝ }
+// Is an insert's priority another rank of 1 to n?
+fn from_other(n: u8, rank: u8, f: Form) -> bool
+    ensures { λ r. ⌜ r ≡ fromOther n rank f ⌝ }
 {
     match f {
         Form::Nothing => true,
         Form::Delete(_) => true,
-        Form::Insert(_, r) => (1 <= r) & (r <= n) & !(r == line),
+        Form::Insert(_, r) => (1 <= r) & (r <= n) & !(r == rank),
     }
 }
 
@@ -34,12 +33,13 @@ fn comes_down(k: Counts, a: Arrival) -> bool
     ensures { λ r. ⌜ r ≡ downTo k a ⌝ }
 {
     let f = a.form;
-    (a.direction == 1) & (a.line == k.line) & from_other(k.n, k.line, f)
+    let rank = ranks::of_line(&k.ranks, k.line);
+    (a.direction == 1) & (a.line == k.line) & from_other(k.n, rank, f)
 }
 
 // Takes a message that was read, at a client that question 2 found sound: the decision, then what an accepted message changes.
 fn take_message(k: Counts, words: &mut [u32], m: Message) -> Changed
-    requires { ⌜ (inRange m ≡ true) × ((length (now words) ≡ size) × Sound (clientOf k (now words))) ⌝ }
+    requires { ⌜ (inRange m ≡ true) × (Sizes k (now words) × Sound (clientOf k (now words))) ⌝ }
     ensures { λ r. ⌜ answerOf r (now (words .exit)) ≡ takenMessage (clientOf k (now (words .entry))) m ⌝ }
 {
     let a = split(m);
@@ -55,11 +55,13 @@ fn take_message(k: Counts, words: &mut [u32], m: Message) -> Changed
         accept(&mut words[Client::ITEMS..Client::WORDS], v, a.seen, &later);
         let len = list::apply(&mut words[0..Client::ITEMS], k.len, f, a.item);
         let own = d.line;
+        let ranks = k.ranks;
         let counts = Counts {
             own,
             len,
             n: k.n,
             line: k.line,
+            ranks,
         };
         return Changed {
             refusal: 0,
@@ -72,7 +74,7 @@ fn take_message(k: Counts, words: &mut [u32], m: Message) -> Changed
 
 // Takes one message, in place.
 pub fn take(k: Counts, words: &mut [u32], bytes: &[u8]) -> Changed
-    requires { ⌜ length (now words) ≡ size ⌝ }
+    requires { ⌜ Sizes k (now words) ⌝ }
     ensures { λ r. ⌜ answerOf r (now (words .exit)) ≡ taken (clientOf k (now (words .entry))) (now (bytes .entry)) ⌝ }
 {
     if crate::is_sound(k, words) {

@@ -20,27 +20,27 @@ use Rattle.line_sound.specs.Slots.{lowest, highest, leftOut, allowed, ri
 -- ---- the priorities
 
 -- low, high and other were chosen for question 4
-module _ (n line : ℕ) (own : Bool) (low high other : ℕ) (el : low ≡ lowest line own) (eh : high ≡ highest n line own) (eo : other ≡ leftOut line own) where
+module _ (n rank : ℕ) (own : Bool) (low high other : ℕ) (el : low ≡ lowest rank own) (eh : high ≡ highest n rank own) (eo : other ≡ leftOut rank own) where
   abbrev chosen : Bool → ℕ → Bool
-  chosen o = allowed (lowest line o) (highest n line o) (leftOut line o)
+  chosen o = allowed (lowest rank o) (highest n rank o) (leftOut rank o)
 
   as-chosen : (r : ℕ) → allowed low high other r ≡ chosen own r
   as-chosen r =
-      ap₂ (λ (l h : ℕ). allowed l h other r) el eh ∙ ap (λ (o : ℕ). allowed (lowest line own) (highest n line own) o r) eo
+      ap₂ (λ (l h : ℕ). allowed l h other r) el eh ∙ ap (λ (o : ℕ). allowed (lowest rank own) (highest n rank own) o r) eo
 
   -- they let through what it does, of the priorities that there are
-  pub allowed-is : (r : ℕ) → 1 ≤ r → allowed low high other r ≡ rightPriority n line own r
+  pub allowed-is : (r : ℕ) → 1 ≤ r → allowed low high other r ≡ rightPriority n rank own r
   allowed-is r h = as-chosen r ∙ go own
     where
-      go : (o : Bool) → chosen o r ≡ rightPriority n line o r
+      go : (o : Bool) → chosen o r ≡ rightPriority n rank o r
       go true =
-          bool-ext (chosen true r) (eqb line r)
+          bool-ext (chosen true r) (eqb rank r)
           (λ t.
-          let b = between-true line line r (and-left (leb line r && leb r line) (not (eqb r 0)) t) in
-          eq-eqb line r (omega (arith, b)))
+          let b = between-true rank rank r (and-left (leb rank r && leb r rank) (not (eqb r 0)) t) in
+          eq-eqb rank r (omega (arith, b)))
           (λ t.
-          let e : line ≡ r = eqb-true line r t in
-          both (leb line r && leb r line) (not (eqb r 0)) (true-between line line r (omega arith) (omega arith))
+          let e : rank ≡ r = eqb-true rank r t in
+          both (leb rank r && leb r rank) (not (eqb r 0)) (true-between rank rank r (omega arith) (omega arith))
           (ap not (ne-eqb r 0 (λ z. absurd (omega arith)))))
       go false = refl
 
@@ -48,7 +48,7 @@ module _ (n line : ℕ) (own : Bool) (low high other : ℕ) (el : low ≡ lowest
   allowed-none = as-chosen 0 ∙ go own
     where
       go : (o : Bool) → chosen o 0 ≡ false
-      go true = and-false (leb line 0 && leb 0 line)
+      go true = and-false (leb rank 0 && leb 0 rank)
       go false = refl
 
 -- A place by its two parts.

@@ -25,14 +25,14 @@ use Rattle.line_sound.proofs.Words.{slots-place, slots-item, empty-kept
 
 -- ---- the priorities that question 4 lets through fit a slot
 
-pub own-ranks : (n line : ℕ) → 1 ≤ line → line ≤ 255 → Ranks (rightPriority n line true)
-own-ranks n line low high r h =
-    let e : line ≡ r = eqb-true line r h in
+pub own-ranks : (n rank : ℕ) → 1 ≤ rank → rank ≤ 255 → Ranks (rightPriority n rank true)
+own-ranks n rank low high r h =
+    let e : rank ≡ r = eqb-true rank r h in
     (omega arith, omega arith)
 
-pub other-ranks : (n line : ℕ) → n ≤ 255 → Ranks (rightPriority n line false)
-other-ranks n line high r h =
-    let b = between-true 1 n r (and-left (leb 1 r && leb r n) (not (eqb r line)) h) in
+pub other-ranks : (n rank : ℕ) → n ≤ 255 → Ranks (rightPriority n rank false)
+other-ranks n rank high r h =
+    let b = between-true 1 n r (and-left (leb 1 r && leb r n) (not (eqb r rank)) h) in
     (b .0, omega (arith, b))
 
 -- ---- the words of edits that read back

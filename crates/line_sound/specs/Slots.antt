@@ -17,16 +17,16 @@ allowed low high other r = leb low r && leb r high && not (eqb r other)
 
 -- low, high and other for the priorities that question 4 lets through
 abbrev pub lowest : ℕ → Bool → ℕ
-lowest line true = line
-lowest line false = 1
+lowest rank true = rank
+lowest rank false = 1
 
 abbrev pub highest : ℕ → ℕ → Bool → ℕ
-highest n line true = line
-highest n line false = n
+highest n rank true = rank
+highest n rank false = n
 
 abbrev pub leftOut : ℕ → Bool → ℕ
-leftOut line true = 0
-leftOut line false = line
+leftOut rank true = 0
+leftOut rank false = rank
 
 -- a slot in use: position, priority, and no bits that mean nothing
 abbrev pub rightSlot : (ℕ → Bool) → ℕ → ℕ → Bool

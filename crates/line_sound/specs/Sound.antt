@@ -12,11 +12,11 @@ use Rattle.pending.specs.Slots.{placeOf, formIn, editIn, allFrom}
 use Rattle.line.specs.declared.Line.{Line}
 use Rattle.line.specs.Line.{lineOf}
 
--- The priorities that question 4 lets through: a client's own inserts have its line, what the server keeps for a line
--- has another of 1 to n.
+-- The priorities that question 4 lets through: a client's own inserts have its rank, what the server keeps for a line
+-- has another rank of 1 to n.
 abbrev pub rightPriority : ℕ → ℕ → Bool → ℕ → Bool
-rightPriority n line true = eqb line
-rightPriority n line false = model.other n line
+rightPriority n rank true = eqb rank
+rightPriority n rank false = model.other n rank
 
 -- slot i has no bits that mean nothing: its words are those of the edit that it holds
 abbrev pub tidyAt : List ℕ → ℕ → Bool

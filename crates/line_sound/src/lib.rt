@@ -15,31 +15,31 @@ use line::Line;
 
 // A pending insert may have the priorities from low to high but other, chosen once for all slots: in a client's own edits (own) its line
 // alone, in what the server keeps for a line 1 to n but the line. 0 is none of them.
-fn low(line: u8, own: bool) -> u32
-    ensures { λ r. ⌜ r ≡ lowest line own ⌝ }
+fn low(rank: u8, own: bool) -> u32
+    ensures { λ r. ⌜ r ≡ lowest rank own ⌝ }
 {
     if own {
-        return line as u32;
+        return rank as u32;
     }
     1
 }
 
-fn high(n: u8, line: u8, own: bool) -> u32
-    ensures { λ r. ⌜ r ≡ highest n line own ⌝ }
+fn high(n: u8, rank: u8, own: bool) -> u32
+    ensures { λ r. ⌜ r ≡ highest n rank own ⌝ }
 {
     if own {
-        return line as u32;
+        return rank as u32;
     }
     n as u32
 }
 
-fn other(line: u8, own: bool) -> u32
-    ensures { λ r. ⌜ r ≡ leftOut line own ⌝ }
+fn other(rank: u8, own: bool) -> u32
+    ensures { λ r. ⌜ r ≡ leftOut rank own ⌝ }
 {
     if own {
         return 0;
     }
-    line as u32
+    rank as u32
 }
 
 // A slot in use, by its words alone: nothing, or a position of 1 to 512 with a delete or with an insert of an allowed priority. Nothing
@@ -139,9 +139,9 @@ fn slots_sound<'a>(
 }
 
 // Question 2 of a line whose client made so many edits. Its pending inserts have its own priority (own), or another of 1 to n.
-pub fn is_sound(edits: u16, v: Line, words: &[u32], n: u8, line: u8, own: bool) -> bool
+pub fn is_sound(edits: u16, v: Line, words: &[u32], n: u8, rank: u8, own: bool) -> bool
     requires { ⌜ length (now words) ≡ size ⌝ }
-    ensures answer { λ r. ⌜ r ≡ soundLine edits (rightPriority n line own) v (now (words .entry)) ⌝ }
+    ensures answer { λ r. ⌜ r ≡ soundLine edits (rightPriority n rank own) v (now (words .entry)) ⌝ }
     ensures facts { λ r. ⌜ (r ≡ true → Kept v (now (words .entry))) ⌝ }
 {
     let count = v.pending() as usize;
@@ -150,9 +150,9 @@ pub fn is_sound(edits: u16, v: Line, words: &[u32], n: u8, line: u8, own: bool) 
             &words[0..PENDING],
             &words[PENDING..pending::WORDS],
             count,
-            low(line, own),
-            high(n, line, own),
-            other(line, own),
+            low(rank, own),
+            high(n, rank, own),
+            other(rank, own),
         )
 }
 

@@ -85,7 +85,7 @@ takeDone k a d len =
     record {
       refusal = 0;
       passed = d .passed;
-      counts = record { n = k .n; initial = k .initial; len = len; lines = set (k .lines) (placeOf a) (d .line) };
+      counts = record { n = k .n; initial = k .initial; len = len; ranks = k .ranks; lines = set (k .lines) (placeOf a) (d .line) };
     }
 
 -- once the other lines have kept the edit: what the steps that follow ask, and that they do what the model does
@@ -138,7 +138,7 @@ module _ (k : Counts) (words : List ℕ) (h : Sound (serverOf k words)) (t : Mes
   by-four false = refl
 
   refusal-is : d .refusal ≡ refusal k words h a
-  refusal-is = ap (λ (x : Decision). x .refusal) (r .answer) ∙ by-four (upTo (k .n) a)
+  refusal-is = ap (λ (x : Decision). x .refusal) (r .answer) ∙ by-four (upTo k a)
 
   pub refuses : (c : Changed) → c ≡ refusedCounts (d .refusal) k → (d .refusal ≡ 0 → ⊥) → answerOf c words ≡ takenMessage (serverOf k words) t
   refuses c e n =
@@ -150,10 +150,10 @@ module _ (k : Counts) (words : List ℕ) (h : Sound (serverOf k words)) (t : Mes
   -- ---- nothing was refused
 
   module _ (z : d .refusal ≡ 0) where
-    comes : upTo (k .n) a ≡ true
-    comes = go (upTo (k .n) a) refl (sym refusal-is ∙ z)
+    comes : upTo k a ≡ true
+    comes = go (upTo k a) refl (sym refusal-is ∙ z)
       where
-        go : (b : Bool) → upTo (k .n) a ≡ b → cond b (refusalAt k words a) 4 ≡ 0 → upTo (k .n) a ≡ true
+        go : (b : Bool) → upTo k a ≡ b → cond b (refusalAt k words a) 4 ≡ 0 → upTo k a ≡ true
         go true u y = u
         go false u y = absurd (eqb-false 4 0 refl y)
 
@@ -172,7 +172,7 @@ module _ (k : Counts) (words : List ℕ) (h : Sound (serverOf k words)) (t : Mes
         ∙ sym (deciding-yes (refusalAt k words a) v (done w (insertsThen k a) a) none)
 
     used : placeOf a < k .n
-    used = let l = up-line (k .n) a comes in omega arith
+    used = let l = up-line k a comes in omega arith
 
     below : placeOf a < 8
     below = omega (arith, used, lines-few k words h)
@@ -280,7 +280,7 @@ module _ (k : Counts) (words : List ℕ) (h : Sound (serverOf k words)) (t : Mes
           words₃ = putMid 0 maxItems words₂ items
 
           abbrev k₃ : Counts
-          k₃ = record { n = k₁ .n; initial = k₁ .initial; len = len; lines = set (k₁ .lines) at (d .line) }
+          k₃ = record { n = k₁ .n; initial = k₁ .initial; len = len; ranks = k₁ .ranks; lines = set (k₁ .lines) at (d .line) }
 
           abbrev new : model.Server
           new = next k words h a
@@ -362,10 +362,15 @@ module _ (k : Counts) (words : List ℕ) (h : Sound (serverOf k words)) (t : Mes
               length-atPlace at (takesIt a) (keepsIt (a .carries) kept) (m .lines) ∙ lines-count k words h in
               let own = own-holds k words h in
               store-is new (omega (arith, count, lines-few k words h)) k₃ words₃
-              (record { words = listed .long ∙ long₂; lines = length-set (k₁ .lines) at (d .line) ∙ by .lines ∙ sizes k words h .lines })
+              (record {
+                words = listed .long ∙ long₂;
+                lines = length-set (k₁ .lines) at (d .line) ∙ by .lines ∙ sizes k words h .lines;
+                ranks = ap length (by .ranks) ∙ sizes k words h .ranks;
+              })
               (record {
                 n = by .n ∙ own .n;
                 initial = by .initial ∙ own .initial;
+                ranks = by .ranks ∙ own .ranks;
                 len = len-then ∙ ap (λ (q : Edit). length (applied q (m .items))) edit-is;
                 items = listed .here ∙ items-then ∙ ap (λ (q : Edit). stored (applied q (m .items))) edit-is;
                 rows = row;
@@ -384,7 +389,7 @@ module _ (k : Counts) (words : List ℕ) (h : Sound (serverOf k words)) (t : Mes
     pub accepts : Accepted k words t a d later
     accepts =
         record {
-          low = up-line (k .n) a comes .0;
+          low = up-line k a comes .0;
           below = below;
           seen = seen;
           places = later-long;

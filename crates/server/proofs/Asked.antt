@@ -6,12 +6,15 @@ use mathlib.Core.Path.{_≡_, refl, ap, sym, _∙_}
 use mathlib.Core.Bool.{Bool, true, false, _&&_, _||_}
 use mathlib.Core.List.{List, map}
 use lib.Dec.{ltb, eqb}
+use lib.ListN.{take}
 use borrow.Author.Tests.{le-leb, lt-leb, ltb-true, eq-eqb, ne-eqb}
 use Rattle.limits.specs.Limits.{maxInserts, maxPending}
 use Rattle.model.specs.Questions.{asks, every, between}
+use Rattle.model.specs.Ranks.{rankOf}
 use Rattle.model.specs.Line as line
 use Rattle.model.specs.Server as model
 use Rattle.model.proofs.Tests.{and-left, and-right, between-true}
+use Rattle.ranks.proofs.Laws.{take-rank}
 use Rattle.pending.specs.Slots.{allFrom}
 use Rattle.line_sound.proofs.All.{all-each}
 use Rattle.line.specs.declared.taking.Arrival.{Arrival}
@@ -21,11 +24,15 @@ use Rattle.server.specs.Taking.{isOwn, upTo, roomyAt, lastAsked}
 
 -- ---- question 4
 
-pub up-line : (n : ℕ) (a : Arrival) → upTo n a ≡ true → (1 ≤ a .line) × (a .line ≤ n)
-up-line n a u =
-    between-true 1 n (a .line)
-    (and-right (eqb (a .direction) 0) (between 1 n (a .line))
-    (and-left (eqb (a .direction) 0 && between 1 n (a .line)) (isOwn (a .line) (a .form)) u))
+pub up-line : (k : Counts) (a : Arrival) → upTo k a ≡ true → (1 ≤ a .line) × (a .line ≤ k .n)
+up-line k a u =
+    between-true 1 (k .n) (a .line)
+    (and-right (eqb (a .direction) 0) (between 1 (k .n) (a .line))
+    (and-left (eqb (a .direction) 0 && between 1 (k .n) (a .line)) (isOwn (rankOf (k .ranks) (a .line)) (a .form)) u))
+
+-- a line in use has the rank that is stored for it
+pub own-rank : (k : Counts) (l : ℕ) → between 1 (k .n) l ≡ true → rankOf (take (k .n) (k .ranks)) l ≡ rankOf (k .ranks) l
+own-rank k l t = let b = between-true 1 (k .n) l t in take-rank (k .n) (k .ranks) l (b .0) (b .1)
 
 -- ---- questions 10 and 12, by the ways that they end
 

@@ -29,9 +29,9 @@ use Rattle.server.proofs.Asked.{up-line}
 
 -- ---- what the parts ask
 
-module _ (k : Counts) (words : List ℕ) (a : Arrival) (h : Sound (serverOf k words)) (u : upTo (k .n) a ≡ true) where
+module _ (k : Counts) (words : List ℕ) (a : Arrival) (h : Sound (serverOf k words)) (u : upTo k a ≡ true) where
   pub place-used : placeOf a < k .n
-  place-used = let l = up-line (k .n) a u in omega arith
+  place-used = let l = up-line k a u in omega arith
 
   pub place-below : placeOf a < 8
   place-below = omega (arith, place-used, lines-few k words h)
@@ -64,14 +64,14 @@ module _ (k : Counts) (words : List ℕ) (a : Arrival) (later : List ℕ) where
   abbrev decides : Bool → Decision
   decides b = cond b (deciding (refusalAt k words a) v then) (refusing 4 (countsOf line.noLine))
 
-  pub refused-4 : (d : Decision) → upTo (k .n) a ≡ false → d ≡ refusing 4 (countsOf line.noLine) → Decided k words a d later
+  pub refused-4 : (d : Decision) → upTo k a ≡ false → d ≡ refusing 4 (countsOf line.noLine) → Decided k words a d later
   refused-4 d f e =
       record {
         answer = e ∙ ap decides (sym f);
         stay = λ z. absurd (eqb-false 4 0 refl (sym (ap (λ (y : Decision). y .refusal) e) ∙ z));
       }
 
-  module _ (u : upTo (k .n) a ≡ true) where
+  module _ (u : upTo k a ≡ true) where
     -- the decision by the refusal
     by : (d : Decision) (r : ℕ) → r ≡ refusalAt k words a → d ≡ deciding r v then → d ≡ decided k words a
     by d r er e = e ∙ ap (λ (n : ℕ). deciding n v then) er ∙ ap decides (sym u)

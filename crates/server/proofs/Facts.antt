@@ -53,10 +53,10 @@ module _ (k : Counts) (words : List ℕ) (h : Sound (serverOf k words)) where
         let e : i + 1 - 1 ≡ i = omega arith in
         ap (λ (j : ℕ). getD (m .lines) j line.noLine) e ∙ at-view
 
-    pub at-facts : ServerLine (k .n) (takenSum (view (serverOf k words) .lines)) (i + 1) (lineAt k words i)
+    pub at-facts : ServerLine (k .n) (view (serverOf k words) .ranks) (takenSum (view (serverOf k words) .lines)) (i + 1) (lineAt k words i)
     at-facts =
-        subst (λ (n : ℕ). ServerLine n (takenSum (m .lines)) (i + 1) (lineAt k words i)) (sym (own-holds .n))
-        (subst (ServerLine (m .n) (takenSum (m .lines)) (i + 1)) line-is (line-fact m facts (i + 1) (omega arith) (omega (arith, own-holds .n))))
+        subst (λ (n : ℕ). ServerLine n (m .ranks) (takenSum (m .lines)) (i + 1) (lineAt k words i)) (sym (own-holds .n))
+        (subst (ServerLine (m .n) (m .ranks) (takenSum (m .lines)) (i + 1)) line-is (line-fact m facts (i + 1) (omega arith) (omega (arith, own-holds .n))))
 
     pub made-few : countsAt k i .made ≤ 2800
     made-few = omega (arith, made-most m facts (i + 1) (omega arith) (omega (arith, own-holds .n)), ap (λ (v : line.Line). v .made) line-is)

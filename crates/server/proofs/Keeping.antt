@@ -72,6 +72,7 @@ module _ (at : ℕ) (e : Edit) (k : Counts) (before : List ℕ) where
         n = refl;
         initial = refl;
         len = refl;
+        ranks = refl;
         lines = refl;
         size = refl;
         items = refl;
@@ -96,6 +97,7 @@ module _ (at : ℕ) (e : Edit) (k : Counts) (before : List ℕ) where
           n = s .n;
           initial = s .initial;
           len = s .len;
+          ranks = s .ranks;
           lines = s .lines;
           size = s .size;
           items = s .items;
@@ -129,7 +131,7 @@ module _ (at : ℕ) (e : Edit) (k : Counts) (before : List ℕ) where
         wrote = line-wrote i x after lt (s .size ∙ z .words) new-long
 
         abbrev next : Counts
-        next = record { n = r .n; initial = r .initial; len = r .len; lines = set (r .lines) i w }
+        next = record { n = r .n; initial = r .initial; len = r .len; ranks = r .ranks; lines = set (r .lines) i w }
 
         counts-then : (j : ℕ) → j < maxLines → countsAt next j ≡ countsThen (keeps (i + 1) at j) (countsAt k j)
         counts-then j h = go (eqb j i) refl
@@ -156,12 +158,13 @@ module _ (at : ℕ) (e : Edit) (k : Counts) (before : List ℕ) where
                 wrote .others j o ∙ s .slots j h ∙ ap (λ (b : Bool). slotsThen b e (countsAt k j) (slotsAt j before)) (keeps-still at i j o)
 
         -- another line
-        pub kept-turn : KeptBy (i + 1) at e k before (record { n = r .n; initial = r .initial; len = r .len; lines = set (r .lines) i w }) (putLine i after x)
+        pub kept-turn : KeptBy (i + 1) at e k before (record { n = r .n; initial = r .initial; len = r .len; ranks = r .ranks; lines = set (r .lines) i w }) (putLine i after x)
         kept-turn =
             record {
               n = s .n;
               initial = s .initial;
               len = s .len;
+              ranks = s .ranks;
               lines = length-set (r .lines) i w ∙ s .lines;
               size = wrote .long ∙ s .size;
               items = wrote .items ∙ s .items;

@@ -9,6 +9,7 @@ use lib.ListN.{length, take, drop}
 use Rattle.limits.specs.Limits.{maxItems, maxLines}
 use Rattle.list.specs.Parts.{part}
 use Rattle.list.proofs.Parts.{part-length}
+use Rattle.model.specs.Ranks.{rankOf}
 use Rattle.pending.specs.Slots as pending
 use Rattle.pending.specs.Slots.{allFrom}
 use Rattle.line_sound.specs.Sound.{rightPriority, soundLine, emptyLine}
@@ -40,16 +41,18 @@ slots-long i words e h = part-length (base i) pending.size words (omega arith)
 pub lent-long : (i : ℕ) (words : List ℕ) → length words ≡ size → i < maxLines → length (lentAt i words) ≡ pending.size
 lent-long i words e h = ap length (lent-slots i words) ∙ slots-long i words e h
 
-pub used-turn : (k : Counts) (taken : ℕ) (words : List ℕ) (i : ℕ) (well r : Bool) → i < k .n
-    → r ≡ soundLine (countsAt k i .taken) (rightPriority (k .n) (i + 1) false) (countsAt k i) (lentAt i words)
+pub used-turn : (k : Counts) (taken : ℕ) (words : List ℕ) (i rank : ℕ) (well r : Bool) → i < k .n → rank ≡ rankOf (k .ranks) (i + 1)
+    → r ≡ soundLine (countsAt k i .taken) (rightPriority (k .n) rank false) (countsAt k i) (lentAt i words)
     → (((well && eqb (countsAt k i .made + countsAt k i .taken) taken) && r) && allFrom (soundAt k taken words) (i + 1) (k .n - (i + 1)))
     ≡ (well && allFrom (soundAt k taken words) i (k .n - i))
-used-turn k taken words i well r h e =
+used-turn k taken words i rank well r h q e =
     let others : Bool = eqb (countsAt k i .made + countsAt k i .taken) taken in
     let v = countsAt k i in
     ap (λ (b : Bool). b && allFrom (soundAt k taken words) (i + 1) (k .n - (i + 1))) (and-assoc well others r)
     ∙ all-turn (soundAt k taken words) i (k .n) well (others && r) h
-    (ap (λ (b : Bool). others && b) (e ∙ ap (soundLine (v .taken) (rightPriority (k .n) (i + 1) false) v) (lent-slots i words)))
+    (ap (λ (b : Bool). others && b)
+    (e ∙ ap (soundLine (v .taken) (rightPriority (k .n) rank false) v) (lent-slots i words)
+    ∙ ap (λ (p : ℕ). soundLine (v .taken) (rightPriority (k .n) p false) v (slotsAt i words)) q))
 
 pub unused-turn : (k : Counts) (words : List ℕ) (i : ℕ) (well r : Bool) → i < maxLines → r ≡ emptyLine (countsAt k i) (lentAt i words)
     → ((well && r) && allFrom (emptyAt k words) (i + 1) (maxLines - (i + 1))) ≡ (well && allFrom (emptyAt k words) i (maxLines - i))

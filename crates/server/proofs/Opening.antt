@@ -15,9 +15,12 @@ use Rattle.list.specs.Parts.{part}
 use Rattle.list.proofs.Pad.{pad-drop, pad-length}
 use Rattle.list.proofs.Parts.{wrote-part}
 use Rattle.model.specs.Questions.{asks, every, between, answer}
+use Rattle.model.specs.Ranks.{ranking}
 use Rattle.model.specs.Line as line
 use Rattle.model.specs.Server as model
 use Rattle.model.proofs.Tests.{and-left, and-right}
+use Rattle.ranks.specs.Stored as ranks
+use Rattle.ranks.proofs.Laws.{stored-length}
 use Rattle.pending.specs.Slots as pending
 use Rattle.line.specs.declared.Line.{Line}
 use Rattle.line.specs.Line.{countsOf}
@@ -54,36 +57,41 @@ same-at (suc n) (suc i) z = same-at n i z
 
 -- ---- a server over whose lines nothing has come
 
-abbrev fresh : ℕ → ℕ → Counts
-fresh n len = record { n = n; initial = len; len = len; lines = replicate maxLines (countsOf line.noLine) }
+abbrev fresh : ℕ → List ℕ → ℕ → Counts
+fresh n places len = record { n = n; initial = len; len = len; ranks = places; lines = replicate maxLines (countsOf line.noLine) }
 
-module _ (n : ℕ) (few : n ≤ maxLines) (l words : List ℕ) (long : length words ≡ size) (list : itemsIn words ≡ stored l)
-    (lines : (i : ℕ) → i < maxLines → slotsAt i words ≡ replicate pending.size 0) where
-  fresh-is : serverOf (fresh n (length l)) words ≡ store (record { n = n; initial = length l; items = l; lines = replicate n line.noLine })
+module _ (n : ℕ) (few : n ≤ maxLines) (rs places : List ℕ) (kept : places ≡ ranks.stored rs) (l words : List ℕ) (long : length words ≡ size)
+    (list : itemsIn words ≡ stored l) (lines : (i : ℕ) → i < maxLines → slotsAt i words ≡ replicate pending.size 0) where
+  abbrev new : model.Server
+  new = record { n = n; initial = length l; ranks = rs; items = l; lines = replicate n line.noLine }
+
+  fresh-is : serverOf (fresh n places (length l)) words ≡ store new
   fresh-is =
-      store-is (record { n = n; initial = length l; items = l; lines = replicate n line.noLine }) (omega (arith, length-replicate n line.noLine))
-      (fresh n (length l)) words
-      (record { words = long; lines = refl })
+      store-is new (omega (arith, length-replicate n line.noLine)) (fresh n places (length l)) words
+      (record { words = long; lines = refl; ranks = ap length kept ∙ stored-length rs })
       (record {
         n = refl;
         initial = refl;
         len = refl;
+        ranks = kept;
         items = list;
-        rows = λ i h. subst (λ (v : line.Line). Row (fresh n (length l)) words i v) (sym (same-at n i line.noLine))
+        rows = λ i h. subst (λ (v : line.Line). Row (fresh n places (length l)) words i v) (sym (same-at n i line.noLine))
             (record { counts = same-at maxLines i (countsOf line.noLine); slots = lines i h ∙ sym no-words });
       })
 
--- ---- question 1
+-- ---- questions 1 and 16
 
-module _ (n : ℕ) (items words : List ℕ) (blank : words ≡ replicate size 0) where
+module _ (n : ℕ) (rs items words : List ℕ) (blank : words ≡ replicate size 0) where
   abbrev openTest : Bool
   openTest = (leb 1 n && leb n 8) && leb (length items) 128
 
   abbrev next : model.Server
-  next = record { n = n; initial = length items; items = items; lines = replicate n line.noLine }
+  next = record { n = n; initial = length items; ranks = rs; items = items; lines = replicate n line.noLine }
 
-  asked : (b : Bool) → openTest ≡ b → asks (model.openServerQuestions n items) ≡ cond b 0 1
-  asked b e = ap (λ (t : Bool). cond {A = ℕ} t 0 1) (group (between 1 maxLines n) (leb (length items) maxInitial) ∙ e)
+  asked : (b c : Bool) → openTest ≡ b → ranking n rs ≡ c → asks (model.openServerQuestions n rs items) ≡ cond b (cond c 0 16) 1
+  asked b c e r =
+      ap (λ (t : Bool). cond {A = ℕ} t (cond (ranking n rs) 0 16) 1) (group (between 1 maxLines n) (leb (length items) maxInitial) ∙ e)
+      ∙ ap (λ (t : Bool). cond {A = ℕ} b (cond t 0 16) 1) r
     where
       group : (a c : Bool) → every (a ∷ c ∷ []) ≡ (a && c)
       group true true = refl
@@ -100,23 +108,34 @@ module _ (n : ℕ) (items words : List ℕ) (blank : words ≡ replicate size 0)
   open-short t = leb-true (length items) 128 (and-right (leb 1 n && leb n 8) (leb (length items) 128) t)
 
   -- the items were written into the first words
-  pub open-done : (x : List ℕ) → openTest ≡ true → x ≡ initialItems items
-      → answerOf (record { refusal = 0; passed = 0; counts = fresh n (length items) }) (putMid 0 maxItems words x) ≡ opened n items
+  pub open-done : (x places : List ℕ) (ranked : Bool) → openTest ≡ true → ranked ≡ ranking n rs → ranked ≡ true → x ≡ initialItems items
+      → places ≡ ranks.stored rs
+      → answerOf (record { refusal = 0; passed = 0; counts = fresh n places (length items) }) (putMid 0 maxItems words x) ≡ opened n rs items
   unfolding model.openServer answer
-  open-done x t e =
+  open-done x places ranked t r y e p =
       let few : n ≤ maxLines = leb-true n 8 (and-right (leb 1 n) (leb n 8) (and-left (leb 1 n && leb n 8) (leb (length items) 128) t)) in
       let list : x ≡ stored items = e ∙ ap stored (take-all maxInitial items (open-short t)) in
       let w = wrote-part 0 maxItems x words (omega (arith, words-long)) (ap length list ∙ pad-length maxItems 0 items (omega (arith, open-short t))) in
       ap (λ (s : Server). record { refusal = 0; passed = 0; server = s })
-      (fresh-is n few items (putMid 0 maxItems words x) (w .long ∙ words-long) (w .here ∙ list)
+      (fresh-is n few rs places p items (putMid 0 maxItems words x) (w .long ∙ words-long) (w .here ∙ list)
       (λ i h. w .behind (base i) pending.size (omega arith) ∙ zeros-part (base i) pending.size size words blank (omega arith)))
-      ∙ sym (ap opened-by (asked true t))
+      ∙ sym (ap opened-by (asked true true t (sym r ∙ y)))
 
-  pub open-refused : (a : Changed) → openTest ≡ false → a ≡ refusedCounts 1 (fresh 0 0) → answerOf a words ≡ opened n items
+  -- a refused server is all zeros
+  nothing : serverOf (fresh 0 (replicate maxLines 0) 0) words ≡ store model.noServer
+  nothing =
+      fresh-is 0 (omega arith) [] (replicate maxLines 0) refl [] words words-long (zeros-part 0 maxItems size words blank (omega arith))
+      (λ i h. zeros-part (base i) pending.size size words blank (omega arith))
+
+  pub open-refused : (a : Changed) → openTest ≡ false → a ≡ refusedCounts 1 (fresh 0 (replicate maxLines 0) 0) → answerOf a words ≡ opened n rs items
   unfolding model.openServer answer
   open-refused a t e =
-      ap (λ (c : Changed). answerOf c words) e
-      ∙ ap (λ (s : Server). record { refusal = 1; passed = 0; server = s })
-      (fresh-is 0 (omega arith) [] words words-long (zeros-part 0 maxItems size words blank (omega arith))
-      (λ i h. zeros-part (base i) pending.size size words blank (omega arith)))
-      ∙ sym (ap opened-by (asked false t))
+      ap (λ (c : Changed). answerOf c words) e ∙ ap (λ (s : Server). record { refusal = 1; passed = 0; server = s }) nothing
+      ∙ sym (ap opened-by (asked false (ranking n rs) t refl))
+
+  pub open-unranked : (a : Changed) (ranked : Bool) → openTest ≡ true → ranked ≡ ranking n rs → ranked ≡ false
+      → a ≡ refusedCounts 16 (fresh 0 (replicate maxLines 0) 0) → answerOf a words ≡ opened n rs items
+  unfolding model.openServer answer
+  open-unranked a ranked t r f e =
+      ap (λ (c : Changed). answerOf c words) e ∙ ap (λ (s : Server). record { refusal = 16; passed = 0; server = s }) nothing
+      ∙ sym (ap opened-by (asked true false t (sym r ∙ f)))

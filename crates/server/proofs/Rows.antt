@@ -11,6 +11,8 @@ use Rattle.list.specs.Items.{stored}
 use Rattle.list.proofs.Pad.{pad-getD, pad-length}
 use Rattle.model.specs.Line as line
 use Rattle.model.specs.Server as model
+use Rattle.ranks.specs.Stored as ranks
+use Rattle.ranks.proofs.Laws.{stored-length}
 use Rattle.pending.specs.Slots as pending
 use Rattle.pending.specs.Slots.{slotsOf}
 use Rattle.pending.proofs.Slots.{slots-length}
@@ -73,6 +75,7 @@ pub record Holds (k : Counts) (words : List ℕ) (m : model.Server) : Type 0 whe
   pub n : k .n ≡ m .n
   pub initial : k .initial ≡ m .initial
   pub len : k .len ≡ length (m .items)
+  pub ranks : k .ranks ≡ ranks.stored (m .ranks)
   pub items : itemsIn words ≡ stored (m .items)
   pub rows : (i : ℕ) → i < maxLines → Row k words i (getD (m .lines) i line.noLine)
 
@@ -101,7 +104,7 @@ module _ (m : model.Server) (few : length (m .lines) ≤ maxLines) where
       let all : words ≡ stored (m .items) ++ slotsOfLines (allLines m) =
       sym (take-append-drop maxItems words) ∙ ap (λ (l : List ℕ). l ++ drop maxItems words) (h .items) ∙ ap (λ (l : List ℕ). stored (m .items) ++ l) slots in
       λ j. record {
-        counts = record { n = h .n j; initial = h .initial j; len = h .len j; lines = lines j };
+        counts = record { n = h .n j; initial = h .initial j; len = h .len j; ranks = h .ranks j; lines = lines j };
         words = all j;
       }
 
@@ -118,6 +121,7 @@ module _ (m : model.Server) (few : length (m .lines) ≤ maxLines) where
         record {
           words = omega (arith, length-append (stored (m .items)) (slotsOfLines (allLines m)), list-long, lines-long (allLines m) all-few, eight);
           lines = length-map (allLines m) countsOf ∙ eight;
+          ranks = stored-length (m .ranks);
         }
 
     pub store-holds : Holds (store m .counts) (store m .words) m
@@ -127,6 +131,7 @@ module _ (m : model.Server) (few : length (m .lines) ≤ maxLines) where
           n = refl;
           initial = refl;
           len = refl;
+          ranks = refl;
           items = take-at (stored (m .items)) (slotsOfLines (allLines m)) maxItems list-long;
           rows = λ i h.
               let from : base i ≡ length (stored (m .items)) + pending.size * i = omega (arith, list-long) in

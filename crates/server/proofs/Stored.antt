@@ -13,11 +13,14 @@ use Rattle.limits.specs.Limits.{maxLines, maxItems, maxPending}
 use Rattle.list.specs.Items.{allZero}
 use Rattle.list.proofs.Pad.{pad-take, pad-drop}
 use Rattle.model.specs.Questions.{every}
+use Rattle.model.specs.Ranks.{rankOf}
 use Rattle.model.specs.Line as line
 use Rattle.model.specs.Server as model
 use Rattle.model.proofs.Tests.{and-right, held}
 use Rattle.model.proofs.SoundLine.{facts-line}
 use Rattle.model.proofs.SoundServer.{ServerLine, ServerFacts, server-facts, takenSum, lines-get}
+use Rattle.ranks.specs.Stored as ranks
+use Rattle.ranks.proofs.Laws as laws
 use Rattle.pending.specs.Slots.{slotsOf}
 use Rattle.line.specs.declared.Line.{Line}
 use Rattle.line.specs.Line.{lineOf, countsOf}
@@ -41,8 +44,8 @@ module _ (m : model.Server) (s : model.soundServer m ≡ true) where
   few : length (m .lines) ≤ maxLines
   few = omega (arith, facts .count, facts .n)
 
-  line-facts : (i : ℕ) → i < m .n → ServerLine (m .n) (takenSum (m .lines)) (1 + i) (getD (m .lines) i line.noLine)
-  line-facts i h = lines-get (m .n) (takenSum (m .lines)) 1 (m .lines) (facts .lines) i (omega (arith, facts .count))
+  line-facts : (i : ℕ) → i < m .n → ServerLine (m .n) (m .ranks) (takenSum (m .lines)) (1 + i) (getD (m .lines) i line.noLine)
+  line-facts i h = lines-get (m .n) (m .ranks) (takenSum (m .lines)) 1 (m .lines) (facts .lines) i (omega (arith, facts .count))
 
   no-line : (i : ℕ) → m .n ≤ i → getD (m .lines) i line.noLine ≡ line.noLine
   no-line i h = List·getD-eq-default (m .lines) line.noLine (omega (arith, facts .count))
@@ -72,26 +75,29 @@ module _ (m : model.Server) (s : model.soundServer m ≡ true) where
     abbrev v : line.Line
     v = getD (m .lines) i line.noLine
 
+    abbrev rank : ℕ
+    rank = rankOf (m .ranks) (1 + i)
+
     row : Row k words i v
     row = holds .rows i (omega (arith, facts .n))
 
-    tests : every (line.lineTests (v .taken) (line.other (m .n) (1 + i)) v) ≡ true
+    tests : every (line.lineTests (v .taken) (line.other (m .n) rank) v) ≡ true
     tests =
-        held (line.lineTests (v .taken) (line.other (m .n) (1 + i)) v)
-        (facts-line (v .taken) (line.other (m .n) (1 + i)) v (line-facts i h .line))
+        held (line.lineTests (v .taken) (line.other (m .n) rank) v)
+        (facts-line (v .taken) (line.other (m .n) rank) v (line-facts i h .line))
 
     line-means : lineAt k words i ≡ v
     line-means =
         ap₂ lineOf (row .counts) (row .slots)
-        ∙ stored-line (v .taken) (line.other (m .n) (1 + i)) v (other-ranks (m .n) (1 + i) (omega (arith, facts .n))) tests
+        ∙ stored-line (v .taken) (line.other (m .n) rank) v (other-ranks (m .n) rank (omega (arith, facts .n))) tests
 
     line-tidy : tidyAt k words i ≡ true
     unfolding soundLine
     line-tidy =
         ap₂ (λ (w : Line) (l : List ℕ). tidy (w .made - w .acked) l) (row .counts) (row .slots)
-        ∙ and-right (every (line.lineTests (v .taken) (line.other (m .n) (1 + i)) (lineOf (countsOf v) (slotsOf (v .pending)))))
+        ∙ and-right (every (line.lineTests (v .taken) (line.other (m .n) rank) (lineOf (countsOf v) (slotsOf (v .pending)))))
         (tidy (v .made - v .acked) (slotsOf (v .pending)))
-        (stored-sound (v .taken) (line.other (m .n) (1 + i)) v (other-ranks (m .n) (1 + i) (omega (arith, facts .n))) tests)
+        (stored-sound (v .taken) (line.other (m .n) rank) v (other-ranks (m .n) rank (omega (arith, facts .n))) tests)
 
   -- ---- a line that is not in use
 
@@ -112,14 +118,20 @@ module _ (m : model.Server) (s : model.soundServer m ≡ true) where
   items-mean : take (length (m .items)) (itemsIn words) ≡ m .items
   items-mean = ap (take (length (m .items))) (holds .items) ∙ pad-take maxItems 0 (m .items)
 
+  ranks-mean : take (m .n) (ranks.stored (m .ranks)) ≡ m .ranks
+  ranks-mean = laws.stored-take (m .n) (m .ranks) (facts .n .1) (facts .ranked)
+
   pub view-store : view (store m) ≡ m
   unfolding view store
-  view-store = λ i. record { n = m .n; initial = m .initial; items = items-mean i; lines = lines-mean i }
+  view-store = λ i. record { n = m .n; initial = m .initial; ranks = ranks-mean i; items = items-mean i; lines = lines-mean i }
 
   list-tidy : allZero (drop (length (m .items)) (itemsIn words)) ≡ true
   list-tidy =
       ap (λ (l : List ℕ). allZero (drop (length (m .items)) l)) (holds .items)
       ∙ ap allZero (pad-drop maxItems 0 (m .items) (length (m .items)) (le-refl (length (m .items)))) ∙ all-zero (maxItems - length (m .items))
+
+  ranks-tidy : allZero (drop (m .n) (ranks.stored (m .ranks))) ≡ true
+  ranks-tidy = laws.sound-zero (m .n) (ranks.stored (m .ranks)) (laws.stored-sound (m .n) (m .ranks) (facts .n .1) (facts .ranked))
 
   pub store-sound : sound (store m) ≡ true
   unfolding sound store
@@ -129,10 +141,13 @@ module _ (m : model.Server) (s : model.soundServer m ≡ true) where
         (
           le-leb (length (m .items)) maxItems (facts .items),
           (
-            list-tidy,
+            ranks-tidy,
             (
-              each-all (tidyAt k words) 0 (m .n) (λ i h. line-tidy (0 + i) (omega arith)),
-              (each-all (emptyAt k words) (m .n) (maxLines - m .n) (λ i h. line-empty (m .n + i) (omega arith) (omega arith)), tt),
+              list-tidy,
+              (
+                each-all (tidyAt k words) 0 (m .n) (λ i h. line-tidy (0 + i) (omega arith)),
+                (each-all (emptyAt k words) (m .n) (maxLines - m .n) (λ i h. line-empty (m .n + i) (omega arith) (omega arith)), tt),
+              ),
             ),
           ),
         ),

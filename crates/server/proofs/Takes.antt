@@ -5,6 +5,7 @@ use mathlib.Core.Path.{_≡_, refl, ap, sym, _∙_}
 use mathlib.Core.Bool.{Bool, true, false, _&&_, cond, and-true}
 use mathlib.Core.List.{List, [], _∷_}
 use lib.Dec.{leb, eqb}
+use lib.ListN.{take}
 use borrow.Author.Tests.{eqb-false}
 use Rattle.limits.specs.Limits.{maxInserts}
 use Rattle.ot.specs.declared.Form.{Form}
@@ -17,6 +18,7 @@ use Rattle.wire.specs.declared.Read.{Read}
 use Rattle.wire.specs.declared.Read.the-variants as read
 use Rattle.wire.specs.Bytes.{parsed}
 use Rattle.model.specs.Cross.{priority, insertsOf}
+use Rattle.model.specs.Ranks.{rankOf}
 use Rattle.model.specs.Questions.{Question, ask, asks, between, Answer, answer}
 use Rattle.model.specs.Line as line
 use Rattle.model.specs.Server as model
@@ -30,10 +32,16 @@ use Rattle.server.specs.declared.Counts.{Counts}
 use Rattle.server.specs.declared.Server.{Server}
 use Rattle.server.specs.View.{slotsAt, countsAt, lineAt, serverOf, view, Sound}
 use Rattle.server.specs.Answers.{refusedWith, guarded, taken, takenMessage}
-use Rattle.server.specs.Taking.{upTo, placeOf, refusalAt}
+use Rattle.server.specs.Taking.{isOwn, upTo, placeOf, refusalAt}
 use Rattle.server.proofs.Answers as ends
 use Rattle.server.proofs.Facts.{facts, at-view}
-use Rattle.server.proofs.Asked.{up-line, roomy-model}
+use Rattle.server.proofs.Asked.{up-line, own-rank, roomy-model}
+
+-- the last of three tests may be changed where the second says yes
+where-so : (a b x y : Bool) → (b ≡ true → x ≡ y) → (a && b && x) ≡ (a && b && y)
+where-so true true x y e = e refl
+where-so true false x y e = refl
+where-so false b x y e = refl
 
 -- the line that a message came on, and another, where the edit to keep is e
 abbrev pub takesIt : Arrival → line.Line → line.Line
@@ -52,6 +60,7 @@ module _ (k : Counts) (words : List ℕ) (h : Sound (serverOf k words)) where
       record {
         n = view (serverOf k words) .n;
         initial = view (serverOf k words) .initial;
+        ranks = view (serverOf k words) .ranks;
         items = applied (editThen (model.lineOf (view (serverOf k words)) (a .line)) a) (view (serverOf k words) .items);
         lines =
             model.atPlace (placeOf a) (takesIt a) (keepsIt (a .carries) (editThen (model.lineOf (view (serverOf k words)) (a .line)) a))
@@ -59,7 +68,7 @@ module _ (k : Counts) (words : List ℕ) (h : Sound (serverOf k words)) where
       }
 
   abbrev pub refusal : Arrival → ℕ
-  refusal a = cond (upTo (k .n) a) (refusalAt k words a) 4
+  refusal a = cond (upTo k a) (refusalAt k words a) 4
 
   abbrev pub passed : Arrival → ℕ
   passed a = passedBy (model.lineOf (view (serverOf k words)) (a .line)) a
@@ -67,15 +76,15 @@ module _ (k : Counts) (words : List ℕ) (h : Sound (serverOf k words)) where
   abbrev answered : Arrival → Answer model.Server
   answered a = answer (refusal a) m (next a) (passed a)
 
-  pub line-is : (a : Arrival) → upTo (k .n) a ≡ true → model.lineOf (view (serverOf k words)) (a .line) ≡ lineAt k words (placeOf a)
-  line-is a u = let l = up-line (k .n) a u in at-view k words h (placeOf a) (omega arith)
+  pub line-is : (a : Arrival) → upTo k a ≡ true → model.lineOf (view (serverOf k words)) (a .line) ≡ lineAt k words (placeOf a)
+  line-is a u = let l = up-line k a u in at-view k words h (placeOf a) (omega arith)
 
   -- after question 4: what is asked of the line that the message came on
   by-line : (a : Arrival) (asked : line.Line → ℕ) → asked (lineAt k words (placeOf a)) ≡ refusalAt k words a
-      → cond (upTo (k .n) a) (asked (model.lineOf m (a .line))) 4 ≡ refusal a
-  by-line a asked same = go (upTo (k .n) a) refl
+      → cond (upTo k a) (asked (model.lineOf m (a .line))) 4 ≡ refusal a
+  by-line a asked same = go (upTo k a) refl
     where
-      go : (b : Bool) → upTo (k .n) a ≡ b → cond b (asked (model.lineOf m (a .line))) 4 ≡ cond b (refusalAt k words a) 4
+      go : (b : Bool) → upTo k a ≡ b → cond b (asked (model.lineOf m (a .line))) 4 ≡ cond b (refusalAt k words a) 4
       go true u = ap asked (line-is a u) ∙ same
       go false f = refl
 
@@ -108,6 +117,13 @@ module _ (k : Counts) (words : List ℕ) (h : Sound (serverOf k words)) where
       ∙ ap (λ (n : ℕ). thenAsked (refusalOf v (lineAt k words at) n (carrying b f x)) (asks more)) (h .listed)
       ∙ ap (λ (t : Bool). thenAsked (refusalOf v (lineAt k words at) (k .len) (carrying b f x)) (asks (ten ∷ ask 12 t ∷ []))) (sym (roomy-model k words at (k .n)))
 
+  -- question 4 of an edit: the rank of a line in use
+  asked-own : (b : Header) (f : Form)
+      → (eqb (b .direction) 0 && between 1 (k .n) (b .line) && isOwn (rankOf (take (k .n) (k .ranks)) (b .line)) f) ≡ upTo k (carrying b f 0)
+  asked-own b f =
+      where-so (eqb (b .direction) 0) (between 1 (k .n) (b .line)) (isOwn (rankOf (take (k .n) (k .ranks)) (b .line)) f)
+      (isOwn (rankOf (k .ranks) (b .line)) f) (λ t. ap (λ (r : ℕ). isOwn r f) (own-rank k (b .line) t))
+
   takes-edit : (b : Header) (f : Form) (x : ℕ) → model.serverTakesEdit m b (edit f x) ≡ answered (carrying b f x)
   unfolding model.serverTakesEdit view
   takes-edit b f x =
@@ -117,11 +133,13 @@ module _ (k : Counts) (words : List ℕ) (h : Sound (serverOf k words)) where
       let last : line.Line → List Question =
       λ v. ask 10 (leb (v .inserts + insertsOf (edit f x)) maxInserts) ∷ ask 12 (model.othersRoomy (b .line - 1) (m .lines)) ∷ [] in
       let asked : line.Line → ℕ = λ v. asks (line.takeQuestions v (m .items) b (edit f x) (last v)) in
+      let rank : ℕ = rankOf (m .ranks) (b .line) in
       let four : Bool → Bool = λ t. eqb (b .direction) 0 && between 1 (m .n) (b .line) && t in
       let own : line.Line = model.lineOf m (b .line) in
-      let rest : List Question = ask 4 (four (priority (eqb (b .line)) (edit f x))) ∷ line.takeQuestions own (m .items) b (edit f x) (last own) in
+      let rest : List Question = ask 4 (four (priority (eqb rank) (edit f x))) ∷ line.takeQuestions own (m .items) b (edit f x) (last own) in
       ap (λ (t : Bool). answer (asks (ask 2 t ∷ rest)) m then count) (h .model)
-      ∙ ap (λ (t : Bool). answer (cond (four t) (asked (model.lineOf m (b .line))) 4) m then count) (priority-form (eqb (b .line)) f x 0)
+      ∙ ap (λ (t : Bool). answer (cond (four t) (asked (model.lineOf m (b .line))) 4) m then count) (priority-form (eqb rank) f x 0)
+      ∙ ap (λ (t : Bool). answer (cond t (asked (model.lineOf m (b .line))) 4) m then count) (asked-own b f)
       ∙ ap (λ (r : ℕ). answer r m then count) (by-line a asked (edit-asks b f x))
 
   takes : (t : Message) → model.serverTakes m t ≡ answered (arrivalOf t)

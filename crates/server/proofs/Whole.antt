@@ -15,10 +15,13 @@ use Rattle.list.specs.Items.{allZero}
 use Rattle.list.proofs.Items.{stored-of}
 use Rattle.list.proofs.Parts.{part-length}
 use Rattle.model.specs.Questions.{every}
+use Rattle.model.specs.Ranks.{rankOf, ranking}
 use Rattle.model.specs.Line as line
 use Rattle.model.specs.Server as model
 use Rattle.model.proofs.Tests.{both, and-left, and-right, hold, held, bool-ext}
 use Rattle.model.proofs.SoundServer.{takenSum}
+use Rattle.ranks.specs.Stored.{soundRanks}
+use Rattle.ranks.proofs.Laws.{take-rank, sound-ranking, sound-zero, sound-stored}
 use Rattle.pending.specs.Slots.{allFrom}
 use Rattle.line.specs.Line.{Kept}
 use Rattle.line_sound.specs.Sound.{soundLine, emptyLine}
@@ -66,6 +69,10 @@ sums made taken sum h =
     (λ t. eq-eqb made (sum - taken) (omega (arith, eqb-true (made + taken) sum t)))
     (λ t. eq-eqb (made + taken) sum (omega (arith, eqb-true made (sum - taken) t)))
 
+-- the ranks of the lines in use
+abbrev ranksIn : Counts → List ℕ
+ranksIn k = take (k .n) (k .ranks)
+
 module _ (k : Counts) (words : List ℕ) where
   -- the lines in use
   abbrev used : List line.Line
@@ -86,21 +93,23 @@ module _ (k : Counts) (words : List ℕ) where
   module _ (sum : ℕ) where
     -- the model's question of the line at place i
     abbrev modelAt : ℕ → Bool
-    modelAt i = model.soundLine (k .n) sum (i + 1) (lineAt k words i)
+    modelAt i = model.soundLine (k .n) (ranksIn k) sum (i + 1) (lineAt k words i)
 
-    model-lines : (i count : ℕ) → allFrom modelAt i count ≡ model.soundLines (k .n) sum (suc i) (linesFrom k words i count)
+    model-lines : (i count : ℕ) → allFrom modelAt i count ≡ model.soundLines (k .n) (ranksIn k) sum (suc i) (linesFrom k words i count)
     unfolding allFrom linesFrom model.soundLines
     model-lines i zero = refl
     model-lines i (suc count) =
-        ap (λ (l : ℕ). model.soundLine (k .n) sum l (lineAt k words i) && allFrom modelAt (suc i) count) (add-one i)
-        ∙ ap (λ (b : Bool). model.soundLine (k .n) sum (suc i) (lineAt k words i) && b) (model-lines (suc i) count)
+        ap (λ (l : ℕ). model.soundLine (k .n) (ranksIn k) sum l (lineAt k words i) && allFrom modelAt (suc i) count) (add-one i)
+        ∙ ap (λ (b : Bool). model.soundLine (k .n) (ranksIn k) sum (suc i) (lineAt k words i) && b) (model-lines (suc i) count)
 
-    line-parts : (i : ℕ) → countsAt k i .taken ≤ sum → soundAt k sum words i ≡ (modelAt i && tidyAt k words i)
+    line-parts : (i : ℕ) → i < k .n → countsAt k i .taken ≤ sum → soundAt k sum words i ≡ (modelAt i && tidyAt k words i)
     unfolding model.soundLine soundLine
-    line-parts i h =
+    line-parts i lt h =
         let v = countsAt k i in
-        let tests : Bool = every (line.lineTests (v .taken) (line.other (k .n) (i + 1)) (lineAt k words i)) in
-        ap (λ (b : Bool). b && (tests && tidyAt k words i)) (sums (v .made) (v .taken) sum h)
+        let tests : Bool = every (line.lineTests (v .taken) (line.other (k .n) (rankOf (ranksIn k) (i + 1))) (lineAt k words i)) in
+        ap (λ (r : ℕ). eqb (v .made + v .taken) sum && soundLine (v .taken) (line.other (k .n) r) v (slotsAt i words))
+        (sym (take-rank (k .n) (k .ranks) (i + 1) (omega arith) (omega arith)))
+        ∙ ap (λ (b : Bool). b && (tests && tidyAt k words i)) (sums (v .made) (v .taken) sum h)
         ∙ sym (and-assoc (eqb (v .made) (sum - v .taken)) tests (tidyAt k words i))
 
   taken-few : (i : ℕ) → i < k .n → countsAt k i .taken ≤ taken-all
@@ -110,10 +119,10 @@ module _ (k : Counts) (words : List ℕ) where
       omega (arith, taken-total, most, here)
 
   -- the code's test of the lines in use is the model's, and that their slots are tidy
-  lines-parts : allFrom (soundAt k taken-all words) 0 (k .n) ≡ (model.soundLines (k .n) taken-all 1 used && allFrom (tidyAt k words) 0 (k .n))
+  lines-parts : allFrom (soundAt k taken-all words) 0 (k .n) ≡ (model.soundLines (k .n) (ranksIn k) taken-all 1 used && allFrom (tidyAt k words) 0 (k .n))
   lines-parts =
       all-same (soundAt k taken-all words) (λ i. modelAt taken-all i && tidyAt k words i) 0 (k .n)
-      (λ i h. line-parts taken-all (0 + i) (taken-few (0 + i) (omega arith)))
+      (λ i h. line-parts taken-all (0 + i) (omega arith) (taken-few (0 + i) (omega arith)))
       ∙ all-both (modelAt taken-all) (tidyAt k words) 0 (k .n)
       ∙ ap (λ (b : Bool). b && allFrom (tidyAt k words) 0 (k .n)) (model-lines taken-all 0 (k .n))
 
@@ -125,6 +134,7 @@ codeTests k words =
     ∷ leb (k .n) 8
     ∷ leb (k .initial) 128
     ∷ leb (k .len) 512
+    ∷ soundRanks (k .n) (k .ranks)
     ∷ leb (k .len) (k .initial + totalOf (λ v. v .inserts) k)
     ∷ allZero (drop (k .len) (itemsIn words))
     ∷ allFrom (soundAt k (totalOf (λ v. v .taken) k) words) 0 (k .n)
@@ -157,22 +167,25 @@ module _ (k : Counts) (words : List ℕ) (z : Sizes k words) where
   code-sound e =
       let h = hold (codeTests k words) e in
       let len : k .len ≤ maxItems = leb-true (k .len) 512 (h .1 .1 .1 .0) in
-      let most : k .len ≤ k .initial + totalOf (λ v. v .inserts) k = leb-true (k .len) (k .initial + totalOf (λ v. v .inserts) k) (h .1 .1 .1 .1 .0) in
+      let most : k .len ≤ k .initial + totalOf (λ v. v .inserts) k = leb-true (k .len) (k .initial + totalOf (λ v. v .inserts) k) (h .1 .1 .1 .1 .1 .0) in
       let vs = used k words in
-      let lines = sym (lines-parts k words) ∙ h .1 .1 .1 .1 .1 .1 .0 in
-      let model-yes = and-left (model.soundLines (k .n) (taken-all k words) 1 vs) (allFrom (tidyAt k words) 0 (k .n)) lines in
+      let lines = sym (lines-parts k words) ∙ h .1 .1 .1 .1 .1 .1 .1 .0 in
+      let model-yes = and-left (model.soundLines (k .n) (ranksIn k) (taken-all k words) 1 vs) (allFrom (tidyAt k words) 0 (k .n)) lines in
       held (soundTests s) (
         held (model.serverTests (view s)) (
           both (leb 1 (k .n)) (leb (k .n) 8) (h .0) (h .1 .0),
           (
             h .1 .1 .0,
             (
-              le-leb (length items) maxItems items-short,
+              sound-ranking (k .n) (k .ranks) (h .1 .1 .1 .1 .0),
               (
-                eq-eqb (length vs) (k .n) (lines-length k words 0 (k .n)),
+                le-leb (length items) maxItems items-short,
                 (
-                  subst (λ (t : ℕ). model.soundLines (k .n) t 1 vs ≡ true) (sym (taken-total k words)) model-yes,
-                  (le-leb (length items) (k .initial + model.total (λ v. v .inserts) vs) (omega (arith, items-length len, inserts-total k words)), tt),
+                  eq-eqb (length vs) (k .n) (lines-length k words 0 (k .n)),
+                  (
+                    subst (λ (t : ℕ). model.soundLines (k .n) (ranksIn k) t 1 vs ≡ true) (sym (taken-total k words)) model-yes,
+                    (le-leb (length items) (k .initial + model.total (λ v. v .inserts) vs) (omega (arith, items-length len, inserts-total k words)), tt),
+                  ),
                 ),
               ),
             ),
@@ -181,21 +194,24 @@ module _ (k : Counts) (words : List ℕ) (z : Sizes k words) where
         (
           h .1 .1 .1 .0,
           (
-            h .1 .1 .1 .1 .1 .0,
-            (and-right (model.soundLines (k .n) (taken-all k words) 1 vs) (allFrom (tidyAt k words) 0 (k .n)) lines, (h .1 .1 .1 .1 .1 .1 .1 .0, tt)),
+            sound-zero (k .n) (k .ranks) (h .1 .1 .1 .1 .0),
+            (
+              h .1 .1 .1 .1 .1 .1 .0,
+              (and-right (model.soundLines (k .n) (ranksIn k) (taken-all k words) 1 vs) (allFrom (tidyAt k words) 0 (k .n)) lines, (h .1 .1 .1 .1 .1 .1 .1 .1 .0, tt)),
+            ),
           ),
         ),
       )
 
   sound-code : sound (serverOf k words) ≡ true → every (codeTests k words) ≡ true
-  unfolding sound model.soundServer view
+  unfolding sound model.soundServer view soundRanks
   sound-code e =
       let t = hold (soundTests s) e in
       let m = hold (model.serverTests (view s)) (t .0) in
       let len : k .len ≤ maxItems = leb-true (k .len) 512 (t .1 .0) in
       let vs = used k words in
       let most : length items ≤ k .initial + model.total (λ v. v .inserts) vs =
-      leb-true (length items) (k .initial + model.total (λ v. v .inserts) vs) (m .1 .1 .1 .1 .1 .0) in
+      leb-true (length items) (k .initial + model.total (λ v. v .inserts) vs) (m .1 .1 .1 .1 .1 .1 .0) in
       held (codeTests k words) (
         and-left (leb 1 (k .n)) (leb (k .n) 8) (m .0),
         (
@@ -205,14 +221,17 @@ module _ (k : Counts) (words : List ℕ) (z : Sizes k words) where
             (
               t .1 .0,
               (
-                le-leb (k .len) (k .initial + totalOf (λ v. v .inserts) k) (omega (arith, items-length len, inserts-total k words)),
+                both (ranking (k .n) (ranksIn k)) (allZero (drop (k .n) (k .ranks))) (m .1 .1 .0) (t .1 .1 .0),
                 (
-                  t .1 .1 .0,
+                  le-leb (k .len) (k .initial + totalOf (λ v. v .inserts) k) (omega (arith, items-length len, inserts-total k words)),
                   (
-                    lines-parts k words
-                        ∙ both (model.soundLines (k .n) (taken-all k words) 1 vs) (allFrom (tidyAt k words) 0 (k .n))
-                        (subst (λ (n : ℕ). model.soundLines (k .n) n 1 vs ≡ true) (taken-total k words) (m .1 .1 .1 .1 .0)) (t .1 .1 .1 .0),
-                    (t .1 .1 .1 .1 .0, tt),
+                    t .1 .1 .1 .0,
+                    (
+                      lines-parts k words
+                          ∙ both (model.soundLines (k .n) (ranksIn k) (taken-all k words) 1 vs) (allFrom (tidyAt k words) 0 (k .n))
+                          (subst (λ (n : ℕ). model.soundLines (k .n) (ranksIn k) n 1 vs ≡ true) (taken-total k words) (m .1 .1 .1 .1 .1 .0)) (t .1 .1 .1 .1 .0),
+                      (t .1 .1 .1 .1 .1 .0, tt),
+                    ),
                   ),
                 ),
               ),
@@ -231,7 +250,8 @@ module _ (k : Counts) (words : List ℕ) (z : Sizes k words) where
   abbrev rest : Bool
   rest =
       every
-      (leb (k .len) (k .initial + totalOf (λ v. v .inserts) k)
+      (soundRanks (k .n) (k .ranks)
+      ∷ leb (k .len) (k .initial + totalOf (λ v. v .inserts) k)
       ∷ allZero (drop (k .len) (itemsIn words))
       ∷ allFrom (soundAt k (totalOf (λ v. v .taken) k) words) 0 (k .n)
       ∷ allFrom (emptyAt k words) (k .n) (maxLines - k .n)
@@ -248,45 +268,48 @@ module _ (k : Counts) (words : List ℕ) (z : Sizes k words) where
   sound-no t = in-parts false t
 
   -- the tests of the code, one after the other
-  pub sound-yes : (most taken : ℕ) (zero′ used′ unused : Bool) → limits ≡ true → most ≡ totalOf (λ v. v .inserts) k → taken ≡ totalOf (λ v. v .taken) k
+  pub sound-yes : (most taken : ℕ) (ranked zero′ used′ unused : Bool) → limits ≡ true → most ≡ totalOf (λ v. v .inserts) k
+      → taken ≡ totalOf (λ v. v .taken) k → ranked ≡ soundRanks (k .n) (k .ranks)
       → zero′ ≡ allZero (drop (k .len) (itemsIn words)) → used′ ≡ allFrom (soundAt k taken words) 0 (k .n)
       → unused ≡ allFrom (emptyAt k words) (k .n) (maxLines - k .n)
-      → (((leb (k .len) (k .initial + most) && zero′) && used′) && unused) ≡ sound (serverOf k words)
-  sound-yes most taken zero′ used′ unused t m n z′ u e =
+      → ((((ranked && leb (k .len) (k .initial + most)) && zero′) && used′) && unused) ≡ sound (serverOf k words)
+  sound-yes most taken ranked zero′ used′ unused t m n r z′ u e =
+      let right = soundRanks (k .n) (k .ranks) in
       let all = totalOf (λ v. v .inserts) k in
       let items-zero = allZero (drop (k .len) (itemsIn words)) in
       let lines = allFrom (soundAt k (totalOf (λ v. v .taken) k) words) 0 (k .n) in
-      group (leb (k .len) (k .initial + most)) zero′ used′ unused
-      ∙ ap (λ (j : ℕ). every (leb (k .len) (k .initial + j) ∷ zero′ ∷ used′ ∷ unused ∷ [])) m
-      ∙ ap (λ (b : Bool). every (leb (k .len) (k .initial + all) ∷ b ∷ used′ ∷ unused ∷ [])) z′
-      ∙ ap (λ (b : Bool). every (leb (k .len) (k .initial + all) ∷ items-zero ∷ b ∷ unused ∷ [])) (u ∙ ap (λ (j : ℕ). allFrom (soundAt k j words) 0 (k .n)) n)
-      ∙ ap (λ (b : Bool). every (leb (k .len) (k .initial + all) ∷ items-zero ∷ lines ∷ b ∷ [])) e
+      group ranked (leb (k .len) (k .initial + most)) zero′ used′ unused
+      ∙ ap (λ (b : Bool). every (b ∷ leb (k .len) (k .initial + most) ∷ zero′ ∷ used′ ∷ unused ∷ [])) r
+      ∙ ap (λ (j : ℕ). every (right ∷ leb (k .len) (k .initial + j) ∷ zero′ ∷ used′ ∷ unused ∷ [])) m
+      ∙ ap (λ (b : Bool). every (right ∷ leb (k .len) (k .initial + all) ∷ b ∷ used′ ∷ unused ∷ [])) z′
+      ∙ ap (λ (b : Bool). every (right ∷ leb (k .len) (k .initial + all) ∷ items-zero ∷ b ∷ unused ∷ [])) (u ∙ ap (λ (j : ℕ). allFrom (soundAt k j words) 0 (k .n)) n)
+      ∙ ap (λ (b : Bool). every (right ∷ leb (k .len) (k .initial + all) ∷ items-zero ∷ lines ∷ b ∷ [])) e
       ∙ in-parts true t
     where
-      group : (a b c d : Bool) → (((a && b) && c) && d) ≡ every (a ∷ b ∷ c ∷ d ∷ [])
-      group a b c d = simp (and-assoc, and-true)
+      group : (a b c d e : Bool) → ((((a && b) && c) && d) && e) ≡ every (a ∷ b ∷ c ∷ d ∷ e ∷ [])
+      group a b c d e = simp (and-assoc, and-true)
 
   -- ---- a struct that passes
 
   module _ (e : sound (serverOf k words) ≡ true) where
-    used-line : (i : ℕ) → i < k .n → soundLine (countsAt k i .taken) (line.other (k .n) (i + 1)) (countsAt k i) (slotsAt i words) ≡ true
+    used-line : (i : ℕ) → i < k .n → soundLine (countsAt k i .taken) (line.other (k .n) (rankOf (k .ranks) (i + 1))) (countsAt k i) (slotsAt i words) ≡ true
     used-line i h =
         let t = hold (codeTests k words) (sound-code e) in
         and-right (eqb (countsAt k i .made + countsAt k i .taken) (totalOf (λ v. v .taken) k))
-        (soundLine (countsAt k i .taken) (line.other (k .n) (i + 1)) (countsAt k i) (slotsAt i words))
-        (each-first (soundAt k (totalOf (λ v. v .taken) k) words) (k .n) (t .1 .1 .1 .1 .1 .1 .0) i h)
+        (soundLine (countsAt k i .taken) (line.other (k .n) (rankOf (k .ranks) (i + 1))) (countsAt k i) (slotsAt i words))
+        (each-first (soundAt k (totalOf (λ v. v .taken) k) words) (k .n) (t .1 .1 .1 .1 .1 .1 .1 .0) i h)
 
     empty-at : (i : ℕ) → k .n ≤ i → i < maxLines → emptyLine (countsAt k i) (slotsAt i words) ≡ true
     empty-at i h lt =
         let t = hold (codeTests k words) (sound-code e) in
-        each-last (emptyAt k words) (k .n) maxLines (t .1 .1 .1 .1 .1 .1 .1 .0) i h lt
+        each-last (emptyAt k words) (k .n) maxLines (t .1 .1 .1 .1 .1 .1 .1 .1 .0) i h lt
 
     kept : (i : ℕ) → i < maxLines → Kept (countsAt k i) (slotsAt i words)
     kept i lt = go (ltb i (k .n)) refl
       where
         go : (b : Bool) → ltb i (k .n) ≡ b → Kept (countsAt k i) (slotsAt i words)
         go true t =
-            sound-kept (countsAt k i .taken) (line.other (k .n) (i + 1)) (countsAt k i) (slotsAt i words) (slots-long i words (z .words) lt)
+            sound-kept (countsAt k i .taken) (line.other (k .n) (rankOf (k .ranks) (i + 1))) (countsAt k i) (slotsAt i words) (slots-long i words (z .words) lt)
             (used-line i (ltb-true i (k .n) t))
         go false f = empty-kept (countsAt k i) (slotsAt i words) (slots-long i words (z .words) lt) (empty-at i (ltb-false i (k .n) f) lt)
 
@@ -310,11 +333,13 @@ module _ (k : Counts) (words : List ℕ) (z : Sizes k words) where
     struct-holds =
         let t = hold (soundTests s) e in
         let len : k .len ≤ maxItems = leb-true (k .len) 512 (t .1 .0) in
+        let c = hold (codeTests k words) (sound-code e) in
         record {
           n = refl;
           initial = refl;
           len = sym (items-length len);
-          items = stored-of (itemsIn words) (k .len) long len (t .1 .1 .0);
+          ranks = sound-stored (k .n) (k .ranks) (c .1 .1 .1 .1 .0) (z .ranks) (leb-true (k .n) 8 (c .1 .0));
+          items = stored-of (itemsIn words) (k .len) long len (t .1 .1 .1 .0);
           rows = row;
         }
 

@@ -30,8 +30,8 @@ unfoldable pub guarded : Server → model.Answer server.Server → Answer
 guarded s a = cond (sound s) (given s a) (refusedWith 2 s)
 
 -- a refused opening returns an end that is all zeros
-abbrev pub opened : ℕ → List ℕ → Answer
-opened n items = given (store server.noServer) (server.openServer n items)
+abbrev pub opened : ℕ → List ℕ → List ℕ → Answer
+opened n ranks items = given (store server.noServer) (server.openServer n ranks items)
 
 abbrev pub taken : Server → List ℕ → Answer
 taken s bytes = guarded s (server.takeServer (view s) bytes)

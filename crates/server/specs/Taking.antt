@@ -10,6 +10,7 @@ use Rattle.ot.specs.declared.Form.{Form}
 use Rattle.ot.specs.Edit.{Edit, edit}
 use Rattle.model.specs.Questions.{Question, ask, asks, between}
 use Rattle.model.specs.Cross.{priority, insertsOf}
+use Rattle.model.specs.Ranks.{rankOf}
 use Rattle.model.specs.Line as model
 use Rattle.pending.specs.Slots.{slotsOf, allFrom}
 use Rattle.line.specs.declared.taking.Arrival.{Arrival}
@@ -20,12 +21,12 @@ use Rattle.line.specs.Taking.{editOf, refusalOf, lineThen, refusing, done, deci
 use Rattle.server.specs.declared.Counts.{Counts}
 use Rattle.server.specs.View.{slotsAt, countsAt, lineAt, itemsIn}
 
--- question 4: an insert that comes up a line has the line's priority
+-- question 4: an insert that comes up a line has the line's rank
 abbrev pub isOwn : ℕ → Form → Bool
-isOwn line f = priority (eqb line) (edit f 0)
+isOwn rank f = priority (eqb rank) (edit f 0)
 
-abbrev pub upTo : ℕ → Arrival → Bool
-upTo n a = eqb (a .direction) 0 && between 1 n (a .line) && isOwn (a .line) (a .form)
+abbrev pub upTo : Counts → Arrival → Bool
+upTo k a = eqb (a .direction) 0 && between 1 (k .n) (a .line) && isOwn (rankOf (k .ranks) (a .line)) (a .form)
 
 -- question 12 of the line at place i: it is the one that the edit came on, or has room
 abbrev pub roomyAt : Counts → ℕ → ℕ → Bool
@@ -50,7 +51,7 @@ refusalAt k words a =
 
 abbrev pub decided : Counts → List ℕ → Arrival → Decision
 decided k words a =
-    cond (upTo (k .n) a)
+    cond (upTo k a)
     (deciding (refusalAt k words a) (countsAt k (placeOf a)) (done (lineAt k words (placeOf a)) (insertsThen k a) a))
     (refusing 4 (countsOf model.noLine))
 
@@ -70,6 +71,7 @@ pub record KeptBy (most at : ℕ) (e : Edit) (k : Counts) (before : List ℕ) (r
   pub n : r .n ≡ k .n
   pub initial : r .initial ≡ k .initial
   pub len : r .len ≡ k .len
+  pub ranks : r .ranks ≡ k .ranks
   pub lines : length (r .lines) ≡ length (k .lines)
   pub size : length after ≡ length before
   pub items : itemsIn after ≡ itemsIn before

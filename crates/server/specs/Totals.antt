@@ -4,6 +4,7 @@ use mathlib.Core.Path.{_≡_}
 use mathlib.Core.Bool.{Bool, _&&_}
 use mathlib.Core.List.{List, []}
 use lib.Dec.{eqb}
+use Rattle.model.specs.Ranks.{rankOf}
 use Rattle.model.specs.Line as line
 use Rattle.model.specs.Server.{total}
 use Rattle.line_sound.specs.Sound.{soundLine}
@@ -24,4 +25,4 @@ pub record Totaled (k : Counts) (t : Totals) : Type 0 where
 abbrev pub soundAt : Counts → ℕ → List ℕ → ℕ → Bool
 soundAt k taken words i =
     eqb (countsAt k i .made + countsAt k i .taken) taken
-    && soundLine (countsAt k i .taken) (line.other (k .n) (i + 1)) (countsAt k i) (slotsAt i words)
+    && soundLine (countsAt k i .taken) (line.other (k .n) (rankOf (k .ranks) (i + 1))) (countsAt k i) (slotsAt i words)

@@ -11,6 +11,7 @@ use Rattle.list.specs.Parts.{part}
 use Rattle.model.specs.Questions.{every}
 use Rattle.model.specs.Line as line
 use Rattle.model.specs.Server as model
+use Rattle.ranks.specs.Stored as ranks
 use Rattle.pending.specs.Slots as pending
 use Rattle.pending.specs.Slots.{allFrom}
 use Rattle.line.specs.declared.Line.{Line}
@@ -50,6 +51,7 @@ view s =
     record {
       n = s .counts .n;
       initial = s .counts .initial;
+      ranks = take (s .counts .n) (s .counts .ranks);
       items = take (s .counts .len) (itemsIn (s .words));
       lines = linesFrom (s .counts) (s .words) 0 (s .counts .n);
     }
@@ -65,7 +67,14 @@ slotsOfLines (v ∷ vs) = pending.slotsOf (v .pending) ++ slotsOfLines vs
 
 -- the one struct for a server: unused places are zero
 abbrev pub counts : model.Server → Counts
-counts m = record { n = m .n; initial = m .initial; len = length (m .items); lines = map countsOf (allLines m) }
+counts m =
+    record {
+      n = m .n;
+      initial = m .initial;
+      len = length (m .items);
+      ranks = ranks.stored (m .ranks);
+      lines = map countsOf (allLines m);
+    }
 
 unfoldable pub store : model.Server → Server
 store m = serverOf (counts m) (stored (m .items) ++ slotsOfLines (allLines m))
@@ -82,6 +91,7 @@ abbrev pub soundTests : Server → List Bool
 soundTests s =
     model.soundServer (view s)
     ∷ leb (s .counts .len) maxItems
+    ∷ allZero (drop (s .counts .n) (s .counts .ranks))
     ∷ allZero (drop (s .counts .len) (itemsIn (s .words)))
     ∷ allFrom (tidyAt (s .counts) (s .words)) 0 (s .counts .n)
     ∷ allFrom (emptyAt (s .counts) (s .words)) (s .counts .n) (maxLines - s .counts .n)
@@ -98,7 +108,8 @@ pub record Sound (s : Server) : Type 0 where
   pub listed : length (view s .items) ≡ s .counts .len
   pub kept : (i : ℕ) → i < maxLines → Kept (countsAt (s .counts) i) (slotsAt i (s .words))
 
--- the lengths of the words and of the counts
+-- the lengths of the words, of the counts and of the ranks
 pub record Sizes (k : Counts) (ws : List ℕ) : Type 0 where
   pub words : length ws ≡ size
   pub lines : length (k .lines) ≡ maxLines
+  pub ranks : length (k .ranks) ≡ maxLines

@@ -22,6 +22,8 @@ pub struct Counts {
     // how many items it was opened with, and how many the list has
     pub initial: u16,
     pub len: u16,
+    // the rank of line l at place l - 1, zeros past n
+    pub ranks: [u8; ranks::PLACES],
     // line l at place l - 1
     pub lines: [Line; Server::LINES],
 }
@@ -107,8 +109,9 @@ fn used_sound(k: Counts, words: &[u32], taken: u32) -> bool
         let from = Server::ITEMS + pending::WORDS * line as usize;
         let to = from + pending::WORDS;
         line += 1;
+        let rank = ranks::of_line(&k.ranks, line);
         let others = v.made as u32 + v.taken as u32 == taken;
-        well = well & others & line_sound::is_sound(v.taken, v, &words[from..to], k.n, line, false);
+        well = well & others & line_sound::is_sound(v.taken, v, &words[from..to], k.n, rank, false);
     }
     well
 }
@@ -138,19 +141,20 @@ fn is_sound(k: Counts, words: &[u32]) -> bool
     let lines = (1 <= k.n) & (k.n as usize <= Server::LINES);
     if lines & (k.initial as usize <= Server::INITIAL) & (k.len as usize <= Server::ITEMS) {
         let all = add_up(k);
+        let right = ranks::is_sound(k.n, &k.ranks);
         let few = k.len as u32 <= k.initial as u32 + all.inserts;
         let unused = list::zero_from(&words[0..Server::ITEMS], k.len as usize);
-        return few & unused & used_sound(k, words, all.taken) & unused_empty(k, words);
+        return right & few & unused & used_sound(k, words, all.taken) & unused_empty(k, words);
     }
     false
 }
 
 // ---- opening
 
-// Question 1, and the server in words that are zero. Refused, they stay zero, and so are the numbers.
-pub fn open_lent(n: u8, items: &[u32], words: &mut [u32]) -> Changed
+// Questions 1 and 16, and the server in words that are zero. Refused, they stay zero, and so are the numbers.
+pub fn open_lent(n: u8, ranks: &[u8], items: &[u32], words: &mut [u32]) -> Changed
     requires { ⌜ now words ≡ replicate size 0 ⌝ }
-    ensures { λ r. ⌜ answerOf r (now (words .exit)) ≡ opened n (now (items .entry)) ⌝ }
+    ensures { λ r. ⌜ answerOf r (now (words .exit)) ≡ opened n (now (ranks .entry)) (now (items .entry)) ⌝ }
 {
     let none = Line {
         made: 0,
@@ -159,29 +163,36 @@ pub fn open_lent(n: u8, items: &[u32], words: &mut [u32]) -> Changed
         inserts: 0,
     };
     let lines = [none; Server::LINES];
-    let right = (1 <= n) & (n as usize <= Server::LINES);
-    if right & (items.len() <= Server::INITIAL) {
-        list::initial(items, &mut words[0..Server::ITEMS]);
-        let len = items.len() as u16;
-        let counts = Counts {
-            n,
-            initial: len,
-            len,
-            lines,
-        };
-        return Changed {
-            refusal: 0,
-            passed: 0,
-            counts,
-        };
-    }
-    let zero = Counts {
+    let zeros = [0u8; ranks::PLACES];
+    let empty = Counts {
         n: 0,
         initial: 0,
         len: 0,
+        ranks: zeros,
         lines,
     };
-    refused(1, zero)
+    let right = (1 <= n) & (n as usize <= Server::LINES);
+    if right & (items.len() <= Server::INITIAL) {
+        if ranks::is_ranking(n, ranks) {
+            list::initial(items, &mut words[0..Server::ITEMS]);
+            let len = items.len() as u16;
+            let stored = ranks::store(ranks);
+            let counts = Counts {
+                n,
+                initial: len,
+                len,
+                ranks: stored,
+                lines,
+            };
+            return Changed {
+                refusal: 0,
+                passed: 0,
+                counts,
+            };
+        }
+        return refused(16, empty);
+    }
+    refused(1, empty)
 }
 
 impl Server {
@@ -202,11 +213,11 @@ impl Server {
     pub const WORDS: usize = 1536;
 
     // A server of n lines, with the initial list. Refused, it is all zeros.
-    pub fn open(n: u8, items: &[u32]) -> Answer
-        ensures { λ r. ⌜ r ≡ opened n (now (items .entry)) ⌝ }
+    pub fn open(n: u8, ranks: &[u8], items: &[u32]) -> Answer
+        ensures { λ r. ⌜ r ≡ opened n (now (ranks .entry)) (now (items .entry)) ⌝ }
     {
         let mut words = [0u32; Server::WORDS];
-        let a = open_lent(n, items, &mut words);
+        let a = open_lent(n, ranks, items, &mut words);
         joined(a, words)
     }
 }

@@ -28,23 +28,24 @@ use wire::Read;
 
 // ---- the questions
 
-// An insert that comes up a line has the line's priority.
-fn is_own(line: u8, f: Form) -> bool
-    ensures { λ r. ⌜ r ≡ isOwn line f ⌝ }
+// An insert that comes up a line has the line's rank.
+fn is_own(rank: u8, f: Form) -> bool
+    ensures { λ r. ⌜ r ≡ isOwn rank f ⌝ }
 {
     match f {
         Form::Nothing => true,
         Form::Delete(_) => true,
-        Form::Insert(_, r) => line == r,
+        Form::Insert(_, r) => rank == r,
     }
 }
 
 // Question 4.
-fn comes_up(n: u8, a: Arrival) -> bool
-    ensures { λ r. ⌜ r ≡ upTo n a ⌝ }
+fn comes_up(k: Counts, a: Arrival) -> bool
+    ensures { λ r. ⌜ r ≡ upTo k a ⌝ }
 {
     let f = a.form;
-    (a.direction == 0) & ((1 <= a.line) & (a.line <= n)) & is_own(a.line, f)
+    let rank = ranks::of_line(&k.ranks, a.line);
+    (a.direction == 0) & ((1 <= a.line) & (a.line <= k.n)) & is_own(rank, f)
 }
 
 // Has every line in use but the one at a place, counted from 0, room for one more pending edit?
@@ -82,7 +83,7 @@ fn decide(k: Counts, words: &[u32], a: Arrival, later: &mut [u32; Server::PENDIN
     requires { ⌜ ((positionOf (a .form) ≤ maxItems) × Sizes k (now words)) × (Sound (serverOf k (now words)) × (now later ≡ zeros)) ⌝ }
     ensures { λ r. ⌜ Decided k (now (words .entry)) a r (now (later .exit)) ⌝ }
 {
-    if comes_up(k.n, a) {
+    if comes_up(k, a) {
         let at = (a.line - 1) as usize;
         let v = k.lines[at];
         let from = Server::ITEMS + pending::WORDS * at;

@@ -31,18 +31,18 @@ abbrev good : tie.After-other → ℕ → Bool
 good c = allowed (lower c .low .result) (higher c .high .result) (c .other .result)
 
 abbrev right : tie.After-other → ℕ → Bool
-right c = let s = start c .args in rightPriority (s .n) (s .line) (s .own)
+right c = let s = start c .args in rightPriority (s .n) (s .rank) (s .own)
 
 good-none : (c : tie.After-other) → good c 0 ≡ false
 good-none c =
     let s = start c .args in
-    allowed-none (s .n) (s .line) (s .own) (lower c .low .result) (higher c .high .result) (c .other .result)
+    allowed-none (s .n) (s .rank) (s .own) (lower c .low .result) (higher c .high .result) (c .other .result)
     (lower c .low .ensures) (higher c .high .ensures) (c .other .ensures)
 
 good-right : (c : tie.After-other) (r : ℕ) → 1 ≤ r → good c r ≡ right c r
 good-right c =
     let s = start c .args in
-    allowed-is (s .n) (s .line) (s .own) (lower c .low .result) (higher c .high .result) (c .other .result)
+    allowed-is (s .n) (s .rank) (s .own) (lower c .low .result) (higher c .high .result) (c .other .result)
     (lower c .low .ensures) (higher c .high .ensures) (c .other .ensures)
 
 pending-requires : tie.Need-pending-requires

@@ -1,19 +1,26 @@
 use borrow.Author.Needs.{needs}
+use native.Mathlib.Omega.{arith}
 use Prim.Native.Nat.{_≤_}
 use denote.Ref.{now}
 use Rattle.server.proofs.Whole.{limits-few, sound-no, sound-yes, both-told}
 use Rattle.server.proofs.is_sound.Statement.{statement}
 use Rattle.server.proofs.is_sound.Tie as tie
 
--- the call, where the limits hold; and where the items were looked at
+-- the call, where the limits hold; where the ranks were looked at; and the items
 abbrev start : tie.Then1 → tie.Start
-start c = c .before .before .before .before .before .before
+start c = c .before .before
+
+abbrev added : tie.After-is-sound → tie.After-add-up
+added c = c .before .before .before .before
+
+abbrev ranked : tie.After-zero-from → tie.After-is-sound
+ranked c = c .before .before .before
 
 abbrev limits : tie.After-zero-from → tie.Then1
-limits c = c .before .before .before .before .before .before .before
+limits c = added (ranked c) .before
 
-few : (c : tie.Then1) → start c .args .k .n ≤ 8
-few c = let k = start c .args .k in limits-few (k .n) (k .initial) (k .len) (c .if1 .taken)
+few : (c : tie.Then1) → start c .args .t1 .n ≤ 8
+few c = let k = start c .args .t1 in limits-few (k .n) (k .initial) (k .len) (c .if1 .taken)
 
 cast-lines : tie.Need-cast-lines
 cast-lines c = search needs
@@ -26,6 +33,9 @@ cast-if1-2 c = search needs
 
 add-up-requires : tie.Need-add-up-requires
 add-up-requires c κs = few c
+
+is-sound-requires : tie.Need-is-sound-requires
+is-sound-requires c κs = let t = c .before .before .before .before in (omega (arith, few t), start t .pre .ranks)
 
 cast-few : tie.Need-cast-few
 cast-few c = search needs
@@ -62,16 +72,17 @@ returns c =
     let zero = c .before .before in
     let t = limits zero in
     let a = start t .args in
-    let sums = zero .before .before .before .before .before .before .add-up in
-    both-told (a .k) (now (a .words)) (start t .pre) _
-    (sound-yes (a .k) (now (a .words)) (start t .pre) (sums .result .inserts) (sums .result .taken) (zero .zero-from .result) (c .before .used-sound .result)
-    (c .unused-empty .result) (t .if1 .taken) (sums .ensures .inserts) (sums .ensures .taken) (zero .zero-from .ensures)
-    (c .before .used-sound .ensures) (c .unused-empty .ensures))
+    let ranks = ranked zero in
+    let sums = added ranks .add-up in
+    both-told (a .t1) (now (a .words)) (start t .pre) _
+    (sound-yes (a .t1) (now (a .words)) (start t .pre) (sums .result .inserts) (sums .result .taken) (ranks .is-sound .result) (zero .zero-from .result)
+    (c .before .used-sound .result) (c .unused-empty .result) (t .if1 .taken) (sums .ensures .inserts) (sums .ensures .taken) (ranks .is-sound .ensures)
+    (zero .zero-from .ensures) (c .before .used-sound .ensures) (c .unused-empty .ensures))
 
 returns-2 : tie.Need-returns-2
 returns-2 c =
-    let s = c .before .before .before .before .before .before in
-    both-told (s .args .k) (now (s .args .words)) (s .pre) _ (sound-no (s .args .k) (now (s .args .words)) (s .pre) (c .if1 .left))
+    let s = c .before .before in
+    both-told (s .args .t1) (now (s .args .words)) (s .pre) _ (sound-no (s .args .t1) (now (s .args .words)) (s .pre) (c .if1 .left))
 
 pub is-sound-spec : {M : Type 1} → statement M
 is-sound-spec =
@@ -81,6 +92,7 @@ is-sound-spec =
     cast-if1
     cast-if1-2
     add-up-requires
+    is-sound-requires
     cast-few
     cast-few-2
     add-few

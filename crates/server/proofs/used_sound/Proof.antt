@@ -1,3 +1,4 @@
+use borrow.Author.Needs.{needs}
 use native.Mathlib.Omega.{arith}
 use Prim.Native.Nat.{ℕ, _-_, _≤_}
 use mathlib.Core.Path.{_≡_, _∙_}
@@ -18,12 +19,18 @@ Inv-loop words taken k well₀ line₀ well line =
 abbrev μ-loop : tie.MeasureT-loop
 μ-loop words taken k well₀ line₀ well line = k .n - line
 
--- the call, and the turn at which a line is looked at
+-- the call; in a turn, where the line is in use, where its rank was read, and where the turn began
 abbrev start : tie.At-loop Inv-loop μ-loop → tie.Start Inv-loop μ-loop
 start l = l .before .before
 
-abbrev turn : tie.After-is-sound-arg Inv-loop μ-loop → tie.At-loop Inv-loop μ-loop
-turn c = c .before .before .before .before .before
+abbrev inside : tie.After-of-line Inv-loop μ-loop → tie.In-loop Inv-loop μ-loop
+inside c = c .before .before .before .before .before
+
+abbrev ranked : tie.After-is-sound-arg Inv-loop μ-loop → tie.After-of-line Inv-loop μ-loop
+ranked c = c .before .before .before
+
+abbrev turn : tie.After-of-line Inv-loop μ-loop → tie.At-loop Inv-loop μ-loop
+turn c = inside c .before
 
 abbrev test : tie.Start Inv-loop μ-loop → ℕ → Bool
 test s = soundAt (s .args .t1) (s .args .taken) (now (s .args .words))
@@ -55,6 +62,9 @@ add-to c = omega arith
 add-line : tie.Need-add-line Inv-loop μ-loop
 add-line c = omega arith
 
+of-line-requires : tie.Need-of-line-requires Inv-loop μ-loop
+of-line-requires c κs = search needs
+
 cast-others : tie.Need-cast-others Inv-loop μ-loop
 cast-others c = omega arith
 
@@ -78,20 +88,22 @@ part-is-sound-end c = omega arith
 
 is-sound-requires : tie.Need-is-sound-requires Inv-loop μ-loop
 is-sound-requires c κs =
-    let l = turn c in
+    let r = ranked c in
+    let l = turn r in
     let s = start l in
-    lent-long (l .loop .line) (now (s .args .words)) (s .pre .1 .words) (omega (arith, s .pre .0, c .before .before .before .before .loop-test))
+    lent-long (l .loop .line) (now (s .args .words)) (s .pre .1 .words) (omega (arith, s .pre .0, inside r .loop-test))
 
 loop-less : tie.Need-loop-less Inv-loop μ-loop
 loop-less c = omega arith
 
 loop-again : tie.Need-loop-again Inv-loop μ-loop
 loop-again c =
-    let l = turn (c .before) in
+    let r = ranked (c .before) in
+    let l = turn r in
     let s = start l in (
       omega arith,
-      used-turn (s .args .t1) (s .args .taken) (now (s .args .words)) (l .loop .line) (l .loop .well) (c .is-sound .result)
-          (omega (arith, c .before .before .before .before .before .loop-test)) (c .is-sound .ensures .0) ∙ l .loop .inv .1,
+      used-turn (s .args .t1) (s .args .taken) (now (s .args .words)) (l .loop .line) (r .of-line .result) (l .loop .well) (c .is-sound .result)
+          (omega (arith, inside r .loop-test)) (r .of-line .ensures) (c .is-sound .ensures .0) ∙ l .loop .inv .1,
     )
 
 returns : tie.Need-returns Inv-loop μ-loop
@@ -115,6 +127,7 @@ used-sound-spec =
     add-from
     add-to
     add-line
+    of-line-requires
     cast-others
     cast-others-2
     add-others

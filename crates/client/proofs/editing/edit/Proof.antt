@@ -31,7 +31,7 @@ asked c = c .before
 allowed : (c : tie.Else1) → Allowed (end (asked c)) (made (asked c))
 allowed c =
     let a = asked c in
-    edit-allowed (end a) (made a) (a .ask .result) (a .ask .ensures .1) (a .ask .ensures .0 (start a .args .x)) (start a .pre .0) (c .if1 .left)
+    edit-allowed (end a) (made a) (a .ask .result) (a .ask .ensures .1) (a .ask .ensures .0 (start a .args .x)) (start a .pre .0 .words) (c .if1 .left)
 
 -- ---- the edit is kept, then applied
 
@@ -106,11 +106,12 @@ same-length-2 c = search needs
 
 returns-2 : tie.Need-returns-2
 returns-2 c =
-    let n = c .before .before in
-    let p = applying (c .before) in
+    let a = c .before in
+    let n = a .before .before in
+    let p = applying (a .before) in
     let k = keeping (p .before) in
-    allowed (yes k) .done (c .kept .result) (n .inserts-of .result) (p .apply .result) (slots k) (p .apply .last .0) (k .keep .ensures)
-    (n .inserts-of .ensures (start (asked (yes k)) .args .x)) (c .kept .ensures) (p .apply .ensures)
+    allowed (yes k) .done (a .kept .result) (n .inserts-of .result) (p .apply .result) (slots k) (p .apply .last .0) (k .keep .ensures)
+    (n .inserts-of .ensures (start (asked (yes k)) .args .x)) (a .kept .ensures) (p .apply .ensures)
 
 pub edit-spec : {M : Type 1} → statement M
 edit-spec =

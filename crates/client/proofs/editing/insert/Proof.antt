@@ -1,20 +1,30 @@
--- `editing::insert` meets its contract: an insert, of its line's priority.
-use mathlib.Core.Path.{refl}
+-- `editing::insert` meets its contract: an insert of the line's rank (proofs/Edits.antt).
+use mathlib.Core.Path.{refl, _∙_}
+use Rattle.client.specs.View.{clientOf}
+use Rattle.client.proofs.Edits.{ranked-insert}
 use borrow.Author.Needs.{needs}
 use Rattle.client.proofs.editing.insert.Statement.{statement}
 use Rattle.client.proofs.editing.insert.Tie as tie
 
-abbrev start : tie.After-edit-arg → tie.Start
-start c = c .before .before
+abbrev start : tie.After-of-line → tie.Start
+start c = c .before .before .before .before .before
+
+of-line-requires : tie.Need-of-line-requires
+of-line-requires c κs = search needs
 
 edit-requires : tie.Need-edit-requires
-edit-requires c κs = (start c .pre, refl)
+edit-requires c κs = (start (c .before) .pre, refl)
 
 same-length : tie.Need-same-length
 same-length c = search needs
 
 returns : tie.Need-returns
-returns c = c .before .before .edit .ensures
+returns c =
+    let e = c .before .before in
+    let r = e .before .before in
+    let s = start r in
+    e .edit .ensures
+    ∙ ranked-insert (clientOf (s .args .t1) (s .args .words .now)) (s .args .p) (s .args .x) (r .of-line .result) (r .of-line .ensures)
 
 pub insert-spec : {M : Type 1} → statement M
-insert-spec = tie.close (tie.spec edit-requires same-length returns)
+insert-spec = tie.close (tie.spec of-line-requires edit-requires same-length returns)

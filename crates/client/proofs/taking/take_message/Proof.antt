@@ -61,7 +61,7 @@ accepted c =
     let t = yes d in
     let a = asked t in
     let s = start a in
-    accepts (end s) (sound s) (s .args .m) (arrival a) (a .before .split .ensures) (down t) (d .decide .result) (later d) (d .decide .ensures) (c .if2 .left) (s .pre .1 .0)
+    accepts (end s) (sound s) (s .args .m) (arrival a) (a .before .split .ensures) (down t) (d .decide .result) (later d) (d .decide .ensures) (c .if2 .left) (s .pre .1 .0 .words)
 
 abbrev passed : tie.After-later2 → tie.Else2
 passed c = c .before .before
@@ -138,7 +138,9 @@ part-apply-start : tie.Need-part-apply-start
 part-apply-start c = search needs
 
 part-apply-end : tie.Need-part-apply-end
-part-apply-end c = search needs
+part-apply-end c =
+    let p = c .before .before in
+    omega (arith, accepted (passed (p .before)) .words (p .accept .last .0) (p .accept .ensures))
 
 apply-requires : tie.Need-apply-requires
 apply-requires c κs =
@@ -151,7 +153,7 @@ same-length-2 c = search needs
 
 returns-2 : tie.Need-returns-2
 returns-2 c =
-    let l = applying c in
+    let l = applying (c .before) in
     let p = accepting (l .before) in
     accepted (passed (p .before)) .done (l .apply .result) (p .accept .last .0) (l .apply .last .0) (p .accept .ensures) (l .apply .ensures)
 

@@ -4,7 +4,7 @@ use Rattle.server.proofs.Server.send.Statement.{statement}
 use Rattle.server.proofs.Server.send.Tie as tie
 
 send-requires : tie.Need-send-requires
-send-requires c κs = record { words = search needs; lines = search (needs, counted) }
+send-requires c κs = record { words = search needs; lines = search (needs, counted); ranks = search needs }
 
 same-length : tie.Need-same-length
 same-length c = search needs

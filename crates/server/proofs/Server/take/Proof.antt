@@ -8,7 +8,7 @@ slice-aggregate-take : tie.Need-slice-aggregate-take
 slice-aggregate-take c = search needs
 
 take-requires : tie.Need-take-requires
-take-requires c κs = record { words = search needs; lines = search (needs, counted) }
+take-requires c κs = record { words = search needs; lines = search (needs, counted); ranks = search needs }
 
 joined-requires : tie.Need-joined-requires
 joined-requires c κs = search needs

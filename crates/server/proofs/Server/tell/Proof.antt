@@ -4,7 +4,7 @@ use Rattle.server.proofs.Server.tell.Statement.{statement}
 use Rattle.server.proofs.Server.tell.Tie as tie
 
 tell-requires : tie.Need-tell-requires
-tell-requires c κs = record { words = search needs; lines = search (needs, counted) }
+tell-requires c κs = record { words = search needs; lines = search (needs, counted); ranks = search needs }
 
 same-length : tie.Need-same-length
 same-length c = search needs

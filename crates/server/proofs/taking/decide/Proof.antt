@@ -17,14 +17,14 @@ start c = c .before .before .before
 abbrev here : tie.After-decide → tie.Then1
 here c = c .before .before .before .before .before .before .before
 
-comes : (c : tie.Then1) → upTo (start c .args .t1 .n) (start c .args .a) ≡ true
+comes : (c : tie.Then1) → upTo (start c .args .t1) (start c .args .a) ≡ true
 comes c = sym (c .before .comes-up .ensures) ∙ c .if1 .taken
 
 comes-up-requires : tie.Need-comes-up-requires
 comes-up-requires c κs = search needs
 
 sub-at : tie.Need-sub-at
-sub-at c = let t = c .before in up-line (start t .args .t1 .n) (start t .args .a) (comes t) .0
+sub-at c = let t = c .before in up-line (start t .args .t1) (start t .args .a) (comes t) .0
 
 cast-at : tie.Need-cast-at
 cast-at c = search needs

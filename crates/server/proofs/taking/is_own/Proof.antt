@@ -20,7 +20,7 @@ returns-2 : tie.Need-returns-2
 returns-2 c = search needs
 
 returns-3 : tie.Need-returns-3
-returns-3 c = ap (isOwn (c .before .before .before .args .line)) (sym (c .before .f .given .1))
+returns-3 c = ap (isOwn (c .before .before .before .args .rank)) (sym (c .before .f .given .1))
 
 pub is-own-spec : {M : Type 1} → statement M
 is-own-spec = tie.close (tie.spec enum-told enum-told-2 enum-known-f returns returns-2 returns-3)
