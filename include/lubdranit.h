@@ -4,11 +4,13 @@
  * LUB_CLIENT_BYTES or LUB_SERVER_BYTES. There is no other state, no allocation and no input or output. You carry the messages.
  *
  *     static uint8_t end[LUB_CLIENT_BYTES];
+ *     static const uint8_t ranks[3] = {2, 3, 1};                client 3 goes first in a tie, then 1, then 2
  *     static const uint8_t steps[8] = {0, 0, 0, 101, 0, 0, 0, 102};
  *     uint8_t message[LUB_MESSAGE_BYTES];
  *     uint64_t answer;
  *
- *     lub_client_open(end, sizeof end, 3, 1, steps, sizeof steps);   client 1 of 3, with the list 101 102
+ *                                                               client 1 of 3, with the list 101 102
+ *     lub_client_open(end, sizeof end, 3, 1, ranks, sizeof ranks, steps, sizeof steps);
  *     lub_client_insert(end, sizeof end, 1, 201);               step 201 at the front, shown at once
  *     answer = lub_client_send(end, sizeof end, 1, 1, message, sizeof message);
  *     if (lub_refusal(answer) == 0)
@@ -44,8 +46,8 @@ extern "C" {
 #define LUB_ITEMS 512u          /* items of a list */
 #define LUB_INITIAL 128u        /* items at opening */
 
-#define LUB_CLIENT_BYTES 2588u  /* a client's end */
-#define LUB_SERVER_BYTES 6284u  /* the server's end */
+#define LUB_CLIENT_BYTES 2596u  /* a client's end */
+#define LUB_SERVER_BYTES 6292u  /* the server's end */
 #define LUB_MESSAGE_BYTES 14u   /* the longest message */
 #define LUB_RUN_BYTES 262144u   /* room for any output of lub_run */
 
@@ -56,7 +58,7 @@ enum lub_refusal_number {
     LUB_REFUSED_OPENING = 1,       /* n, line, number of items, or a cut item */
     LUB_REFUSED_UNSOUND = 2,       /* the end's bytes are damaged */
     LUB_REFUSED_NO_MESSAGE = 3,    /* not exactly one message with its fields in range */
-    LUB_REFUSED_MISDIRECTED = 4,   /* another direction, line or priority */
+    LUB_REFUSED_MISDIRECTED = 4,   /* another direction, line or rank */
     LUB_REFUSED_REPEAT = 5,        /* taken before: drop it */
     LUB_REFUSED_GAP = 6,           /* an earlier edit is missing */
     LUB_REFUSED_OVERTAKEN = 7,     /* its sender knew less than a message taken before: drop it */
@@ -67,15 +69,18 @@ enum lub_refusal_number {
     LUB_REFUSED_PENDING = 12,      /* 64 edits are pending here, or at the server on another line */
     LUB_REFUSED_NOT_PENDING = 13,  /* that number is not pending */
     LUB_REFUSED_SHORT_BUFFER = 14, /* the message does not fit */
+    LUB_REFUSED_RANKS = 16,        /* the ranks are not 1 to n, each used once; asked after 1 */
     LUB_REFUSED_SHORT_END = 18     /* the end's lent bytes are shorter than its layout; asked before all others */
 };
 
 /* ---- a client
  * `end` is the client's end: LUB_CLIENT_BYTES lent bytes. More are fine; those behind the layout stay as they are. */
 
-/* Opens the end of client `line` of n with the opening list: `items`, four bytes each, high byte first. The bytes of `end` need not
- * be set before. Refusals: 18 1. */
-uint64_t lub_client_open(uint8_t *end, size_t end_length, uint8_t n, uint8_t line, const uint8_t *items, size_t items_length);
+/* Opens the end of client `line` of n with the ranks of all lines and the opening list. `ranks` are exactly n bytes, line 1's first: 1 to
+ * n, each used once. Where two clients insert at one place, the item of the smaller rank stands first. `items` are four bytes each, high
+ * byte first. The bytes of `end` need not be set before. Refusals: 18 1 16. */
+uint64_t lub_client_open(uint8_t *end, size_t end_length, uint8_t n, uint8_t line, const uint8_t *ranks, size_t ranks_length,
+                         const uint8_t *items, size_t items_length);
 
 /* Inserts an item before the one at `position`, which counts from 1; length + 1 appends. The edit is applied at once and pending
  * until the server has acknowledged it. Refusals: 18 2 9 10 11 12. */
@@ -99,8 +104,10 @@ uint64_t lub_client_take(uint8_t *end, size_t end_length, const uint8_t *message
 /* ---- the server
  * `end` is the server's end: LUB_SERVER_BYTES lent bytes. */
 
-/* Opens the server's end for n clients with the opening list, which each client is opened with as well. Refusals: 18 1. */
-uint64_t lub_server_open(uint8_t *end, size_t end_length, uint8_t n, const uint8_t *items, size_t items_length);
+/* Opens the server's end for n clients with the ranks and the opening list. Each client is opened with the same: other ranks at one end,
+ * and the copies need not agree. Refusals: 18 1 16. */
+uint64_t lub_server_open(uint8_t *end, size_t end_length, uint8_t n, const uint8_t *ranks, size_t ranks_length, const uint8_t *items,
+                         size_t items_length);
 
 /* Writes the message of edit `number` pending on `line` into `out`, for that line's client. Counts the bytes written. Changes no end.
  * Refusals: 18 2 4 13 14. */
@@ -118,7 +125,7 @@ uint64_t lub_server_take(uint8_t *end, size_t end_length, const uint8_t *message
 uint64_t lub_client_bytes(void);
 uint64_t lub_server_bytes(void);
 
-/* The run program in memory: reads a script of at most 65,536 bytes, writes what it prints, and returns how many bytes that is. What
+/* The run program in memory, with line numbers as ranks: reads a script of at most 65,536 bytes, writes what it prints, and returns how many bytes that is. What
  * does not fit is left out; LUB_RUN_BYTES always suffice. */
 uint64_t lub_run(const uint8_t *input, size_t input_length, uint8_t *out, size_t out_length);
 
@@ -136,29 +143,36 @@ static inline uint32_t lub_word(const uint8_t *end, size_t word) {
     return (uint32_t)at[0] | (uint32_t)at[1] << 8 | (uint32_t)at[2] << 16 | (uint32_t)at[3] << 24;
 }
 
+/* The rank that a line from 1 to 8 was opened with; 0 past n. */
+static inline unsigned lub_rank(const uint8_t *end, unsigned line) { return line < 1 || line > LUB_LINES ? 0 : end[12 + line - 1]; }
+
+static inline unsigned lub_client_rank(const uint8_t *end, unsigned line) { return lub_rank(end, line); }
+
+static inline unsigned lub_server_rank(const uint8_t *end, unsigned line) { return lub_rank(end, line); }
+
 /* How many items the list has, and the item at a position from 1. */
 static inline unsigned lub_client_length(const uint8_t *end) { return (unsigned)lub_word(end, 2); }
 
 static inline uint32_t lub_client_item(const uint8_t *end, unsigned position) {
-    return position < 1 || position > LUB_ITEMS ? 0 : lub_word(end, 7 + (size_t)position - 1);
+    return position < 1 || position > LUB_ITEMS ? 0 : lub_word(end, 9 + (size_t)position - 1);
 }
 
 /* Edits made here, edits taken, and how many of those made the server has acknowledged: numbers acked + 1 to made are pending. */
-static inline unsigned lub_client_made(const uint8_t *end) { return (unsigned)lub_word(end, 3); }
+static inline unsigned lub_client_made(const uint8_t *end) { return (unsigned)lub_word(end, 5); }
 
-static inline unsigned lub_client_taken(const uint8_t *end) { return (unsigned)lub_word(end, 4); }
+static inline unsigned lub_client_taken(const uint8_t *end) { return (unsigned)lub_word(end, 6); }
 
-static inline unsigned lub_client_acked(const uint8_t *end) { return (unsigned)lub_word(end, 5); }
+static inline unsigned lub_client_acked(const uint8_t *end) { return (unsigned)lub_word(end, 7); }
 
 static inline unsigned lub_server_length(const uint8_t *end) { return (unsigned)lub_word(end, 2); }
 
 static inline uint32_t lub_server_item(const uint8_t *end, unsigned position) {
-    return position < 1 || position > LUB_ITEMS ? 0 : lub_word(end, 35 + (size_t)position - 1);
+    return position < 1 || position > LUB_ITEMS ? 0 : lub_word(end, 37 + (size_t)position - 1);
 }
 
 /* Of a line from 1 to 8: edits made for it, edits taken on it, and how many of those made its client has acknowledged. */
 static inline unsigned lub_server_count(const uint8_t *end, unsigned line, size_t which) {
-    return line < 1 || line > LUB_LINES ? 0 : (unsigned)lub_word(end, 3 + 4 * ((size_t)line - 1) + which);
+    return line < 1 || line > LUB_LINES ? 0 : (unsigned)lub_word(end, 5 + 4 * ((size_t)line - 1) + which);
 }
 
 static inline unsigned lub_server_made(const uint8_t *end, unsigned line) { return lub_server_count(end, line, 0); }

@@ -95,15 +95,15 @@ module _ (c : Client) (line : ℕ) (out : List ℕ) (s : Sent) (after : List ℕ
 
 -- ---- opening
 
-module _ (end : List ℕ) (n line : ℕ) (items : List ℕ) (long : size ≤ length end) where
+module _ (end : List ℕ) (n line : ℕ) (ranks items : List ℕ) (long : size ≤ length end) where
   abbrev rest : Called
-  rest = answered (opened n line (itemsOf items)) end
+  rest = answered (opened n line ranks (itemsOf items)) end
 
-  pub opened-cut : (r : ℕ) → (length items % 4 ≡ 0 → ⊥) → r ≡ packed 1 0 → returned r end ≡ openedIn end n line items
+  pub opened-cut : (r : ℕ) → (length items % 4 ≡ 0 → ⊥) → r ≡ packed 1 0 → returned r end ≡ openedIn end n line ranks items
   unfolding openedIn
   opened-cut = open-cut size end items rest long
 
-  pub opened-done : (r : ℕ) (after : List ℕ) → length items % 4 ≡ 0 → returned r after ≡ rest → returned r after ≡ openedIn end n line items
+  pub opened-done : (r : ℕ) (after : List ℕ) → length items % 4 ≡ 0 → returned r after ≡ rest → returned r after ≡ openedIn end n line ranks items
   unfolding openedIn
   opened-done r after even e = e ∙ open-whole size end items rest long even
 
@@ -113,7 +113,7 @@ module _ (end : List ℕ) (n line : ℕ) (items : List ℕ) (long : size ≤ len
   and-no true false false e = refl
   and-no false b false e = refl
 
-  pub opened-many : (r : ℕ) → length items % 4 ≡ 0 → maxInitial < length items / 4 → r ≡ packed 1 0 → returned r end ≡ openedIn end n line items
+  pub opened-many : (r : ℕ) → length items % 4 ≡ 0 → maxInitial < length items / 4 → r ≡ packed 1 0 → returned r end ≡ openedIn end n line ranks items
   unfolding answered client.openClient model.answer
   opened-many r even h e =
       let its = itemsOf items in
@@ -123,7 +123,7 @@ module _ (end : List ℕ) (n line : ℕ) (items : List ℕ) (long : size ≤ len
       opened-done r end even (ap (λ (k : ℕ). returned k end) e ∙ said)
 
 -- the items as they were decoded
-pub open-answered : (end : List ℕ) (n line : ℕ) (items list words : List ℕ) (a : Changed) (r : ℕ) (after : List ℕ) → list ≡ itemsOf items
-    → answerOf a words ≡ opened n line list → returned r after ≡ answered (answerOf a words) end
-    → returned r after ≡ answered (opened n line (itemsOf items)) end
-open-answered end n line items list words a r after el ea er = er ∙ ap (λ (b : Answer). answered b end) (ea ∙ ap (opened n line) el)
+pub open-answered : (end : List ℕ) (n line : ℕ) (ranks items list words : List ℕ) (a : Changed) (r : ℕ) (after : List ℕ) → list ≡ itemsOf items
+    → answerOf a words ≡ opened n line ranks list → returned r after ≡ answered (answerOf a words) end
+    → returned r after ≡ answered (opened n line ranks (itemsOf items)) end
+open-answered end n line ranks items list words a r after el ea er = er ∙ ap (λ (b : Answer). answered b end) (ea ∙ ap (opened n line ranks) el)

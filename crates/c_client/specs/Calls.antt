@@ -12,8 +12,8 @@ use Rattle.c_client.specs.Layout.{size, bytesIn, endIn}
 unfoldable pub answered : Answer → List ℕ → Called
 answered a bytes = changing size (a .refusal) (a .passed) (bytesIn (a .client)) bytes
 
-unfoldable pub openedIn : List ℕ → ℕ → ℕ → List ℕ → Called
-openedIn bytes n line items = opening size bytes items (answered (opened n line (itemsOf items)) bytes)
+unfoldable pub openedIn : List ℕ → ℕ → ℕ → List ℕ → List ℕ → Called
+openedIn bytes n line ranks items = opening size bytes items (answered (opened n line ranks (itemsOf items)) bytes)
 
 unfoldable pub insertedIn : List ℕ → ℕ → ℕ → Called
 insertedIn bytes p x = laidOut size bytes bytes (answered (inserted (endIn bytes) p x) bytes)

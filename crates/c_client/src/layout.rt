@@ -5,7 +5,6 @@ ghost use Prim.Native.Nat.{_≤_};
 ghost use lib.ListN.{length, drop};
 ghost use Rattle.client.specs.View as client;
 ghost use Rattle.client.specs.View.{clientOf};
-ghost use Rattle.c_layout.specs.Words.{wordsOf};
 ghost use Rattle.c_client.specs.Layout.{size, countsIn, bytesIn, endIn};
 ghost use Rattle.c_client.specs.Reading.{cappedCounts, cappedEnd};
 use c_layout::get;
@@ -15,6 +14,7 @@ use c_layout::numbers::in_16;
 use c_layout::numbers::line_at;
 use c_layout::numbers::put_line;
 use c_layout::put;
+use c_layout::ranks;
 use client::Client;
 use client::Counts;
 
@@ -25,7 +25,9 @@ const OF: usize = 1;
 
 const LEN: usize = 2;
 
-const OWN: usize = 3;
+const RANKS: usize = 3;
+
+const OWN: usize = RANKS + ranks::WORDS;
 
 const WORDS: usize = OWN + LINE;
 
@@ -34,16 +36,18 @@ pub const SIZE: usize = 4 * (WORDS + Client::WORDS);
 
 fn counts(bytes: &[u8]) -> Counts
     requires { ⌜ size ≤ length (now bytes) ⌝ }
-    ensures { λ r. ⌜ r ≡ cappedCounts (countsIn (wordsOf (now (bytes .entry)))) ⌝ }
+    ensures { λ r. ⌜ r ≡ cappedCounts (countsIn (now (bytes .entry))) ⌝ }
 {
     let mut numbers = [0u32; WORDS];
     get(bytes, N, &mut numbers);
     let own = line_at(&numbers, OWN);
+    let ranks = ranks::read(bytes);
     Counts {
         own,
         len: in_16(numbers[LEN]),
         n: in_8(numbers[N]),
         line: in_8(numbers[OF]),
+        ranks,
     }
 }
 
@@ -56,6 +60,7 @@ pub fn read(bytes: &[u8], words: &mut [u32]) -> Counts
     counts(bytes)
 }
 
+// The ranks go over the two words of the numbers that are left zero.
 pub fn write(bytes: &mut [u8], k: Counts, words: &[u32])
     requires { ⌜ (size ≤ length (now bytes)) × (length (now words) ≡ client.size) ⌝ }
     ensures { λ _. ⌜ now (bytes .exit) ≡ bytesIn (clientOf k (now (words .entry))) ++ drop size (now (bytes .entry)) ⌝ }
@@ -68,4 +73,5 @@ pub fn write(bytes: &mut [u8], k: Counts, words: &[u32])
     put_line(&mut numbers, OWN, own);
     put(bytes, N, &numbers);
     put(bytes, WORDS, words);
+    ranks::write(bytes, &k.ranks);
 }

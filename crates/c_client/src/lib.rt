@@ -31,19 +31,20 @@ fn finish(end: &mut [u8], a: Changed, words: &[u32]) -> u64
 }
 
 // The opened client, from items as bytes. The list is room for these.
-fn open_with(end: &mut [u8], n: u8, line: u8, items: &[u8], list: &mut [u32]) -> u64
+fn open_with(end: &mut [u8], n: u8, line: u8, ranks: &[u8], items: &[u8], list: &mut [u32]) -> u64
     requires { ⌜ (size ≤ length (now end)) × (length (now items) ≡ 4 * length (now list)) ⌝ }
-    ensures { λ r. ⌜ returned r (now (end .exit)) ≡ answered (opened n line (itemsOf (now (items .entry)))) (now (end .entry)) ⌝ }
+    ensures { λ r. ⌜ returned r (now (end .exit)) ≡ answered (opened n line (now (ranks .entry)) (itemsOf (now (items .entry)))) (now (end .entry)) ⌝ }
 {
     c_layout::decode_items(items, list);
     let mut words = [0u32; Client::WORDS];
-    let a = client::open_lent(n, line, list, &mut words);
+    let a = client::open_lent(n, line, ranks, list, &mut words);
     finish(end, a, &words)
 }
 
-// Opens a client of line `line` of n, with the items as its list: four bytes each, high byte first. Refusals: 18 1.
-pub fn open(end: &mut [u8], n: u8, line: u8, items: &[u8]) -> u64
-    ensures { λ r. ⌜ returned r (now (end .exit)) ≡ openedIn (now (end .entry)) n line (now (items .entry)) ⌝ }
+// Opens a client of line `line` of n, with the ranks of all lines, a byte each, and the items as its list: four bytes each, high byte first.
+// Refusals: 18 1 16.
+pub fn open(end: &mut [u8], n: u8, line: u8, ranks: &[u8], items: &[u8]) -> u64
+    ensures { λ r. ⌜ returned r (now (end .exit)) ≡ openedIn (now (end .entry)) n line (now (ranks .entry)) (now (items .entry)) ⌝ }
 {
     if end.len() < SIZE {
         return answer(18, 0);
@@ -56,10 +57,10 @@ pub fn open(end: &mut [u8], n: u8, line: u8, items: &[u8]) -> u64
         return answer(1, 0);
     }
     let mut list = [0u32; Client::INITIAL];
-    open_with(end, n, line, items, &mut list[0..count])
+    open_with(end, n, line, ranks, items, &mut list[0..count])
 }
 
-// Inserts the item before the one at the position. Its priority is the line. Refusals: 18 2 9 10 11 12.
+// Inserts the item before the one at the position. Its priority is the rank of the line. Refusals: 18 2 9 10 11 12.
 pub fn insert(end: &mut [u8], position: u16, item: u32) -> u64
     ensures { λ r. ⌜ returned r (now (end .exit)) ≡ insertedIn (now (end .entry)) position item ⌝ }
 {

@@ -86,12 +86,13 @@ lines-skip ws x at (suc n) =
     let e : suc at + 4 ≡ suc (at + 4) = omega arith in
     ap₂ (λ (v : Line) (l : List Line). v ∷ l) (line-skip ws x at) (ap (λ (k : ℕ). linesAt (x ∷ ws) k n) e ∙ lines-skip ws x (at + 4) n)
 
--- behind the first three words
-pub lines-behind : (a b c : ℕ) (ws : List ℕ) (n : ℕ) → linesAt (a ∷ b ∷ c ∷ ws) 3 n ≡ linesAt ws 0 n
-lines-behind a b c ws n = lines-skip (b ∷ c ∷ ws) a 2 n ∙ lines-skip (c ∷ ws) b 1 n ∙ lines-skip ws c 0 n
-
 lines-next : (a b c d : ℕ) (ws : List ℕ) (n : ℕ) → linesAt (a ∷ b ∷ c ∷ d ∷ ws) 4 n ≡ linesAt ws 0 n
-lines-next a b c d ws n = lines-skip (b ∷ c ∷ d ∷ ws) a 3 n ∙ lines-behind b c d ws n
+lines-next a b c d ws n =
+    lines-skip (b ∷ c ∷ d ∷ ws) a 3 n ∙ lines-skip (c ∷ d ∷ ws) b 2 n ∙ lines-skip (d ∷ ws) c 1 n ∙ lines-skip ws d 0 n
+
+-- behind the first five words
+pub lines-behind : (a b c d e : ℕ) (ws : List ℕ) (n : ℕ) → linesAt (a ∷ b ∷ c ∷ d ∷ e ∷ ws) 5 n ≡ linesAt ws 0 n
+lines-behind a b c d e ws n = lines-skip (b ∷ c ∷ d ∷ e ∷ ws) a 4 n ∙ lines-next b c d e ws n
 
 pub lines-length : (ws : List ℕ) (at n : ℕ) → length (linesAt ws at n) ≡ n
 unfolding linesAt

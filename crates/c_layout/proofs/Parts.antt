@@ -25,7 +25,7 @@ module _ (f : Order) where
   words-take (suc n) (a ∷ b ∷ c ∷ d ∷ s) =
       ap (λ (m : ℕ). wordsBy f (take m (a ∷ b ∷ c ∷ d ∷ s))) (four-more n) ∙ ap (λ (ws : List ℕ). f a b c d ∷ ws) (words-take n s)
 
-  words-drop : (n : ℕ) (s : List ℕ) → wordsBy f (drop (4 * n) s) ≡ drop n (wordsBy f s)
+  pub words-drop : (n : ℕ) (s : List ℕ) → wordsBy f (drop (4 * n) s) ≡ drop n (wordsBy f s)
   unfolding wordsBy
   words-drop zero s = refl
   words-drop (suc n) [] = ap (λ (m : ℕ). wordsBy f (drop m [])) (four-more n)

@@ -1,4 +1,5 @@
 pub mod Words
 pub mod Numbers
+pub mod Ranks
 pub mod Called
 pub mod ItemBytes

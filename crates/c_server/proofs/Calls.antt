@@ -100,15 +100,15 @@ module _ (c : Server) (line : ℕ) (out : List ℕ) (s : Sent) (after : List ℕ
 
 -- ---- opening
 
-module _ (end : List ℕ) (n : ℕ) (items : List ℕ) (long : size ≤ length end) where
+module _ (end : List ℕ) (n : ℕ) (ranks items : List ℕ) (long : size ≤ length end) where
   abbrev rest : Called
-  rest = answered (opened n (itemsOf items)) end
+  rest = answered (opened n ranks (itemsOf items)) end
 
-  pub opened-cut : (r : ℕ) → (length items % 4 ≡ 0 → ⊥) → r ≡ packed 1 0 → returned r end ≡ openedIn end n items
+  pub opened-cut : (r : ℕ) → (length items % 4 ≡ 0 → ⊥) → r ≡ packed 1 0 → returned r end ≡ openedIn end n ranks items
   unfolding openedIn
   opened-cut = open-cut size end items rest long
 
-  pub opened-done : (r : ℕ) (after : List ℕ) → length items % 4 ≡ 0 → returned r after ≡ rest → returned r after ≡ openedIn end n items
+  pub opened-done : (r : ℕ) (after : List ℕ) → length items % 4 ≡ 0 → returned r after ≡ rest → returned r after ≡ openedIn end n ranks items
   unfolding openedIn
   opened-done r after even e = e ∙ open-whole size end items rest long even
 
@@ -117,7 +117,7 @@ module _ (end : List ℕ) (n : ℕ) (items : List ℕ) (long : size ≤ length e
   and-no true false e = refl
   and-no false false e = refl
 
-  pub opened-many : (r : ℕ) → length items % 4 ≡ 0 → maxInitial < length items / 4 → r ≡ packed 1 0 → returned r end ≡ openedIn end n items
+  pub opened-many : (r : ℕ) → length items % 4 ≡ 0 → maxInitial < length items / 4 → r ≡ packed 1 0 → returned r end ≡ openedIn end n ranks items
   unfolding answered server.openServer model.answer
   opened-many r even h e =
       let its = itemsOf items in
@@ -127,7 +127,7 @@ module _ (end : List ℕ) (n : ℕ) (items : List ℕ) (long : size ≤ length e
       opened-done r end even (ap (λ (k : ℕ). returned k end) e ∙ said)
 
 -- the items as they were decoded
-pub open-answered : (end : List ℕ) (n : ℕ) (items list words : List ℕ) (a : Changed) (r : ℕ) (after : List ℕ) → list ≡ itemsOf items
-    → answerOf a words ≡ opened n list → returned r after ≡ answered (answerOf a words) end
-    → returned r after ≡ answered (opened n (itemsOf items)) end
-open-answered end n items list words a r after el ea er = er ∙ ap (λ (b : Answer). answered b end) (ea ∙ ap (opened n) el)
+pub open-answered : (end : List ℕ) (n : ℕ) (ranks items list words : List ℕ) (a : Changed) (r : ℕ) (after : List ℕ) → list ≡ itemsOf items
+    → answerOf a words ≡ opened n ranks list → returned r after ≡ answered (answerOf a words) end
+    → returned r after ≡ answered (opened n ranks (itemsOf items)) end
+open-answered end n ranks items list words a r after el ea er = er ∙ ap (λ (b : Answer). answered b end) (ea ∙ ap (opened n ranks) el)

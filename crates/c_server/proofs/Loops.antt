@@ -4,7 +4,7 @@ use native.Mathlib.Omega.{arith}
 use native.Mathlib.Numerals.{add-one}
 use mathlib.Core.Path.{_≡_, refl, ap, ap₂, sym, _∙_}
 use mathlib.Core.List.{List, [], _∷_, _++_, map}
-use lib.ListN.{length, getD, set, take, length-set, length-map, List·getD-map}
+use lib.ListN.{length, getD, set, take, replicate, length-set, length-map, List·getD-map}
 use lib.Seq.{take-all, take-suc, take-suc-set}
 use Rattle.limits.specs.Limits.{maxLines}
 use Rattle.line.specs.declared.Line.{Line}
@@ -13,13 +13,14 @@ use Rattle.c_layout.specs.Words.{putAt}
 use Rattle.c_layout.specs.Numbers.{counted, cappedLine, lineAt, lineWords, linesAt, linesWords}
 use Rattle.c_layout.proofs.Parts.{put-front, put-length}
 use Rattle.c_layout.proofs.Counts.{lines-length, line-of, words-more}
-use Rattle.c_server.specs.Layout.{numbers, numbersIn}
+use Rattle.c_server.specs.Layout.{numbers}
+use Rattle.c_server.specs.Reading.{numbersIn}
 use Rattle.c_server.proofs.Ends.{numbers-length}
 
 -- ---- reading: the first i lines are those of the words
 
 abbrev target : List ℕ → List Line
-target ns = map cappedLine (linesAt ns 3 maxLines)
+target ns = map cappedLine (linesAt ns 5 maxLines)
 
 abbrev none′ : Line
 none′ = counted 0 0 0 0
@@ -30,17 +31,17 @@ pub record Reading (ns : List ℕ) (lines : List Line) (i : ℕ) : Type 0 where
   pub front : take i lines ≡ take i (target ns)
 
 target-length : (ns : List ℕ) → length (target ns) ≡ maxLines
-target-length ns = length-map (linesAt ns 3 maxLines) cappedLine ∙ lines-length ns 3 maxLines
+target-length ns = length-map (linesAt ns 5 maxLines) cappedLine ∙ lines-length ns 5 maxLines
 
 pub reading-start : (ns : List ℕ) (lines : List Line) → length lines ≡ maxLines → Reading ns lines 0
 reading-start ns lines e = record { within = omega arith; long = e; front = refl }
 
-pub reading-turn : (ns : List ℕ) (lines : List Line) (i : ℕ) (v : Line) → i < maxLines → Reading ns lines i → v ≡ cappedLine (lineAt ns (3 + 4 * i))
+pub reading-turn : (ns : List ℕ) (lines : List Line) (i : ℕ) (v : Line) → i < maxLines → Reading ns lines i → v ≡ cappedLine (lineAt ns (5 + 4 * i))
     → Reading ns (set lines i v) (i + 1)
 reading-turn ns lines i v h r e =
     let d : Line = cappedLine none′ in
     let is : v ≡ getD (target ns) i d =
-    e ∙ ap cappedLine (sym (line-of ns 3 maxLines i none′ h)) ∙ sym (List·getD-map cappedLine (linesAt ns 3 maxLines) i none′) in
+    e ∙ ap cappedLine (sym (line-of ns 5 maxLines i none′ h)) ∙ sym (List·getD-map cappedLine (linesAt ns 5 maxLines) i none′) in
     record {
       within = omega arith;
       long = length-set lines i v ∙ r .long;
@@ -61,40 +62,39 @@ pub record Writing (k : Counts) (ws : List ℕ) (i : ℕ) : Type 0 where
   pub within : i ≤ maxLines
   pub eight : length (k .lines) ≡ maxLines
   pub long : length ws ≡ numbers
-  pub front : take (3 + 4 * i) ws ≡ take (3 + 4 * i) (numbersIn k)
+  pub front : take (5 + 4 * i) ws ≡ take (5 + 4 * i) (numbersIn k)
 
-first : (n initial len : ℕ) (ws : List ℕ) → length ws ≡ numbers → take 3 (set (set (set ws 0 n) 1 initial) 2 len) ≡ n ∷ initial ∷ len ∷ []
-first n initial len [] e = absurd (omega arith)
-first n initial len (a ∷ []) e = absurd (omega arith)
-first n initial len (a ∷ b ∷ []) e = absurd (omega arith)
-first n initial len (a ∷ b ∷ c ∷ ws) e = refl
-
-pub writing-start : (k : Counts) (ws : List ℕ) → length (k .lines) ≡ maxLines → length ws ≡ numbers
+pub writing-start : (k : Counts) (ws : List ℕ) → length (k .lines) ≡ maxLines → ws ≡ replicate numbers 0
     → Writing k (set (set (set ws 0 (k .n)) 1 (k .initial)) 2 (k .len)) 0
 writing-start k ws eight e =
-    record { within = omega arith; eight = eight; long = simp length-set e; front = first (k .n) (k .initial) (k .len) ws e }
+    record {
+      within = omega arith;
+      eight = eight;
+      long = simp length-set (ap length e);
+      front = ap (λ (l : List ℕ). take 5 (set (set (set l 0 (k .n)) 1 (k .initial)) 2 (k .len))) e;
+    }
 
-up-to : (k : Counts) (i : ℕ) → take (3 + 4 * i) (numbersIn k) ≡ k .n ∷ k .initial ∷ k .len ∷ take (4 * i) (linesWords (k .lines))
+up-to : (k : Counts) (i : ℕ) → take (5 + 4 * i) (numbersIn k) ≡ k .n ∷ k .initial ∷ k .len ∷ 0 ∷ 0 ∷ take (4 * i) (linesWords (k .lines))
 up-to k i =
-    let e : 3 + 4 * i ≡ suc (suc (suc (4 * i))) = omega arith in
+    let e : 5 + 4 * i ≡ suc (suc (suc (suc (suc (4 * i))))) = omega arith in
     ap (λ (m : ℕ). take m (numbersIn k)) e
 
 pub writing-turn : (k : Counts) (ws : List ℕ) (i : ℕ) (d : Line) → i < maxLines → Writing k ws i
-    → Writing k (putAt (3 + 4 * i) (lineWords (getD (k .lines) i d)) ws) (i + 1)
+    → Writing k (putAt (5 + 4 * i) (lineWords (getD (k .lines) i d)) ws) (i + 1)
 writing-turn k ws i d h w =
     let v : Line = getD (k .lines) i d in
     record {
       within = omega arith;
       eight = w .eight;
-      long = put-length (3 + 4 * i) (lineWords v) ws (omega (arith, w .long)) ∙ w .long;
+      long = put-length (5 + 4 * i) (lineWords v) ws (omega (arith, w .long)) ∙ w .long;
       front =
-          put-front (3 + 4 * i) (3 + 4 * (i + 1)) (lineWords v) ws (omega (arith, w .long)) (omega arith)
+          put-front (5 + 4 * i) (5 + 4 * (i + 1)) (lineWords v) ws (omega (arith, w .long)) (omega arith)
           ∙ ap (λ (l : List ℕ). l ++ lineWords v) (w .front ∙ up-to k i)
-          ∙ ap (λ (l : List ℕ). k .n ∷ k .initial ∷ k .len ∷ l) (sym (words-more (k .lines) i d (omega (arith, w .eight))))
+          ∙ ap (λ (l : List ℕ). k .n ∷ k .initial ∷ k .len ∷ 0 ∷ 0 ∷ l) (sym (words-more (k .lines) i d (omega (arith, w .eight))))
           ∙ sym (up-to k (i + 1));
     }
 
 pub writing-end : (k : Counts) (ws : List ℕ) (i : ℕ) → maxLines ≤ i → Writing k ws i → ws ≡ numbersIn k
 writing-end k ws i h w =
-    sym (take-all (3 + 4 * i) ws (omega (arith, w .long))) ∙ w .front
-    ∙ take-all (3 + 4 * i) (numbersIn k) (omega (arith, numbers-length k (w .eight)))
+    sym (take-all (5 + 4 * i) ws (omega (arith, w .long))) ∙ w .front
+    ∙ take-all (5 + 4 * i) (numbersIn k) (omega (arith, numbers-length k (w .eight)))

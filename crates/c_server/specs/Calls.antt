@@ -12,8 +12,8 @@ use Rattle.c_server.specs.Layout.{size, bytesIn, endIn}
 unfoldable pub answered : Answer → List ℕ → Called
 answered a bytes = changing size (a .refusal) (a .passed) (bytesIn (a .server)) bytes
 
-unfoldable pub openedIn : List ℕ → ℕ → List ℕ → Called
-openedIn bytes n items = opening size bytes items (answered (opened n (itemsOf items)) bytes)
+unfoldable pub openedIn : List ℕ → ℕ → List ℕ → List ℕ → Called
+openedIn bytes n ranks items = opening size bytes items (answered (opened n ranks (itemsOf items)) bytes)
 
 unfoldable pub takenIn : List ℕ → List ℕ → Called
 takenIn bytes message = laidOut size bytes bytes (answered (taken (endIn bytes) message) bytes)

@@ -1,7 +1,7 @@
 -- The server as lent bytes: where each part stands, and both round trips.
 use Prim.Native.Nat.{ℕ, _≤_}
 use mathlib.Core.Path.{_≡_}
-use mathlib.Core.List.{List, _∷_, _++_}
+use mathlib.Core.List.{List, [], _∷_, _++_}
 use lib.ListN.{length, getD, drop}
 use Rattle.limits.specs.Limits.{maxLines}
 use Rattle.list.specs.Parts.{part}
@@ -9,37 +9,38 @@ use Rattle.server.specs.declared.Counts.{Counts}
 use Rattle.server.specs.declared.Server.{Server}
 use Rattle.server.specs.View as server
 use Rattle.server.specs.View.{serverOf, Sizes}
-use Rattle.c_layout.specs.Words.{wordsOf, bytesOf, Bytes}
+use Rattle.c_layout.specs.Words.{wordsOf, Bytes}
 use Rattle.c_layout.specs.Numbers.{linesAt, linesWords}
+use Rattle.c_layout.specs.Ranks.{ranksIn, ranked}
 
--- the bytes of the server: 1,571 words
+-- the bytes of the server: 1,573 words
 abbrev pub size : ℕ
-size = 6284
+size = 6292
 
--- how many words are its numbers
+-- how many words are its numbers, the ranks among them
 abbrev pub numbers : ℕ
-numbers = 35
+numbers = 37
 
--- Words 0 to 2 are n, how many items it was opened with, and the length of its list; from word 3 on stand the counts of eight lines, four
--- words each. Then come the words of the server.
+-- Words 0 to 2 are n, how many items it was opened with, and the length of its list. Then come the ranks, eight bytes, and from word 5 on the
+-- counts of eight lines, four words each; then the words of the server.
+abbrev pub countsOf : List ℕ → List ℕ → Counts
+countsOf ranks ws = record { n = getD ws 0 0; initial = getD ws 1 0; len = getD ws 2 0; ranks = ranks; lines = linesAt ws 5 maxLines }
+
 abbrev pub countsIn : List ℕ → Counts
-countsIn ws = record { n = getD ws 0 0; initial = getD ws 1 0; len = getD ws 2 0; lines = linesAt ws 3 maxLines }
+countsIn bytes = countsOf (ranksIn bytes) (wordsOf bytes)
 
-abbrev pub serverIn : List ℕ → Server
-serverIn ws = serverOf (countsIn ws) (part numbers server.size ws)
+abbrev pub firstIn : Counts → List ℕ
+firstIn k = k .n ∷ k .initial ∷ k .len ∷ []
 
-abbrev pub numbersIn : Counts → List ℕ
-numbersIn k = k .n ∷ k .initial ∷ k .len ∷ linesWords (k .lines)
-
-abbrev pub wordsIn : Server → List ℕ
-wordsIn s = numbersIn (s .counts) ++ s .words
+abbrev pub restIn : Server → List ℕ
+restIn s = linesWords (s .counts .lines) ++ s .words
 
 -- the bytes of an end, and the end that bytes are; those past the layout do not matter
 unfoldable pub bytesIn : Server → List ℕ
-bytesIn s = bytesOf (wordsIn s)
+bytesIn s = ranked (firstIn (s .counts)) (s .counts .ranks) (restIn s)
 
 unfoldable pub endIn : List ℕ → Server
-endIn bytes = serverIn (wordsOf bytes)
+endIn bytes = serverOf (countsIn bytes) (part numbers server.size (wordsOf bytes))
 
 -- An end that was written reads back as it was, whatever stands behind it. Bytes that were read are what writing the end gives, so an end
 -- has one byte form.

@@ -2,12 +2,11 @@
 ghost use mathlib.Core.Path.{_≡_};
 ghost use mathlib.Core.List.{_++_};
 ghost use Prim.Native.Nat.{_≤_};
-ghost use lib.ListN.{length, drop};
+ghost use lib.ListN.{length, drop, replicate};
 ghost use Rattle.server.specs.View as server;
 ghost use Rattle.server.specs.View.{serverOf};
-ghost use Rattle.c_layout.specs.Words.{wordsOf};
-ghost use Rattle.c_server.specs.Layout.{size, numbers, countsIn, numbersIn, bytesIn, endIn};
-ghost use Rattle.c_server.specs.Reading.{cappedCounts, cappedEnd};
+ghost use Rattle.c_server.specs.Layout.{size, numbers, countsIn, bytesIn};
+ghost use Rattle.c_server.specs.Reading.{cappedCounts, numbersIn};
 use c_layout::get;
 use c_layout::numbers::LINE;
 use c_layout::numbers::in_8;
@@ -15,6 +14,7 @@ use c_layout::numbers::in_16;
 use c_layout::numbers::line_at;
 use c_layout::numbers::put_line;
 use c_layout::put;
+use c_layout::ranks;
 use line::Line;
 use server::Counts;
 use server::Server;
@@ -26,7 +26,9 @@ const INITIAL: usize = 1;
 
 const LEN: usize = 2;
 
-const LINES: usize = 3;
+const RANKS: usize = 3;
+
+const LINES: usize = RANKS + ranks::WORDS;
 
 pub const WORDS: usize = LINES + LINE * Server::LINES;
 
@@ -36,7 +38,7 @@ pub const SIZE: usize = 4 * (WORDS + Server::WORDS);
 // The numbers that the bytes hold.
 pub fn counts(bytes: &[u8]) -> Counts
     requires { ⌜ size ≤ length (now bytes) ⌝ }
-    ensures { λ r. ⌜ r ≡ cappedCounts (countsIn (wordsOf (now (bytes .entry)))) ⌝ }
+    ensures { λ r. ⌜ r ≡ cappedCounts (countsIn (now (bytes .entry))) ⌝ }
 {
     let mut numbers = [0u32; WORDS];
     get(bytes, N, &mut numbers);
@@ -51,17 +53,19 @@ pub fn counts(bytes: &[u8]) -> Counts
         let at = LINES + LINE * i;
         lines[i] = line_at(&numbers, at);
     }
+    let ranks = ranks::read(bytes);
     Counts {
         n: in_8(numbers[N]),
         initial: in_16(numbers[INITIAL]),
         len: in_16(numbers[LEN]),
+        ranks,
         lines,
     }
 }
 
-// The numbers as words.
+// The numbers as words, but for the ranks.
 fn put_counts(k: Counts, words: &mut [u32])
-    requires { ⌜ length (now words) ≡ numbers ⌝ }
+    requires { ⌜ now words ≡ replicate numbers 0 ⌝ }
     ensures { λ _. ⌜ now (words .exit) ≡ numbersIn k ⌝ }
 {
     words[N] = k.n as u32;
@@ -74,6 +78,7 @@ fn put_counts(k: Counts, words: &mut [u32])
     }
 }
 
+// The ranks go over the two words of the numbers that are left zero.
 pub fn write(bytes: &mut [u8], k: Counts, words: &[u32])
     requires { ⌜ (size ≤ length (now bytes)) × (length (now words) ≡ server.size) ⌝ }
     ensures { λ _. ⌜ now (bytes .exit) ≡ bytesIn (serverOf k (now (words .entry))) ++ drop size (now (bytes .entry)) ⌝ }
@@ -82,4 +87,5 @@ pub fn write(bytes: &mut [u8], k: Counts, words: &[u32])
     put_counts(k, &mut numbers);
     put(bytes, N, &numbers);
     put(bytes, WORDS, words);
+    ranks::write(bytes, &k.ranks);
 }

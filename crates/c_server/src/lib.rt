@@ -33,19 +33,20 @@ fn finish(end: &mut [u8], a: Changed, words: &[u32]) -> u64
 }
 
 // The opened server, from items as bytes. The list is room for these.
-fn open_with(end: &mut [u8], n: u8, items: &[u8], list: &mut [u32]) -> u64
+fn open_with(end: &mut [u8], n: u8, ranks: &[u8], items: &[u8], list: &mut [u32]) -> u64
     requires { ⌜ (size ≤ length (now end)) × (length (now items) ≡ 4 * length (now list)) ⌝ }
-    ensures { λ r. ⌜ returned r (now (end .exit)) ≡ answered (opened n (itemsOf (now (items .entry)))) (now (end .entry)) ⌝ }
+    ensures { λ r. ⌜ returned r (now (end .exit)) ≡ answered (opened n (now (ranks .entry)) (itemsOf (now (items .entry)))) (now (end .entry)) ⌝ }
 {
     c_layout::decode_items(items, list);
     let mut words = [0u32; Server::WORDS];
-    let a = server::open_lent(n, list, &mut words);
+    let a = server::open_lent(n, ranks, list, &mut words);
     finish(end, a, &words)
 }
 
-// Opens a sheet of n lines, with the items as its list: four bytes each, high byte first. Refusals: 18 1.
-pub fn open(end: &mut [u8], n: u8, items: &[u8]) -> u64
-    ensures { λ r. ⌜ returned r (now (end .exit)) ≡ openedIn (now (end .entry)) n (now (items .entry)) ⌝ }
+// Opens a sheet of n lines, with the ranks of all lines, a byte each, and the items as its list: four bytes each, high byte first.
+// Refusals: 18 1 16.
+pub fn open(end: &mut [u8], n: u8, ranks: &[u8], items: &[u8]) -> u64
+    ensures { λ r. ⌜ returned r (now (end .exit)) ≡ openedIn (now (end .entry)) n (now (ranks .entry)) (now (items .entry)) ⌝ }
 {
     if end.len() < SIZE {
         return answer(18, 0);
@@ -58,7 +59,7 @@ pub fn open(end: &mut [u8], n: u8, items: &[u8]) -> u64
         return answer(1, 0);
     }
     let mut list = [0u32; Server::INITIAL];
-    open_with(end, n, items, &mut list[0..count])
+    open_with(end, n, ranks, items, &mut list[0..count])
 }
 
 // Writes the message of pending edit `number` of a line. Refusals: 18 2 4 13 14.

@@ -12,10 +12,16 @@ ghost use Rattle.sheet_run.specs.Output.{output};
 // ---- a client
 
 #[no_mangle]
-pub extern "C" fn lub_client_open(end: &mut [u8], n: u8, line: u8, items: &[u8]) -> u64
-    ensures { λ r. ⌜ returned r (now (end .exit)) ≡ client.openedIn (now (end .entry)) n line (now (items .entry)) ⌝ }
+pub extern "C" fn lub_client_open(
+    end: &mut [u8],
+    n: u8,
+    line: u8,
+    ranks: &[u8],
+    items: &[u8],
+) -> u64
+    ensures { λ r. ⌜ returned r (now (end .exit)) ≡ client.openedIn (now (end .entry)) n line (now (ranks .entry)) (now (items .entry)) ⌝ }
 {
-    c_client::open(end, n, line, items)
+    c_client::open(end, n, line, ranks, items)
 }
 
 #[no_mangle]
@@ -56,10 +62,10 @@ pub extern "C" fn lub_client_take(end: &mut [u8], message: &[u8]) -> u64
 // ---- the server
 
 #[no_mangle]
-pub extern "C" fn lub_server_open(end: &mut [u8], n: u8, items: &[u8]) -> u64
-    ensures { λ r. ⌜ returned r (now (end .exit)) ≡ server.openedIn (now (end .entry)) n (now (items .entry)) ⌝ }
+pub extern "C" fn lub_server_open(end: &mut [u8], n: u8, ranks: &[u8], items: &[u8]) -> u64
+    ensures { λ r. ⌜ returned r (now (end .exit)) ≡ server.openedIn (now (end .entry)) n (now (ranks .entry)) (now (items .entry)) ⌝ }
 {
-    c_server::open(end, n, items)
+    c_server::open(end, n, ranks, items)
 }
 
 #[no_mangle]

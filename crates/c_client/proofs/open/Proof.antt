@@ -9,7 +9,7 @@ use Rattle.c_client.proofs.open.Statement.{statement}
 use Rattle.c_client.proofs.open.Tie as tie
 
 abbrev start : tie.Else1 → tie.Start
-start c = c .before .before .before
+start c = c .before .before .before .before
 
 answer-requires : tie.Need-answer-requires
 answer-requires c κs = search needs
@@ -17,7 +17,7 @@ answer-requires c κs = search needs
 returns : tie.Need-returns
 unfolding openedIn
 returns c =
-    let a = c .before .before .before .before .args in
+    let a = c .before .before .before .before .before .args in
     too-short size (now (a .end)) (now (a .end)) _ (c .answer .result) (omega (arith, c .before .if1 .taken)) (c .answer .ensures)
 
 answer-requires-2 : tie.Need-answer-requires-2
@@ -27,7 +27,7 @@ returns-2 : tie.Need-returns-2
 returns-2 c =
     let l = c .before .before in
     let a = start l .args in
-    opened-cut (now (a .end)) (a .n) (a .line) (now (a .items)) (omega (arith, l .if1 .left)) (c .answer2 .result) (c .before .if2 .taken) (c .answer2 .ensures)
+    opened-cut (now (a .end)) (a .n) (a .line) (now (a .ranks)) (now (a .items)) (omega (arith, l .if1 .left)) (c .answer2 .result) (c .before .if2 .taken) (c .answer2 .ensures)
 
 answer-requires-3 : tie.Need-answer-requires-3
 answer-requires-3 c κs = search needs
@@ -37,7 +37,7 @@ returns-3 c =
     let e = c .before .before in
     let l = e .before in
     let a = start l .args in
-    opened-many (now (a .end)) (a .n) (a .line) (now (a .items)) (omega (arith, l .if1 .left)) (c .answer3 .result) (omega (arith, e .if2 .left))
+    opened-many (now (a .end)) (a .n) (a .line) (now (a .ranks)) (now (a .items)) (omega (arith, l .if1 .left)) (c .answer3 .result) (omega (arith, e .if2 .left))
     (omega (arith, c .before .if3 .taken)) (c .answer3 .ensures)
 
 sub-open-with : tie.Need-sub-open-with
@@ -61,7 +61,7 @@ returns-4 c =
     let e = w .before .before .before .before in
     let l = e .before in
     let a = start l .args in
-    opened-done (now (a .end)) (a .n) (a .line) (now (a .items)) (omega (arith, l .if1 .left)) (w .open-with .result) (w .open-with .last .0) (omega (arith, e .if2 .left))
+    opened-done (now (a .end)) (a .n) (a .line) (now (a .ranks)) (now (a .items)) (omega (arith, l .if1 .left)) (w .open-with .result) (w .open-with .last .0) (omega (arith, e .if2 .left))
     (w .open-with .ensures)
 
 pub open-spec : {M : Type 1} → statement M

@@ -49,7 +49,7 @@ slice-aggregate-tell : tie.Need-slice-aggregate-tell
 slice-aggregate-tell c = search needs
 
 tell-requires : tie.Need-tell-requires
-tell-requires c κs = record { words = search needs; lines = search (needs, counted) }
+tell-requires c κs = record { words = search needs; lines = search (needs, counted); ranks = search needs }
 
 cast-answer : tie.Need-cast-answer
 cast-answer c =

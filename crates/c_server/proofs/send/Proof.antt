@@ -49,7 +49,7 @@ slice-aggregate-send : tie.Need-slice-aggregate-send
 slice-aggregate-send c = search needs
 
 send-requires : tie.Need-send-requires
-send-requires c κs = record { words = search needs; lines = search (needs, counted) }
+send-requires c κs = record { words = search needs; lines = search (needs, counted); ranks = search needs }
 
 cast-answer : tie.Need-cast-answer
 cast-answer c =

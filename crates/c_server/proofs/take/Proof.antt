@@ -50,7 +50,7 @@ slice-aggregate-take : tie.Need-slice-aggregate-take
 slice-aggregate-take c = search needs
 
 take-requires : tie.Need-take-requires
-take-requires c κs = record { words = search needs; lines = search (needs, counted) }
+take-requires c κs = record { words = search needs; lines = search (needs, counted); ranks = search needs }
 
 slice-aggregate-finish : tie.Need-slice-aggregate-finish
 slice-aggregate-finish c = search needs

@@ -1,11 +1,13 @@
 use denote.Ref.{now}
-use Rattle.c_layout.specs.Words.{wordsOf}
 use Rattle.c_client.proofs.Ends.{counts-read}
 use borrow.Author.Needs.{needs}
 use Rattle.c_client.proofs.layout.counts.Statement.{statement}
 use Rattle.c_client.proofs.layout.counts.Tie as tie
 
-abbrev own : tie.After-in-16 → tie.After-line-at
+abbrev ranked : tie.After-in-16 → tie.After-read
+ranked c = c .before
+
+abbrev own : tie.After-read → tie.After-line-at
 own c = c .before
 
 abbrev got : tie.After-line-at → tie.After-get
@@ -25,6 +27,9 @@ slice-aggregate-line-at c = search needs
 
 line-at-requires : tie.Need-line-at-requires
 line-at-requires c κs = search needs
+
+read-requires : tie.Need-read-requires
+read-requires c κs = search needs
 
 array-read-in-16 : tie.Need-array-read-in-16
 array-read-in-16 c = search needs
@@ -48,10 +53,11 @@ returns : tie.Need-returns
 returns c =
     let n = c .before in
     let len = n .before in
-    let o = own len in
+    let r = ranked len in
+    let o = own r in
     let g = got o in
-    counts-read (wordsOf (now (start g .args .bytes))) (g .get .last .1 .1 .0) (o .line-at .result) (len .in-16 .result) (n .in-8 .result)
-    (c .in-82 .result) (g .get .ensures) (o .line-at .ensures) (len .in-16 .ensures) (n .in-8 .ensures) (c .in-82 .ensures)
+    counts-read (now (start g .args .bytes)) (g .get .last .1 .1 .0) (o .line-at .result) (len .in-16 .result) (n .in-8 .result)
+    (c .in-82 .result) (r .read .result) (g .get .ensures) (o .line-at .ensures) (len .in-16 .ensures) (n .in-8 .ensures) (c .in-82 .ensures) (r .read .ensures)
 
 pub counts-spec : {M : Type 1} → statement M
 counts-spec =
@@ -61,6 +67,7 @@ counts-spec =
     get-requires
     slice-aggregate-line-at
     line-at-requires
+    read-requires
     array-read-in-16
     in-16-requires
     array-read-in-8

@@ -1,12 +1,17 @@
-use mathlib.Core.Path.{ap, _∙_}
+use mathlib.Core.Path.{_≡_, ap, _∙_}
 use mathlib.Core.List.{List}
 use Prim.Native.Nat.{ℕ}
+use lib.ListN.{length}
 use denote.Ref.{now}
+use Rattle.limits.specs.Limits.{maxLines}
 use Rattle.c_layout.specs.Words.{bytesOf, putAt}
 use Rattle.c_client.proofs.Ends.{end-written}
 use borrow.Author.Needs.{needs}
 use Rattle.c_client.proofs.layout.write.Statement.{statement}
 use Rattle.c_client.proofs.layout.write.Tie as tie
+
+abbrev second : tie.After-write → tie.After-put2
+second c = c .before .before .before .before .before .before .before
 
 abbrev first : tie.After-put2 → tie.After-put
 first c = c .before .before .before .before
@@ -15,7 +20,10 @@ abbrev line : tie.After-put → tie.After-put-line
 line c = c .before .before .before .before
 
 abbrev start : tie.After-put-line → tie.Start
-start c = c .before .before .before .before .before .before .before .before
+start c = c .before .before .before .before .before
+
+ranks-eight : (s : tie.Start) → length (s .args .t2 .ranks) ≡ maxLines
+ranks-eight s = search needs
 
 cast-numbers : tie.Need-cast-numbers
 cast-numbers c = search needs
@@ -50,18 +58,22 @@ put-requires c κs = search needs
 put-requires-2 : tie.Need-put-requires-2
 put-requires-2 c κs = search needs
 
+write-requires : tie.Need-write-requires
+write-requires c κs = search needs
+
 same-length : tie.Need-same-length
 same-length c = search needs
 
 returns : tie.Need-returns
 returns c =
-    let p₂ = c .before .before in
+    let w = c .before .before in
+    let p₂ = second w in
     let p₁ = first p₂ in
     let l = line p₁ in
     let s = start l in
     let a = s .args in
-    end-written (a .k) (now (a .words)) (now (a .bytes)) (p₁ .put .last .0) (p₂ .put2 .last .0) (s .pre .1)
-    (p₁ .put .ensures ∙ ap (λ (ns : List ℕ). putAt 0 (bytesOf ns) (now (a .bytes))) (l .put-line .ensures)) (p₂ .put2 .ensures)
+    end-written (a .t2) (now (a .words)) (now (a .bytes)) (p₁ .put .last .0) (p₂ .put2 .last .0) (w .write .last .0) (ranks-eight s) (s .pre .1)
+    (p₁ .put .ensures ∙ ap (λ (ns : List ℕ). putAt 0 (bytesOf ns) (now (a .bytes))) (l .put-line .ensures)) (p₂ .put2 .ensures) (w .write .ensures)
 
 pub write-spec : {M : Type 1} → statement M
 write-spec =
@@ -78,5 +90,6 @@ write-spec =
     slice-aggregate-put
     put-requires
     put-requires-2
+    write-requires
     same-length
     returns)

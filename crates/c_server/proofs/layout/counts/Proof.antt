@@ -3,7 +3,6 @@ use native.Mathlib.Omega.{arith}
 use mathlib.Core.Path.{refl}
 use denote.Ref.{now}
 use Rattle.limits.specs.Limits.{maxLines}
-use Rattle.c_layout.specs.Words.{wordsOf}
 use Rattle.c_server.proofs.Ends.{counts-read}
 use Rattle.c_server.proofs.Loops.{Reading, reading-start, reading-turn, reading-end}
 use borrow.Author.Needs.{needs}
@@ -63,6 +62,9 @@ loop-again c =
     let l = turn c in
     reading-turn (got l .get .last .1 .1 .0) (l .loop .lines) (l .loop .i) (c .line-at .result) (c .before .before .loop-test .taken) (l .loop .inv) (c .line-at .ensures)
 
+read-requires : tie.Need-read-requires Inv-loop μ-loop
+read-requires c κs = search needs
+
 array-read-in-8 : tie.Need-array-read-in-8 Inv-loop μ-loop
 array-read-in-8 c = search needs
 
@@ -85,10 +87,11 @@ returns : tie.Need-returns Inv-loop μ-loop
 returns c =
     let i = c .before in
     let n = i .before in
-    let l = n .before .before in
+    let r = n .before in
+    let l = r .before .before in
     let g = got l in
-    counts-read (wordsOf (now (start g .args .bytes))) (g .get .last .1 .1 .0) (n .in-8 .result) (i .in-16 .result) (c .in-162 .result) (l .loop .lines)
-    (g .get .ensures) (n .in-8 .ensures) (i .in-16 .ensures) (c .in-162 .ensures) (reading-end (g .get .last .1 .1 .0) (l .loop .lines) (l .loop .i) (omega arith) (l .loop .inv))
+    counts-read (now (start g .args .bytes)) (g .get .last .1 .1 .0) (n .in-8 .result) (i .in-16 .result) (c .in-162 .result) (r .read .result) (l .loop .lines)
+    (g .get .ensures) (n .in-8 .ensures) (i .in-16 .ensures) (c .in-162 .ensures) (r .read .ensures) (reading-end (g .get .last .1 .1 .0) (l .loop .lines) (l .loop .i) (omega arith) (l .loop .inv))
 
 pub counts-spec : {M : Type 1} → statement M
 counts-spec =
@@ -108,6 +111,7 @@ counts-spec =
     add-i
     loop-less
     loop-again
+    read-requires
     array-read-in-8
     in-8-requires
     array-read-in-16

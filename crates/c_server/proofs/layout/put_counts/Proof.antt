@@ -1,11 +1,12 @@
-use mathlib.Core.Path.{sym, _∙_, subst}
+use mathlib.Core.Path.{_≡_, ap, sym, _∙_, subst}
 use mathlib.Core.List.{List}
 use Prim.Native.Nat.{ℕ, _+_, _-_}
 use native.Mathlib.Omega.{arith}
-use lib.ListN.{length-set}
+use lib.ListN.{length, length-set}
 use denote.Ref.{now}
 use Rattle.limits.specs.Limits.{maxLines}
 use Rattle.server.proofs.Counted.{counted}
+use Rattle.c_server.specs.Layout.{numbers}
 use Rattle.c_server.proofs.Loops.{Writing, writing-start, writing-turn, writing-end}
 use borrow.Author.Needs.{needs}
 use Rattle.c_server.proofs.layout.put_counts.Statement.{statement}
@@ -23,23 +24,26 @@ turn c = c .before .before .before .before .before .before
 abbrev start : tie.At-loop Inv-loop μ-loop → tie.Start Inv-loop μ-loop
 start c = c .before .before
 
+long : (s : tie.Start Inv-loop μ-loop) → length (now (s .args .words)) ≡ numbers
+long s = ap length (s .pre)
+
 cast-words : tie.Need-cast-words Inv-loop μ-loop
 cast-words c = search needs
 
 slice-write-words : tie.Need-slice-write-words Inv-loop μ-loop
-slice-write-words c = omega arith
+slice-write-words c = omega (arith, long (c .before))
 
 cast-words-2 : tie.Need-cast-words-2 Inv-loop μ-loop
 cast-words-2 c = search needs
 
 slice-write-words-2 : tie.Need-slice-write-words-2 Inv-loop μ-loop
-slice-write-words-2 c = simp length-set (omega arith)
+slice-write-words-2 c = simp length-set (omega (arith, long (c .before)))
 
 cast-words-3 : tie.Need-cast-words-3 Inv-loop μ-loop
 cast-words-3 c = search needs
 
 slice-write-words-3 : tie.Need-slice-write-words-3 Inv-loop μ-loop
-slice-write-words-3 c = simp length-set (omega arith)
+slice-write-words-3 c = simp length-set (omega (arith, long (c .before)))
 
 loop-holds : tie.Need-loop-holds Inv-loop μ-loop
 loop-holds c = writing-start (c .before .args .t1) (now (c .before .args .words)) (search (needs, counted)) (c .before .pre)
@@ -73,7 +77,7 @@ loop-again c =
     subst (λ (ws : List ℕ). Writing k ws (l .loop .i + 1)) (sym (p .put-line .ensures)) (writing-turn k (l .loop .words) (l .loop .i) _ (omega arith) (l .loop .inv))
 
 same-length : tie.Need-same-length Inv-loop μ-loop
-same-length c = c .before .loop .inv .long ∙ sym (start (c .before) .pre)
+same-length c = c .before .loop .inv .long ∙ sym (long (start (c .before)))
 
 returns : tie.Need-returns Inv-loop μ-loop
 returns c =
