@@ -13,12 +13,14 @@ use Rattle.wire.specs.declared.Message.{Message}
 use Rattle.wire.specs.declared.Message.the-variants as message
 use Rattle.wire.specs.Bytes.{parsed}
 use Rattle.model.specs.Questions.{every, asks, between, Answer, answer, Sent}
+use Rattle.model.specs.Ranks.{lineRanks}
 use Rattle.model.specs.Client.{Client, noClient, soundClient, insertClient, deleteClient, sendClient, tellClient, takeClient}
 use Rattle.model.specs.Line.{noLine}
 use Rattle.model.specs.Server.{Server, noServer, openServerQuestions, openServer, sendServer, tellServer, takeServer, serverReads, serverTakes, serverTakesEdit, serverTakesAck}
 use Rattle.model.specs.Limits.{maxLines, maxInitial}
 use Rattle.model.proofs.Tests.{hold, yes-all, between-true}
-use Rattle.model.proofs.Opens.{client-opens, server-opens}
+use Rattle.model.proofs.Ranks.{line-ranking}
+use Rattle.model.proofs.Opens.{freshServer, client-opens, server-opens}
 use Rattle.model.proofs.Sound.{accepted, keeps-sound}
 use Rattle.sheet_text.specs.Command.{Command, Bad, Insert, Delete, Up, Down, Ack, Told}
 use Rattle.sheet_ends.specs.Bench.{Bench, Step, SoundBench, clientOf, onClient, onServer, delivered, room, step, openClients, openBench}
@@ -103,12 +105,12 @@ module _ (b : Bench) (g : SoundBench b) where
   step-sound (Told l) = down l (tellServer (b .server) l room)
 
 -- What opening a server says of its questions.
-pub opened : (n : ℕ) (items : List ℕ) → openServer n items .refusal ≡ 0 → (1 ≤ n) × (n ≤ 8) × (length items ≤ 128)
+pub opened : (n : ℕ) (ranks items : List ℕ) → openServer n ranks items .refusal ≡ 0 → (1 ≤ n) × (n ≤ 8) × (length items ≤ 128)
 unfolding openServer
-opened n items e =
-    let r = asks (openServerQuestions n items) in
-    let z : r ≡ 0 = accepted r noServer (record { n = n; initial = length items; items = items; lines = replicate n noLine }) 0 e in
-    let h = hold (between 1 maxLines n ∷ leb (length items) maxInitial ∷ []) (yes-all (openServerQuestions n items) (omega arith) z .0) in
+opened n ranks items e =
+    let r = asks (openServerQuestions n ranks items) in
+    let z : r ≡ 0 = accepted r noServer (record { n = n; initial = length items; ranks = ranks; items = items; lines = replicate n noLine }) 0 e in
+    let h = hold (between 1 maxLines n ∷ leb (length items) maxInitial ∷ []) (yes-all (openServerQuestions n ranks items) (omega arith) z .0) in
     let few = between-true 1 maxLines n (h .0) in
     (few .0, few .1, leb-true (length items) maxInitial (h .1 .0))
 
@@ -116,17 +118,21 @@ module _ (n : ℕ) (items : List ℕ) (low : 1 ≤ n) (high : n ≤ 8) (short : 
   clients-sound : (k : ℕ) → k ≤ n → every (map soundClient (openClients n items k)) ≡ true
   clients-sound zero h = refl
   clients-sound (suc k) h =
-      rw (keeps-sound .opens-client n (n - k) items (ap (λ (a : Answer Client). a .refusal) (client-opens n (n - k) items low high (omega arith) (omega arith) short)))
+      rw (keeps-sound .opens-client n (n - k) (lineRanks n) items
+      (ap (λ (a : Answer Client). a .refusal) (client-opens n (n - k) (lineRanks n) items low high (omega arith) (omega arith) short (line-ranking n))))
       (clients-sound k (omega arith))
 
   clients-count : (k : ℕ) → length (openClients n items k) ≡ k
   clients-count zero = refl
   clients-count (suc k) = ap suc (clients-count k)
 
+  opens : openServer n (lineRanks n) items ≡ record { refusal = 0; end = freshServer n (lineRanks n) items; passed = 0 }
+  opens = server-opens n (lineRanks n) items low high short (line-ranking n)
+
   pub open-sound : SoundBench (openBench n items)
   open-sound =
       record {
-        server = keeps-sound .opens-server n items (ap (λ (a : Answer Server). a .refusal) (server-opens n items low high short));
+        server = keeps-sound .opens-server n (lineRanks n) items (ap (λ (a : Answer Server). a .refusal) opens);
         clients = clients-sound n (omega arith);
-        count = clients-count n ∙ sym (ap (λ (a : Answer Server). a .end .n) (server-opens n items low high short));
+        count = clients-count n ∙ sym (ap (λ (a : Answer Server). a .end .n) opens);
       }

@@ -63,9 +63,9 @@ server-keeps : (m : serverModels.Server) (bytes : List ℕ) → Keeps m (serverM
 unfolding serverModels.takeServer
 server-keeps m bytes = server-reads m (parsed bytes)
 
-pub open-keeps : (n l : ℕ) (items : List ℕ) → Keeps models.noClient (models.openClient n l items)
+pub open-keeps : (n l : ℕ) (ranks items : List ℕ) → Keeps models.noClient (models.openClient n l ranks items)
 unfolding models.openClient
-open-keeps n l items = keeps _ models.noClient _ _
+open-keeps n l ranks items = keeps _ models.noClient _ _
 
 -- the struct of an answer's end
 pub end-stored : {E F : Type 0} (store : E → F) (m : E) (a : Answer E) → Keeps m a → cond (eqb (a .refusal) 0) (store (a .end)) (store m) ≡ store (a .end)

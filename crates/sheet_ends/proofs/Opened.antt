@@ -14,6 +14,7 @@ use Rattle.list.specs.Parts.{part}
 use Rattle.list.proofs.Parts.{Wrote}
 use Rattle.model.specs.Limits.{maxInitial}
 use Rattle.model.specs.Questions.{between, answer}
+use Rattle.model.specs.Ranks.{lineRanks}
 use Rattle.model.specs.Client.{noClient, openClient}
 use Rattle.client.specs.declared.Counts.{Counts}
 use Rattle.client.specs.declared.Client.{Client}
@@ -38,10 +39,10 @@ part-zeros (suc a) zero zero h = refl
 part-zeros (suc a) (suc n) zero h = absurd (omega arith)
 part-zeros (suc a) n (suc m) h = part-zeros a n m (omega arith)
 
-module _ (n : ℕ) (items : List ℕ) where
+module _ (n : ℕ) (ranks items : List ℕ) where
   -- the client of line l
   abbrev at : ℕ → Client
-  at l = store (openClient n l items .end)
+  at l = store (openClient n l ranks items .end)
 
   -- ---- the loop: the clients of the first j lines are open, and the words of the others are zero
 
@@ -62,11 +63,11 @@ module _ (n : ℕ) (items : List ℕ) where
         rest = λ i h small. ap (part (size * i) size) e ∙ part-zeros (size * i) size allSize (omega arith);
       }
 
-  opens-as : (l : ℕ) → opened n l items .client ≡ at l
-  opens-as l = end-stored store noClient (openClient n l items) (open-keeps n l items)
+  opens-as : (l : ℕ) → opened n l ranks items .client ≡ at l
+  opens-as l = end-stored store noClient (openClient n l ranks items) (open-keeps n l ranks items)
 
   pub opening-turn : (ks : List Counts) (words : List ℕ) (j : ℕ) → j < maxLines → Opening ks words j → (r : Changed) (x words′ : List ℕ)
-      → Wrote (size * j) size x words words′ → answerOf r x ≡ opened n (j + 1) items → Opening (set ks j (r .counts)) words′ (j + 1)
+      → Wrote (size * j) size x words words′ → answerOf r x ≡ opened n (j + 1) ranks items → Opening (set ks j (r .counts)) words′ (j + 1)
   opening-turn ks words j small g r x words′ w p =
       record {
         to = omega arith;
@@ -91,18 +92,18 @@ module _ (n : ℕ) (items : List ℕ) where
 
   -- ---- its end
 
-  opening-length : (l k : ℕ) → length (opening n items l k) ≡ k
+  opening-length : (l k : ℕ) → length (opening n ranks items l k) ≡ k
   opening-length l zero = refl
   opening-length l (suc k) = ap suc (opening-length (suc l) k)
 
-  opening-at : (k l i : ℕ) (d : Client) → i < k → getD (opening n items l k) i d ≡ at (l + i)
+  opening-at : (k l i : ℕ) (d : Client) → i < k → getD (opening n ranks items l k) i d ≡ at (l + i)
   opening-at zero l i d h = absurd (omega arith)
   opening-at (suc k) l zero d h = ap at (sym (add-zero l))
   opening-at (suc k) l (suc i) d h = opening-at k (suc l) i d (omega arith) ∙ ap at (suc-add l i ∙ sym (add-suc l i))
 
-  pub opening-end : (ks : List Counts) (words : List ℕ) (j : ℕ) → maxLines ≤ j → Opening ks words j → clientsIn ks words ≡ opening n items 1 maxLines
+  pub opening-end : (ks : List Counts) (words : List ℕ) (j : ℕ) → maxLines ≤ j → Opening ks words j → clientsIn ks words ≡ opening n ranks items 1 maxLines
   opening-end ks words j h g =
-      clients-are ks words (opening n items 1 maxLines) (at 0) (opening-length 1 maxLines) (λ (i : ℕ) small.
+      clients-are ks words (opening n ranks items 1 maxLines) (at 0) (opening-length 1 maxLines) (λ (i : ℕ) small.
       let one : suc i ≡ 1 + i = omega arith in
       g .begun i (omega arith) ∙ ap at one ∙ sym (opening-at maxLines 1 i (at 0) small))
 
@@ -116,28 +117,34 @@ module _ (n : ℕ) (items : List ℕ) where
   no-second true b c e = rw e
   no-second false b c e = refl
 
-  past-n : (l : ℕ) → n < l → openClient n l items .end ≡ noClient
+  past-n : (l : ℕ) → n < l → openClient n l ranks items .end ≡ noClient
   unfolding openClient answer
   past-n l h =
       rw (no-second (between 1 maxLines n) (between 1 n l) (leb (length items) maxInitial && true) (rw (lt-leb l n h) (and-none (leb 1 l))))
 
-  opening-past : (l j : ℕ) → n < l → opening n items l j ≡ replicate j (store noClient)
+  opening-past : (l j : ℕ) → n < l → opening n ranks items l j ≡ replicate j (store noClient)
   opening-past l zero h = refl
   opening-past l (suc j) h = ap₂ (λ (x : Client) (r : List Client). x ∷ r) (ap store (past-n l h)) (opening-past (suc l) j (omega arith))
 
-  opening-from : (k l j : ℕ) → k ≤ n → l ≡ suc (n - k) → opening n items l (k + j) ≡ map store (openClients n items k) ++ replicate j (store noClient)
-  opening-from zero l j h e = ap (opening n items l) (zero-add j) ∙ opening-past l j (omega arith)
+-- ---- with line numbers as ranks, these are the clients of the bench
+
+module _ (n : ℕ) (items : List ℕ) where
+  abbrev opens : ℕ → ℕ → List Client
+  opens = opening n (lineRanks n) items
+
+  opening-from : (k l j : ℕ) → k ≤ n → l ≡ suc (n - k) → opens l (k + j) ≡ map store (openClients n items k) ++ replicate j (store noClient)
+  opening-from zero l j h e = ap (opens l) (zero-add j) ∙ opening-past n (lineRanks n) items l j (omega arith)
   opening-from (suc k) l j h e =
       let s : l ≡ n - k = omega arith in
       let r = opening-from k (suc l) j (omega arith) (omega arith) in
-      ap (opening n items l) (suc-add k j) ∙ ap₂ (λ (x : Client) (r : List Client). x ∷ r) (ap at s) r
+      ap (opens l) (suc-add k j) ∙ ap₂ (λ (x : Client) (r : List Client). x ∷ r) (ap (at n (lineRanks n) items) s) r
 
   clients-length : (k : ℕ) → length (openClients n items k) ≡ k
   clients-length zero = refl
   clients-length (suc k) = ap suc (clients-length k)
 
-  pub opening-all : n ≤ maxLines → opening n items 1 maxLines ≡ padded (store noClient) maxLines (map store (openClients n items n))
+  pub opening-all : n ≤ maxLines → opens 1 maxLines ≡ padded (store noClient) maxLines (map store (openClients n items n))
   opening-all high =
       let e : maxLines ≡ n + (maxLines - n) = omega arith in
-      ap (opening n items 1) e ∙ opening-from n 1 (maxLines - n) (omega arith) (omega arith)
+      ap (opens 1) e ∙ opening-from n 1 (maxLines - n) (omega arith) (omega arith)
       ∙ ap (λ (k : ℕ). map store (openClients n items n) ++ replicate (maxLines - k) (store noClient)) (sym (length-map (openClients n items n) store ∙ clients-length n))

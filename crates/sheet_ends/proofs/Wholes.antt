@@ -7,20 +7,24 @@ use native.Mathlib.Omega.{arith}
 use lib.ListN.{length, getD, take, length-map, List·getD-append, List·getD-map}
 use Rattle.limits.specs.Limits.{maxLines, maxItems}
 use Rattle.list.specs.Items.{padded}
-use Rattle.list.proofs.Pad.{pad-take}
+use Rattle.list.proofs.Pad.{pad-take, pad-getD}
 use Rattle.model.specs.Questions.{every}
 use Rattle.model.specs.Client as models
 use Rattle.model.specs.Server as serverModels
 use Rattle.model.proofs.SoundClient.{client-facts}
 use Rattle.model.proofs.SoundServer.{server-facts}
+use Rattle.ranks.proofs.Laws.{stored-length}
+use Rattle.client.specs.declared.Counts.{Counts}
 use Rattle.client.specs.declared.Client.{Client}
 use Rattle.client.specs.View as client
 use Rattle.client.proofs.Stored.{client-view}
+use Rattle.server.specs.declared.Counts.{Counts as ServerCounts}
 use Rattle.server.specs.declared.Server.{Server}
 use Rattle.server.specs.View as server
 use Rattle.sheet_print.proofs.Sinks.{and-left, and-right}
 use Rattle.sheet_ends.specs.Bench.{Bench, SoundBench, clientOf}
-use Rattle.sheet_ends.specs.Ends.{Ends, viewEnds, storeEnds, Whole}
+use Rattle.sheet_ends.specs.Ends.{Ends, endsOf, viewEnds, storeEnds, Whole, Held, Sizes}
+use Rattle.sheet_ends.proofs.Places.{client-in}
 use Rattle.sheet_ends.proofs.Benches.{every-at}
 use Rattle.server.proofs.Stored.{view-store, store-sizes}
 
@@ -72,6 +76,14 @@ module _ (e : Ends) (w : Whole e) where
   server-short =
       subst (λ (s : Server). s .counts .len ≤ maxItems) (sym server-is) (server-facts (B .server) (w .sound .server) .items)
 
+  -- the ranks of each client, and of one that is not in use, fill their places
+  clients-ranked : (i : ℕ) → length (getD (e .clients) i (client.store models.noClient) .counts .ranks) ≡ maxLines
+  clients-ranked i =
+      ap (λ (x : List Client). length (getD x i (client.store models.noClient) .counts .ranks)) clients-are
+      ∙ ap (λ (c : Client). length (c .counts .ranks))
+      (pad-getD maxLines (client.store models.noClient) (map client.store (B .clients)) i ∙ List·getD-map client.store (B .clients) i models.noClient)
+      ∙ stored-length (getD (B .clients) i models.noClient .ranks)
+
   -- the client of line l
   module _ (l : ℕ) (in-range : (1 ≤ l) × (l ≤ e .server .counts .n)) where
     place-within : l - 1 < length (B .clients)
@@ -98,3 +110,15 @@ module _ (e : Ends) (w : Whole e) where
       let f = client-facts (clientOf B (suc i)) (client-sound (suc i) in-range) .items in
       let p = ap (λ (c : Client). c .counts .len) (client-is (suc i) in-range) in
       subst (λ (j : ℕ). getD (e .clients) j (client.store models.noClient) .counts .len ≤ maxItems) at (subst (λ (n : ℕ). n ≤ maxItems) (sym p) f)
+
+-- ---- of numbers and words
+
+pub held-sizes : (s : ServerCounts) (words : List ℕ) (ks : List Counts) (own : List ℕ) → Held s words ks own → Sizes ks own
+held-sizes s words ks own g =
+    record {
+      words = g .size;
+      ranks =
+          λ i small.
+          sym (ap (λ (c : Client). length (c .counts .ranks)) (client-in ks own i (client.store models.noClient) small))
+          ∙ clients-ranked (endsOf s words ks own) (g .ends) i;
+    }

@@ -6,6 +6,7 @@ use mathlib.Core.List.{List, [], _∷_, map}
 use lib.Dec.{eqb}
 use lib.ListN.{length, getD, set, take, replicate}
 use Rattle.model.specs.Questions.{every, Answer, Sent}
+use Rattle.model.specs.Ranks.{lineRanks}
 use Rattle.model.specs.Client.{Client, noClient, soundClient, openClient, insertClient, deleteClient, sendClient, tellClient, takeClient}
 use Rattle.model.specs.Server.{Server, soundServer, openServer, sendServer, tellServer, takeServer}
 use Rattle.sheet_text.specs.Command.{Command, Bad, Insert, Delete, Up, Down, Ack, Told}
@@ -48,13 +49,13 @@ step b (Down l k) = delivered b (sendServer (b .server) l k room) (λ m. onClien
 step b (Ack l) = delivered b (tellClient (clientOf b l) l room) (λ m. onServer b (takeServer (b .server) m))
 step b (Told l) = delivered b (tellServer (b .server) l room) (λ m. onClient b l (takeClient (clientOf b l) m))
 
--- the clients of the last k of n lines, in line order
+-- the clients of the last k of n lines, in line order; line numbers are the ranks
 abbrev pub openClients : ℕ → List ℕ → ℕ → List Client
 openClients n items zero = []
-openClients n items (suc k) = openClient n (n - k) items .«end» ∷ openClients n items k
+openClients n items (suc k) = openClient n (n - k) (lineRanks n) items .«end» ∷ openClients n items k
 
 abbrev pub openBench : ℕ → List ℕ → Bench
-openBench n items = record { server = openServer n items .«end»; clients = openClients n items n }
+openBench n items = record { server = openServer n (lineRanks n) items .«end»; clients = openClients n items n }
 
 -- every end is sound, and there is a client for each line
 pub record SoundBench (b : Bench) : Type 0 where

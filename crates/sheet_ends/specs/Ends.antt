@@ -1,12 +1,14 @@
 -- The server and its clients as structs, the clients side by side in one array, and the bench that they stand for.
-use Prim.Native.Nat.{ℕ, zero, suc, _*_}
+use Prim.Native.Nat.{ℕ, zero, suc, _*_, _<_}
 use mathlib.Core.Path.{_≡_}
 use mathlib.Core.List.{List, [], _∷_, map}
 use lib.ListN.{length, getD, take}
 use Rattle.limits.specs.Limits.{maxLines}
 use Rattle.list.specs.Items.{padded}
 use Rattle.list.specs.Parts.{part}
+use Rattle.model.specs.Line.{noLine}
 use Rattle.model.specs.Client.{noClient, openClient}
+use Rattle.line.specs.Line.{countsOf}
 use Rattle.client.specs.declared.Counts.{Counts}
 use Rattle.client.specs.declared.Client.{Client}
 use Rattle.client.specs.View as client
@@ -19,8 +21,9 @@ use Rattle.sheet_ends.specs.Bench.{Bench, SoundBench}
 abbrev pub allSize : ℕ
 allSize = 5120
 
+-- past the last place
 abbrev pub noCounts : Counts
-noCounts = client.counts noClient
+noCounts = record { own = countsOf noLine; len = 0; n = 0; line = 0; ranks = [] }
 
 -- the client at place i, counted from 0
 abbrev pub clientAt : List Counts → List ℕ → ℕ → Client
@@ -50,6 +53,11 @@ abbrev pub storeEnds : Bench → Ends
 storeEnds b =
     record { server = server.store (b .server); clients = padded (client.store noClient) maxLines (map client.store (b .clients)) }
 
+-- the lengths of the words of all clients, and of the ranks of each
+pub record Sizes (ks : List Counts) (own : List ℕ) : Type 0 where
+  pub words : length own ≡ allSize
+  pub ranks : (i : ℕ) → i < maxLines → length (getD ks i noCounts .ranks) ≡ maxLines
+
 -- the structs for a bench whose ends are sound
 pub record Whole (e : Ends) : Type 0 where
   pub whole : e ≡ storeEnds (viewEnds e)
@@ -61,6 +69,6 @@ pub record Held (s : ServerCounts) (words : List ℕ) (ks : List Counts) (own : 
   pub size : length own ≡ allSize
 
 -- k clients, from line l on, of a sheet of n; opening refuses a line past n, and then gives an end that is all zeros
-abbrev pub opening : ℕ → List ℕ → ℕ → ℕ → List Client
-opening n items l zero = []
-opening n items l (suc k) = client.store (openClient n l items .«end») ∷ opening n items (suc l) k
+abbrev pub opening : ℕ → List ℕ → List ℕ → ℕ → ℕ → List Client
+opening n ranks items l zero = []
+opening n ranks items l (suc k) = client.store (openClient n l ranks items .«end») ∷ opening n ranks items (suc l) k

@@ -1,13 +1,14 @@
 // A server and its clients, as the run program holds them: opening the clients, and what an order does to the ends. An end is its numbers
 // and its words. The clients stand side by side, client j's words from 640 * j on in one array, so that each call changes its end in place.
 ghost use mathlib.Core.Path.{_≡_};
-ghost use lib.ListN.{length, replicate};
+ghost use lib.ListN.{replicate};
 ghost use Rattle.limits.specs.Limits.{maxLines};
+ghost use Rattle.model.specs.Ranks.{lineRanks};
 ghost use Rattle.line.specs.Sending.{answered};
-ghost use Rattle.client.specs.View.{size, clientOf};
+ghost use Rattle.client.specs.View.{clientOf, Sizes as Client·Sizes};
 ghost use Rattle.client.specs.Answers.{answerOf};
-ghost use Rattle.server.specs.View.{serverOf, Sizes};
-ghost use Rattle.sheet_ends.specs.Ends.{allSize, endsOf, clientsIn, opening};
+ghost use Rattle.server.specs.View.{serverOf, Sizes as Server·Sizes};
+ghost use Rattle.sheet_ends.specs.Ends.{allSize, endsOf, clientsIn, opening, Sizes};
 ghost use Rattle.sheet_ends.specs.Orders.{sentBy, changedBy, doneOf, ordered, Placed};
 use client::Client;
 use client::Counts;
@@ -32,10 +33,23 @@ pub struct Turned {
     pub clients: [Counts; Server::LINES],
 }
 
-// The clients of lines 1 to n, in words that are zero. Opening refuses a line past n, and leaves its numbers and words zero.
-pub fn open_clients(n: u8, items: &[u32], words: &mut [u32]) -> [Counts; Server::LINES]
+// Line numbers as ranks: those of n lines are the first n.
+pub fn line_ranks() -> [u8; Server::LINES]
+    ensures { λ r. ⌜ r ≡ lineRanks maxLines ⌝ }
+{
+    [1, 2, 3, 4, 5, 6, 7, 8]
+}
+
+// The clients of lines 1 to n, with the ranks of these lines, in words that are zero. Opening refuses a line past n, and leaves its
+// numbers and words zero.
+pub fn open_clients(
+    n: u8,
+    ranks: &[u8],
+    items: &[u32],
+    words: &mut [u32],
+) -> [Counts; Server::LINES]
     requires { ⌜ now words ≡ replicate allSize 0 ⌝ }
-    ensures { λ r. ⌜ clientsIn r (now (words .exit)) ≡ opening n (now (items .entry)) 1 maxLines ⌝ }
+    ensures { λ r. ⌜ clientsIn r (now (words .exit)) ≡ opening n (now (ranks .entry)) (now (items .entry)) 1 maxLines ⌝ }
 {
     let own = Line {
         made: 0,
@@ -43,18 +57,20 @@ pub fn open_clients(n: u8, items: &[u32], words: &mut [u32]) -> [Counts; Server:
         acked: 0,
         inserts: 0,
     };
+    let zeros = [0u8; Server::LINES];
     let none = Counts {
         own,
         len: 0,
         n: 0,
         line: 0,
+        ranks: zeros,
     };
     let mut counts = [none; Server::LINES];
     for i in 0..Server::LINES {
         let from = Client::WORDS * i;
         let to = from + Client::WORDS;
         let line = (i + 1) as u8;
-        let a = client::open_lent(n, line, items, &mut words[from..to]);
+        let a = client::open_lent(n, line, ranks, items, &mut words[from..to]);
         let k = a.counts;
         counts[i] = k;
     }
@@ -63,7 +79,7 @@ pub fn open_clients(n: u8, items: &[u32], words: &mut [u32]) -> [Counts; Server:
 
 // What the one end of an order writes for the other. An edit writes nothing.
 fn sent(s: server::Counts, words: &[u32], c: Counts, own: &[u32], o: Order, m: &mut [u8]) -> Sent
-    requires { ⌜ Sizes s (now words) × (length (now own) ≡ size) ⌝ }
+    requires { ⌜ Server·Sizes s (now words) × Client·Sizes c (now own) ⌝ }
     ensures { λ r. ⌜ answered r (now (m .exit)) ≡ sentBy (serverOf s (now (words .entry))) (clientOf c (now (own .entry))) o (now (m .entry)) ⌝ }
 {
     if o.verb == UP {
@@ -86,7 +102,7 @@ fn sent(s: server::Counts, words: &[u32], c: Counts, own: &[u32], o: Order, m: &
 
 // The client's own edit, or what it takes.
 fn at_client(c: Counts, words: &mut [u32], o: Order, bytes: &[u8]) -> client::Changed
-    requires { ⌜ length (now words) ≡ size ⌝ }
+    requires { ⌜ Client·Sizes c (now words) ⌝ }
     ensures { λ r. ⌜ answerOf r (now (words .exit)) ≡ changedBy (clientOf c (now (words .entry))) o (now (bytes .entry)) ⌝ }
 {
     if o.verb == INS {
@@ -106,7 +122,7 @@ pub fn turn(
     own: &mut [u32],
     o: Order,
 ) -> Turned
-    requires { ⌜ (Sizes s (now words) × (length (now own) ≡ allSize)) × Placed o ⌝ }
+    requires { ⌜ (Server·Sizes s (now words) × Sizes clients (now own)) × Placed o ⌝ }
     ensures { λ r. ⌜ doneOf r (now (words .exit)) (now (own .exit)) ≡ ordered (endsOf s (now (words .entry)) clients (now (own .entry))) o ⌝ }
 {
     let at = (o.line - 1) as usize;

@@ -10,6 +10,7 @@ use lib.ListN.{length, take, drop}
 use lib.Seq.{take-all, length-take-le}
 use Rattle.limits.specs.Limits.{maxLines, maxInitial}
 use Rattle.model.specs.Questions.{between, answer}
+use Rattle.model.specs.Ranks.{countFrom, lineRanks}
 use Rattle.model.specs.Server as models
 use Rattle.client.specs.declared.Counts.{Counts}
 use Rattle.client.specs.declared.Client.{Client}
@@ -17,7 +18,7 @@ use Rattle.server.specs.declared.Server.{Server}
 use Rattle.server.specs.declared.Answer.{Answer}
 use Rattle.server.specs.declared.Changed.{Changed}
 use Rattle.server.specs.View.{store}
-use Rattle.server.specs.Answers.{answerOf, opened}
+use Rattle.server.specs.Answers.{answerOf, given, opened}
 use Rattle.sheet_text.specs.declared.first.First.{First}
 use Rattle.sheet_text.specs.Text.{before, linesOf, parts, same}
 use Rattle.sheet_text.specs.Opening.{Opening, none, sheet, openingOf, held, cut, maxHeld, Reads}
@@ -32,27 +33,62 @@ use Rattle.sheet_ends.proofs.Wholes.{store-whole, bench-view}
 use Rattle.sheet_ends.proofs.Opened.{opening-all}
 use Rattle.sheet_run.specs.Output.{ran, started, printed, long, maxInput, output}
 
+and-none : (a : Bool) → (a && false) ≡ false
+and-none true = refl
+and-none false = refl
+
+-- ---- the ranks that are lent: the first of those of eight lines
+
+count-take : (l k m : ℕ) → k ≤ m → take k (countFrom l m) ≡ countFrom l k
+count-take l zero m h = refl
+count-take l (suc k) zero h = absurd (omega arith)
+count-take l (suc k) (suc m) h = ap (λ (r : List ℕ). l ∷ r) (count-take (suc l) k m (omega arith))
+
+-- with n past eight, question 1 says no before the ranks are asked
+past-eight : (n : ℕ) (ranks items : List ℕ) → maxLines < n → models.openServer n ranks items ≡ record { refusal = 1; end = models.noServer; passed = 0 }
+unfolding models.openServer answer
+past-eight n ranks items h = rw (lt-leb n maxLines h, and-none (leb 1 n))
+
+module _ (n : ℕ) (all : List ℕ) (lent : ℕ) (numbers : all ≡ lineRanks maxLines) (few : n ≤ maxLines → lent ≡ n) where
+  lent-is : n ≤ maxLines → take lent all ≡ lineRanks n
+  lent-is h = ap₂ (λ (k : ℕ) (l : List ℕ). take k l) (few h) numbers ∙ count-take 1 n maxLines h
+
+  opens-same : (items : List ℕ) → models.openServer n (take lent all) items ≡ models.openServer n (lineRanks n) items
+  opens-same items = go (leb n maxLines) refl
+    where
+      go : (t : Bool) → leb n maxLines ≡ t → models.openServer n (take lent all) items ≡ models.openServer n (lineRanks n) items
+      go true e = ap (λ (ranks : List ℕ). models.openServer n ranks items) (lent-is (leb-true n maxLines e))
+      go false e =
+          let h = leb-false n maxLines e in
+          past-eight n (take lent all) items h ∙ sym (past-eight n (lineRanks n) items h)
+
 -- ---- what opening the ends leaves
 
-module _ (n : ℕ) (items : List ℕ) (a : Changed) (words : List ℕ) (pa : answerOf a words ≡ opened n items) where
-  refusal-is : a .refusal ≡ models.openServer n items .refusal
+module _ (n : ℕ) (items all : List ℕ) (lent : ℕ) (numbers : all ≡ lineRanks maxLines) (few : n ≤ maxLines → lent ≡ n)
+    (a : Changed) (words : List ℕ) (lent-opened : answerOf a words ≡ opened n (take lent all) items) where
+  pa : answerOf a words ≡ opened n (lineRanks n) items
+  pa = lent-opened ∙ ap (given (store models.noServer)) (opens-same n all lent numbers few items)
+
+  refusal-is : a .refusal ≡ models.openServer n (lineRanks n) items .refusal
   refusal-is = ap (λ (x : Answer). x .refusal) pa
 
-  module _ (z : a .refusal ≡ 0) (ks : List Counts) (own : List ℕ) (size : length own ≡ allSize) (pc : clientsIn ks own ≡ opening n items 1 maxLines) where
+  module _ (z : a .refusal ≡ 0) (ks : List Counts) (own : List ℕ) (size : length own ≡ allSize)
+      (pc : clientsIn ks own ≡ opening n (take lent all) items 1 maxLines) where
     abbrev E : Ends
     E = endsOf (a .counts) words ks own
 
-    server-opened : E .server ≡ store (models.openServer n items .end)
-    server-opened = ap (λ (x : Answer). x .server) pa ∙ rw (eq-eqb (models.openServer n items .refusal) 0 (sym refusal-is ∙ z))
+    server-opened : E .server ≡ store (models.openServer n (lineRanks n) items .end)
+    server-opened = ap (λ (x : Answer). x .server) pa ∙ rw (eq-eqb (models.openServer n (lineRanks n) items .refusal) 0 (sym refusal-is ∙ z))
 
     fine : (1 ≤ n) × (n ≤ maxLines) × (length items ≤ maxInitial)
-    fine = benches.opened n items (sym refusal-is ∙ z)
+    fine = benches.opened n (lineRanks n) items (sym refusal-is ∙ z)
 
     sound : SoundBench (openBench n items)
     sound = benches.open-sound n items (fine .0) (fine .1) (fine .2)
 
     stored : E ≡ storeEnds (openBench n items)
-    stored = ap₂ (λ (s : Server) (cs : List Client). record { server = s; clients = cs }) server-opened (pc ∙ opening-all n items (fine .1))
+    stored = ap₂ (λ (s : Server) (cs : List Client). record { server = s; clients = cs }) server-opened
+        (pc ∙ ap (λ (ranks : List ℕ). opening n ranks items 1 maxLines) (lent-is n all lent numbers few (fine .1)) ∙ opening-all n items (fine .1))
 
     pub opened-held : Held (a .counts) words ks own
     opened-held = record { ends = subst Whole (sym stored) (store-whole (openBench n items) sound); size = size }
@@ -61,21 +97,17 @@ module _ (n : ℕ) (items : List ℕ) (a : Changed) (words : List ℕ) (pa : ans
     started-on ls s₀ q r =
         then (replied (a .refusal)) (ran (viewEnds E) ls) s₀ q r
         ∙ ap₂ (λ (k : ℕ) (b : Bench). puts (replied k ++ ran b ls) s₀) z (ap viewEnds stored ∙ bench-view (openBench n items) sound)
-        ∙ rw (eq-eqb (models.openServer n items .refusal) 0 (sym refusal-is ∙ z))
+        ∙ rw (eq-eqb (models.openServer n (lineRanks n) items .refusal) 0 (sym refusal-is ∙ z))
 
   pub started-off : (a .refusal ≡ 0 → ⊥) → (ls : List (List ℕ)) (s₀ : Sink) {s₁ : Sink} → s₁ ≡ puts (replied (a .refusal)) s₀ → s₁ ≡ puts (started (sheet n items) ls) s₀
   started-off h ls s₀ q =
-      q ∙ ap (λ (k : ℕ). puts (replied k) s₀) refusal-is ∙ rw (ne-eqb (models.openServer n items .refusal) 0 (λ z. h (refusal-is ∙ z)))
+      q ∙ ap (λ (k : ℕ). puts (replied k) s₀) refusal-is ∙ rw (ne-eqb (models.openServer n (lineRanks n) items .refusal) 0 (λ z. h (refusal-is ∙ z)))
 
 -- ---- the whole output, by the place of the first line's end
 
-and-none : (a : Bool) → (a && false) ≡ false
-and-none true = refl
-and-none false = refl
-
-too-many : (n : ℕ) (items : List ℕ) → 128 < length items → models.openServer n items .refusal ≡ 1
+too-many : (n : ℕ) (ranks items : List ℕ) → 128 < length items → models.openServer n ranks items .refusal ≡ 1
 unfolding models.openServer answer
-too-many n items h = rw (lt-leb (length items) maxInitial h, and-none (between 1 maxLines n))
+too-many n ranks items h = rw (lt-leb (length items) maxInitial h, and-none (between 1 maxLines n))
 
 cut-started : (o : Opening) (ls : List (List ℕ)) → started (cut o) ls ≡ started o ls
 cut-started none ls = refl
@@ -86,7 +118,7 @@ cut-started (sheet n items) ls = go (leb (length items) maxHeld) refl
     go false e =
         let large : maxHeld < length items = leb-false (length items) maxHeld e in
         let kept : length (take maxHeld items) ≡ maxHeld = length-take-le maxHeld items (omega arith) in
-        rw (too-many n items (omega arith), too-many n (take maxHeld items) (omega arith))
+        rw (too-many n (lineRanks n) items (omega arith), too-many n (lineRanks n) (take maxHeld items) (omega arith))
 
 take-none : (k : ℕ) → take {A = ℕ} k [] ≡ []
 take-none zero = refl

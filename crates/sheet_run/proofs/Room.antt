@@ -14,7 +14,8 @@ use Rattle.wire.specs.declared.Message.{Message}
 use Rattle.wire.specs.declared.Message.the-variants as message
 use Rattle.wire.specs.Bytes.{parsed}
 use Rattle.model.specs.Questions.{Question, ask, every, asks, Answer, answer, Sent, sent}
-use Rattle.model.specs.Client.{Client, soundClient, editQuestions, editClient, sendClientQuestions, tellClientQuestions, clientEditQuestions, clientAckQuestions, sendClient, tellClient, takeClient, clientReads, clientTakes, clientTakesEdit, clientTakesAck}
+use Rattle.model.specs.Client.{Client, ownRank, soundClient, editQuestions, editClient, sendClientQuestions, tellClientQuestions, clientEditQuestions, clientAckQuestions, sendClient, tellClient, takeClient, clientReads, clientTakes, clientTakesEdit, clientTakesAck}
+use Rattle.model.specs.Ranks.{lineRanks}
 use Rattle.model.specs.Server.{Server, soundServer, openServerQuestions, openServer, sendServerQuestions, tellServerQuestions, serverEditQuestions, serverAckQuestions, sendServer, tellServer, takeServer, serverReads, serverTakes, serverTakesEdit, serverTakesAck}
 use Rattle.model.proofs.SoundClient.{client-facts}
 use Rattle.model.proofs.SoundServer.{server-facts}
@@ -54,7 +55,7 @@ listed-length (x ∷ xs) =
     let h = listed-length xs in
     omega arith
 
--- Refusals are at most 14, so an answer has at most three bytes.
+-- Refusals are at most 16, so an answer has at most three bytes.
 abbrev small : ℕ → Bool
 small r = leb (length (decimal r)) 2
 
@@ -71,88 +72,88 @@ below-at (suc k) P r h lt = go (eqb r k) refl (λ less. below-at k P r (and-righ
     go true e ih = subst (λ x. P x ≡ true) (sym (eqb-true r k e)) (and-left (P k) (below k P) h)
     go false e ih = ih (let d = eqb-false r k e in omega arith)
 
-reply-length : (r : ℕ) → r ≤ 14 → length (replied r) ≤ 3
+reply-length : (r : ℕ) → r ≤ 16 → length (replied r) ≤ 3
 unfolding below decimal digits
 reply-length r h =
     let l = length-append (decimal r) (10 ∷ []) in
-    let s = leb-true (length (decimal r)) 2 (below-at 15 small r refl (omega arith)) in
+    let s = leb-true (length (decimal r)) 2 (below-at 17 small r refl (omega arith)) in
     omega arith
 
 numbered : List Question → Bool
 numbered [] = true
-numbered (q ∷ qs) = leb (q .number) 14 && numbered qs
+numbered (q ∷ qs) = leb (q .number) 16 && numbered qs
 
-asks-length : (qs : List Question) → numbered qs ≡ true → asks qs ≤ 14
+asks-length : (qs : List Question) → numbered qs ≡ true → asks qs ≤ 16
 unfolding numbered
 asks-length [] h = omega arith
 asks-length (q ∷ qs) h =
-    both (λ r. r ≤ 14) (q .yes) (asks qs) (q .number) (asks-length qs (and-right (leb (q .number) 14) (numbered qs) h))
-    (leb-true (q .number) 14 (and-left (leb (q .number) 14) (numbered qs) h))
+    both (λ r. r ≤ 16) (q .yes) (asks qs) (q .number) (asks-length qs (and-right (leb (q .number) 16) (numbered qs) h))
+    (leb-true (q .number) 16 (and-left (leb (q .number) 16) (numbered qs) h))
 
-answer-small : {E : Type 0} (r : ℕ) (old new : E) (k : ℕ) → r ≤ 14 → answer r old new k .refusal ≤ 14
+answer-small : {E : Type 0} (r : ℕ) (old new : E) (k : ℕ) → r ≤ 16 → answer r old new k .refusal ≤ 16
 unfolding answer
 answer-small {E} r old new k h =
-    both (λ (a : Answer E). a .refusal ≤ 14) (eqb r 0) (record { refusal = 0; end = new; passed = k }) (record { refusal = r; end = old; passed = 0 }) (omega arith) h
+    both (λ (a : Answer E). a .refusal ≤ 16) (eqb r 0) (record { refusal = 0; end = new; passed = k }) (record { refusal = r; end = old; passed = 0 }) (omega arith) h
 
-sent-small : (r : ℕ) (bytes lent : List ℕ) → r ≤ 14 → sent r bytes lent .refusal ≤ 14
+sent-small : (r : ℕ) (bytes lent : List ℕ) → r ≤ 16 → sent r bytes lent .refusal ≤ 16
 unfolding sent
 sent-small r bytes lent h =
-    both (λ (a : Sent). a .refusal ≤ 14) (eqb r 0) (record { refusal = 0; written = length bytes; buffer = bytes ++ drop (length bytes) lent })
+    both (λ (a : Sent). a .refusal ≤ 16) (eqb r 0) (record { refusal = 0; written = length bytes; buffer = bytes ++ drop (length bytes) lent })
     (record { refusal = r; written = 0; buffer = lent }) (omega arith) h
 
-edit-small : (c : Client) (e : Edit) → editClient c e .refusal ≤ 14
+edit-small : (c : Client) (e : Edit) → editClient c e .refusal ≤ 16
 unfolding editClient numbered
 edit-small c e = answer-small _ _ _ _ (asks-length (editQuestions c e) refl)
 
-client-message-small : (c : Client) (m : Message) → clientTakes c m .refusal ≤ 14
+client-message-small : (c : Client) (m : Message) → clientTakes c m .refusal ≤ 16
 unfolding clientTakesEdit clientTakesAck numbered
 client-message-small c (message.Insert h p x r) = answer-small _ _ _ _ (asks-length (clientEditQuestions c h (Insert p x r)) refl)
 client-message-small c (message.Delete h p) = answer-small _ _ _ _ (asks-length (clientEditQuestions c h (Delete p)) refl)
 client-message-small c (message.Nothing h) = answer-small _ _ _ _ (asks-length (clientEditQuestions c h Nothing) refl)
 client-message-small c (message.Ack l d s) = answer-small _ _ _ _ (asks-length (clientAckQuestions c l d s) refl)
 
-client-read-small : (c : Client) (r : Read) → clientReads c r .refusal ≤ 14
+client-read-small : (c : Client) (r : Read) → clientReads c r .refusal ≤ 16
 unfolding numbered
 client-read-small c read.Refused = answer-small _ _ _ _ (asks-length (ask 2 (soundClient c) ∷ ask 3 false ∷ []) refl)
 client-read-small c (read.Message m) = client-message-small c m
 
-server-message-small : (s : Server) (m : Message) → serverTakes s m .refusal ≤ 14
+server-message-small : (s : Server) (m : Message) → serverTakes s m .refusal ≤ 16
 unfolding serverTakesEdit serverTakesAck numbered
 server-message-small s (message.Insert h p x r) = answer-small _ _ _ _ (asks-length (serverEditQuestions s h (Insert p x r)) refl)
 server-message-small s (message.Delete h p) = answer-small _ _ _ _ (asks-length (serverEditQuestions s h (Delete p)) refl)
 server-message-small s (message.Nothing h) = answer-small _ _ _ _ (asks-length (serverEditQuestions s h Nothing) refl)
 server-message-small s (message.Ack l d k) = answer-small _ _ _ _ (asks-length (serverAckQuestions s l d k) refl)
 
-server-read-small : (s : Server) (r : Read) → serverReads s r .refusal ≤ 14
+server-read-small : (s : Server) (r : Read) → serverReads s r .refusal ≤ 16
 unfolding numbered
 server-read-small s read.Refused = answer-small _ _ _ _ (asks-length (ask 2 (soundServer s) ∷ ask 3 false ∷ []) refl)
 server-read-small s (read.Message m) = server-message-small s m
 
 module _ (b : Bench) where
-  delivered-small : (m : Sent) (taking : List ℕ → Step) → m .refusal ≤ 14 → ((bytes : List ℕ) → taking bytes .refusal ≤ 14) → delivered b m taking .refusal ≤ 14
+  delivered-small : (m : Sent) (taking : List ℕ → Step) → m .refusal ≤ 16 → ((bytes : List ℕ) → taking bytes .refusal ≤ 16) → delivered b m taking .refusal ≤ 16
   delivered-small m taking h k =
-      both (λ (s : Step). s .refusal ≤ 14) (eqb (m .refusal) 0) (taking (take (m .written) (m .buffer))) (record { refusal = m .refusal; bench = b })
+      both (λ (s : Step). s .refusal ≤ 16) (eqb (m .refusal) 0) (taking (take (m .written) (m .buffer))) (record { refusal = m .refusal; bench = b })
       (k (take (m .written) (m .buffer))) h
 
-  up-small : (m : Sent) → m .refusal ≤ 14 → delivered b m (λ bytes. onServer b (takeServer (b .server) bytes)) .refusal ≤ 14
+  up-small : (m : Sent) → m .refusal ≤ 16 → delivered b m (λ bytes. onServer b (takeServer (b .server) bytes)) .refusal ≤ 16
   unfolding takeServer
   up-small m h = delivered-small m (λ bytes. onServer b (takeServer (b .server) bytes)) h (λ bytes. server-read-small (b .server) (parsed bytes))
 
-  down-small : (l : ℕ) (m : Sent) → m .refusal ≤ 14 → delivered b m (λ bytes. onClient b l (takeClient (clientOf b l) bytes)) .refusal ≤ 14
+  down-small : (l : ℕ) (m : Sent) → m .refusal ≤ 16 → delivered b m (λ bytes. onClient b l (takeClient (clientOf b l) bytes)) .refusal ≤ 16
   unfolding takeClient
   down-small l m h = delivered-small m (λ bytes. onClient b l (takeClient (clientOf b l) bytes)) h (λ bytes. client-read-small (clientOf b l) (parsed bytes))
 
-  step-small : (c : Command) → step b c .refusal ≤ 14
+  step-small : (c : Command) → step b c .refusal ≤ 16
   unfolding step sendClient tellClient sendServer tellServer numbered
   step-small command.Bad = omega arith
-  step-small (command.Insert l p x) = edit-small (clientOf b l) (Insert p x (clientOf b l .line))
+  step-small (command.Insert l p x) = edit-small (clientOf b l) (Insert p x (ownRank (clientOf b l)))
   step-small (command.Delete l p) = edit-small (clientOf b l) (Delete p)
   step-small (command.Up l k) = up-small (sendClient (clientOf b l) l k room) (sent-small _ _ _ (asks-length (sendClientQuestions (clientOf b l) l k room) refl))
   step-small (command.Down l k) = down-small l (sendServer (b .server) l k room) (sent-small _ _ _ (asks-length (sendServerQuestions (b .server) l k room) refl))
   step-small (command.Ack l) = up-small (tellClient (clientOf b l) l room) (sent-small _ _ _ (asks-length (tellClientQuestions (clientOf b l) l room) refl))
   step-small (command.Told l) = down-small l (tellServer (b .server) l room) (sent-small _ _ _ (asks-length (tellServerQuestions (b .server) l room) refl))
 
-replies-length : (c : Command) (r : ℕ) → r ≤ 14 → length (replies c r) ≤ 3
+replies-length : (c : Command) (r : ℕ) → r ≤ 16 → length (replies c r) ≤ 3
 replies-length c r h = both (λ (l : List ℕ). length l ≤ 3) (understood c) (replied r) unknown (reply-length r h) (omega arith)
 
 -- The lists of sound ends.
@@ -206,17 +207,17 @@ lines-length (b ∷ s) =
 started-length : (o : Opening) (ls : List (List ℕ)) → length (started o ls) ≤ 3 * length ls + 50842
 unfolding openServer numbered
 started-length none ls = omega arith
-started-length (sheet n items) ls = go (eqb (openServer n items .refusal) 0) refl
+started-length (sheet n items) ls = go (eqb (openServer n (lineRanks n) items .refusal) 0) refl
   where
-    go : (t : Bool) → eqb (openServer n items .refusal) 0 ≡ t
-        → length (cond t (replied 0 ++ ran (openBench n items) ls) (replied (openServer n items .refusal))) ≤ 3 * length ls + 50842
+    go : (t : Bool) → eqb (openServer n (lineRanks n) items .refusal) 0 ≡ t
+        → length (cond t (replied 0 ++ ran (openBench n items) ls) (replied (openServer n (lineRanks n) items .refusal))) ≤ 3 * length ls + 50842
     go true e =
-        let q = opened n items (eqb-true (openServer n items .refusal) 0 e) in
+        let q = opened n (lineRanks n) items (eqb-true (openServer n (lineRanks n) items .refusal) 0 e) in
         let a = length-append (replied 0) (ran (openBench n items) ls) in
         let k = reply-length 0 (omega arith) in
         let h = ran-length ls (openBench n items) (open-sound n items (q .0) (q .1) (q .2)) in
         omega arith
-    go false e = let k = reply-length (openServer n items .refusal) (answer-small _ _ _ _ (asks-length (openServerQuestions n items) refl)) in omega arith
+    go false e = let k = reply-length (openServer n (lineRanks n) items .refusal) (answer-small _ _ _ _ (asks-length (openServerQuestions n (lineRanks n) items) refl)) in omega arith
 
 printed-length : (ls : List (List ℕ)) → length (printed ls) ≤ 3 * length ls + 50842
 printed-length [] = omega arith

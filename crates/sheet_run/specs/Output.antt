@@ -5,6 +5,7 @@ use mathlib.Core.Bool.{Bool, true, false, cond}
 use mathlib.Core.List.{List, [], _∷_, _++_}
 use lib.Dec.{ltb, eqb}
 use lib.ListN.{length, take}
+use Rattle.model.specs.Ranks.{lineRanks}
 use Rattle.model.specs.Client.{Client}
 use Rattle.model.specs.Server.{openServer}
 use Rattle.sheet_print.specs.Sink.{Printed}
@@ -47,11 +48,12 @@ ran b (line ∷ ls) =
     replies (commandOf (b .server .n) line) (step b (commandOf (b .server .n) line) .refusal)
     ++ ran (step b (commandOf (b .server .n) line) .bench) ls
 
--- An opening that is refused ends the program, and so does a first line that fails.
+-- The ranks are line numbers. An opening that is refused ends the program, and so does a first line that fails.
 abbrev pub started : Opening → List (List ℕ) → List ℕ
 started none ls = unknown
 started (sheet n items) ls =
-    cond (eqb (openServer n items .refusal) 0) (replied 0 ++ ran (openBench n items) ls) (replied (openServer n items .refusal))
+    cond (eqb (openServer n (lineRanks n) items .refusal) 0) (replied 0 ++ ran (openBench n items) ls)
+    (replied (openServer n (lineRanks n) items .refusal))
 
 abbrev pub printed : List (List ℕ) → List ℕ
 printed [] = unknown

@@ -3,6 +3,7 @@ ghost use mathlib.Core.Path.{_≡_};
 ghost use mathlib.Core.List.{map};
 ghost use Prim.Native.Nat.{_≤_};
 ghost use lib.ListN.{drop};
+ghost use Rattle.limits.specs.Limits.{maxLines};
 ghost use Rattle.client.specs.View.{view};
 ghost use Rattle.sheet_print.specs.Sink.{sink, puts as Sink·puts, Printed};
 ghost use Rattle.sheet_text.specs.Text.{linesOf};
@@ -13,6 +14,7 @@ ghost use Rattle.sheet_run.specs.Shown.{Shown};
 use client::Client;
 use client::Counts;
 use server::Server;
+use sheet_ends::line_ranks;
 use sheet_ends::open_clients;
 use sheet_ends::turn;
 use sheet_print::client_list;
@@ -98,7 +100,18 @@ fn commands(
     lists(out, at, s, words, clients, own)
 }
 
-// What the first line opens, and the lines after it.
+// How many ranks an opening of n lines is lent: one for each line. Of n past eight, which it refuses before it looks at them, eight.
+fn lent_ranks(n: u8) -> usize
+    ensures { λ r. ⌜ (r ≤ maxLines) × (n ≤ maxLines → r ≡ n) ⌝ }
+{
+    let lines = n as usize;
+    if lines < Server::LINES {
+        return lines;
+    }
+    Server::LINES
+}
+
+// What the first line opens, with line numbers as ranks, and the lines after it.
 fn started(input: &[u8], from: usize, out: &mut [u8], f: First) -> usize
     requires { ⌜ f .count ≤ maxHeld ⌝ }
     ensures { λ r. ⌜ sink (now (out .exit)) r ≡ Sink·puts (Output·started (held f) (linesOf (drop from (now (input .entry))))) (sink (now (out .entry)) 0) ⌝ }
@@ -107,12 +120,15 @@ fn started(input: &[u8], from: usize, out: &mut [u8], f: First) -> usize
         let list = f.list;
         let count = f.count;
         let items = &list[..count];
+        let all = line_ranks();
+        let lent = lent_ranks(f.n);
+        let ranks = &all[..lent];
         let mut words = [0u32; Server::WORDS];
-        let a = server::open_lent(f.n, items, &mut words);
+        let a = server::open_lent(f.n, ranks, items, &mut words);
         let to = reply(out, 0, a.refusal);
         if a.refusal == 0 {
             let mut own = [0u32; sheet_ends::WORDS];
-            let clients = open_clients(f.n, items, &mut own);
+            let clients = open_clients(f.n, ranks, items, &mut own);
             let s = a.counts;
             return commands(input, from, out, to, s, &mut words, clients, &mut own);
         }

@@ -12,13 +12,13 @@ use Rattle.sheet_ends.proofs.open_clients.Statement.{statement}
 use Rattle.sheet_ends.proofs.open_clients.Tie as tie
 
 abbrev Inv-loop : tie.InvT-loop
-Inv-loop n items words₀ counts₀ i₀ words counts i = Opening n items counts words i
+Inv-loop n ranks items words₀ counts₀ i₀ words counts i = Opening n ranks items counts words i
 
 abbrev μ-loop : tie.MeasureT-loop
-μ-loop n items words₀ counts₀ i₀ words counts i = maxLines - i
+μ-loop n ranks items words₀ counts₀ i₀ words counts i = maxLines - i
 
 loop-holds : tie.Need-loop-holds Inv-loop μ-loop
-loop-holds c = opening-start _ _ _ _ refl (c .before .before .pre)
+loop-holds c = opening-start _ _ _ _ _ refl (c .before .before .before .pre)
 
 mul-from : tie.Need-mul-from Inv-loop μ-loop
 mul-from c = omega arith
@@ -67,14 +67,14 @@ loop-again c =
     let t = o .before .before in
     let l = t .before .loop in
     let long = lent-length (l .i) (l .words) _ _ refl refl (omega (arith, l .inv .long)) in
-    let wrote = lent-wrote (l .i) (l .words) _ _ refl refl (omega (arith, l .inv .long)) _ (o .open-lent .kept .1 .1 .1 .0 ∙ long) in
-    opening-turn _ _ (l .counts) (l .words) (l .i) (t .loop-test .taken) (l .inv) (o .open-lent .result) _ _ wrote (o .open-lent .ensures)
+    let wrote = lent-wrote (l .i) (l .words) _ _ refl refl (omega (arith, l .inv .long)) _ (o .open-lent .kept .1 .1 .1 .1 .0 ∙ long) in
+    opening-turn _ _ _ (l .counts) (l .words) (l .i) (t .loop-test .taken) (l .inv) (o .open-lent .result) _ _ wrote (o .open-lent .ensures)
 
 same-length : tie.Need-same-length Inv-loop μ-loop
-same-length c = c .before .loop .inv .long ∙ sym (ap length (c .before .before .before .before .pre) ∙ length-replicate {A = ℕ} allSize 0)
+same-length c = c .before .loop .inv .long ∙ sym (ap length (c .before .before .before .before .before .pre) ∙ length-replicate {A = ℕ} allSize 0)
 
 returns : tie.Need-returns Inv-loop μ-loop
-returns c = let l = c .before .loop in opening-end _ _ (l .counts) (l .words) (l .i) (omega arith) (l .inv)
+returns c = let l = c .before .loop in opening-end _ _ _ (l .counts) (l .words) (l .i) (omega arith) (l .inv)
 
 pub open-clients-spec : {M : Type 1} → statement M
 open-clients-spec =

@@ -1,12 +1,14 @@
 -- `turn` meets its contract: what was sent is refused, or the server takes it, or the client edits or takes it (proofs/Turning.antt).
-use Prim.Native.Nat.{ℕ, _≤_, _<_, _-_}
+use Prim.Native.Nat.{ℕ, _≤_, _<_, _+_, _-_, _*_}
 use mathlib.Core.Path.{_≡_, refl, sym, _∙_}
 use mathlib.Core.List.{List}
 use native.Mathlib.Omega.{arith}
 use borrow.Author.Needs.{needs}
-use lib.ListN.{length}
+use lib.ListN.{length, getD, take, drop}
 use lib.Seq.{length-take-le}
 use Rattle.limits.specs.Limits.{maxLines}
+use Rattle.client.specs.View.{size, Sizes}
+use Rattle.sheet_ends.specs.Ends.{noCounts}
 use Rattle.sheet_ends.proofs.Places.{lent-length}
 use Rattle.sheet_ends.proofs.Turning.{sent-within, turned-unsent, turned-server, turned-client}
 use Rattle.sheet_ends.proofs.turn.Statement.{statement}
@@ -52,6 +54,20 @@ eight s = search needs
 fits : (s : tie.Start) → s .args .o .line - 1 < maxLines
 fits s = omega (arith, s .pre .1)
 
+-- the first word of the client of the order's line, and the words that are lent
+abbrev first : tie.Start → ℕ
+first s = size * (s .args .o .line - 1)
+
+abbrev lent : tie.Start → List ℕ
+lent s = take (first s + size - first s) (drop (first s) (s .args .own .now))
+
+sizes : (s : tie.Start) → Sizes (getD (s .args .t3) (s .args .o .line - 1) noCounts) (lent s)
+sizes s =
+    record {
+      words = lent-length (s .args .o .line - 1) (s .args .own .now) _ _ refl refl (omega (arith, s .pre .0 .1 .words, s .pre .1));
+      ranks = s .pre .0 .1 .ranks (s .args .o .line - 1) (fits s);
+    }
+
 sub-at : tie.Need-sub-at
 sub-at c = search needs
 
@@ -86,7 +102,7 @@ slice-aggregate-sent : tie.Need-slice-aggregate-sent
 slice-aggregate-sent c = search needs
 
 sent-requires : tie.Need-sent-requires
-sent-requires c κs = search needs
+sent-requires c κs = let s = start (c .before .before .before .before) in (s .pre .0 .0, sizes s)
 
 same-length : tie.Need-same-length
 same-length c = search needs
@@ -148,7 +164,7 @@ slice-aggregate-at-client c =
     sym (length-take-le (b .sent .result .written) (message b) (within b))
 
 at-client-requires : tie.Need-at-client-requires
-at-client-requires c κs = search needs
+at-client-requires c κs = sizes (begun (sent (c .before .before .before)))
 
 mul-k : tie.Need-mul-k
 mul-k c = search needs
@@ -169,8 +185,8 @@ returns-3 c =
     let b = sent (u .before) in
     let s = begun b in
     turned-client (s .args .s) (s .args .words .now) (s .args .t3) (s .args .own .now) (s .args .o) (s .pre .1) _ _ refl refl (b .sent .result) (message b) (b .sent .ensures)
-    (u .before .before .if1 .left) (u .if2 .left) (eight s) (omega (arith, s .pre)) (t .at-client .result) _
-    (t .at-client .kept .1 .0 ∙ lent-length (s .args .o .line - 1) (s .args .own .now) _ _ refl refl (omega (arith, s .pre))) (t .at-client .ensures)
+    (u .before .before .if1 .left) (u .if2 .left) (eight s) (omega (arith, s .pre .0 .1 .words, s .pre .1)) (t .at-client .result) _
+    (t .at-client .kept .1 .0 ∙ lent-length (s .args .o .line - 1) (s .args .own .now) _ _ refl refl (omega (arith, s .pre .0 .1 .words, s .pre .1))) (t .at-client .ensures)
 
 pub turn-spec : {M : Type 1} → statement M
 turn-spec =

@@ -7,7 +7,7 @@ use lib.ListN.{length, drop}
 use Rattle.sheet_print.specs.Sink.{sink, puts}
 use Rattle.sheet_text.specs.Text.{linesOf}
 use Rattle.sheet_ends.specs.Ends.{endsOf, viewEnds}
-use Rattle.sheet_ends.proofs.Wholes.{server-sizes}
+use Rattle.sheet_ends.proofs.Wholes.{server-sizes, held-sizes}
 use Rattle.sheet_run.specs.Output.{ran}
 use Rattle.sheet_run.proofs.Turns.{Running, words-size, order-placed, running-bad, running-turn, running-end}
 use Rattle.sheet_run.proofs.commands.Statement.{statement}
@@ -79,7 +79,7 @@ turn-requires c κs =
     let t = c .before .before in
     let r = line (t .before) in
     let l = begun r .loop in (
-      (words-size _ _ (l .i) _ (l .s) (l .words) (l .clients) (l .own) _ (l .inv .1), l .inv .1 .held .size),
+      (words-size _ _ (l .i) _ (l .s) (l .words) (l .clients) (l .own) _ (l .inv .1), held-sizes (l .s) (l .words) (l .clients) (l .own) (l .inv .1 .held)),
       order-placed _ _ (l .i) _ (l .s) (l .words) (l .clients) (l .own) _ (l .inv .1) (r .line-at .result) (r .line-at .ensures) _ refl (t .if1 .left),
     )
 
