@@ -25,6 +25,7 @@ use Rattle.server.specs.View as serverView
 use Rattle.server.specs.Answers as server
 use Rattle.server.proofs.Stored as serverStored
 use Rattle.convergence.specs.Built.{clientAnswer, serverAnswer, clientCalls, serverCalls, built, Claimed, BuiltCarried}
+use Rattle.convergence.proofs.Ranks.{ranks-bytes}
 use Rattle.convergence.proofs.Carry.{carries}
 use Rattle.convergence.proofs.Pairs.{ClientFollows, ServerFollows, Both, follows}
 use Rattle.convergence.proofs.Stored.{Stored, Stands, given, unsound, unsent, alike, sending-alike, opened-stands, answer-back, sending-alone}
@@ -79,8 +80,9 @@ client-follows =
       items = λ c m r. ap (λ (x : Client). clientView.view x .items) (r .0) ∙ ap (λ (v : model.Client). v .items) (clientStored.client-view m (r .1));
       made = λ c m r. ap (λ (x : Client). x .counts .own .made) (r .0);
       taken = λ c m r. ap (λ (x : Client). x .counts .own .taken) (r .0);
-      opens-refusal = λ n l xs. refl;
-      opens = λ n l xs e. opened-stands clients (clientView.store model.noClient) (model.openClient n l xs) e (keeps-sound .opens-client n l xs e);
+      opens-refusal = λ n l ranks xs. refl;
+      opens = λ n l ranks xs e.
+          opened-stands clients (clientView.store model.noClient) (model.openClient n l ranks xs) e (keeps-sound .opens-client n l ranks xs e);
       inserts = λ c m r p x. alike clients c m r (λ v. model.insertClient v p x) (edit-back m _) (keeps-sound .inserts m p x (r .1));
       deletes = λ c m r p. alike clients c m r (λ v. model.deleteClient v p) (edit-back m _) (keeps-sound .deletes m p (r .1));
       takes = λ c m r bytes. alike clients c m r (λ v. model.takeClient v bytes) (client-back m bytes) (keeps-sound .client-takes m bytes (r .1));
@@ -145,8 +147,9 @@ server-follows =
       items = λ s m r. ap (λ (x : Server). serverView.view x .items) (r .0) ∙ ap (λ (v : models.Server). v .items) (serverStored.view-store m (r .1));
       made = λ s m r l. ap (λ v. v .made) (server-line s m r l);
       taken = λ s m r l. ap (λ v. v .taken) (server-line s m r l);
-      opens-refusal = λ n xs. refl;
-      opens = λ n xs e. opened-stands servers (serverView.store models.noServer) (models.openServer n xs) e (keeps-sound .opens-server n xs e);
+      opens-refusal = λ n ranks xs. refl;
+      opens = λ n ranks xs e.
+          opened-stands servers (serverView.store models.noServer) (models.openServer n ranks xs) e (keeps-sound .opens-server n ranks xs e);
       takes = λ s m r bytes. alike servers s m r (λ v. models.takeServer v bytes) (server-back m bytes) (keeps-sound .server-takes m bytes (r .1));
       sends = λ s m r l number lent. sending-alike servers s m r (λ v. models.sendServer v l number lent) lent;
       tells = λ s m r l lent. sending-alike servers s m r (λ v. models.tellServer v l lent) lent;
@@ -164,6 +167,7 @@ pub carried : BuiltCarried
 carried =
     record {
       claimed = claimed;
+      ranks = ranks-bytes built claimed;
       consistent = consequences .consistent built claimed;
       refusals = consequences .refusals built claimed;
       agree = consequences .agree built ours.ours claimed model-converges.converges;

@@ -12,6 +12,7 @@ use Rattle.wire.specs.Bytes.{parsed}
 use Rattle.jupiter.specs.Form.{replay}
 use Rattle.jupiter.specs.History.{History, order, missing}
 use Rattle.model.specs.Questions.{Answer, Sent, between}
+use Rattle.model.specs.Edits.{edits}
 use Rattle.model.specs.Sheet.{Sheet, Call, insert, delete, send, tell, receive, junk}
 use Rattle.model.specs.Log.{Log, log}
 use Rattle.model.specs.Run.{State, areBytes, unreadable, callable, answered, written, handed, call, handedNumber, numberOf, run, opened, start}
@@ -29,10 +30,10 @@ module _ (S T : Sheet) (R : S .End → T .End → Type 0) where
     pub items : (a : S .End) (b : T .End) → R a b → S .items a ≡ T .items b
     pub made : (a : S .End) (b : T .End) → R a b → (l : ℕ) → S .made a l ≡ T .made b l
     pub taken : (a : S .End) (b : T .End) → R a b → (l : ℕ) → S .taken a l ≡ T .taken b l
-    pub server-refusal : (n : ℕ) (xs : List ℕ) → S .openServer n xs .refusal ≡ T .openServer n xs .refusal
-    pub server-opens : (n : ℕ) (xs : List ℕ) → T .openServer n xs .refusal ≡ 0 → R (S .openServer n xs .end) (T .openServer n xs .end)
-    pub client-refusal : (n l : ℕ) (xs : List ℕ) → S .openClient n l xs .refusal ≡ T .openClient n l xs .refusal
-    pub client-opens : (n l : ℕ) (xs : List ℕ) → T .openClient n l xs .refusal ≡ 0 → R (S .openClient n l xs .end) (T .openClient n l xs .end)
+    pub server-refusal : (n : ℕ) (ranks xs : List ℕ) → S .openServer n ranks xs .refusal ≡ T .openServer n ranks xs .refusal
+    pub server-opens : (n : ℕ) (ranks xs : List ℕ) → T .openServer n ranks xs .refusal ≡ 0 → R (S .openServer n ranks xs .end) (T .openServer n ranks xs .end)
+    pub client-refusal : (n l : ℕ) (ranks xs : List ℕ) → S .openClient n l ranks xs .refusal ≡ T .openClient n l ranks xs .refusal
+    pub client-opens : (n l : ℕ) (ranks xs : List ℕ) → T .openClient n l ranks xs .refusal ≡ 0 → R (S .openClient n l ranks xs .end) (T .openClient n l ranks xs .end)
     pub inserts : (a : S .End) (b : T .End) → R a b → (p x : ℕ) → Alike R (S .insert a p x) (T .insert b p x)
     pub deletes : (a : S .End) (b : T .End) → R a b → (p : ℕ) → Alike R (S .delete a p) (T .delete b p)
     pub takes : (a : S .End) (b : T .End) → R a b → (bytes : List ℕ) → Alike R (S .take a bytes) (T .take b bytes)
@@ -40,36 +41,36 @@ module _ (S T : Sheet) (R : S .End → T .End → Type 0) where
     pub tells : (a : S .End) (b : T .End) → R a b → (l : ℕ) (lent : List ℕ) → S .tell a l lent ≡ T .tell b l lent
     pub alone : LeavesAlone S
 
-  module _ (f : Follows) (n : ℕ) where
-    pub record Same (s : State S) (t : State T) : Type 0 where
+  module _ (f : Follows) (n : ℕ) (ranks : List ℕ) where
+    pub record Same (s : State S ranks) (t : State T ranks) : Type 0 where
       pub ends : (a : ℕ) → a ≤ n → R (s .ends a) (t .ends a)
       pub messages : s .messages ≡ t .messages
       pub passed : s .passed ≡ t .passed
       pub recorded : s .recorded ≡ t .recorded
 
-    same-answered : (s : State S) (t : State T) → Same s t → (a : ℕ) (c : Call) (x : Answer (S .End)) (y : Answer (T .End)) → Alike R x y → Same (answered S s a c x) (answered T t a c y)
+    same-answered : (s : State S ranks) (t : State T ranks) → Same s t → (a : ℕ) (c : Call) (x : Answer (S .End)) (y : Answer (T .End)) → Alike R x y → Same (answered S s a c x) (answered T t a c y)
     same-answered s t m a c x y k =
         record {
           ends = λ j h. go j h (eqb a j);
           messages = m .messages;
           passed = ap₂ (λ (ks : List ℕ) (i : ℕ). ks ++ (i ∷ [])) (m .passed) (k .passed);
-          recorded = ap₂ (λ (w : Log) (r : ℕ). log w c r) (m .recorded) (k .refusal);
+          recorded = ap₂ (λ (w : Log ranks) (r : ℕ). log w c r) (m .recorded) (k .refusal);
         }
       where
         go : (j : ℕ) → j ≤ n → (b : Bool) → R (cond b (x .end) (s .ends j)) (cond b (y .end) (t .ends j))
         go j h true = k .ends
         go j h false = m .ends j h
 
-    same-written : (s : State S) (t : State T) → Same s t → (c : Call) (x y : Sent) → x ≡ y → Same (written S s c x) (written T t c y)
+    same-written : (s : State S ranks) (t : State T ranks) → Same s t → (c : Call) (x y : Sent) → x ≡ y → Same (written S s c x) (written T t c y)
     same-written s t m c x y e =
         record {
           ends = m .ends;
           messages = ap₂ (λ (ms : List (List ℕ)) (r : Sent). cond (eqb (r .refusal) 0) (ms ++ (take (r .written) (r .buffer) ∷ [])) ms) (m .messages) e;
           passed = m .passed;
-          recorded = ap₂ (λ (w : Log) (r : Sent). log w c (r .refusal)) (m .recorded) e;
+          recorded = ap₂ (λ (w : Log ranks) (r : Sent). log w c (r .refusal)) (m .recorded) e;
         }
 
-    same-call : (s : State S) (t : State T) → Same s t → (c : Call) → callable n c ≡ true → Same (call S s c) (call T t c)
+    same-call : (s : State S ranks) (t : State T ranks) → Same s t → (c : Call) → callable n c ≡ true → Same (call S s c) (call T t c)
     unfolding call callable handed
     same-call s t m (insert l p x) ok =
         let h = between-true 1 n l (three (between 1 n l) (ltb p 65536) (ltb x 4294967296) ok .0) in
@@ -93,7 +94,7 @@ module _ (S T : Sheet) (R : S .End → T .End → Type 0) where
         let h = leb-true a n (three (leb a n) (areBytes bytes) (unreadable (parsed bytes)) ok .0) in
         same-answered s t m a (junk a bytes) (S .take (s .ends a) bytes) (T .take (t .ends a) bytes) (f .takes (s .ends a) (t .ends a) (m .ends a h) bytes)
 
-    same-run : (calls : List Call) (s : State S) (t : State T) → Same s t → Same (run S n s calls) (run T n t calls)
+    same-run : (calls : List Call) (s : State S ranks) (t : State T ranks) → Same s t → Same (run S n s calls) (run T n t calls)
     unfolding run
     same-run [] s t m = m
     same-run (c ∷ cs) s t m = same-run cs (cond (callable n c) (call S s c) s) (cond (callable n c) (call T t c) t) (go (callable n c) refl)
@@ -102,7 +103,7 @@ module _ (S T : Sheet) (R : S .End → T .End → Type 0) where
         go true e = same-call s t m c e
         go false e = m
 
-    same-number : (s : State S) (t : State T) → Same s t → (c : Call) → callable n c ≡ true → numberOf S s c ≡ numberOf T t c
+    same-number : (s : State S ranks) (t : State T ranks) → Same s t → (c : Call) → callable n c ≡ true → numberOf S s c ≡ numberOf T t c
     unfolding numberOf callable
     same-number s t m (insert l p x) ok =
         let h = between-true 1 n l (three (between 1 n l) (ltb p 65536) (ltb x 4294967296) ok .0) in
@@ -137,15 +138,15 @@ module _ (S T : Sheet) (R : S .End → T .End → Type 0) where
               ∙ f .taken (S .take a′ bytes .end) (T .take b′ bytes .end) (f .takes a′ b′ r′ bytes .ends) l ∙ d .rises ∙ ap suc (sym (f .taken a′ b′ r′ l));
         }
 
-    module _ (ends : ℕ → S .End) (t : State T) (related : (a : ℕ) → a ≤ n → R (ends a) (t .ends a)) where
-      abbrev beside : State S
+    module _ (ends : ℕ → S .End) (t : State T ranks) (related : (a : ℕ) → a ≤ n → R (ends a) (t .ends a)) where
+      abbrev beside : State S ranks
       beside = record { ends = ends; messages = t .messages; passed = t .passed; recorded = t .recorded }
 
       holds-line : (l : ℕ) → 1 ≤ l → l ≤ n → OnLine T n t l → OnLine S n beside l
       holds-line l lo hi o =
           let base = related 0 (omega arith) in
           let here = related l hi in
-          let h : History _ = t .recorded .history in
+          let h : History (edits ranks) = t .recorded .history in
           record {
             client-made = f .made (ends l) (t .ends l) here l ∙ o .client-made;
             client-taken = f .taken (ends l) (t .ends l) here l ∙ o .client-taken;
@@ -180,28 +181,33 @@ module _ (S T : Sheet) (R : S .End → T .End → Type 0) where
             lines = λ l lo hi. holds-line l lo hi (o .lines l lo hi);
           }
 
-    holds-same : (s : State S) (t : State T) → Same s t → Holds T n t → Holds S n s
+    holds-same : (s : State S ranks) (t : State T ranks) → Same s t → Holds T n t → Holds S n s
     holds-same s t m o =
         let path : beside (s .ends) t (m .ends) ≡ s =
         λ i. record { ends = s .ends; messages = sym (m .messages) i; passed = sym (m .passed) i; recorded = sym (m .recorded) i } in
         subst (Holds S n) path (holds-beside (s .ends) t (m .ends) o)
 
-    starts : (items : List ℕ) → Opened T n items → Same (start S n items) (start T n items)
+    starts : (items : List ℕ) → Opened T n ranks items → Same (start S n ranks items) (start T n ranks items)
     starts items o = record { ends = go; messages = refl; passed = refl; recorded = refl }
       where
-        go : (l : ℕ) → l ≤ n → R (opened S n items l) (opened T n items l)
-        go zero h = f .server-opens n items (o .server)
-        go (suc l) h = f .client-opens n (suc l) items (o .clients (suc l) (omega arith) h)
+        go : (l : ℕ) → l ≤ n → R (opened S n ranks items l) (opened T n ranks items l)
+        go zero h = f .server-opens n ranks items (o .server)
+        go (suc l) h = f .client-opens n (suc l) ranks items (o .clients (suc l) (omega arith) h)
 
   pub carries : Follows → Converges T → Converges S
   carries f c =
       record {
-        opens-server = λ n items few. f .server-refusal n items ∙ c .opens-server n items few;
-        opens-client = λ n l items few. f .client-refusal n l items ∙ c .opens-client n l items few;
+        opens-server = λ n ranks items few. f .server-refusal n ranks items ∙ c .opens-server n ranks items few;
+        opens-client = λ n l ranks items few. f .client-refusal n l ranks items ∙ c .opens-client n l ranks items few;
         alone = f .alone;
-        holds = λ n items o calls.
-            let o′ : Opened T n items =
-            record { numbers = o .numbers; server = sym (f .server-refusal n items) ∙ o .server; clients = λ l a b. sym (f .client-refusal n l items) ∙ o .clients l a b } in
-            holds-same f n (run S n (start S n items) calls) (run T n (start T n items) calls) (same-run f n calls (start S n items) (start T n items) (starts f n items o′))
-            (c .holds n items o′ calls);
+        holds = λ n ranks items o calls.
+            let o′ : Opened T n ranks items =
+            record {
+              numbers = o .numbers;
+              server = sym (f .server-refusal n ranks items) ∙ o .server;
+              clients = λ l a b. sym (f .client-refusal n l ranks items) ∙ o .clients l a b;
+            } in
+            let s = start S n ranks items in
+            let t = start T n ranks items in
+            holds-same f n ranks (run S n s calls) (run T n t calls) (same-run f n ranks calls s t (starts f n ranks items o′)) (c .holds n ranks items o′ calls);
       }

@@ -11,7 +11,7 @@ use Rattle.model.proofs.Alone.{ClientAlone, ServerAlone, edit-back, client-back
 use Rattle.model.proofs.Consequences.{consequences}
 use Rattle.client.specs.declared.Client.{Client}
 use Rattle.client.specs.View as clientView
-use Rattle.client.proofs.Stored.{words-long}
+use Rattle.client.proofs.Stored.{stored-sizes}
 use Rattle.server.specs.declared.Server.{Server}
 use Rattle.server.specs.View as serverView
 use Rattle.server.proofs.Stored.{store-sizes}
@@ -23,6 +23,7 @@ use Rattle.c_server.specs.Calls as server
 use Rattle.c_server.proofs.Ends as serverEnds
 use Rattle.convergence.specs.Built.{clientCalls, serverCalls, built}
 use Rattle.convergence.specs.Lent.{answerOf, clientsLent, serverLent, lent, LentCarried}
+use Rattle.convergence.proofs.Ranks.{ranks-bytes}
 use Rattle.convergence.proofs.Carry.{carries}
 use Rattle.convergence.proofs.Pairs.{ClientFollows, ServerFollows, Both, follows}
 use Rattle.convergence.proofs.Built.{clients, servers, claimed}
@@ -33,7 +34,7 @@ use Rattle.convergence.proofs.Small.{server-take-small, server-open-sma
 -- ---- the client's calls
 
 abbrev ClientWhole : Client → Type 0
-ClientWhole c = length (c .words) ≡ clientView.size
+ClientWhole c = clientView.Sizes (c .counts) (c .words)
 
 abbrev clientForm : Form Client
 clientForm =
@@ -47,29 +48,29 @@ clientForm =
     }
 
 inserting : (p x : ℕ) → Changing clientForm (λ c. clientCalls .insert c p x)
-inserting p x = changing clients clientForm words-long (λ m. model.insertClient m p x) (λ m. edit-small m _) (λ m. edit-back m _) (λ m. keeps-sound .inserts m p x)
+inserting p x = changing clients clientForm stored-sizes (λ m. model.insertClient m p x) (λ m. edit-small m _) (λ m. edit-back m _) (λ m. keeps-sound .inserts m p x)
 
 deleting : (p : ℕ) → Changing clientForm (λ c. clientCalls .delete c p)
-deleting p = changing clients clientForm words-long (λ m. model.deleteClient m p) (λ m. edit-small m _) (λ m. edit-back m _) (λ m. keeps-sound .deletes m p)
+deleting p = changing clients clientForm stored-sizes (λ m. model.deleteClient m p) (λ m. edit-small m _) (λ m. edit-back m _) (λ m. keeps-sound .deletes m p)
 
 taking : (bytes : List ℕ) → Changing clientForm (λ c. clientCalls .take c bytes)
 taking bytes =
-    changing clients clientForm words-long (λ m. model.takeClient m bytes) (λ m. client-take-small m bytes) (λ m. client-back m bytes)
+    changing clients clientForm stored-sizes (λ m. model.takeClient m bytes) (λ m. client-take-small m bytes) (λ m. client-back m bytes)
     (λ m. keeps-sound .client-takes m bytes)
 
 client-sends : (l number : ℕ) (out : List ℕ) → Sending clientForm out (λ c. clientCalls .send c l number out)
 client-sends l number out =
-    sending clients clientForm words-long out (λ m. model.sendClient m l number out) (λ m. client-send-little m l number out)
+    sending clients clientForm stored-sizes out (λ m. model.sendClient m l number out) (λ m. client-send-little m l number out)
     (λ m. client-alone .sends m l number out)
 
 client-tells : (l : ℕ) (out : List ℕ) → Sending clientForm out (λ c. clientCalls .tell c l out)
 client-tells l out =
-    sending clients clientForm words-long out (λ m. model.tellClient m l out) (λ m. client-tell-little m l out) (λ m. client-alone .tells m l out)
+    sending clients clientForm stored-sizes out (λ m. model.tellClient m l out) (λ m. client-tell-little m l out) (λ m. client-alone .tells m l out)
 
-client-opens : (n l : ℕ) (items : List ℕ) → Fits ClientWhole (clientCalls .opens n l items)
-client-opens n l items =
-    given-fits clients clientForm words-long (clientView.store model.noClient) (model.openClient n l items) (client-open-small n l items)
-    (keeps-sound .opens-client n l items)
+client-opens : (n l : ℕ) (ranks items : List ℕ) → Fits ClientWhole (clientCalls .opens n l ranks items)
+client-opens n l ranks items =
+    given-fits clients clientForm stored-sizes (clientView.store model.noClient) (model.openClient n l ranks items) (client-open-small n l ranks items)
+    (keeps-sound .opens-client n l ranks items)
 
 lent-client-alone : (b : ℕ → List ℕ) → ClientAlone (clientsLent b)
 unfolding client.insertedIn client.deletedIn client.takenIn client.answered client.sentIn client.acknowledgedIn
@@ -89,12 +90,14 @@ client-follows b h =
       items = λ e c r. ap (clientCalls .items) (r .0);
       made = λ e c r. ap (clientCalls .made) (r .0);
       taken = λ e c r. ap (clientCalls .taken) (r .0);
-      opens-refusal = λ n l xs.
-          let a = clientCalls .opens n l xs in
-          open-same clientForm (b l) (h l) (clientCalls .opens n l) (λ k. answerOf k .refusal ≡ a .refusal) xs (same-refusal clientForm a (b l) (client-opens n l xs));
-      opens = λ n l xs z.
-          let a = clientCalls .opens n l xs in
-          open-same clientForm (b l) (h l) (clientCalls .opens n l) (λ k. Are clientForm (k .bytes) (a .end)) xs (accepted clientForm a (b l) (client-opens n l xs) z);
+      opens-refusal = λ n l ranks xs.
+          let a = clientCalls .opens n l ranks xs in
+          open-same clientForm (b l) (h l) (clientCalls .opens n l ranks) (λ k. answerOf k .refusal ≡ a .refusal) xs
+          (same-refusal clientForm a (b l) (client-opens n l ranks xs));
+      opens = λ n l ranks xs z.
+          let a = clientCalls .opens n l ranks xs in
+          open-same clientForm (b l) (h l) (clientCalls .opens n l ranks) (λ k. Are clientForm (k .bytes) (a .end)) xs
+          (accepted clientForm a (b l) (client-opens n l ranks xs) z);
       inserts = λ e c r p x. call-same clientForm _ (inserting p x) e c r;
       deletes = λ e c r p. call-same clientForm _ (deleting p) e c r;
       takes = λ e c r bytes. call-same clientForm _ (taking bytes) e c r;
@@ -133,10 +136,10 @@ server-tells : (l : ℕ) (out : List ℕ) → Sending serverForm out (λ s. serv
 server-tells l out =
     sending servers serverForm store-sizes out (λ m. models.tellServer m l out) (λ m. server-tell-little m l out) (λ m. server-alone .tells m l out)
 
-server-opens : (n : ℕ) (items : List ℕ) → Fits ServerWhole (serverCalls .opens n items)
-server-opens n items =
-    given-fits servers serverForm store-sizes (serverView.store models.noServer) (models.openServer n items) (server-open-small n items)
-    (keeps-sound .opens-server n items)
+server-opens : (n : ℕ) (ranks items : List ℕ) → Fits ServerWhole (serverCalls .opens n ranks items)
+server-opens n ranks items =
+    given-fits servers serverForm store-sizes (serverView.store models.noServer) (models.openServer n ranks items) (server-open-small n ranks items)
+    (keeps-sound .opens-server n ranks items)
 
 lent-server-alone : (b : List ℕ) → ServerAlone (serverLent b)
 unfolding server.takenIn server.answered server.sentIn server.acknowledgedIn
@@ -154,12 +157,14 @@ server-follows b h =
       items = λ e s r. ap (serverCalls .items) (r .0);
       made = λ e s r l. ap (λ (t : Server). serverCalls .made t l) (r .0);
       taken = λ e s r l. ap (λ (t : Server). serverCalls .taken t l) (r .0);
-      opens-refusal = λ n xs.
-          let a = serverCalls .opens n xs in
-          open-same serverForm b h (serverCalls .opens n) (λ k. answerOf k .refusal ≡ a .refusal) xs (same-refusal serverForm a b (server-opens n xs));
-      opens = λ n xs z.
-          let a = serverCalls .opens n xs in
-          open-same serverForm b h (serverCalls .opens n) (λ k. Are serverForm (k .bytes) (a .end)) xs (accepted serverForm a b (server-opens n xs) z);
+      opens-refusal = λ n ranks xs.
+          let a = serverCalls .opens n ranks xs in
+          open-same serverForm b h (serverCalls .opens n ranks) (λ k. answerOf k .refusal ≡ a .refusal) xs
+          (same-refusal serverForm a b (server-opens n ranks xs));
+      opens = λ n ranks xs z.
+          let a = serverCalls .opens n ranks xs in
+          open-same serverForm b h (serverCalls .opens n ranks) (λ k. Are serverForm (k .bytes) (a .end)) xs
+          (accepted serverForm a b (server-opens n ranks xs) z);
       takes = λ e s r bytes. call-same serverForm _ (server-takes bytes) e s r;
       sends = λ e s r l number out. sending-same serverForm out _ (server-sends l number out) e s r;
       tells = λ e s r l out. sending-same serverForm out _ (server-tells l out) e s r;
@@ -179,6 +184,7 @@ lent-carried cs ss h k =
     let holds = lent-claimed cs ss h k in
     record {
       claimed = holds;
+      ranks = ranks-bytes (lent cs ss) holds;
       consistent = consequences .consistent (lent cs ss) holds;
       refusals = consequences .refusals (lent cs ss) holds;
       agree = consequences .agree (lent cs ss) built holds claimed;

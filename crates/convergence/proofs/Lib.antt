@@ -1,3 +1,4 @@
+pub mod Ranks
 pub mod Carry
 pub mod Pairs
 pub mod Stored

@@ -10,8 +10,8 @@ pub record ClientFollows (c d : ClientCalls) (R : c .Client → d .Client → Ty
   pub items : (a : c .Client) (b : d .Client) → R a b → c .items a ≡ d .items b
   pub made : (a : c .Client) (b : d .Client) → R a b → c .made a ≡ d .made b
   pub taken : (a : c .Client) (b : d .Client) → R a b → c .taken a ≡ d .taken b
-  pub opens-refusal : (n l : ℕ) (xs : List ℕ) → c .opens n l xs .refusal ≡ d .opens n l xs .refusal
-  pub opens : (n l : ℕ) (xs : List ℕ) → d .opens n l xs .refusal ≡ 0 → R (c .opens n l xs .end) (d .opens n l xs .end)
+  pub opens-refusal : (n l : ℕ) (ranks xs : List ℕ) → c .opens n l ranks xs .refusal ≡ d .opens n l ranks xs .refusal
+  pub opens : (n l : ℕ) (ranks xs : List ℕ) → d .opens n l ranks xs .refusal ≡ 0 → R (c .opens n l ranks xs .end) (d .opens n l ranks xs .end)
   pub inserts : (a : c .Client) (b : d .Client) → R a b → (p x : ℕ) → Alike R (c .insert a p x) (d .insert b p x)
   pub deletes : (a : c .Client) (b : d .Client) → R a b → (p : ℕ) → Alike R (c .delete a p) (d .delete b p)
   pub takes : (a : c .Client) (b : d .Client) → R a b → (bytes : List ℕ) → Alike R (c .take a bytes) (d .take b bytes)
@@ -23,8 +23,8 @@ pub record ServerFollows (v w : ServerCalls) (R : v .Server → w .Server → Ty
   pub items : (a : v .Server) (b : w .Server) → R a b → v .items a ≡ w .items b
   pub made : (a : v .Server) (b : w .Server) → R a b → (l : ℕ) → v .made a l ≡ w .made b l
   pub taken : (a : v .Server) (b : w .Server) → R a b → (l : ℕ) → v .taken a l ≡ w .taken b l
-  pub opens-refusal : (n : ℕ) (xs : List ℕ) → v .opens n xs .refusal ≡ w .opens n xs .refusal
-  pub opens : (n : ℕ) (xs : List ℕ) → w .opens n xs .refusal ≡ 0 → R (v .opens n xs .end) (w .opens n xs .end)
+  pub opens-refusal : (n : ℕ) (ranks xs : List ℕ) → v .opens n ranks xs .refusal ≡ w .opens n ranks xs .refusal
+  pub opens : (n : ℕ) (ranks xs : List ℕ) → w .opens n ranks xs .refusal ≡ 0 → R (v .opens n ranks xs .end) (w .opens n ranks xs .end)
   pub takes : (a : v .Server) (b : w .Server) → R a b → (bytes : List ℕ) → Alike R (v .take a bytes) (w .take b bytes)
   pub sends : (a : v .Server) (b : w .Server) → R a b → (l number : ℕ) (lent : List ℕ) → v .send a l number lent ≡ w .send b l number lent
   pub tells : (a : v .Server) (b : w .Server) → R a b → (l : ℕ) (lent : List ℕ) → v .tell a l lent ≡ w .tell b l lent

@@ -16,6 +16,7 @@ use Rattle.wire.specs.declared.Read.the-variants as read
 use Rattle.wire.specs.Bytes.{bytesOf, parsed}
 use Rattle.model.specs.Cross.{priority}
 use Rattle.model.specs.Questions.{Question, ask, asks, between, Answer, answer, Sent, sent}
+use Rattle.model.specs.Ranks.{rankOf}
 use Rattle.model.specs.Line.{noLine}
 use Rattle.model.specs.Claim.{Back}
 use Rattle.model.specs.Client as model
@@ -89,10 +90,11 @@ pub client-take-small : (m : model.Client) (bytes : List ℕ) → Small (model.t
 unfolding model.takeClient
 client-take-small m bytes = client-reads m (parsed bytes)
 
-pub client-open-small : (n l : ℕ) (items : List ℕ) → Small (model.openClient n l items)
+pub client-open-small : (n l : ℕ) (ranks items : List ℕ) → Small (model.openClient n l ranks items)
 unfolding model.openClient
-client-open-small n l items =
-    answer-small (model.openClientQuestions n l items) model.noClient (record { n = n; line = l; items = items; own = noLine }) 0 (omega arith) (λ z. omega arith)
+client-open-small n l ranks items =
+    answer-small (model.openClientQuestions n l ranks items) model.noClient (record { n = n; line = l; ranks = ranks; items = items; own = noLine }) 0
+    (omega arith) (λ z. omega arith)
 
 pub client-send-little : (m : model.Client) (l number : ℕ) (lent : List ℕ) → Little (model.sendClient m l number lent)
 unfolding model.sendClient
@@ -110,7 +112,7 @@ server-takes-edit m h e =
     answer-small (models.serverEditQuestions m h e) m (models.serverTaken m (h .line) (h .seen) e) (models.lineOf m (h .line) .made - h .seen) (omega arith)
     (λ z.
     let y = yes-all (models.serverEditQuestions m h e) (omega arith) z in
-    let on = between-true 1 (m .n) (h .line) (three (eqb (h .direction) 0) (between 1 (m .n) (h .line)) (priority (eqb (h .line)) e) (y .1 .0) .1) in
+    let on = between-true 1 (m .n) (h .line) (three (eqb (h .direction) 0) (between 1 (m .n) (h .line)) (priority (eqb (rankOf (m .ranks) (h .line))) e) (y .1 .0) .1) in
     let low = leb-true (models.lineOf m (h .line) .acked) (h .seen) (y .1 .1 .1 .1 .0) in
     omega (arith, low, line-fact m (server-facts m (y .0)) (h .line) (on .0) (on .1) .line .room))
 
@@ -129,9 +131,9 @@ pub server-take-small : (m : models.Server) (bytes : List ℕ) → Small (models
 unfolding models.takeServer
 server-take-small m bytes = server-reads m (parsed bytes)
 
-pub server-open-small : (n : ℕ) (items : List ℕ) → Small (models.openServer n items)
+pub server-open-small : (n : ℕ) (ranks items : List ℕ) → Small (models.openServer n ranks items)
 unfolding models.openServer
-server-open-small n items = answer-small (models.openServerQuestions n items) models.noServer _ 0 (omega arith) (λ z. omega arith)
+server-open-small n ranks items = answer-small (models.openServerQuestions n ranks items) models.noServer _ 0 (omega arith) (λ z. omega arith)
 
 pub server-send-little : (m : models.Server) (l number : ℕ) (lent : List ℕ) → Little (models.sendServer m l number lent)
 unfolding models.sendServer

@@ -1,11 +1,15 @@
 -- The sheet of the structs that run: each call is what the contract of its method says that it answers.
-use Prim.Native.Nat.{_-_}
+use Prim.Native.Nat.{ℕ, _-_}
+use mathlib.Core.Path.{_≡_}
+use mathlib.Core.Bool.{true}
+use mathlib.Core.List.{List}
 use lib.ListN.{take}
 use Rattle.model.specs.Questions.{Answer}
 use Rattle.model.specs.Sheet.{Sheet}
 use Rattle.model.specs.SheetOf as sheets
 use Rattle.model.specs.SheetOf.{ClientCalls, ServerCalls, End, answerAs, sheetOf}
-use Rattle.model.specs.Claim.{Converges}
+use Rattle.model.specs.Run.{areBytes}
+use Rattle.model.specs.Claim.{Opened, Converges}
 use Rattle.model.specs.Consequences.{Consistent, TakingRefusals, Agree}
 use Rattle.model.specs.Ours.{ours}
 use Rattle.client.specs.declared.Client.{Client}
@@ -31,7 +35,7 @@ clientCalls =
       items = λ c. take (c .counts .len) (clientView.itemsIn (c .words));
       made = λ c. c .counts .own .made;
       taken = λ c. c .counts .own .taken;
-      opens = λ n l items. clientAnswer (client.opened n l items);
+      opens = λ n l ranks items. clientAnswer (client.opened n l ranks items);
       insert = λ c p x. clientAnswer (client.inserted c p x);
       delete = λ c p. clientAnswer (client.deleted c p);
       send = client.sentEdit;
@@ -46,7 +50,7 @@ serverCalls =
       items = λ s. take (s .counts .len) (serverView.itemsIn (s .words));
       made = λ s l. serverView.countsAt (s .counts) (l - 1) .made;
       taken = λ s l. serverView.countsAt (s .counts) (l - 1) .taken;
-      opens = λ n items. serverAnswer (server.opened n items);
+      opens = λ n ranks items. serverAnswer (server.opened n ranks items);
       send = server.sentEdit;
       tell = server.sentAck;
       take = λ s bytes. serverAnswer (server.taken s bytes);
@@ -72,9 +76,14 @@ fromServer a = answerAs sheets.server (serverAnswer a)
 abbrev pub Claimed : Type 0
 Claimed = Converges built
 
+-- The methods and the exported calls get ranks as bytes. Those that the openings of a sheet let through are bytes.
+abbrev pub RanksAreBytes : Sheet → Type 0
+RanksAreBytes S = (n : ℕ) (ranks items : List ℕ) → Opened S n ranks items → areBytes ranks ≡ true
+
 -- The claim of a sheet, and what it gives: no list of calls tells it from another that the claim holds of.
 pub record Carried (S T : Sheet) : Type 0 where
   pub claimed : Converges S
+  pub ranks : RanksAreBytes S
   pub consistent : Consistent S
   pub refusals : TakingRefusals S
   pub agree : Agree S T

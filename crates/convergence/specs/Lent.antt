@@ -26,7 +26,8 @@ answerOf k = record { refusal = refusalOf k; end = k .bytes; passed = countOf k 
 abbrev pub sentOf : Called → Sent
 sentOf k = record { refusal = refusalOf k; written = countOf k; buffer = k .bytes }
 
--- An opening gets the bytes lent for its line. Lists and counts are those of the end that the bytes are.
+-- An opening gets the bytes lent for its line, a byte for each rank and four for each item. Lists and counts are those of the end that the
+-- bytes are.
 abbrev pub clientsLent : (ℕ → List ℕ) → ClientCalls
 clientsLent lent =
     record {
@@ -34,7 +35,7 @@ clientsLent lent =
       items = λ b. clientCalls .items (clients.endIn b);
       made = λ b. clientCalls .made (clients.endIn b);
       taken = λ b. clientCalls .taken (clients.endIn b);
-      opens = λ n l items. answerOf (client.openedIn (lent l) n l (itemBytes items));
+      opens = λ n l ranks items. answerOf (client.openedIn (lent l) n l ranks (itemBytes items));
       insert = λ b p x. answerOf (client.insertedIn b p x);
       delete = λ b p. answerOf (client.deletedIn b p);
       send = λ b l number out. sentOf (client.sentIn b l number out);
@@ -49,7 +50,7 @@ serverLent lent =
       items = λ b. serverCalls .items (servers.endIn b);
       made = λ b. serverCalls .made (servers.endIn b);
       taken = λ b. serverCalls .taken (servers.endIn b);
-      opens = λ n items. answerOf (server.openedIn lent n (itemBytes items));
+      opens = λ n ranks items. answerOf (server.openedIn lent n ranks (itemBytes items));
       send = λ b l number out. sentOf (server.sentIn b l number out);
       tell = λ b l out. sentOf (server.acknowledgedIn b l out);
       take = λ b message. answerOf (server.takenIn b message);

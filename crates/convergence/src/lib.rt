@@ -10,10 +10,10 @@ use server::Server;
 
 // ---- a client
 
-pub fn client_open(n: u8, line: u8, items: &[u32]) -> client::Answer
-    ensures { λ r. ⌜ fromClient r ≡ built .openClient n line (now (items .entry)) ⌝ }
+pub fn client_open(n: u8, line: u8, ranks: &[u8], items: &[u32]) -> client::Answer
+    ensures { λ r. ⌜ fromClient r ≡ built .openClient n line (now (ranks .entry)) (now (items .entry)) ⌝ }
 {
-    Client::open(n, line, items)
+    Client::open(n, line, ranks, items)
 }
 
 pub fn client_insert(c: Client, p: u16, x: u32) -> client::Answer
@@ -48,10 +48,10 @@ pub fn client_take(c: Client, bytes: &[u8]) -> client::Answer
 
 // ---- the server
 
-pub fn server_open(n: u8, items: &[u32]) -> server::Answer
-    ensures { λ r. ⌜ fromServer r ≡ built .openServer n (now (items .entry)) ⌝ }
+pub fn server_open(n: u8, ranks: &[u8], items: &[u32]) -> server::Answer
+    ensures { λ r. ⌜ fromServer r ≡ built .openServer n (now (ranks .entry)) (now (items .entry)) ⌝ }
 {
-    Server::open(n, items)
+    Server::open(n, ranks, items)
 }
 
 pub fn server_send(s: Server, line: u8, number: u16, out: &mut [u8]) -> Sent

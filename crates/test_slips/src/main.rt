@@ -116,7 +116,7 @@ fn kept(c: Client) {
 fn nothing() {
     io::write_all(1, b"nothing");
     let items = [10u32];
-    let a = Server::open(2, &items);
+    let a = Server::open(2, &[1u8, 2], &items);
     let s = a.server;
     let b = s.take(&[2u8, 1, 0, 0, 1, 0, 0, 0, 1]);
     number(b.refusal as u64);
@@ -166,7 +166,7 @@ fn gathered_lines(k: Counts) -> Line {
 // A refused opening hands back an end that is all zeros.
 fn refused_client() {
     io::write_all(1, b"refused client");
-    let a = Client::open(9, 1, &[10u32, 20]);
+    let a = Client::open(9, 1, &[1u8, 2], &[10u32, 20]);
     number(a.refusal as u64);
     let c = a.client;
     item(gathered(&c.words));
@@ -179,7 +179,7 @@ fn refused_client() {
 
 fn refused_server() {
     io::write_all(1, b"refused server");
-    let a = Server::open(9, &[10u32, 20]);
+    let a = Server::open(9, &[1u8, 2], &[10u32, 20]);
     number(a.refusal as u64);
     let s = a.server;
     item(gathered(&s.words));
@@ -194,7 +194,7 @@ fn refused_server() {
 
 fn main() {
     let items = [10u32];
-    let a = Client::open(2, 1, &items);
+    let a = Client::open(2, 1, &[1u8, 2], &items);
     let b = a.client.insert(1, 20);
     let c = b.client.insert(2, 30);
     seen(c.client);

@@ -8,13 +8,13 @@ use c_layout::answer;
 use client::Client;
 use server::Server;
 
-// Client 1 of 2, opened with so many items; more than opening lets through leave an end that is all zeros.
+// Client 1 of 2, opened with line numbers as ranks and so many items; more than opening lets through leave an end that is all zeros.
 fn client_with(count: u8) -> Client
     ensures { λ r. ⌜ r ≡ clientWith count ⌝ }
 {
     let items = [0u32; 256];
     let n = count as usize;
-    let a = Client::open(2, 1, &items[..n]);
+    let a = Client::open(2, 1, &[1u8, 2], &items[..n]);
     a.client
 }
 
@@ -23,7 +23,7 @@ fn server_with(count: u8) -> Server
 {
     let items = [0u32; 256];
     let n = count as usize;
-    let a = Server::open(2, &items[..n]);
+    let a = Server::open(2, &[1u8, 2], &items[..n]);
     a.server
 }
 
