@@ -2,9 +2,12 @@
 
 use crate::calls::{self, Calls, RUN_OUT};
 use crate::layout::{self, Field};
+use crate::limits::LINES;
 use crate::list::*;
+use crate::rankings;
 use crate::report;
 use crate::scripts;
+use crate::world::World;
 use std::fmt::Debug;
 
 const P11: (&str, &str) = (
@@ -96,11 +99,83 @@ fn p10(subject: &dyn Calls) -> Result<Vec<u8>, String> {
 
 const P10: [u8; 7] = [5, 4, 2, 1, 0, 3, FRESH];
 
+/// The server's end opened, or that of a client.
+fn open(subject: &dyn Calls, end: u8, bytes: &mut [u8], n: u8, ranks: &[u8], items: &[u8]) -> u64 {
+    if end == 0 {
+        subject.server_open(bytes, n, ranks, items)
+    } else {
+        subject.client_open(bytes, n, end, ranks, items)
+    }
+}
+
+/// The lists of all ends after these clients inserted their line's number at one position of one list, the server took the edits in this order,
+/// and everything was delivered.
+fn tied(subject: &dyn Calls, ranks: &[u8], initial: &[u32], position: u16, order: &[u8]) -> Vec<Vec<u32>> {
+    let mut list = List::ranked(ranks, initial.to_vec());
+    list.calls.extend(order.iter().map(|&line| Call::insert(line, position, line as u32)));
+    for &line in order {
+        list.calls.extend([Call::send(line, line, 1, 0, 14), Call::take(0, 0)]);
+    }
+    for line in 1..=ranks.len() as u8 {
+        let others = order.iter().filter(|&&other| other != line).count() as u16;
+        list.calls.extend((1..=others).flat_map(|number| [Call::send(0, line, number, 0, 14), Call::take(line, 0)]));
+    }
+    let mut world = World::unwatched(subject);
+    list.calls.iter().for_each(|call| world.perform(call, &list.initial, &mut Vec::new()));
+    (0..=ranks.len()).map(|end| world.items(end)).collect()
+}
+
+/// Client 5 has rank 1 and wins the tie against client 1, whichever of them the server takes first.
+fn lead(subject: &dyn Calls) -> Result<(), String> {
+    for order in [[1, 5], [5, 1]] {
+        let lists = tied(subject, &[2, 3, 4, 5, 1], &[10, 20], 2, &order);
+        equal(vec![vec![10, 5, 1, 20]; 6], lists)?;
+    }
+    Ok(())
+}
+
+/// Every ranking of four lines: all insert at one place, and the list is then in the order of the ranks.
+fn ties(subject: &dyn Calls) -> Result<(), String> {
+    for ranks in rankings::all(4) {
+        for order in rankings::all(4) {
+            let mut lines: Vec<u32> = (1..=4).collect();
+            lines.sort_by_key(|&line| ranks[line as usize - 1]);
+            equal(vec![lines; 5], tied(subject, &ranks, &[], 1, &order))
+                .map_err(|text| format!("ranks {ranks:?}, order {order:?}: {text}"))?;
+        }
+    }
+    Ok(())
+}
+
+/// Openings with every byte at every place of a ranking, with ranks that are n in 8 or 16 bits, and with every ranking of up to five
+/// lines: 0 with ranks that are right, else 16, and then no byte changes.
+fn ranks(subject: &dyn Calls) -> Result<(), String> {
+    let mut all: Vec<(u8, Vec<u8>)> = (1..=5u8).flat_map(|n| rankings::all(n as usize).into_iter().map(move |ranks| (n, ranks))).collect();
+    for n in 1..=LINES as u8 {
+        let ranks: Vec<u8> = (1..=n).rev().collect();
+        for at in 0..ranks.len() {
+            all.extend((0..=255).map(|rank| (n, [&ranks[..at], &[rank], &ranks[at + 1..]].concat())));
+        }
+        all.extend([255, 256, 512, 65_536].map(|more| (n, [&ranks[..], &vec![1; more]].concat())));
+    }
+    for (n, ranks) in all {
+        for end in [0, 1, n] {
+            let mut bytes = vec![FRESH; layout::bytes(end)];
+            let answer = open(subject, end, &mut bytes, n, &ranks, &[]);
+            let right = is_ranking(n as usize, &ranks);
+            let stayed = bytes.iter().all(|&byte| byte == FRESH);
+            let ranks = &ranks[..ranks.len().min(16)];
+            equal((if right { 0 } else { 16 }, !right), (answer, stayed)).map_err(|text| format!("n {n}, ranks {ranks:?}: {text}"))?;
+        }
+    }
+    Ok(())
+}
+
 /// An end opened with item 7 in 65,536 bytes more than the layout has: the answer, the item, and whether the rest stayed.
 fn far(subject: &dyn Calls, end: u8) -> (u64, u32, bool) {
     let mut bytes = vec![FRESH; layout::bytes(end) + 65_536];
     let items = [0, 0, 0, 7];
-    let answer = if end == 0 { subject.server_open(&mut bytes, 3, &items) } else { subject.client_open(&mut bytes, 3, 2, &items) };
+    let answer = open(subject, end, &mut bytes, 3, &[2, 3, 1], &items);
     let item = layout::read(&bytes, layout::word(end, 1, Field::Item(0)).unwrap());
     (answer, item, bytes[layout::bytes(end)..].iter().all(|&byte| byte == FRESH))
 }
@@ -125,7 +200,10 @@ fn on(subject: &dyn Calls) -> bool {
         ("P12", script(P12.0, P12.1)),
         ("inserts", script(&inserts.0, &inserts.1)),
         ("pending", script(&pending.0, &pending.1)),
-        ("the layouts' lengths", equal((2588, 6284), (subject.client_bytes(), subject.server_bytes()))),
+        ("the layouts' lengths", equal((2596, 6292), (subject.client_bytes(), subject.server_bytes()))),
+        ("ranks", ranks(subject)),
+        ("client 5 with rank 1", lead(subject)),
+        ("ties", ties(subject)),
         ("a client in far more bytes", equal((0, 7, true), far(subject, 1))),
         ("a server in far more bytes", equal((0, 7, true), far(subject, 0))),
     ];

@@ -3,13 +3,20 @@
 use crate::generate::Run;
 use crate::list::*;
 use crate::plain::slip::Plain;
+use crate::rankings;
 use crate::rng::Rng;
 use crate::world::World;
 
-/// A short run whose slots hold real messages of all kinds, and the slots.
+/// The ranks of that run's three lines.
+pub fn ranks(seed: u64) -> Vec<u8> {
+    let all = rankings::all(3);
+    all[seed as usize % all.len()].clone()
+}
+
+/// A short run whose slots hold real messages of all kinds, and the slots. Neighbouring seeds rank the lines differently.
 pub fn furnished(seed: u64) -> (List, Vec<(u8, Vec<u8>)>) {
     let initial = (1..=20).collect();
-    let mut list = List::opened(3, initial);
+    let mut list = List::ranked(&ranks(seed), initial);
     let mut rng = Rng::new(seed);
     // equal deletes become nothing; positions differ from seed to seed
     let (p, q) = (rng.between(1, 18) as u16, rng.between(1, 15) as u16);

@@ -9,9 +9,11 @@ impl Call {
         let end = |end: u8| if end == 0 { "server".to_string() } else { format!("client {end}") };
         let who = end(self.end);
         let text = match self.op {
-            OPEN if self.slot == 0 => format!("{who} opens with n {}, line {}, {} items", self.size, self.line, self.number),
             OPEN => {
-                format!("{who} opens with n {}, line {}, {} items and {} bytes of one", self.size, self.line, self.number, self.slot)
+                let ranks = self.ranks();
+                let ranks = if ranks.len() <= 16 { format!("ranks {ranks:?}") } else { format!("{} ranks", ranks.len()) };
+                let cut = if self.slot == 0 { String::new() } else { format!(" and {} bytes of one", self.slot) };
+                format!("{who} opens with n {}, line {}, {ranks}, {} items{cut}", self.size, self.line, self.number)
             }
             INSERT => format!("{who} inserts {} at {}", self.value, self.position),
             DELETE => format!("{who} deletes at {}", self.position),

@@ -1,8 +1,9 @@
 //! Damaged ends: fields at their edges and past their width, and every byte of the layout.
 
-use crate::damage::furnished;
+use crate::damage::{self, furnished};
 use crate::generate::Run;
 use crate::layout::{self, Field, NUMBERS};
+use crate::limits::LINES;
 use crate::list::*;
 use crate::rng::Rng;
 
@@ -74,7 +75,10 @@ pub fn ends(seed: u64) -> Vec<List> {
                 add(&sets, end);
             }
         }
-        for sets in together(end) {
+        for (field, value) in rank_words(&damage::ranks(seed)) {
+            add(&[Call::field(end, 0, field, value)], end);
+        }
+        for sets in together(end, &damage::ranks(seed)) {
             add(&sets, end);
         }
         for byte in [0, 1, 255] {
@@ -82,6 +86,27 @@ pub fn ends(seed: u64) -> Vec<List> {
         }
     }
     lists
+}
+
+/// The words of ranks with each of their eight bytes at its edge values, the zeros past n too; and two ranks exchanged, which is a ranking.
+fn rank_words(ranks: &[u8]) -> Vec<(Field, u32)> {
+    let mut all = Vec::new();
+    let mut add = |ranks: &[u8], at: usize| all.push((Field::Ranks(at as u16 / 4), layout::rank_words(ranks)[at / 4]));
+    let mut eight = ranks.to_vec();
+    eight.resize(LINES, 0);
+    for at in 0..LINES {
+        for rank in [0, 1, 2, 3, 4, 5, 8, 9, 31, 32, 33, 63, 64, 65, 127, 128, 255] {
+            let mut damaged = eight.clone();
+            damaged[at] = rank;
+            add(&damaged, at);
+        }
+    }
+    for (one, other) in [(0, 1), (0, 2), (1, 2), (2, 3)] {
+        let mut exchanged = eight.clone();
+        exchanged.swap(one, other);
+        add(&exchanged, one);
+    }
+    all
 }
 
 /// Pending places, used and unused, with edits whose positions and priorities are at their edges.
@@ -122,15 +147,16 @@ fn pending_sets(end: u8, line: u8) -> Vec<Vec<Call>> {
 }
 
 /// Several fields at once, so that one conjunct alone is false or a limit is reached with all others kept.
-fn together(end: u8) -> Vec<Vec<Call>> {
+fn together(end: u8, ranks: &[u8]) -> Vec<Vec<Call>> {
     if end == 0 {
-        together_at_server()
+        together_at_server(ranks)
     } else {
-        together_at_client(end)
+        together_at_client(end, ranks)
     }
 }
 
-fn together_at_client(end: u8) -> Vec<Vec<Call>> {
+fn together_at_client(end: u8, ranks: &[u8]) -> Vec<Vec<Call>> {
+    let rank = ranks[end as usize - 1] as u32;
     let set = |field: Field, value: u32| Call::field(end, 1, field, value);
     let edits = |indices: std::ops::Range<u16>, position: u32, priority: u32| -> Vec<Call> {
         indices.flat_map(|index| pending(end, 1, index, position << 8 | priority, 9 * (priority != 0) as u32)).collect()
@@ -154,12 +180,17 @@ fn together_at_client(end: u8) -> Vec<Vec<Call>> {
         vec![set(Field::N, 256 + 3), set(Field::Line, 256 + end as u32)],
         vec![set(Field::Made, 65_536), set(Field::Acked, 65_536)],
         vec![set(Field::Length, 512)],
-        [all_pending(64, 0), edits(0..64, 512, 1)].concat(),
-        [all_pending(10, 0), edits(0..10, 512, 1), edits(10..64, 0, 0)].concat(),
+        [all_pending(64, 0), edits(0..64, 512, rank)].concat(),
+        [all_pending(10, 0), edits(0..10, 512, rank), edits(10..64, 0, 0)].concat(),
+        // a rank more, or one fewer, than n says
+        vec![set(Field::N, 4), set(Field::Ranks(0), layout::rank_words(&[ranks, &[4]].concat())[0])],
+        vec![set(Field::N, 2)],
+        vec![set(Field::N, 2), set(Field::Line, 1), set(Field::Ranks(0), layout::rank_words(&[1, 2])[0])],
+        vec![set(Field::N, 2), set(Field::Line, 1), set(Field::Ranks(0), layout::rank_words(&[2, 1])[0])],
     ]
 }
 
-fn together_at_server() -> Vec<Vec<Call>> {
+fn together_at_server(ranks: &[u8]) -> Vec<Vec<Call>> {
     let set = |line: u8, field: Field, value: u32| Call::field(0, line, field, value);
     // three lines: taken (a, b, c), made the sums of the others, nothing pending
     let counts = |a: u32, b: u32, c: u32| {
@@ -171,6 +202,11 @@ fn together_at_server() -> Vec<Vec<Call>> {
         sets
     };
     let with = |sets: Vec<Call>, more: &[Call]| [&sets[..], more].concat();
+    // nothing taken yet, n and the ranks of lines 1 to 4
+    let ranked = |n: u32, ranks: &[u8]| {
+        let zero = [1, 2, 3].map(|line| set(line, Field::Inserts, 0));
+        with(counts(0, 0, 0), &[&zero[..], &[set(0, Field::N, n), set(0, Field::Ranks(0), layout::rank_words(ranks)[0])]].concat())
+    };
     vec![
         counts(400, 400, 400),
         counts(401, 400, 400),
@@ -191,6 +227,13 @@ fn together_at_server() -> Vec<Vec<Call>> {
         vec![set(4, Field::Inserts, 1)],
         vec![set(0, Field::N, 4)],
         vec![set(0, Field::N, 2)],
+        ranked(3, ranks),
+        ranked(4, ranks),
+        ranked(4, &[ranks, &[4]].concat()),
+        ranked(2, ranks),
+        ranked(2, &[1, 2]),
+        ranked(2, &[2, 1]),
+        ranked(2, &[2, 2]),
     ]
 }
 

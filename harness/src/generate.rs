@@ -4,6 +4,7 @@ use crate::layout;
 use crate::limits::*;
 use crate::list::*;
 use crate::plain::slip::Plain;
+use crate::rankings;
 use crate::rng::Rng;
 use crate::world::World;
 
@@ -32,6 +33,8 @@ pub struct Run {
     pub world: World<'static, Plain>,
     pub rng: Rng,
     pub n: usize,
+    /// The ranks that all ends were opened with.
+    pub ranks: Vec<u8>,
     mood: Mood,
     since_dump: usize,
     scratch: Vec<u8>,
@@ -57,7 +60,7 @@ impl Run {
         Run::sized(rng, n, count)
     }
 
-    /// A sheet of n lines that opens with so many items.
+    /// A sheet of n lines, ranked in any way, that opens with so many items.
     pub fn sized(mut rng: Rng, n: usize, count: usize) -> Run {
         let small = rng.once_in(2);
         let item = |rng: &mut Rng| if small { rng.below(3) as u32 } else { rng.next() as u32 };
@@ -73,9 +76,10 @@ impl Run {
             hot_positions: rng.pick(&[2, 4, 600]),
             spare: rng.pick(&[0, 0, 1, 7, SPARE as i16]),
         };
-        let opened = List::opened(n as u8, initial.clone());
+        let ranks = rankings::random(&mut rng, n);
+        let opened = List::ranked(&ranks, initial.clone());
         let list = List { initial, calls: Vec::new() };
-        let mut run = Run { list, world: World::unwatched(&Plain), rng, n, mood, since_dump: 0, scratch: Vec::new() };
+        let mut run = Run { list, world: World::unwatched(&Plain), rng, n, ranks, mood, since_dump: 0, scratch: Vec::new() };
         for call in opened.calls {
             run.call(Call { lent: mood.spare, ..call });
         }
@@ -233,13 +237,23 @@ impl Run {
         }
     }
 
-    /// An opening that question 1 refuses, or with a cut item, at an end that may be open.
+    /// An opening that question 1 refuses, or with a cut item, or that question 16 refuses, at an end that may be open. Half of those that
+    /// question 1 refuses have wrong ranks too.
     fn refused_opening(&mut self, end: u8) -> Call {
         let (n, count) = (self.n as u8, self.list.initial.len() as u16);
+        let wrong = rankings::wrong(&mut self.rng, self.n);
+        let (one, ranks) = match self.rng.below(4) {
+            0 | 1 => (false, &wrong),
+            2 => (true, &wrong),
+            _ => (true, &self.ranks),
+        };
+        // a line that the sheet has: question 16 alone says no
+        let right = Call::open(end, n, end.clamp(1, n), count).ranked(ranks);
         match self.rng.below(3) {
-            0 => Call::open(end, self.rng.pick(&[0, 9, 255]), end, count),
-            1 => Call { slot: self.rng.between(1, 3) as u8, ..Call::open(end, n, end, self.rng.below(count as usize + 1) as u16) },
-            _ => Call::open(end.max(1), n, self.rng.pick(&[0, n + 1, 255]), count),
+            _ if !one => right,
+            0 => Call { size: self.rng.pick(&[0, 9, 255]), ..right },
+            1 => Call { slot: self.rng.between(1, 3) as u8, number: self.rng.below(count as usize + 1) as u16, ..right },
+            _ => Call { end: end.max(1), line: self.rng.pick(&[0, n + 1, 255]), ..right },
         }
     }
 

@@ -4,6 +4,7 @@ use crate::generate::Run;
 use crate::layout::{self, Field};
 use crate::limits::*;
 use crate::list::*;
+use crate::rankings;
 
 /// A run that is honest for a while.
 pub fn hostile(seed: u64) -> List {
@@ -29,7 +30,7 @@ impl Run {
         let index = if self.rng.once_in(2) { self.rng.below(520) } else { self.rng.below(65) } as u16;
         let count = self.rng.pick(&[0, 1, 63, 64, 65, 399, 400, 401, 511, 512, 513, 2799, 2800, 2801, 65_535]);
         let place = self.rng.pick(&[0, 1, 2, 511, 512, 513, 65_535]) << 8 | self.rng.below(10) as u32;
-        let (field, value) = match self.rng.below(12) {
+        let (field, value) = match self.rng.below(13) {
             0 => (Field::N, self.rng.below(10) as u32),
             1 => (Field::Line, self.rng.below(10) as u32),
             2 => (Field::Length, count),
@@ -41,6 +42,7 @@ impl Run {
             8 => (Field::Item(index), self.rng.below(2) as u32),
             9 => (Field::Place(index), place | self.rng.pick(&[0, 0, 0, 1, 2, 255]) << 24),
             10 => (Field::Brought(index), self.rng.below(2) as u32),
+            11 => self.other_ranks(),
             _ => return self.overwrite_all(end),
         };
         let value = if self.rng.once_in(6) { value | 1 << self.rng.between(8, 31) } else { value };
@@ -48,6 +50,16 @@ impl Run {
             self.call(Call::set(end, word, value));
             self.call(Call::dump(end));
         }
+    }
+
+    /// A word of ranks: of another ranking, or with a byte of it spoilt.
+    fn other_ranks(&mut self) -> (Field, u32) {
+        let half = self.rng.below(2);
+        let word = layout::rank_words(&rankings::random(&mut self.rng, self.n))[half];
+        let byte = 8 * self.rng.below(4);
+        let rank = self.rng.pick(&[0, 1, 2, self.n as u32, self.n as u32 + 1, 8, 9, 255]);
+        let value = if self.rng.once_in(2) { word } else { word & !(255 << byte) | rank << byte };
+        (Field::Ranks(half as u16), value)
     }
 
     /// An end filled with one byte, or older bytes put back, or those of another client.
@@ -72,7 +84,7 @@ impl Run {
         let seen = wanted.max(0) as u16;
         let position =
             if self.rng.once_in(2) { self.rng.between(1, 20) } else { self.rng.pick(&[0, 1, 448, 449, 500, 511, 512, 513]) } as u16;
-        let priority = if up && self.rng.below(4) > 0 { l } else { self.rng.between(1, LINES) } as u8;
+        let priority = if up && self.rng.below(4) > 0 { self.ranks[l - 1] } else { self.rng.between(1, LINES) as u8 };
         let kind = self.rng.between(1, 4) as u8;
         let mut bytes = vec![kind, l as u8, !up as u8];
         if kind < 4 {

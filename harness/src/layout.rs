@@ -3,8 +3,10 @@
 
 use crate::limits::*;
 
-pub const CLIENT_WORDS: usize = 7 + ITEMS + 2 * PENDING;
-pub const SERVER_WORDS: usize = 3 + 4 * LINES + ITEMS + 2 * LINES * PENDING;
+/// Words before the counts: n, the line or the count of opening items, the length, and eight ranks in two words.
+const HEAD: u16 = 5;
+pub const CLIENT_WORDS: usize = HEAD as usize + 4 + ITEMS + 2 * PENDING;
+pub const SERVER_WORDS: usize = HEAD as usize + 4 * LINES + ITEMS + 2 * LINES * PENDING;
 
 /// Words of an end.
 pub fn words(end: u8) -> usize {
@@ -29,6 +31,8 @@ pub enum Field {
     Length,
     /// The count of opening items, which the server has.
     Initial,
+    /// The ranks of four lines, the first one's in the lowest byte: 0 those of lines 1 to 4, 1 those of lines 5 to 8.
+    Ranks(u16),
     Made,
     Taken,
     Acked,
@@ -40,15 +44,15 @@ pub enum Field {
     Brought(u16),
 }
 
-/// The numbers of an end, without its arrays.
+/// The numbers of an end, without its ranks and arrays.
 pub const NUMBERS: [Field; 8] =
     [Field::N, Field::Line, Field::Length, Field::Initial, Field::Made, Field::Taken, Field::Acked, Field::Inserts];
 
 /// The word of a field, of line `line` where the server has one for each; none if the end has no such field.
 pub fn word(end: u8, line: u8, field: Field) -> Option<u16> {
-    let (head, lines) = if end == 0 { (3, LINES as u16) } else { (3, 1) };
+    let lines = if end == 0 { LINES as u16 } else { 1 };
     let at = if end == 0 { (line as u16).wrapping_sub(1) } else { 0 };
-    let items = head + 4 * lines;
+    let items = HEAD + 4 * lines;
     let places = items + ITEMS as u16;
     let pending = PENDING as u16;
     match field {
@@ -56,15 +60,22 @@ pub fn word(end: u8, line: u8, field: Field) -> Option<u16> {
         Field::Line => (end != 0).then_some(1),
         Field::Initial => (end == 0).then_some(1),
         Field::Length => Some(2),
+        Field::Ranks(half) => (half < 2).then_some(3 + half),
         Field::Item(index) => (index < ITEMS as u16).then_some(items + index),
         _ if at >= lines => None,
-        Field::Made => Some(head + 4 * at),
-        Field::Taken => Some(head + 4 * at + 1),
-        Field::Acked => Some(head + 4 * at + 2),
-        Field::Inserts => Some(head + 4 * at + 3),
+        Field::Made => Some(HEAD + 4 * at),
+        Field::Taken => Some(HEAD + 4 * at + 1),
+        Field::Acked => Some(HEAD + 4 * at + 2),
+        Field::Inserts => Some(HEAD + 4 * at + 3),
         Field::Place(index) => (index < pending).then_some(places + 2 * pending * at + index),
         Field::Brought(index) => (index < pending).then_some(places + 2 * pending * at + pending + index),
     }
+}
+
+/// Eight ranks, zeros past the last, as the two words that hold them.
+pub fn rank_words(ranks: &[u8]) -> [u32; 2] {
+    let rank = |line: usize| ranks.get(line).copied().unwrap_or(0);
+    [0, 4].map(|first| u32::from_le_bytes([rank(first), rank(first + 1), rank(first + 2), rank(first + 3)]))
 }
 
 /// A word of an end's bytes.
@@ -76,13 +87,15 @@ pub fn read(bytes: &[u8], word: u16) -> u32 {
 /// What stands in a word, for a report.
 pub fn name(end: u8, index: u16) -> String {
     let lines = if end == 0 { LINES as u16 } else { 1 };
-    let items = 3 + 4 * lines;
+    let items = HEAD + 4 * lines;
     let places = items + ITEMS as u16;
     if index < 3 {
         let names = if end == 0 { ["n", "initial", "length"] } else { ["n", "line", "length"] };
         names[index as usize].to_string()
+    } else if index < HEAD {
+        ["ranks of lines 1 to 4", "ranks of lines 5 to 8"][index as usize - 3].to_string()
     } else if index < items {
-        let (line, which) = ((index - 3) / 4 + 1, (index - 3) % 4);
+        let (line, which) = ((index - HEAD) / 4 + 1, (index - HEAD) % 4);
         let name = ["made", "taken", "acked", "inserts"][which as usize];
         if end == 0 {
             format!("{name} of line {line}")
@@ -107,28 +120,33 @@ mod tests {
     /// The words that the layout names.
     #[test]
     fn named_words() {
-        assert_eq!((CLIENT_WORDS, SERVER_WORDS), (647, 1571));
+        assert_eq!((CLIENT_WORDS, SERVER_WORDS), (649, 1573));
         for (end, line, field, at) in [
-            (1, 1, Field::Inserts, 6),
-            (1, 1, Field::Item(511), 518),
-            (1, 1, Field::Place(0), 519),
-            (1, 1, Field::Brought(63), 646),
+            (1, 1, Field::Ranks(0), 3),
+            (1, 1, Field::Inserts, 8),
+            (1, 1, Field::Item(511), 520),
+            (1, 1, Field::Place(0), 521),
+            (1, 1, Field::Brought(63), 648),
             (0, 0, Field::Initial, 1),
-            (0, 1, Field::Made, 3),
-            (0, 1, Field::Inserts, 6),
-            (0, 2, Field::Taken, 8),
-            (0, 8, Field::Acked, 33),
-            (0, 0, Field::Item(0), 35),
-            (0, 1, Field::Place(0), 547),
-            (0, 1, Field::Brought(0), 611),
-            (0, 2, Field::Place(63), 738),
-            (0, 8, Field::Brought(63), 1570),
+            (0, 0, Field::Ranks(1), 4),
+            (0, 1, Field::Made, 5),
+            (0, 1, Field::Inserts, 8),
+            (0, 2, Field::Taken, 10),
+            (0, 8, Field::Acked, 35),
+            (0, 0, Field::Item(0), 37),
+            (0, 1, Field::Place(0), 549),
+            (0, 1, Field::Brought(0), 613),
+            (0, 2, Field::Place(63), 740),
+            (0, 8, Field::Brought(63), 1572),
         ] {
             assert_eq!(word(end, line, field), Some(at), "{end} {line} {field:?}");
         }
         assert_eq!(word(0, 0, Field::Line), None);
         assert_eq!(word(1, 1, Field::Initial), None);
-        assert_eq!(name(0, 1569), "item of pending edit 62 of line 8");
-        assert_eq!(name(1, 582), "place of pending edit 63");
+        assert_eq!(word(1, 1, Field::Ranks(2)), None);
+        assert_eq!(name(0, 1571), "item of pending edit 62 of line 8");
+        assert_eq!(name(1, 584), "place of pending edit 63");
+        assert_eq!(name(1, 4), "ranks of lines 5 to 8");
+        assert_eq!(rank_words(&[2, 3, 4, 5, 1]), [0x0504_0302, 1]);
     }
 }

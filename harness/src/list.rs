@@ -13,7 +13,7 @@ pub const SPARE: usize = 40;
 /// A message with a tail has this many bytes more, times the call's number.
 pub const TAIL: usize = 256;
 const CALL: usize = 16;
-const MAGIC: &[u8; 8] = b"calls 1\n";
+const MAGIC: &[u8; 8] = b"calls 2\n";
 
 /// An answer: the 8 bytes of the exported call's number, and one that says which bytes it changed that had to stay.
 pub const ANSWER: usize = 9;
@@ -49,8 +49,21 @@ pub struct Call {
 }
 
 impl Call {
+    /// With line numbers as ranks.
     pub fn open(end: u8, n: u8, line: u8, count: u16) -> Call {
-        Call { op: OPEN, end, line, number: count, size: n, ..Call::default() }
+        let ranks: Vec<u8> = (1..=n).collect();
+        Call { op: OPEN, end, line, number: count, size: n, ..Call::default() }.ranked(&ranks)
+    }
+
+    /// The opening with these ranks, which are at most 15; those past the eighth become 0.
+    pub fn ranked(self, ranks: &[u8]) -> Call {
+        let value = ranks.iter().take(LINES).enumerate().fold(0, |value, (at, &rank)| value | (rank as u32 & 15) << (4 * at));
+        Call { position: ranks.len() as u16, value, ..self }
+    }
+
+    /// The ranks that an opening has: so many as its position says, four bits of its value each, and 0 past the eighth.
+    pub fn ranks(&self) -> Vec<u8> {
+        (0..self.position as usize).map(|at| if at < LINES { (self.value >> (4 * at) & 15) as u8 } else { 0 }).collect()
     }
 
     pub fn insert(end: u8, position: u16, item: u32) -> Call {
@@ -179,6 +192,13 @@ pub fn answer(bytes: &[u8]) -> u64 {
     u64::from_le_bytes(bytes[..8].try_into().unwrap())
 }
 
+/// Ranks as the rule book asks for them: 1 to n, each used once.
+pub fn is_ranking(n: usize, ranks: &[u8]) -> bool {
+    let mut sorted = ranks.to_vec();
+    sorted.sort();
+    sorted.iter().map(|&rank| rank as usize).eq(1..=n)
+}
+
 /// A list of calls, and the items that its openings have.
 #[derive(Clone, PartialEq, Eq, Debug, Default)]
 pub struct List {
@@ -212,19 +232,30 @@ impl List {
         self.calls.iter().map(Call::answer_length).sum()
     }
 
-    /// The openings that a sheet of n lines starts with.
+    /// The openings that a sheet of n lines starts with, line numbers as ranks.
     pub fn opened(n: u8, initial: Vec<u32>) -> List {
-        let count = initial.len() as u16;
-        let calls = (0..=n).map(|end| Call::open(end, n, end, count)).collect();
+        List::ranked(&(1..=n).collect::<Vec<u8>>(), initial)
+    }
+
+    /// The same with ranks, of as many lines as there are ranks.
+    pub fn ranked(ranks: &[u8], initial: Vec<u32>) -> List {
+        let (n, count) = (ranks.len() as u8, initial.len() as u16);
+        let calls = (0..=n).map(|end| Call::open(end, n, end, count).ranked(ranks)).collect();
         List { initial, calls }
     }
 
-    /// How many lines the sheet has, if the list begins with the openings of a whole one.
-    pub fn lines(&self) -> Option<usize> {
-        let n = self.calls.first()?.size;
-        let opened = List::opened(n, self.initial.clone());
+    /// The ranks of the sheet's lines, if the list begins with the openings of a whole one.
+    pub fn ranks(&self) -> Option<Vec<u8>> {
+        let ranks = self.calls.first().filter(|call| call.op == OPEN && call.position == call.size as u16)?.ranks();
+        let opened = List::ranked(&ranks, self.initial.clone());
         let same = |(one, other): (&Call, &Call)| *one == Call { lent: 0, ..*other } && other.lent >= 0;
         let whole = self.calls.len() >= opened.calls.len() && opened.calls.iter().zip(&self.calls).all(same);
-        (whole && (1..=LINES).contains(&(n as usize)) && self.initial.len() <= INITIAL).then_some(n as usize)
+        let fits = (1..=LINES).contains(&ranks.len()) && is_ranking(ranks.len(), &ranks) && self.initial.len() <= INITIAL;
+        (whole && fits).then_some(ranks)
+    }
+
+    /// How many lines that sheet has.
+    pub fn lines(&self) -> Option<usize> {
+        Some(self.ranks()?.len())
     }
 }

@@ -26,6 +26,7 @@ mod oracle;
 mod plain;
 #[cfg(feature = "proved")]
 mod proved;
+mod rankings;
 mod report;
 mod rng;
 mod scripts;

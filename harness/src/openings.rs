@@ -1,8 +1,10 @@
-//! Openings at and past their limits, and every call with too few and more than enough lent bytes.
+//! Openings at and past their limits, ranks that are none, and every call with too few and more than enough lent bytes.
 
+use crate::crafted::LEAD;
 use crate::layout;
 use crate::limits::*;
 use crate::list::*;
+use crate::rankings;
 
 /// n, line, count and cut items at their edges; half of the ends are open already.
 fn edges() -> List {
@@ -28,14 +30,45 @@ fn lent(end: u8) -> [i16; 14] {
     [-bytes, 1 - bytes, -bytes / 2, -5, -4, -3, -2, -1, 0, 1, 2, 3, 4, SPARE as i16]
 }
 
-/// Openings with them, refused for 18 and for 1 at once too.
+/// Ranks that are right and ranks that are none, with all else right and with what question 1 refuses, at ends of which half are open already.
+fn ranked(n: u8) -> List {
+    let mut list = List { initial: (1..=160).collect(), calls: Vec::new() };
+    let reversed: Vec<u8> = (1..=n).rev().collect();
+    let mut shifted = rankings::by_line(n as usize);
+    shifted.rotate_left(1);
+    let mut all = rankings::spoilt(&shifted);
+    all.extend([rankings::by_line(n as usize), reversed, shifted]);
+    for ranks in all {
+        for (end, line) in [(0, 0), (1, 1), (2, n)] {
+            let right = Call::open(end, n, line, 3).ranked(&ranks);
+            let refused = [
+                Call { size: 0, ..right },
+                Call { size: 9, ..right },
+                Call { size: 255, ..right },
+                Call { number: 129, ..right },
+                Call { slot: 1, ..right },
+                Call { line: n + 1, ..right },
+                Call { line: 0, ..right },
+                Call { lent: -1, ..right },
+                Call { lent: -1, slot: 1, ..right },
+            ];
+            for call in refused.into_iter().chain([right]) {
+                list.calls.extend([call, Call::dump(end)]);
+            }
+            list.calls.extend([Call::acknowledge(end, line.max(1), 0, 20), Call::show(0)]);
+        }
+    }
+    list
+}
+
+/// Openings with them, refused for 18, for 1 and for 16 at once too.
 fn opened() -> List {
     let mut list = List { initial: (1..=160).map(|item| item << 12).collect(), calls: Vec::new() };
     for end in [0, 1, 8] {
         for lent in lent(end) {
-            for (n, count, cut) in [(8, 3, 0), (0, 3, 0), (8, 129, 0), (8, 3, 1)] {
+            for (n, count, cut, ranks) in [(8, 3, 0, 8), (0, 3, 0, 8), (8, 129, 0, 8), (8, 3, 1, 8), (8, 3, 0, 7), (8, 3, 1, 9)] {
                 list.calls.push(Call::fill(end, 85));
-                list.calls.push(Call { lent, slot: cut, ..Call::open(end, n, end, count) });
+                list.calls.push(Call { lent, slot: cut, ..Call::open(end, n, end, count).ranked(&rankings::by_line(ranks)) });
                 list.calls.push(Call::dump(end));
             }
         }
@@ -45,7 +78,7 @@ fn opened() -> List {
 
 /// Every other call with them, on a sound end and on one that is none; calls that would be accepted, and calls that another question refuses.
 fn called(end: u8, sound: bool) -> List {
-    let mut list = List::opened(8, vec![1, 2, 3]);
+    let mut list = List::ranked(&LEAD, vec![1, 2, 3]);
     // what a client of line 2 made lies in slot 1, what it takes in slot 2, and nothing in slot 3
     list.calls.extend([
         Call::delete(2, 1),
@@ -89,5 +122,6 @@ fn many() -> List {
 
 pub fn all() -> Vec<List> {
     let called = [(0, true), (0, false), (2, true), (2, false)].map(|(end, sound)| called(end, sound));
-    [vec![edges(), opened(), many()], called.to_vec()].concat()
+    let ranked: Vec<List> = (1..=LINES as u8).map(ranked).collect();
+    [vec![edges(), opened(), many()], ranked, called.to_vec()].concat()
 }

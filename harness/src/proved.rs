@@ -4,13 +4,30 @@ use crate::calls::Calls;
 
 // A byte slice goes over as its pointer and its length. The library does not keep them.
 extern "C" {
-    fn lub_client_open(end: *mut u8, bytes: usize, n: u8, line: u8, items: *const u8, items_bytes: usize) -> u64;
+    fn lub_client_open(
+        end: *mut u8,
+        bytes: usize,
+        n: u8,
+        line: u8,
+        ranks: *const u8,
+        ranks_bytes: usize,
+        items: *const u8,
+        items_bytes: usize,
+    ) -> u64;
     fn lub_client_insert(end: *mut u8, bytes: usize, position: u16, item: u32) -> u64;
     fn lub_client_delete(end: *mut u8, bytes: usize, position: u16) -> u64;
     fn lub_client_send(end: *const u8, bytes: usize, line: u8, number: u16, out: *mut u8, out_bytes: usize) -> u64;
     fn lub_client_acknowledge(end: *const u8, bytes: usize, line: u8, out: *mut u8, out_bytes: usize) -> u64;
     fn lub_client_take(end: *mut u8, bytes: usize, message: *const u8, message_bytes: usize) -> u64;
-    fn lub_server_open(end: *mut u8, bytes: usize, n: u8, items: *const u8, items_bytes: usize) -> u64;
+    fn lub_server_open(
+        end: *mut u8,
+        bytes: usize,
+        n: u8,
+        ranks: *const u8,
+        ranks_bytes: usize,
+        items: *const u8,
+        items_bytes: usize,
+    ) -> u64;
     fn lub_server_send(end: *const u8, bytes: usize, line: u8, number: u16, out: *mut u8, out_bytes: usize) -> u64;
     fn lub_server_acknowledge(end: *const u8, bytes: usize, line: u8, out: *mut u8, out_bytes: usize) -> u64;
     fn lub_server_take(end: *mut u8, bytes: usize, message: *const u8, message_bytes: usize) -> u64;
@@ -27,8 +44,8 @@ impl Calls for Proved {
         "proved"
     }
 
-    fn client_open(&self, end: &mut [u8], n: u8, line: u8, items: &[u8]) -> u64 {
-        unsafe { lub_client_open(end.as_mut_ptr(), end.len(), n, line, items.as_ptr(), items.len()) }
+    fn client_open(&self, end: &mut [u8], n: u8, line: u8, ranks: &[u8], items: &[u8]) -> u64 {
+        unsafe { lub_client_open(end.as_mut_ptr(), end.len(), n, line, ranks.as_ptr(), ranks.len(), items.as_ptr(), items.len()) }
     }
 
     fn client_insert(&self, end: &mut [u8], position: u16, item: u32) -> u64 {
@@ -51,8 +68,8 @@ impl Calls for Proved {
         unsafe { lub_client_take(end.as_mut_ptr(), end.len(), message.as_ptr(), message.len()) }
     }
 
-    fn server_open(&self, end: &mut [u8], n: u8, items: &[u8]) -> u64 {
-        unsafe { lub_server_open(end.as_mut_ptr(), end.len(), n, items.as_ptr(), items.len()) }
+    fn server_open(&self, end: &mut [u8], n: u8, ranks: &[u8], items: &[u8]) -> u64 {
+        unsafe { lub_server_open(end.as_mut_ptr(), end.len(), n, ranks.as_ptr(), ranks.len(), items.as_ptr(), items.len()) }
     }
 
     fn server_send(&self, end: &[u8], line: u8, number: u16, out: &mut [u8]) -> u64 {

@@ -1,6 +1,7 @@
 //! Shorter lists of calls that still fail.
 
 use crate::list::{Call, List, ACKNOWLEDGE, DELETE, DUMP, INSERT, SEND, SHOW};
+use crate::rankings;
 use std::time::{Duration, Instant};
 
 /// The shortest list found within the time that still fails; the openings at the front stay.
@@ -39,18 +40,33 @@ pub fn shrink(list: &List, budget: Duration, fails: &dyn Fn(&List) -> bool) -> L
     fewer_items(best, end, fails)
 }
 
-/// Tries smaller sheets, whose last client does nothing.
+/// Tries smaller sheets, whose last client does nothing, and then line numbers as ranks.
 fn fewer_lines(mut best: List, end: Instant, fails: &dyn Fn(&List) -> bool) -> List {
-    while let Some(n) = best.lines().filter(|&n| n > 1) {
+    while let Some((last, rest)) = best.ranks().and_then(|mut ranks| Some((ranks.pop()?, ranks))).filter(|(_, rest)| !rest.is_empty()) {
         let mut candidate = best.clone();
-        candidate.calls.remove(n);
-        candidate.calls[..n].iter_mut().for_each(|call| call.size = n as u8 - 1);
+        candidate.calls.remove(rest.len() + 1);
+        let ranks: Vec<u8> = rest.iter().map(|&rank| rank - (rank > last) as u8).collect();
+        ranked_anew(&mut candidate, &ranks);
         if Instant::now() >= end || !fails(&candidate) {
             break;
         }
         best = candidate;
     }
+    let mut candidate = best.clone();
+    if let Some(n) = best.lines() {
+        ranked_anew(&mut candidate, &rankings::by_line(n));
+    }
+    if candidate != best && Instant::now() < end && fails(&candidate) {
+        best = candidate;
+    }
     best
+}
+
+/// The openings at the front with other ranks.
+fn ranked_anew(list: &mut List, ranks: &[u8]) {
+    for call in &mut list.calls[..=ranks.len()] {
+        *call = Call { size: ranks.len() as u8, ..call.ranked(ranks) };
+    }
 }
 
 /// Tries exactly the layout's bytes lent, and small positions, items and buffers in the place of random ones.

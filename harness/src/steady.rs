@@ -1,11 +1,11 @@
 //! What can be said of every run, hostile ones too, from its own dumps: question 2 read literally, clause by clause, what an opening leaves,
-//! when 18 is given, and that a refusal changes nothing.
+//! when 18, 1 and 16 are given, and that a refusal changes nothing.
 
 use crate::describe::had_to_stay;
 use crate::layout::{self, Field};
 use crate::limits::*;
 use crate::list::*;
-use crate::oracle::{opening_is_refused, Wrong};
+use crate::oracle::{opening_refusal, Wrong};
 
 /// A line as a dump shows it.
 struct Line {
@@ -46,9 +46,20 @@ impl View {
         }
     }
 
+    /// The eight ranks, a byte each.
+    fn ranks(&self) -> Vec<u8> {
+        [0, 1].iter().flat_map(|&half| (self.number(0, Field::Ranks(half)) as u32).to_le_bytes()).collect()
+    }
+
     fn items(&self) -> Vec<u64> {
         (0..ITEMS as u16).map(|index| self.number(0, Field::Item(index))).collect()
     }
+}
+
+/// The ranks of lines 1 to n are 1 to n, each used once, and the rest is zero.
+fn sound_ranks(n: u64, ranks: &[u8]) -> bool {
+    let (used, unused) = ranks.split_at(n as usize);
+    is_ranking(n as usize, used) && unused.iter().all(|&rank| rank == 0)
 }
 
 fn unused_items_are_zero(items: &[u64], length: u64) -> bool {
@@ -71,13 +82,14 @@ fn sound_pending(line: &Line, priority_allowed: impl Fn(u64) -> bool) -> bool {
 fn sound_client(dump: &[u8]) -> bool {
     let view = View::new(1, dump);
     let [n, line, length] = [Field::N, Field::Line, Field::Length].map(|field| view.number(1, field));
-    let (own, items) = (view.line(1), view.items());
+    let (own, items, ranks) = (view.line(1), view.items(), view.ranks());
     (1..=8).contains(&n)
         && (1..=n).contains(&line)
+        && sound_ranks(n, &ranks)
         && length <= 512
         && own.made <= 400
         && own.taken <= 2800
-        && sound_pending(&own, |priority| priority == line)
+        && sound_pending(&own, |priority| priority == ranks[line as usize - 1] as u64)
         && own.inserts <= 48
         && own.inserts <= own.made
         && unused_items_are_zero(&items, length)
@@ -87,7 +99,8 @@ fn sound_server(dump: &[u8]) -> bool {
     let view = View::new(0, dump);
     let [n, initial, length] = [Field::N, Field::Initial, Field::Length].map(|field| view.number(0, field));
     let (lines, items): (Vec<Line>, _) = ((1..=LINES as u8).map(|line| view.line(line)).collect(), view.items());
-    if !(1..=8).contains(&n) || initial > 128 || length > 512 {
+    let ranks = view.ranks();
+    if !(1..=8).contains(&n) || !sound_ranks(n, &ranks) || initial > 128 || length > 512 {
         return false;
     }
     let (used, unused) = lines.split_at(n as usize);
@@ -98,7 +111,7 @@ fn sound_server(dump: &[u8]) -> bool {
     used.iter().enumerate().all(|(index, line)| {
         line.taken <= 400
             && line.made == all_taken - line.taken
-            && sound_pending(line, |priority| (1..=n).contains(&priority) && priority != index as u64 + 1)
+            && sound_pending(line, |priority| (1..=n).contains(&priority) && priority != ranks[index] as u64)
             && line.inserts <= 48
             && line.inserts <= line.taken
     }) && length <= initial + all_inserts
@@ -122,6 +135,7 @@ fn opened(call: &Call, initial: &[u32]) -> Vec<u8> {
     words[0] = call.size as u32;
     words[1] = if call.end == 0 { items.len() as u32 } else { call.line as u32 };
     words[2] = items.len() as u32;
+    words[3..5].copy_from_slice(&layout::rank_words(&call.ranks()));
     let first = layout::word(call.end, 1, Field::Item(0)).unwrap() as usize;
     words[first..first + items.len()].copy_from_slice(items);
     words.iter().flat_map(|word| word.to_le_bytes()).collect()
@@ -136,8 +150,8 @@ struct Known {
     changed: bool,
 }
 
-/// Checks a whole run: 18 exactly with too few lent bytes, 1 exactly by question 1, 2 exactly at unsound ends, openings give their end, refusals
-/// change nothing and have no count or length, accepted calls keep ends sound.
+/// Checks a whole run: 18 exactly with too few lent bytes, 1 and 16 exactly by their questions, 2 exactly at unsound ends, openings give their
+/// end, refusals change nothing and have no count or length, accepted calls keep ends sound.
 pub fn check(list: &List, out: &[u8]) -> Result<(), Wrong> {
     let fresh = |end: u8| Known { end: Some((vec![FRESH; layout::bytes(end)], false)), changed: false };
     let mut ends: Vec<Known> = (0..=LINES as u8).map(fresh).collect();
@@ -191,22 +205,20 @@ fn called(known: &mut Known, call: &Call, initial: &[u32], bytes: &[u8]) -> Resu
         return Err(format!("count at refusal {refusal}: expected {}; came {rest}", if refusal != 0 { "0" } else { "16 bits" }));
     }
     let unsound = known.end.as_ref().map(|end| !end.1);
-    let one = if call.op == OPEN { opening_is_refused(call, initial.len()) } else { false };
+    let opening = (call.op == OPEN).then(|| opening_refusal(call, initial.len()));
     let wanted = match refusal {
         _ if call.lent < 0 => refusal == 18,
-        _ if one => refusal == 1,
-        _ if call.op == OPEN => refusal == 0,
-        1 | 18 => false,
+        _ if call.op == OPEN => opening == Some(refusal),
+        1 | 16 | 18 => false,
         _ => unsound.is_none_or(|unsound| unsound == (refusal == 2)),
     };
     if !wanted {
         let state = unsound.map_or("unknown", |unsound| if unsound { "unsound" } else { "sound" });
-        let expected = match () {
-            _ if call.lent < 0 => "18",
-            _ if one => "1",
-            _ if call.op == OPEN => "0",
-            _ if unsound == Some(true) => "2",
-            _ => "none of 1, 2, 18",
+        let expected = match opening {
+            _ if call.lent < 0 => "18".to_string(),
+            Some(refusal) => refusal.to_string(),
+            _ if unsound == Some(true) => "2".to_string(),
+            _ => "none of 1, 2, 16, 18".to_string(),
         };
         return Err(format!("refusal: expected {expected}; came {refusal} (the end is {state})"));
     }

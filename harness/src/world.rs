@@ -143,8 +143,8 @@ impl<'a, C: Calls + ?Sized> World<'a, C> {
         let end = self.ends[call.end as usize].lent(call.lent);
         let out = &mut self.slots[slot];
         match (call.op, call.end) {
-            (OPEN, 0) => calls.server_open(end, call.size, &items(call, initial)),
-            (OPEN, _) => calls.client_open(end, call.size, call.line, &items(call, initial)),
+            (OPEN, 0) => calls.server_open(end, call.size, &call.ranks(), &items(call, initial)),
+            (OPEN, _) => calls.client_open(end, call.size, call.line, &call.ranks(), &items(call, initial)),
             (INSERT, _) => calls.client_insert(end, call.position, call.value),
             (DELETE, _) => calls.client_delete(end, call.position),
             (SEND, 0) => calls.server_send(end, call.line, call.number, &mut out[..call.size as usize]),
@@ -191,7 +191,7 @@ impl<'a, C: Calls + ?Sized> World<'a, C> {
     }
 
     pub fn items(&self, end: usize) -> Vec<u32> {
-        (0..self.length(end) as u16).map(|index| self.number(end as u8, 1, Field::Item(index))).collect()
+        (0..self.length(end).min(ITEMS as u32) as u16).map(|index| self.number(end as u8, 1, Field::Item(index))).collect()
     }
 
     fn counts(&self, end: u8, line: usize) -> Counts {

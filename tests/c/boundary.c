@@ -1,5 +1,5 @@
-/* The exported calls from C: the marked cases of the rule book, its edges, and the refusals 1, 2, 3, 14 and 18, with every lent byte
- * compared before and after. Prints what differs and returns 1, or prints how many comparisons were made. */
+/* The exported calls from C: the marked cases of the rule book, its edges, ranks, and the refusals 1, 2, 3, 14, 16 and 18, with every lent
+ * byte compared before and after. Prints what differs and returns 1, or prints how many comparisons were made. */
 #include <stdio.h>
 #include <string.h>
 
@@ -51,16 +51,23 @@ static void put_items(uint8_t *bytes, const uint32_t *items, size_t count) {
     }
 }
 
-static void open_sheet(unsigned n, const uint32_t *items, size_t count) {
+/* Line numbers as ranks. */
+static const uint8_t by_line[LUB_LINES + 1] = {1, 2, 3, 4, 5, 6, 7, 8, 9};
+
+/* Opens all ends of a sheet of n. */
+static void open_ranked(unsigned n, const uint8_t *ranks, const uint32_t *items, size_t count) {
     uint8_t bytes[4 * LUB_INITIAL];
     unsigned line;
     put_items(bytes, items, count);
     memset(server, MARK, sizeof server);
     memset(clients, MARK, sizeof clients);
-    same("the server opens", 0, lub_server_open(server, sizeof server, (uint8_t)n, bytes, 4 * count));
+    same("the server opens", 0, lub_server_open(server, sizeof server, (uint8_t)n, ranks, n, bytes, 4 * count));
     for (line = 1; line <= n; line++)
-        same("a client opens", 0, lub_client_open(client(line), sizeof clients[0], (uint8_t)n, (uint8_t)line, bytes, 4 * count));
+        same("a client opens", 0,
+             lub_client_open(client(line), sizeof clients[0], (uint8_t)n, (uint8_t)line, ranks, n, bytes, 4 * count));
 }
+
+static void open_sheet(unsigned n, const uint32_t *items, size_t count) { open_ranked(n, by_line, items, count); }
 
 static void rest_stays(const char *what) {
     uint8_t mark[REST];
@@ -188,6 +195,39 @@ static void p12(void) {
     same("P12: counts", 0, lub_server_acked(server, 1));
 }
 
+/* ---- ranks */
+
+/* Client 5 has rank 1 and wins the tie against client 1, whichever of them the server takes first. */
+static void lead_first(unsigned first, unsigned second) {
+    static const uint8_t ranks[5] = {2, 3, 4, 5, 1};
+    static const uint8_t message[14] = {1, 5, 0, 0, 1, 0, 0, 0, 2, 0, 0, 0, 50, 1};
+    static const uint32_t opening[2] = {10, 20};
+    static const uint32_t both[4] = {10, 50, 15, 20};
+    unsigned line;
+    open_ranked(5, ranks, opening, 2);
+    for (line = 0; line <= LUB_LINES + 1; line++) {
+        unsigned rank = line < 1 || line > 5 ? 0 : ranks[line - 1];
+        same("a client's rank", rank, lub_client_rank(client(3), line));
+        same("a server's rank", rank, lub_server_rank(server, line));
+    }
+    same("client 1 inserts", 0, insert(1, 2, 15));
+    same("client 5 inserts at the same place", 0, insert(5, 2, 50));
+    same("its message", 14u << 8, lub_client_send(client(5), sizeof clients[0], 5, 1, out, sizeof out));
+    same_bytes("its message carries its rank", message, out, sizeof message);
+    same("the first goes up", 0, up(first, 1));
+    same("the second goes up", 0, up(second, 1));
+    same("client 1 takes client 5's", 0, down(1, 1));
+    same("client 5 takes client 1's", 0, down(5, 1));
+    for (line = 2; line <= 4; line++) {
+        same("another takes both", 0, down(line, 1));
+        same("another takes both", 0, down(line, 2));
+    }
+    server_shows("the tie: the server", both, 4);
+    for (line = 1; line <= 5; line++)
+        client_shows("the tie: a client", line, both, 4);
+    rest_stays("the tie: bytes behind the layout");
+}
+
 /* ---- edges */
 
 static void remember(unsigned line) {
@@ -265,10 +305,10 @@ static void four_hundred_edits(void) {
     }
     /* The counts are brought to 399 by hand, as a stored end might hold them: the list is then still one that question 2 lets be. */
     memcpy(end, client(1), sizeof end);
-    end[12] = 399 & 255;
-    end[13] = 399 >> 8;
     end[20] = 399 & 255;
     end[21] = 399 >> 8;
+    end[28] = 399 & 255;
+    end[29] = 399 >> 8;
     same("edit 400", 0, lub_client_insert(end, sizeof end, 1, 7));
     memcpy(client(1), end, sizeof end);
     remember(1);
@@ -321,25 +361,124 @@ static void openings(void) {
     memset(server, MARK, sizeof server);
     memset(clients, MARK, sizeof clients);
     memset(before, MARK, sizeof before);
-    same("128 items", 0, lub_server_open(server, sizeof server, 8, items, 4 * LUB_INITIAL));
-    same("128 items", 0, lub_client_open(client(8), sizeof clients[0], 8, 8, items, 4 * LUB_INITIAL));
+    same("128 items", 0, lub_server_open(server, sizeof server, 8, by_line, 8, items, 4 * LUB_INITIAL));
+    same("128 items", 0, lub_client_open(client(8), sizeof clients[0], 8, 8, by_line, 8, items, 4 * LUB_INITIAL));
     memset(server, MARK, sizeof server);
     memset(clients, MARK, sizeof clients);
-    same("n of 0", 1, lub_server_open(server, sizeof server, 0, items, 0));
-    same("n of 9", 1, lub_server_open(server, sizeof server, 9, items, 0));
-    same("129 items", 1, lub_server_open(server, sizeof server, 1, items, sizeof items));
-    same("a cut item", 1, lub_server_open(server, sizeof server, 1, items, 7));
-    same("n of 0", 1, lub_client_open(client(1), sizeof clients[0], 0, 0, items, 0));
-    same("line 0", 1, lub_client_open(client(1), sizeof clients[0], 2, 0, items, 0));
-    same("line n + 1", 1, lub_client_open(client(1), sizeof clients[0], 2, 3, items, 0));
-    same("129 items", 1, lub_client_open(client(1), sizeof clients[0], 2, 1, items, sizeof items));
-    same("a cut item", 1, lub_client_open(client(1), sizeof clients[0], 2, 1, items, 1));
+    same("n of 0", 1, lub_server_open(server, sizeof server, 0, by_line, 0, items, 0));
+    same("n of 9", 1, lub_server_open(server, sizeof server, 9, by_line, 9, items, 0));
+    same("129 items", 1, lub_server_open(server, sizeof server, 1, by_line, 1, items, sizeof items));
+    same("a cut item", 1, lub_server_open(server, sizeof server, 1, by_line, 1, items, 7));
+    same("n of 0", 1, lub_client_open(client(1), sizeof clients[0], 0, 0, by_line, 0, items, 0));
+    same("line 0", 1, lub_client_open(client(1), sizeof clients[0], 2, 0, by_line, 2, items, 0));
+    same("line n + 1", 1, lub_client_open(client(1), sizeof clients[0], 2, 3, by_line, 2, items, 0));
+    same("129 items", 1, lub_client_open(client(1), sizeof clients[0], 2, 1, by_line, 2, items, sizeof items));
+    same("a cut item", 1, lub_client_open(client(1), sizeof clients[0], 2, 1, by_line, 2, items, 1));
     same_bytes("a refused opening changes nothing", before, server, sizeof server);
     same_bytes("a refused opening changes nothing", before, client(1), sizeof clients[0]);
     items[0] = 1;
     items[3] = 2;
-    same("an item, high byte first", 0, lub_client_open(client(1), sizeof clients[0], 1, 1, items, 4));
+    same("an item, high byte first", 0, lub_client_open(client(1), sizeof clients[0], 1, 1, by_line, 1, items, 4));
     same("an item, high byte first", 0x01000002u, lub_client_item(client(1), 1));
+}
+
+/* Question 16, asked after 1 and 18: ranks that are not 1 to n, each used once. Every byte of both ends stays as it is. */
+static void wrong_ranks(void) {
+    static const struct {
+        const char *what;
+        uint8_t ranks[6];
+        size_t length;
+    } wrong_ones[] = {
+        {"no ranks", {0}, 0},
+        {"a rank too few", {1, 2, 3, 4}, 4},
+        {"a rank too many", {1, 2, 3, 4, 5, 6}, 6},
+        {"a zero too many", {1, 2, 3, 4, 5, 0}, 6},
+        {"a rank of 0", {1, 2, 3, 4, 0}, 5},
+        {"a rank of n + 1", {6, 2, 3, 4, 5}, 5},
+        {"a rank of 255", {1, 2, 255, 4, 5}, 5},
+        {"two ranks alike", {2, 3, 4, 5, 2}, 5},
+        {"neighbours alike", {1, 2, 2, 4, 5}, 5},
+        {"all alike", {1, 1, 1, 1, 1}, 5},
+    };
+    static uint8_t many[5 + 256] = {1, 2, 3, 4, 5};
+    static uint8_t items[4 * (LUB_INITIAL + 1)];
+    uint8_t *end = client(1);
+    size_t i;
+    open_sheet(2, NULL, 0);
+    remember(1);
+    for (i = 0; i < sizeof wrong_ones / sizeof wrong_ones[0]; i++) {
+        const char *what = wrong_ones[i].what;
+        const uint8_t *ranks = wrong_ones[i].ranks;
+        size_t length = wrong_ones[i].length;
+        refused(what, 1, LUB_REFUSED_RANKS, lub_server_open(server, sizeof server, 5, ranks, length, items, 8));
+        refused(what, 1, LUB_REFUSED_RANKS, lub_client_open(end, sizeof clients[0], 5, 1, ranks, length, items, 8));
+        refused(what, 1, 1, lub_server_open(server, sizeof server, 0, ranks, length, items, 8));
+        refused(what, 1, 1, lub_server_open(server, sizeof server, 9, ranks, length, items, 8));
+        refused(what, 1, 1, lub_server_open(server, sizeof server, 5, ranks, length, items, sizeof items));
+        refused(what, 1, 1, lub_server_open(server, sizeof server, 5, ranks, length, items, 7));
+        refused(what, 1, 1, lub_client_open(end, sizeof clients[0], 5, 0, ranks, length, items, 8));
+        refused(what, 1, 1, lub_client_open(end, sizeof clients[0], 5, 6, ranks, length, items, 8));
+        refused(what, 1, 1, lub_client_open(end, sizeof clients[0], 5, 1, ranks, length, items, sizeof items));
+        refused(what, 1, 1, lub_client_open(end, sizeof clients[0], 5, 1, ranks, length, items, 3));
+        refused(what, 1, 18, lub_server_open(server, LUB_SERVER_BYTES - 1, 5, ranks, length, items, 8));
+        refused(what, 1, 18, lub_client_open(end, LUB_CLIENT_BYTES - 1, 5, 1, ranks, length, items, 8));
+    }
+    refused("n + 256 ranks", 1, LUB_REFUSED_RANKS, lub_server_open(server, sizeof server, 5, many, sizeof many, items, 8));
+    refused("n + 256 ranks", 1, LUB_REFUSED_RANKS, lub_client_open(end, sizeof clients[0], 5, 1, many, sizeof many, items, 8));
+    same("the first five of them", 0, lub_server_open(server, sizeof server, 5, many, 5, items, 8));
+    same("the first five of them", 0, lub_client_open(end, sizeof clients[0], 5, 1, many, 5, items, 8));
+}
+
+/* Question 4 compares an insert's priority with ranks, of a sheet of three in which no rank is its line's number. */
+static void other_ranks(void) {
+    static const uint8_t ranks[3] = {2, 3, 1};
+    uint8_t message[14] = {1, 1, 0, 0, 1, 0, 0, 0, 1, 0, 0, 0, 7, 0};
+    unsigned priority;
+    unsigned line;
+    for (line = 1; line <= 3; line++) {
+        for (priority = 1; priority <= LUB_LINES; priority++) {
+            unsigned own = ranks[line - 1];
+            open_ranked(3, ranks, NULL, 0);
+            message[1] = (uint8_t)line;
+            message[13] = (uint8_t)priority;
+            message[2] = 0;
+            same("the rank of an insert going up", priority == own ? 0 : LUB_REFUSED_MISDIRECTED,
+                 lub_server_take(server, sizeof server, message, sizeof message));
+            message[2] = 1;
+            same("the rank of an insert coming down", priority <= 3 && priority != own ? 0 : LUB_REFUSED_MISDIRECTED,
+                 lub_client_take(client(line), sizeof clients[0], message, sizeof message));
+        }
+    }
+}
+
+/* Question 2 looks at each of the eight bytes of ranks: 1 to n, each once, zeros past n. */
+static void damaged_ranks(void) {
+    static const uint8_t ranks[5] = {2, 3, 4, 5, 1};
+    size_t at;
+    unsigned value;
+    open_ranked(5, ranks, NULL, 0);
+    for (at = 12; at < 12 + LUB_LINES; at++) {
+        uint8_t right = at < 12 + 5 ? ranks[at - 12] : 0;
+        same("a rank in a client's bytes", right, client(1)[at]);
+        same("a rank in the server's bytes", right, server[at]);
+        for (value = 0; value < 256; value++) {
+            if (value == right)
+                continue;
+            client(1)[at] = (uint8_t)value;
+            server[at] = (uint8_t)value;
+            remember(1);
+            refused("a client's rank damaged", 1, LUB_REFUSED_UNSOUND, insert(1, 1, 7));
+            refused("a server's rank damaged", 1, LUB_REFUSED_UNSOUND, lub_server_acknowledge(server, sizeof server, 1, out, sizeof out));
+            client(1)[at] = right;
+            server[at] = right;
+        }
+    }
+    same("as it was", 0, insert(1, 1, 7));
+    /* the pending insert has rank 2: with the ranks of lines 1 and 2 exchanged it is another's */
+    client(1)[12] = 3;
+    client(1)[13] = 2;
+    remember(1);
+    refused("ranks exchanged", 1, LUB_REFUSED_UNSOUND, insert(1, 1, 8));
 }
 
 static void damaged(void) {
@@ -365,13 +504,13 @@ static void damaged(void) {
     refused("a short buffer", 1, LUB_REFUSED_SHORT_BUFFER, lub_server_acknowledge(server, sizeof server, 2, out, 4));
     /* every unused byte of the layout is looked at, and every number's high bytes */
     for (at = 0; at < LUB_CLIENT_BYTES; at++) {
-        if (at % 4 < 2 && at < 28)
+        if (at % 4 < 2 && (at < 12 || (at >= 20 && at < 36)))
             continue; /* the low bytes of a number may make another sound end */
-        if (at >= 28 && at < 40)
+        if (at >= 36 && at < 48)
             continue; /* the three items of the list may be anything */
-        if (at >= 2076 && at < 2080)
+        if (at >= 2084 && at < 2088)
             continue; /* the pending place: another position is sound too */
-        if (at >= 2332 && at < 2336)
+        if (at >= 2340 && at < 2344)
             continue; /* the pending item */
         client(1)[at] ^= 0x80;
         remember(1);
@@ -379,9 +518,9 @@ static void damaged(void) {
         client(1)[at] ^= 0x80;
     }
     for (at = 0; at < LUB_SERVER_BYTES; at++) {
-        if (at % 4 < 2 && at < 140)
+        if (at % 4 < 2 && (at < 12 || (at >= 20 && at < 148)))
             continue;
-        if (at >= 140 && at < 148)
+        if (at >= 148 && at < 156)
             continue;
         server[at] ^= 0x80;
         remember(1);
@@ -395,13 +534,13 @@ static void short_ends(void) {
     uint8_t junk[1] = {0};
     open_sheet(1, NULL, 0);
     remember(1);
-    refused("18: client open", 1, 18, lub_client_open(client(1), LUB_CLIENT_BYTES - 1, 0, 0, junk, 1));
+    refused("18: client open", 1, 18, lub_client_open(client(1), LUB_CLIENT_BYTES - 1, 0, 0, junk, 1, junk, 1));
     refused("18: client insert", 1, 18, lub_client_insert(client(1), LUB_CLIENT_BYTES - 1, 0, 0));
     refused("18: client delete", 1, 18, lub_client_delete(client(1), 0, 0));
     refused("18: client send", 1, 18, lub_client_send(client(1), LUB_CLIENT_BYTES - 1, 9, 0, out, 0));
     refused("18: client acknowledge", 1, 18, lub_client_acknowledge(client(1), LUB_CLIENT_BYTES - 1, 9, out, 0));
     refused("18: client take", 1, 18, lub_client_take(client(1), LUB_CLIENT_BYTES - 1, junk, 1));
-    refused("18: server open", 1, 18, lub_server_open(server, LUB_SERVER_BYTES - 1, 0, junk, 1));
+    refused("18: server open", 1, 18, lub_server_open(server, LUB_SERVER_BYTES - 1, 0, junk, 1, junk, 1));
     refused("18: server send", 1, 18, lub_server_send(server, LUB_SERVER_BYTES - 1, 9, 0, out, 0));
     refused("18: server acknowledge", 1, 18, lub_server_acknowledge(server, LUB_SERVER_BYTES - 1, 9, out, 0));
     refused("18: server take", 1, 18, lub_server_take(server, LUB_SERVER_BYTES - 1, junk, 1));
@@ -414,13 +553,18 @@ int main(void) {
     p9_and_p10();
     p11();
     p12();
+    lead_first(1, 5);
+    lead_first(5, 1);
     positions();
     forty_eight_inserts();
     sixty_four_pending();
     four_hundred_edits();
     full_line();
     openings();
+    wrong_ranks();
+    other_ranks();
     damaged();
+    damaged_ranks();
     short_ends();
     printf("boundary: %u comparisons, %u wrong\n", compared, wrong);
     return wrong == 0 ? 0 : 1;

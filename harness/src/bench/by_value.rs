@@ -8,7 +8,7 @@ use crate::plain::server::Server;
 use crate::plain::slip::Plain;
 use std::hint::black_box;
 
-// A byte slice goes over as its pointer and its length. The ends are opened for two clients with `count` items of 0.
+// A byte slice goes over as its pointer and its length. The ends are opened for two clients with line numbers as ranks and `count` items of 0.
 extern "C" {
     fn lub_time_client_insert(count: u8, position: u16, item: u32, times: u32) -> u64;
     fn lub_time_client_take(count: u8, message: *const u8, message_bytes: usize, times: u32) -> u64;
@@ -31,13 +31,13 @@ fn timed(work: impl FnOnce()) -> f64 {
 
 fn client() -> Client {
     let mut client = Client::ZERO;
-    assert_eq!(client.open::<Plain>(2, 1, &[0; COUNT as usize]), 0);
+    assert_eq!(client.open::<Plain>(2, 1, &[1, 2], &[0; COUNT as usize]), 0);
     client
 }
 
 fn server() -> Server {
     let mut server = Server::ZERO;
-    assert_eq!(server.open::<Plain>(2, &[0; COUNT as usize]), 0);
+    assert_eq!(server.open::<Plain>(2, &[1, 2], &[0; COUNT as usize]), 0);
     server
 }
 

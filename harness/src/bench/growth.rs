@@ -38,6 +38,7 @@ fn growing(edits: usize) -> List {
 /// What the graph does for the same list: the edits, and which end takes which.
 fn graph_run(list: &List, out: &[u8]) -> CJupiter {
     let mut graph = CJupiter::new(LINES, &list.initial);
+    let ranks = list.ranks().expect("a whole sheet");
     let mut taken = [0u16; LINES + 1];
     // the places in the server's order of the edits that each client has still to take
     let mut others: Vec<Vec<usize>> = vec![Vec::new(); LINES + 1];
@@ -47,7 +48,10 @@ fn graph_run(list: &List, out: &[u8]) -> CJupiter {
         let accepted = out[at] == 0;
         at += call.answer_length();
         match call.op {
-            INSERT if accepted => graph.do_op(call.end as usize, Edit::Insert(call.position, call.value, call.end)),
+            INSERT if accepted => {
+                let rank = ranks[call.end as usize - 1];
+                graph.do_op(call.end as usize, Edit::Insert(call.position, call.value, rank))
+            }
             DELETE if accepted => graph.do_op(call.end as usize, Edit::Delete(call.position)),
             SEND if accepted => slots[call.slot as usize] = (call.line, true),
             ACKNOWLEDGE if accepted => slots[call.slot as usize] = (call.line, false),

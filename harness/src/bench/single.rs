@@ -3,7 +3,7 @@
 use super::{head, row, scripts, turns};
 use crate::calls::Calls;
 use crate::clock::thread as clock;
-use crate::crafted::{client_at_limit, server_at_limit};
+use crate::crafted::{client_at_limit, server_at_limit, LEAD};
 use crate::list::*;
 use crate::plain::slip::Plain;
 use crate::world::World;
@@ -85,15 +85,19 @@ fn client(length: u16, kept: u16) -> (Vec<u8>, Vec<u8>) {
 }
 
 fn server(length: u16, kept: u16) -> (Vec<u8>, Vec<u8>) {
-    after(&server_at_limit(8, 47, length, kept), 0)
+    after(&server_at_limit(47, length, kept), 0)
 }
 
 fn openings() -> Vec<Task> {
     let items: Vec<u8> = (1..=128u32).flat_map(u32::to_be_bytes).collect();
     let (for_client, for_server) = (items.clone(), items);
     vec![
-        Task::new("client open, 128 items", &client(128, 0).0, move |calls, end| calls.client_open(end, 8, 1, black_box(&for_client))),
-        Task::new("server open, 128 items", &server(128, 0).0, move |calls, end| calls.server_open(end, 8, black_box(&for_server))),
+        Task::new("client open, 128 items", &client(128, 0).0, move |calls, end| {
+            calls.client_open(end, 8, 1, black_box(&LEAD), black_box(&for_client))
+        }),
+        Task::new("server open, 128 items", &server(128, 0).0, move |calls, end| {
+            calls.server_open(end, 8, black_box(&LEAD), black_box(&for_server))
+        }),
     ]
 }
 

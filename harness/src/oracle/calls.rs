@@ -97,13 +97,14 @@ impl Oracle {
     pub(super) fn turn(&self, end: usize, message: &Message) -> u8 {
         let l = message.line as usize;
         let priority = match message.numbered {
-            Some((_, Edit::Insert(_, _, priority))) => Some(priority as usize),
+            Some((_, Edit::Insert(_, _, priority))) => Some(priority),
             _ => None,
         };
+        let own = self.ranks.get(l - 1);
         let mine = if end == 0 {
-            message.direction == 0 && l <= self.n && priority.is_none_or(|p| p == l)
+            message.direction == 0 && l <= self.n && priority.is_none_or(|p| own == Some(&p))
         } else {
-            message.direction == 1 && l == end && priority.is_none_or(|p| p <= self.n && p != l)
+            message.direction == 1 && l == end && priority.is_none_or(|p| self.ranks.contains(&p) && own != Some(&p))
         };
         if !mine {
             return 4;

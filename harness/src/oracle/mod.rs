@@ -64,6 +64,7 @@ struct Slot {
 
 pub struct Oracle {
     n: usize,
+    ranks: Vec<u8>,
     initial: usize,
     history: History,
     graph: CJupiter,
@@ -96,10 +97,11 @@ enum Expected {
 /// Holds the answers of a run to the rule book.
 pub fn check(list: &List, out: &[u8]) -> Result<Report, Wrong> {
     let mut report = Report::default();
-    let Some(n) = list.lines() else {
+    let Some(ranks) = list.ranks() else {
         return Ok(report);
     };
-    let mut oracle = Oracle::start(n, &list.initial);
+    let n = ranks.len();
+    let mut oracle = Oracle::start(ranks, &list.initial);
     let mut at = 0;
     for (index, call) in list.calls.iter().enumerate() {
         let came = out.get(at..at + call.answer_length()).ok_or_else(|| (index, "the output ends here".to_string()))?;
@@ -119,11 +121,13 @@ pub fn check(list: &List, out: &[u8]) -> Result<Report, Wrong> {
 }
 
 impl Oracle {
-    /// The oracle after the openings of a sheet of n lines.
-    fn start(n: usize, initial: &[u32]) -> Oracle {
+    /// The oracle after the openings of a sheet whose lines have these ranks.
+    fn start(ranks: Vec<u8>, initial: &[u32]) -> Oracle {
+        let n = ranks.len();
         let line = || Line { first: vec![[0; LINES]], shown: initial.to_vec(), ..Line::default() };
         Oracle {
             n,
+            ranks,
             initial: initial.len(),
             history: History::default(),
             graph: CJupiter::new(n, initial),
@@ -144,11 +148,11 @@ impl Oracle {
         let unopened = end > self.n && call.has_end();
         match call.op {
             _ if call.exported() && call.lent < 0 => Ok(answer(18, 0)),
-            OPEN if opening_is_refused(call, self.initial) => Ok(answer(1, 0)),
+            OPEN if opening_refusal(call, self.initial) != 0 => Ok(answer(opening_refusal(call, self.initial), 0)),
             OPEN | SET | FILL | COPY => Ok(Expected::Silence),
             DUMP if unopened => Ok(dumped(vec![FRESH; layout::bytes(call.end)])),
             _ if unopened => Ok(answer(2, 0)),
-            INSERT => self.edit(end, Edit::Insert(call.position, call.value, call.end)),
+            INSERT => self.edit(end, Edit::Insert(call.position, call.value, self.ranks[end - 1])),
             DELETE => self.edit(end, Edit::Delete(call.position)),
             SEND | ACKNOWLEDGE => Ok(self.send(call)),
             TAKE => self.take(end, call),
@@ -167,11 +171,15 @@ impl Oracle {
     }
 }
 
-/// Question 1 and the cut item, of an opening that has so many items to choose from.
-pub fn opening_is_refused(call: &Call, initial: usize) -> bool {
+/// Question 1 with the cut item, then question 16, of an opening that has so many items to choose from.
+pub fn opening_refusal(call: &Call, initial: usize) -> u8 {
     let (n, items) = (call.size as usize, initial.min(call.number as usize));
     let line = call.end == 0 || (1 <= call.line && call.line <= call.size);
-    call.slot != 0 || !(1..=LINES).contains(&n) || !line || items > INITIAL
+    match () {
+        _ if call.slot != 0 || !(1..=LINES).contains(&n) || !line || items > INITIAL => 1,
+        _ if !is_ranking(n, &call.ranks()) => 16,
+        _ => 0,
+    }
 }
 
 /// The answer of a call; no byte changed that had to stay.

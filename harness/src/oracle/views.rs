@@ -48,6 +48,9 @@ impl Oracle {
         let items = if end == 0 { &self.shown } else { &self.lines[end - 1].shown };
         put(0, Field::N, self.n as u32);
         put(0, Field::Length, items.len() as u32);
+        for (half, word) in layout::rank_words(&self.ranks).into_iter().enumerate() {
+            put(0, Field::Ranks(half as u16), word);
+        }
         for (index, &item) in items.iter().enumerate() {
             put(0, Field::Item(index as u16), item);
         }

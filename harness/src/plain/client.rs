@@ -3,6 +3,7 @@
 use super::codec::{self, DOWN, UP};
 use super::edit::{Edit, INSERT};
 use super::line::Line;
+use super::ranks::{self, Ranks};
 use super::slip::{Rules, Slip};
 use super::{rest_is_zero, Answer, Sent};
 use crate::limits::*;
@@ -13,23 +14,27 @@ pub struct Client {
     pub n: u8,
     pub line: u8,
     pub length: u16,
+    pub ranks: Ranks,
     pub own: Line,
     pub items: [u32; ITEMS],
 }
 
 impl Client {
-    pub const ZERO: Client = Client { n: 0, line: 0, length: 0, own: Line::ZERO, items: [0; ITEMS] };
+    pub const ZERO: Client = Client { n: 0, line: 0, length: 0, ranks: [0; LINES], own: Line::ZERO, items: [0; ITEMS] };
 
-    /// Question 1, of an end that is all zeros. Refused, it stays so.
+    /// Questions 1 and 16, of an end that is all zeros. Refused, it stays so.
     #[inline]
-    pub fn open<R: Rules>(&mut self, n: u8, line: u8, items: &[u32]) -> u8 {
+    pub fn open<R: Rules>(&mut self, n: u8, line: u8, ranks: &[u8], items: &[u32]) -> u8 {
         let least = if R::slips(Slip::OpenLineZero) { 0 } else { 1 };
-        if !(1 <= n && n as usize <= LINES && least <= line && line <= n && items.len() <= INITIAL) {
-            return 1;
+        let one = 1 <= n && n as usize <= LINES && least <= line && line <= n && items.len() <= INITIAL;
+        let refusal = ranks::opening::<R>(one, n, ranks);
+        if refusal != 0 {
+            return refusal;
         }
         self.n = n;
         self.line = line;
         self.length = items.len() as u16;
+        self.ranks = ranks::stored(ranks);
         self.items[..items.len()].copy_from_slice(items);
         0
     }
@@ -44,12 +49,29 @@ impl Client {
             && (own.made <= EDITS || R::slips(Slip::SoundMade))
             && (own.taken <= OTHERS || R::slips(Slip::SoundTaken))
             && (own.inserts <= own.made || R::slips(Slip::SoundInsertsMade))
-            && own.sound::<R>(|priority| priority == self.line as u32)
+            && ranks::sound::<R>(self.n, &self.ranks)
+            && own.sound::<R>(|priority| priority == self.own_priority::<R>() as u32)
             && (rest_is_zero(&self.items, self.length) || R::slips(Slip::SoundItemsZero))
     }
 
+    /// The rank of the client's own line.
+    #[inline]
+    fn rank<R: Rules>(&self) -> u8 {
+        ranks::of::<R>(&self.ranks, self.line)
+    }
+
+    /// The priority that question 2 asks of the client's pending inserts.
+    #[inline]
+    fn own_priority<R: Rules>(&self) -> u8 {
+        if R::slips(Slip::TwoByLine) {
+            self.line
+        } else {
+            self.rank::<R>()
+        }
+    }
+
     pub fn insert<R: Rules>(&mut self, position: u16, item: u32) -> Answer {
-        let priority = if R::slips(Slip::PriorityOne) { 1 } else { self.line };
+        let priority = if R::slips(Slip::PriorityOne) { 1 } else { self.rank::<R>() };
         self.edit::<R>(Edit::insert(position, item, priority))
     }
 
@@ -139,8 +161,9 @@ impl Client {
         if R::slips(Slip::FiveBeforeFour) && !message.is_ack() && message.number <= self.own.taken {
             return Answer::refused(5);
         }
-        let own_priority = edit.priority() == self.line && !R::slips(Slip::OwnPriorityDown);
-        let foreign = edit.kind() != INSERT || (1 <= edit.priority() && edit.priority() <= self.n && !own_priority);
+        let own = if R::slips(Slip::FourByLine) { self.line } else { self.rank::<R>() };
+        let other = edit.priority() != own || R::slips(Slip::OwnPriorityDown);
+        let foreign = edit.kind() != INSERT || (1 <= edit.priority() && edit.priority() <= self.n && other);
         if message.direction != DOWN || message.line != self.line || !foreign {
             return Answer::refused(4);
         }
@@ -154,7 +177,7 @@ impl Client {
         if message.is_ack() {
             return self.own.acknowledge::<R>(message.seen);
         }
-        let crossed = self.own.cross::<R>(edit, message.seen);
+        let crossed = self.own.cross::<R>(edit, message.seen, &self.ranks);
         if !crossed.within || !crossed.edit.fits(self.length, ITEMS as u16) {
             return Answer::refused(9);
         }

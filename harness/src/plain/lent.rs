@@ -64,7 +64,7 @@ fn look<R: Rules, E: End>(end: &[u8], call: impl FnOnce(&E) -> Sent) -> u64 {
     packed::<R>(sent.refusal, sent.length as u16)
 }
 
-/// Questions 18 and 1 of an opening, and the end it gives.
+/// Questions 18, 1 and 16 of an opening, and the end it gives.
 #[inline]
 fn open<R: Rules, E: End>(end: &mut [u8], items: &[u8], call: impl FnOnce(&mut E, &[u32]) -> u8) -> u64 {
     let lent = end.len();
@@ -82,18 +82,23 @@ fn open<R: Rules, E: End>(end: &mut [u8], items: &[u8], call: impl FnOnce(&mut E
     }
     let whole = cut.is_empty() || R::slips(Slip::CutItem);
     let mut opened = E::ZERO;
-    if whole && call(&mut opened, &list[..fours.len().min(INITIAL + 1)]) == 0 {
+    let mut refusal = 1;
+    if whole || R::slips(Slip::CutLate) {
+        refusal = call(&mut opened, &list[..fours.len().min(INITIAL + 1)]);
+        refusal = if refusal == 0 { !whole as u8 } else { refusal };
+    }
+    if refusal == 0 {
         let before = R::slips(Slip::OpenLeaves).then(|| words.to_vec());
         opened.write(words);
-        for (word, old) in words.iter_mut().zip(before.unwrap_or_default()).skip(7) {
+        for (word, old) in words.iter_mut().zip(before.unwrap_or_default()).skip(9) {
             *word = if *word == [0; 4] { old } else { *word };
         }
-        return packed::<R>(0, 0);
-    }
-    if R::slips(Slip::OpenZeros) {
+    } else if R::slips(Slip::OpenZeros) {
         words.fill([0; 4]);
+    } else if refusal == 16 && R::slips(Slip::RanksLate) {
+        words[2] = (fours.len() as u32).to_le_bytes();
     }
-    packed::<R>(1, 0)
+    packed::<R>(refusal, 0)
 }
 
 #[inline]
@@ -142,8 +147,8 @@ impl<R: Rules + Sync> Calls for R {
         R::NAME
     }
 
-    fn client_open(&self, end: &mut [u8], n: u8, line: u8, items: &[u8]) -> u64 {
-        open::<R, Client>(end, items, |client, items| client.open::<R>(n, line, items))
+    fn client_open(&self, end: &mut [u8], n: u8, line: u8, ranks: &[u8], items: &[u8]) -> u64 {
+        open::<R, Client>(end, items, |client, items| client.open::<R>(n, line, ranks, items))
     }
 
     fn client_insert(&self, end: &mut [u8], position: u16, item: u32) -> u64 {
@@ -166,8 +171,8 @@ impl<R: Rules + Sync> Calls for R {
         change::<R, Client>(end, |client| client.take::<R>(lent_message::<R>(message)))
     }
 
-    fn server_open(&self, end: &mut [u8], n: u8, items: &[u8]) -> u64 {
-        open::<R, Server>(end, items, |server, items| server.open::<R>(n, items))
+    fn server_open(&self, end: &mut [u8], n: u8, ranks: &[u8], items: &[u8]) -> u64 {
+        open::<R, Server>(end, items, |server, items| server.open::<R>(n, ranks, items))
     }
 
     fn server_send(&self, end: &[u8], line: u8, number: u16, out: &mut [u8]) -> u64 {

@@ -2,6 +2,7 @@
 
 use super::codec::{self, Message};
 use super::edit::{Edit, DELETE, INSERT};
+use super::ranks::Ranks;
 use super::slip::{Rules, Slip};
 use super::{Answer, Sent};
 use crate::limits::*;
@@ -117,7 +118,7 @@ impl Line {
     /// The arriving edit past the pending edits after `seen` in order, and each of these past the edit as it stood
     /// before that one.
     #[inline]
-    pub fn cross<R: Rules>(&self, arriving: Edit, seen: u16) -> Crossed {
+    pub fn cross<R: Rules>(&self, arriving: Edit, seen: u16, ranks: &Ranks) -> Crossed {
         let seen = seen.clamp(self.acked, self.made);
         let seen = if R::slips(Slip::SeenIgnored) { self.acked } else { seen };
         let (from, to) = ((seen - self.acked) as usize, self.kept() as usize);
@@ -128,8 +129,8 @@ impl Line {
         let mut highest = 0;
         for at in from..to.min(PENDING) {
             let old = self.pending.get(at);
-            let form = carried::<R>(old, crossed.edit);
-            crossed.edit = carried::<R>(crossed.edit, old);
+            let form = carried::<R>(old, crossed.edit, ranks);
+            crossed.edit = carried::<R>(crossed.edit, old, ranks);
             highest = highest.max(form.position());
             crossed.pending.put(at - from, form);
         }
@@ -209,13 +210,15 @@ fn put<R: Rules>(message: &Message, out: &mut [u8]) -> Sent {
     Sent { refusal: 0, length: length as u8 }
 }
 
-/// One edit past another, and the slips of that table.
+/// One edit past another, and the slips of that table, one of which looks at the ranks.
 #[inline]
-fn carried<R: Rules>(edit: Edit, other: Edit) -> Edit {
+fn carried<R: Rules>(edit: Edit, other: Edit, ranks: &Ranks) -> Edit {
     let position = edit.position();
+    let line = |edit: Edit| ranks.iter().position(|&rank| rank == edit.priority());
     let slip = match (edit.kind(), other.kind(), position == other.position()) {
         (INSERT, INSERT, true) if R::slips(Slip::TieReversed) => position + (edit.priority() < other.priority()) as u16,
         (INSERT, INSERT, true) if R::slips(Slip::TieBoth) => position + 1,
+        (INSERT, INSERT, true) if R::slips(Slip::TieByLine) => position + (line(edit) > line(other)) as u16,
         (INSERT, DELETE, true) if R::slips(Slip::InsertDeleteEqual) => position.max(2) - 1,
         (DELETE, INSERT, true) if R::slips(Slip::DeleteInsertEqual) => position,
         (DELETE, DELETE, true) if R::slips(Slip::DeleteTwice) => position,

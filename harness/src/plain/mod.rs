@@ -6,6 +6,7 @@ pub mod codec;
 pub mod edit;
 pub mod lent;
 pub mod line;
+pub mod ranks;
 pub mod script;
 pub mod server;
 pub mod slip;

@@ -146,9 +146,11 @@ fn order<R: Rules>(line: &[u8], n: u8) -> Option<(u8, Order)> {
 impl Sheet {
     fn open<R: Rules>(n: u8, items: &[u32]) -> Option<Sheet> {
         let mut sheet = Sheet { n, server: Server::ZERO, clients: [Client::ZERO; LINES] };
-        let refusal = sheet.server.open::<R>(n, items);
+        // line numbers are the ranks
+        let ranks: Vec<u8> = if R::slips(Slip::ScriptRanks) { (1..=n).rev().collect() } else { (1..=n).collect() };
+        let refusal = sheet.server.open::<R>(n, &ranks, items);
         for (line, client) in (1..=n).zip(&mut sheet.clients) {
-            client.open::<R>(n, line, items);
+            client.open::<R>(n, line, &ranks, items);
         }
         (refusal == 0).then_some(sheet)
     }

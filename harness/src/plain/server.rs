@@ -3,6 +3,7 @@
 use super::codec::{self, Message, DOWN, UP};
 use super::edit::{INSERT, NOTHING};
 use super::line::Line;
+use super::ranks::{self, Ranks};
 use super::slip::{Rules, Slip};
 use super::{rest_is_zero, Answer, Sent};
 use crate::limits::*;
@@ -13,24 +14,28 @@ pub struct Server {
     pub n: u8,
     pub length: u16,
     pub initial: u16,
+    pub ranks: Ranks,
     pub lines: [Line; LINES],
     pub items: [u32; ITEMS],
 }
 
 impl Server {
-    pub const ZERO: Server = Server { n: 0, length: 0, initial: 0, lines: [Line::ZERO; LINES], items: [0; ITEMS] };
+    pub const ZERO: Server = Server { n: 0, length: 0, initial: 0, ranks: [0; LINES], lines: [Line::ZERO; LINES], items: [0; ITEMS] };
 
-    /// Question 1, of an end that is all zeros. Refused, it stays so.
+    /// Questions 1 and 16, of an end that is all zeros. Refused, it stays so.
     #[inline]
-    pub fn open<R: Rules>(&mut self, n: u8, items: &[u32]) -> u8 {
+    pub fn open<R: Rules>(&mut self, n: u8, ranks: &[u8], items: &[u32]) -> u8 {
         let most_items = if R::slips(Slip::Open129) { INITIAL + 1 } else { INITIAL };
         let most_lines = if R::slips(Slip::OpenNine) { LINES + 1 } else { LINES };
-        if !(1 <= n && n as usize <= most_lines && items.len() <= most_items) {
-            return 1;
+        let one = 1 <= n && n as usize <= most_lines && items.len() <= most_items;
+        let refusal = ranks::opening::<R>(one, n, ranks);
+        if refusal != 0 {
+            return refusal;
         }
         self.n = n;
         self.length = items.len() as u16;
         self.initial = self.length;
+        self.ranks = ranks::stored(ranks);
         self.items[..items.len()].copy_from_slice(items);
         0
     }
@@ -45,17 +50,37 @@ impl Server {
         let (used, unused) = self.lines.split_at(n.min(LINES));
         let taken: u32 = used.iter().map(|line| line.taken as u32).sum();
         let inserts: u32 = used.iter().map(|line| line.inserts as u32).sum();
-        (self.initial as usize <= INITIAL || R::slips(Slip::SoundInitial))
+        ranks::sound::<R>(self.n, &self.ranks)
+            && (self.initial as usize <= INITIAL || R::slips(Slip::SoundInitial))
             && (self.length as usize <= ITEMS || R::slips(Slip::SoundLength))
             && (self.length as u32 <= self.initial as u32 + inserts || R::slips(Slip::SoundListBound))
             && used.iter().enumerate().all(|(l, line)| {
                 (line.taken <= EDITS || R::slips(Slip::SoundTaken))
                     && (line.made as u32 == taken - line.taken as u32 || R::slips(Slip::SoundSum))
                     && (line.inserts <= line.taken || R::slips(Slip::SoundInsertsMade))
-                    && line.sound::<R>(|priority| (priority.wrapping_sub(1) < self.n as u32) & (priority != l as u32 + 1))
+                    && line.sound::<R>(self.others::<R>(l as u8 + 1))
             })
             && (unused.iter().all(|line| *line == Line::ZERO) || R::slips(Slip::SoundPastN))
             && (rest_is_zero(&self.items, self.length) || R::slips(Slip::SoundItemsZero))
+    }
+
+    /// The rank of a line.
+    #[inline]
+    fn rank<R: Rules>(&self, line: u8) -> u8 {
+        let rank = ranks::of::<R>(&self.ranks, line);
+        if R::slips(Slip::OtherRanks) {
+            (self.n + 1).wrapping_sub(rank)
+        } else {
+            rank
+        }
+    }
+
+    /// The priorities that question 2 lets the pending inserts of a line have: other ranks of 1 to n.
+    #[inline]
+    fn others<R: Rules>(&self, line: u8) -> impl Fn(u32) -> bool {
+        let own = if R::slips(Slip::TwoByLine) { line } else { self.rank::<R>(line) } as u32;
+        let n = self.n as u32;
+        move |priority| (priority.wrapping_sub(1) < n) & (priority != own)
     }
 
     /// Question 4 of a line.
@@ -98,7 +123,8 @@ impl Server {
             return Answer::refused(6);
         }
         let edit = message.edit;
-        let own = edit.kind() != INSERT || edit.priority() == message.line || R::slips(Slip::OtherPriorityUp);
+        let rank = if R::slips(Slip::FourByLine) { message.line } else { self.rank::<R>(message.line) };
+        let own = edit.kind() != INSERT || edit.priority() == rank || R::slips(Slip::OtherPriorityUp);
         if message.direction != UP || !self.has(message.line) || !own {
             return Answer::refused(4);
         }
@@ -121,7 +147,7 @@ impl Server {
         let own = message.line as usize - 1;
         let insert = message.edit.kind() == INSERT;
         let line = &self.lines[own];
-        let crossed = line.cross::<R>(message.edit, message.seen);
+        let crossed = line.cross::<R>(message.edit, message.seen, &self.ranks);
         let ten = insert && line.inserts >= INSERTS && !R::slips(Slip::ServerNoTen);
         if !crossed.within || !crossed.edit.fits(self.length, ITEMS as u16) {
             return Answer::refused(9);

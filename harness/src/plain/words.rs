@@ -2,6 +2,7 @@
 
 use super::client::Client;
 use super::line::Pending;
+use super::ranks::Ranks;
 use super::server::Server;
 use super::slip::{Rules, Slip};
 use crate::limits::*;
@@ -25,11 +26,27 @@ pub trait End: Sized {
     fn shown(&mut self) -> (u16, &mut u16, &mut [u32; ITEMS]);
 }
 
-/// Whether a number of the first word is above 8 bits, or one of the others above 16.
+/// All words together.
 #[inline]
-fn is_wide<R: Rules>(small: u32, others: &[Word]) -> bool {
-    let all = others.iter().fold(0, |all, &word| all | number(word));
-    (small >> 8 != 0 && !R::slips(Slip::WideN)) | (all >> 16 != 0 && !R::slips(Slip::WideCount))
+fn gathered(words: &[Word]) -> u32 {
+    words.iter().fold(0, |all, &word| all | number(word))
+}
+
+/// Whether a number of the first is above 8 bits, or one of the others above 16.
+#[inline]
+fn is_wide<R: Rules>(small: u32, others: u32) -> bool {
+    (small >> 8 != 0 && !R::slips(Slip::WideN)) | (others >> 16 != 0 && !R::slips(Slip::WideCount))
+}
+
+/// Eight ranks in two words, line 1's in the lowest byte of the first.
+#[inline]
+fn read_ranks(ranks: &mut Ranks, words: &[Word]) {
+    ranks.copy_from_slice(words[..2].as_flattened());
+}
+
+#[inline]
+fn write_ranks(words: &mut [Word], ranks: &Ranks) {
+    words[..2].as_flattened_mut().copy_from_slice(ranks);
 }
 
 #[inline]
@@ -56,7 +73,7 @@ fn read_pending<R: Rules>(pending: &mut Pending, places: &[Word], items: &[Word]
 }
 
 impl End for Client {
-    const WORDS: usize = 647;
+    const WORDS: usize = 649;
     const ZERO: Client = Client::ZERO;
 
     #[inline]
@@ -65,21 +82,23 @@ impl End for Client {
         self.n = small(0) as u8;
         self.line = small(1) as u8;
         self.length = small(2);
+        read_ranks(&mut self.ranks, &words[3..]);
         let own = &mut self.own;
-        (own.made, own.taken, own.acked, own.inserts) = (small(3), small(4), small(5), small(6));
-        read_all(&mut self.items, &words[7..519]);
-        read_pending::<R>(&mut own.pending, &words[519..583], &words[583..647]);
-        !is_wide::<R>(number(words[0]) | number(words[1]), &words[2..7])
+        (own.made, own.taken, own.acked, own.inserts) = (small(5), small(6), small(7), small(8));
+        read_all(&mut self.items, &words[9..521]);
+        read_pending::<R>(&mut own.pending, &words[521..585], &words[585..649]);
+        !is_wide::<R>(gathered(&words[..2]), number(words[2]) | gathered(&words[5..9]))
     }
 
     #[inline]
     fn write(&self, words: &mut [Word]) {
         let own = &self.own;
-        let numbers = [self.n as u16, self.line as u16, self.length, own.made, own.taken, own.acked, own.inserts];
-        write_all(&mut words[..7], &numbers.map(u32::from));
-        write_all(&mut words[7..519], &self.items);
-        write_all(&mut words[519..583], &own.pending.places);
-        write_all(&mut words[583..647], &own.pending.items);
+        write_all(&mut words[..3], &[self.n as u32, self.line as u32, self.length as u32]);
+        write_ranks(&mut words[3..], &self.ranks);
+        write_all(&mut words[5..9], &[own.made, own.taken, own.acked, own.inserts].map(u32::from));
+        write_all(&mut words[9..521], &self.items);
+        write_all(&mut words[521..585], &own.pending.places);
+        write_all(&mut words[585..649], &own.pending.items);
     }
 
     fn shown(&mut self) -> (u16, &mut u16, &mut [u32; ITEMS]) {
@@ -88,7 +107,7 @@ impl End for Client {
 }
 
 impl End for Server {
-    const WORDS: usize = 1571;
+    const WORDS: usize = 1573;
     const ZERO: Server = Server::ZERO;
 
     #[inline]
@@ -97,26 +116,28 @@ impl End for Server {
         self.n = small(0) as u8;
         self.initial = small(1);
         self.length = small(2);
+        read_ranks(&mut self.ranks, &words[3..]);
         for (at, line) in self.lines.iter_mut().enumerate() {
-            let count = 3 + 4 * at;
+            let count = 5 + 4 * at;
             (line.made, line.taken, line.acked, line.inserts) = (small(count), small(count + 1), small(count + 2), small(count + 3));
-            let (places, items) = words[547 + 2 * PENDING * at..][..2 * PENDING].split_at(PENDING);
+            let (places, items) = words[549 + 2 * PENDING * at..][..2 * PENDING].split_at(PENDING);
             read_pending::<R>(&mut line.pending, places, items);
         }
-        read_all(&mut self.items, &words[35..547]);
-        !is_wide::<R>(number(words[0]), &words[1..35])
+        read_all(&mut self.items, &words[37..549]);
+        !is_wide::<R>(number(words[0]), gathered(&words[1..3]) | gathered(&words[5..37]))
     }
 
     #[inline]
     fn write(&self, words: &mut [Word]) {
         write_all(&mut words[..3], &[self.n as u32, self.initial as u32, self.length as u32]);
+        write_ranks(&mut words[3..], &self.ranks);
         for (at, line) in self.lines.iter().enumerate() {
-            write_all(&mut words[3 + 4 * at..][..4], &[line.made, line.taken, line.acked, line.inserts].map(u32::from));
-            let (places, items) = words[547 + 2 * PENDING * at..][..2 * PENDING].split_at_mut(PENDING);
+            write_all(&mut words[5 + 4 * at..][..4], &[line.made, line.taken, line.acked, line.inserts].map(u32::from));
+            let (places, items) = words[549 + 2 * PENDING * at..][..2 * PENDING].split_at_mut(PENDING);
             write_all(places, &line.pending.places);
             write_all(items, &line.pending.items);
         }
-        write_all(&mut words[35..547], &self.items);
+        write_all(&mut words[37..549], &self.items);
     }
 
     fn shown(&mut self) -> (u16, &mut u16, &mut [u32; ITEMS]) {
