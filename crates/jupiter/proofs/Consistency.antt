@@ -24,7 +24,7 @@ use Rattle.jupiter.proofs.World.{named, Inv, taken}
 use Rattle.jupiter.proofs.Step.{Later}
 use Rattle.jupiter.proofs.Meeting.{untaken-is}
 use Rattle.jupiter.proofs.Replay.{is-false, in-itself}
-use Rattle.jupiter.proofs.Runs.{wholeEnds, Reached, Onward, run-ok, starts}
+use Rattle.jupiter.proofs.Runs.{wholeEnds, Reached, Onward, run-ok, reached-by}
 
 select-none : {A : Type 0} (p : A → Bool) (xs : List A) → All (λ x. p x ≡ false) xs → select p xs ≡ []
 unfolding select
@@ -143,7 +143,7 @@ module _ {𝓐 : Algebra} (d : 𝓐 .Doc) where
 
 pub strong-consistency : (𝓐 : Algebra) → Laws 𝓐 → StrongConsistency 𝓐
 strong-consistency 𝓐 laws d cs cs′ x y same-set =
-    let r = run-ok d laws cs (initial d) (starts d laws) .reached in
+    let r = reached-by d laws cs in
     let s = run (initial d) cs in
     let on = run-ok d laws cs′ s r in
     consistent d s (run s cs′) r on x y (at-sets x y same-set)

@@ -16,7 +16,7 @@ use Rattle.jupiter.specs.Point.{point, blank, own, oth, ownForm, othForm
 use Rattle.jupiter.proofs.Lists as L
 use Rattle.jupiter.proofs.Lists.{All}
 use Rattle.jupiter.proofs.Forms.{Inside, form-made, form-by, listAt-snoc}
-use Rattle.jupiter.proofs.Grid.{eqb-same, ltb-true, ltb-false, below-suc, Edge, far-sides, seenOf, lagOf, Grows, mine-own, others-own, grows-own, mine-oth, others-oth, others-before, grows-oth, own-cell, oth-cell, Contexts, oth-line, oth-out, Good, good-back, docAt, OwnEdge, OthEdge, Grid}
+use Rattle.jupiter.proofs.Grid.{eqb-same, ltb-true, ltb-false, below-suc, Edge, far-sides, seenOf, lagOf, Grows, mine-own, others-own, grows-own, mine-oth, others-oth, others-before, grows-oth, own-cell, oth-cell, Contexts, own-line, oth-line, oth-out, Good, good-back, docAt, OwnEdge, OthEdge, Grid}
 
 -- a property of the numbers from s on that each hands to the next
 pub climb : (P : ℕ → Type 0) (s e : ℕ) → P s → ((j : ℕ) → s ≤ j → j < e → P j → P (suc j)) → (j : ℕ) → s ≤ j → j ≤ e → P j
@@ -31,10 +31,12 @@ module _ {𝓐 : Algebra} where
   pub record NewOwn (l : ℕ) (w : List (Made 𝓐)) (t : ℕ) (o : Made 𝓐) : Type 0 where
     pub name : o .name ≡ record { line = l; number = suc (length (mine l w)) }
     pub knows-own : (k : ℕ) → k < length (mine l w) → holds (o .context) (own l w k .name) ≡ true
+    pub knows-mine : (x : ℕ) → holds (o .context) (record { line = l; number = x }) ≡ true → x ≤ length (mine l w)
     pub knows-oth : (j : ℕ) → j < length (others l w) → holds (o .context) (oth l w j .name) ≡ ltb j t
     pub seen : seenOf o ≡ t
     pub seen-le : t ≤ length (others l w)
-    pub line : T (𝓐 .by l (o .edit))
+    pub seen-up : (k : ℕ) → k < length (mine l w) → seenOf (own l w k) ≤ t
+    pub bears : T (𝓐 .by (o .name) (o .edit))
 
   module _ (l : ℕ) (w : List (Made 𝓐)) (t : ℕ) (o : Made 𝓐) (new : NewOwn l w t o) where
     pub row-by : isBy l o ≡ true
@@ -94,6 +96,7 @@ module _ {𝓐 : Algebra} where
           ctx-own = λ i k hi. row-own-cases (λ i e. k < i → holds (e .context) (own l (w ++ (o ∷ [])) k .name) ≡ true)
               (λ i hi lt. rw (row-grows .own-same k (omega arith)) (c .ctx-own i k hi lt))
               (λ lt. rw (row-grows .own-same k lt) (new .knows-own k lt)) i hi;
+          ctx-mine = λ i x hi. row-own-cases (λ i e. holds (e .context) (record { line = l; number = x }) ≡ true → x ≤ i) (λ i hi. c .ctx-mine i x hi) (new .knows-mine x) i hi;
           ctx-oth = λ i j hi hj. row-own-cases (λ i e. holds (e .context) (oth l (w ++ (o ∷ [])) j .name) ≡ ltb j (seenOf e))
               (λ i hi. rw (row-grows .oth-same j (back-oth hj)) (c .ctx-oth i j hi (back-oth hj)))
               (rw (row-grows .oth-same j (back-oth hj), new .seen) (new .knows-oth j (back-oth hj))) i hi;
@@ -103,8 +106,11 @@ module _ {𝓐 : Algebra} where
           causal = λ i j hi hj. row-own-cases (λ i e. j < seenOf e → lagOf l (w ++ (o ∷ [])) j ≤ i)
               (λ i hi lt. rw (row-grows .lag-same j (back-oth hj)) (c .causal i j hi (back-oth hj) lt))
               (λ lt. rw (row-grows .lag-same j (back-oth hj)) (L.lag-le (isBy l) blank w j)) i hi;
-          own-by = row-own-cases (λ i e. T (𝓐 .by l (e .edit))) (c .own-by) (new .line);
-          oth-by = row-oth-cases (λ j e. T (𝓐 .by (e .name .line) (e .edit))) (c .oth-by);
+          seen-up = λ i k hi. row-own-cases (λ i e. k < i → seenOf (own l (w ++ (o ∷ [])) k) ≤ seenOf e)
+              (λ i hi lt. rw (row-grows .own-same k (omega arith)) (c .seen-up i k hi lt))
+              (λ lt. rw (row-grows .own-same k lt, new .seen) (new .seen-up k lt)) i hi;
+          own-by = row-own-cases (λ i e. T (𝓐 .by (e .name) (e .edit))) (c .own-by) (new .bears);
+          oth-by = row-oth-cases (λ j e. T (𝓐 .by (e .name) (e .edit))) (c .oth-by);
         }
 
   -- what is known of an edit of another line that the server takes, behind xs
@@ -115,7 +121,7 @@ module _ {𝓐 : Algebra} where
     pub fresh′ : (j : ℕ) → j < length (others l (xs ++ ys)) → same (g .name) (oth l (xs ++ ys) j .name) ≡ false
     pub unknown : (i : ℕ) → i < length (mine l (xs ++ ys)) → holds (own l (xs ++ ys) i .context) (g .name) ≡ false
     pub knows : (x : ℕ) → holds (g .context) (record { line = l; number = x }) ≡ true → x ≤ length (mine l xs)
-    pub line : T (𝓐 .by (g .name .line) (g .edit))
+    pub bears : T (𝓐 .by (g .name) (g .edit))
 
   module _ (l : ℕ) (xs ys : List (Made 𝓐)) (g : Made 𝓐) (new : NewOth l xs ys g) where
     pub col-grows : Grows l (xs ++ ys) (xs ++ g ∷ ys)
@@ -169,6 +175,7 @@ module _ {𝓐 : Algebra} where
               (λ k hk e. absurd (true≢false (sym e ∙ new .fresh′ k hk))) (λ e. refl) k hk) j hj;
           ctx-own = λ i k hi. col-own-cases (λ i e. k < i → holds (e .context) (own l (xs ++ g ∷ ys) k .name) ≡ true)
               (λ i hi lt. rw (col-grows .own-same k (omega arith)) (c .ctx-own i k hi lt)) i hi;
+          ctx-mine = λ i x hi. col-own-cases (λ i e. holds (e .context) (record { line = l; number = x }) ≡ true → x ≤ i) (λ i hi. c .ctx-mine i x hi) i hi;
           ctx-oth = λ i j hi hj. col-own-cases (λ i e. holds (e .context) (oth l (xs ++ g ∷ ys) j .name) ≡ ltb j (seenOf e))
               (λ i hi. col-oth-cases (λ j e. holds (own l (xs ++ ys) i .context) (e .name) ≡ ltb j (seenOf (own l (xs ++ ys) i)))
               (λ j hj. c .ctx-oth i j hi hj) (new .unknown i hi ∙ sym (ltb-false _ _ (c .seen-le i hi))) j hj) i hi;
@@ -179,8 +186,10 @@ module _ {𝓐 : Algebra} where
           causal = λ i j hi hj. col-own-cases (λ i e. j < seenOf e → lagOf l (xs ++ g ∷ ys) j ≤ i)
               (λ i hi lt. let hj′ : j < length (others l (xs ++ ys)) = le-trans lt (c .seen-le i hi) in
               rw (col-grows .lag-same j hj′) (c .causal i j hi hj′ lt)) i hi;
-          own-by = col-own-cases (λ i e. T (𝓐 .by l (e .edit))) (c .own-by);
-          oth-by = col-oth-cases (λ j e. T (𝓐 .by (e .name .line) (e .edit))) (c .oth-by) (new .line);
+          seen-up = λ i k hi. col-own-cases (λ i e. k < i → seenOf (own l (xs ++ g ∷ ys) k) ≤ seenOf e)
+              (λ i hi lt. rw (col-grows .own-same k (omega arith)) (c .seen-up i k hi lt)) i hi;
+          own-by = col-own-cases (λ i e. T (𝓐 .by (e .name) (e .edit))) (c .own-by);
+          oth-by = col-oth-cases (λ j e. T (𝓐 .by (e .name) (e .edit))) (c .oth-by) (new .bears);
         }
 
 -- ---- the edges
@@ -207,9 +216,10 @@ module _ {𝓐 : Algebra} (laws : Laws 𝓐) (d : 𝓐 .Doc) where
   cell : (l : ℕ) (w : List (Made 𝓐)) → Contexts l w → (i j : ℕ) → i < length (mine l w) → j < length (others l w) → seenOf (own l w i) ≤ j
       → ((k : ℕ) → k < suc j → lagOf l w k ≤ i) → OwnEdge d l w i j → OthEdge d l w i j → OwnEdge d l w i (suc j) × OthEdge d l w (suc i) j
   cell l w c i j hi hj seen lags eo eg =
-      far-sides 𝓐 laws l (oth l w j .name .line) (oth-line l w j hj) (ownForm l w i j) (othForm l w i j) (ownForm l w i (suc j)) (othForm l w (suc i) j)
+      far-sides 𝓐 laws (own l w i .name) (oth l w j .name) (λ e. oth-line l w j hj (sym (own-line l w i hi) ∙ e))
+      (ownForm l w i j) (othForm l w i j) (ownForm l w i (suc j)) (othForm l w (suc i) j)
       (docAt d l w i j) (docAt d l w (suc i) j) (docAt d l w i (suc j)) (docAt d l w (suc i) (suc j))
-      (form-by laws l (own l w i) (point l w i j) (c .own-by i hi)) (form-by laws _ (oth l w j) (point l w i j) (c .oth-by j hj)) eo eg
+      (form-by laws _ (own l w i) (point l w i j) (c .own-by i hi)) (form-by laws _ (oth l w j) (point l w i j) (c .oth-by j hj)) eo eg
       (own-cell l w i j hj (λ k lt _. c .ctx-own i k hi lt) (c .ctx-oth i j hi hj ∙ ltb-false _ _ seen))
       (oth-cell l w i j hi (λ k lt. lags k (omega arith)) (oth-out l w c i j hi hj (lags j (le-refl _)))) (last-own l w i (suc j) hi lags)
 

@@ -46,19 +46,19 @@ module _ {𝓐 : Algebra} where
       length-append before (z ∷ after) ∙ omega (arith, length-append before after) in
       ap (λ k. formIn k e (before ++ z ∷ after)) n ∙ ap (formBy (λ e′ C′. formIn (length (before ++ after)) e′ C′) e) (last-one (e .context) before z after o h)
 
-  -- an edit keeps its line in all its forms
-  formIn-by : Laws 𝓐 → (l : ℕ) (n : ℕ) (e : Made 𝓐) (C : List (Made 𝓐)) → T (𝓐 .by l (e .edit)) → T (𝓐 .by l (formIn n e C))
+  -- an edit keeps its name in all its forms
+  formIn-by : Laws 𝓐 → (x : Name) (n : ℕ) (e : Made 𝓐) (C : List (Made 𝓐)) → T (𝓐 .by x (e .edit)) → T (𝓐 .by x (formIn n e C))
   unfolding formIn formBy
-  formIn-by laws l zero e C h = h
-  formIn-by laws l (suc n) e C h = go (lastOutside (e .context) C) (λ C′. formIn-by laws l n e C′ h)
+  formIn-by laws x zero e C h = h
+  formIn-by laws x (suc n) e C h = go (lastOutside (e .context) C) (λ C′. formIn-by laws x n e C′ h)
     where
-      go : (x : Last 𝓐) → ((C′ : List (Made 𝓐)) → T (𝓐 .by l (formIn n e C′))) → T (𝓐 .by l (formBy (λ e′ C′. formIn n e′ C′) e x))
+      go : (last : Last 𝓐) → ((C′ : List (Made 𝓐)) → T (𝓐 .by x (formIn n e C′))) → T (𝓐 .by x (formBy (λ e′ C′. formIn n e′ C′) e last))
       go allInside ih = h
-      go (outside before z after) ih = laws .keeps-line l _ _ (ih (before ++ after))
+      go (outside before z after) ih = laws .keeps-name x _ _ (ih (before ++ after))
 
-  pub form-by : Laws 𝓐 → (l : ℕ) (e : Made 𝓐) (C : List (Made 𝓐)) → T (𝓐 .by l (e .edit)) → T (𝓐 .by l (form e C))
+  pub form-by : Laws 𝓐 → (x : Name) (e : Made 𝓐) (C : List (Made 𝓐)) → T (𝓐 .by x (e .edit)) → T (𝓐 .by x (form e C))
   unfolding form
-  form-by laws l e C h = formIn-by laws l (length C) e C h
+  form-by laws x e C h = formIn-by laws x (length C) e C h
 
   -- ---- the list at a set
 

@@ -9,7 +9,7 @@ use mathlib.Core.List.{List, [], _∷_, _++_, append-nil}
 use lib.Dec.{T, ltb, eqb, eqb→eq, eqb-refl, lt→ltb, ltb→lt}
 use lib.ListN.{length, getD, length-append, List·getD-append}
 use Rattle.jupiter.specs.Algebra.{Algebra, Laws}
-use Rattle.jupiter.specs.Made.{Made, same, holds, select, isBy, mine, others}
+use Rattle.jupiter.specs.Made.{Name, Made, same, holds, select, isBy, mine, others}
 use Rattle.jupiter.specs.Form.{form, listAt}
 use Rattle.jupiter.specs.Point.{point, blank, own, oth, ownForm, othForm}
 use Rattle.jupiter.proofs.Lists as L
@@ -63,13 +63,13 @@ pub record Edge (𝓐 : Algebra) (e : 𝓐 .Edit) (d d′ : 𝓐 .Doc) : Type 0 
   pub gives : d′ ≡ 𝓐 .apply e d
 
 -- The one use of the square law: from the near sides of a cell of the grid to its far sides.
-pub far-sides : (𝓐 : Algebra) → Laws 𝓐 → (l k : ℕ) → l ≢ k → (a b a′ b′ : 𝓐 .Edit) (x y z u : 𝓐 .Doc) → T (𝓐 .by l a) → T (𝓐 .by k b)
+pub far-sides : (𝓐 : Algebra) → Laws 𝓐 → (m n : Name) → m .line ≢ n .line → (a b a′ b′ : 𝓐 .Edit) (x y z u : 𝓐 .Doc) → T (𝓐 .by m a) → T (𝓐 .by n b)
     → Edge 𝓐 a x y → Edge 𝓐 b x z → a′ ≡ 𝓐 .transform a b → b′ ≡ 𝓐 .transform b a → u ≡ 𝓐 .apply a′ z → Edge 𝓐 a′ z u × Edge 𝓐 b′ y u
-far-sides 𝓐 laws l k l≢k a b a′ b′ x y z u la kb ea eb pa pb pu = (
-  record { fits = rw (pa, eb .gives) (laws .square-fits l k a b x l≢k la kb (ea .fits) (eb .fits)); gives = pu },
+far-sides 𝓐 laws m n m≢n a b a′ b′ x y z u ma nb ea eb pa pb pu = (
+  record { fits = rw (pa, eb .gives) (laws .square-fits m n a b x m≢n ma nb (ea .fits) (eb .fits)); gives = pu },
   record {
-    fits = rw (pb, ea .gives) (laws .square-fits k l b a x (λ e. l≢k (sym e)) kb la (eb .fits) (ea .fits));
-    gives = rw (pu, pa, pb, ea .gives, eb .gives) (sym (laws .square l k a b x l≢k la kb (ea .fits) (eb .fits)));
+    fits = rw (pb, ea .gives) (laws .square-fits n m b a x (λ e. m≢n (sym e)) nb ma (eb .fits) (ea .fits));
+    gives = rw (pu, pa, pb, ea .gives, eb .gives) (sym (laws .square m n a b x m≢n ma nb (ea .fits) (eb .fits)));
   },
 )
 
@@ -187,14 +187,18 @@ module _ {𝓐 : Algebra} where
     pub oth-inj : (j k : ℕ) → j < length (others l w) → k < length (others l w) → same (oth l w j .name) (oth l w k .name) ≡ true → j ≡ k
     -- a client's edit knows the client's earlier ones, and the others that the client had taken
     pub ctx-own : (i k : ℕ) → i < length (mine l w) → k < i → holds (own l w i .context) (own l w k .name) ≡ true
+    -- and none of the client's that is not earlier
+    pub ctx-mine : (i x : ℕ) → i < length (mine l w) → holds (own l w i .context) (record { line = l; number = x }) ≡ true → x ≤ i
     pub ctx-oth : (i j : ℕ) → i < length (mine l w) → j < length (others l w) → holds (own l w i .context) (oth l w j .name) ≡ ltb j (seenOf (own l w i))
     -- another line's edit knows of line l's only what the server had taken before it
     pub oth-ctx : (j x : ℕ) → j < length (others l w) → holds (oth l w j .context) (record { line = l; number = x }) ≡ true → x ≤ lagOf l w j
     pub seen-le : (i : ℕ) → i < length (mine l w) → seenOf (own l w i) ≤ length (others l w)
     -- what a client had taken when it made an edit was served behind earlier edits of the client only
     pub causal : (i j : ℕ) → i < length (mine l w) → j < length (others l w) → j < seenOf (own l w i) → lagOf l w j ≤ i
-    pub own-by : (i : ℕ) → i < length (mine l w) → T (𝓐 .by l (own l w i .edit))
-    pub oth-by : (j : ℕ) → j < length (others l w) → T (𝓐 .by (oth l w j .name .line) (oth l w j .edit))
+    -- what a client has seen never falls
+    pub seen-up : (i k : ℕ) → i < length (mine l w) → k < i → seenOf (own l w k) ≤ seenOf (own l w i)
+    pub own-by : (i : ℕ) → i < length (mine l w) → T (𝓐 .by (own l w i .name) (own l w i .edit))
+    pub oth-by : (j : ℕ) → j < length (others l w) → T (𝓐 .by (oth l w j .name) (oth l w j .edit))
 
   pub own-line : (l : ℕ) (w : List (Made 𝓐)) (i : ℕ) → i < length (mine l w) → own l w i .name .line ≡ l
   own-line l w i h = sym (eqb-eq l _ (L.select-passes (isBy l) blank w i h))

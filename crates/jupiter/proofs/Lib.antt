@@ -18,3 +18,14 @@ pub mod Theorem
 pub mod Consistency
 pub mod Walk
 pub mod Reading
+pub mod Names
+pub mod Standing
+pub mod NoneTwice
+pub mod Orders
+pub mod Prefix
+pub mod OneOrder
+pub mod Targets
+pub mod Cuts
+pub mod Membership
+pub mod Arriving
+pub mod Room

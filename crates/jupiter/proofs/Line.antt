@@ -125,7 +125,7 @@ module _ {𝓐 : Algebra} (d : 𝓐 .Doc) where
         record { own-le = at .v-taken; oth-le = b; lags = λ k lt. at .lag-le k (le-trans lt b); seens = λ k lt. le-trans (at .v-seen k lt) a }
 
     -- ---- the client makes an edit
-    module _ (laws : Laws 𝓐) (e : 𝓐 .Edit) (N : ℕ) (number : N ≡ suc (length (mine l w))) (line : T (𝓐 .by l e)) (ok : T (𝓐 .fits e doc)) where
+    module _ (laws : Laws 𝓐) (e : 𝓐 .Edit) (N : ℕ) (number : N ≡ suc (length (mine l w))) (bears : T (𝓐 .by (record { line = l; number = N }) e)) (ok : T (𝓐 .fits e doc)) where
       abbrev o : Made 𝓐
       o = record { name = record { line = l; number = N }; edit = e; context = names applied }
 
@@ -134,10 +134,12 @@ module _ {𝓐 : Algebra} (d : 𝓐 .Doc) where
           record {
             name = λ i. record { line = l; number = number i };
             knows-own = at .applied-own;
+            knows-mine = at .applied-mine;
             knows-oth = at .applied-oth;
             seen = omega (arith, length-map applied (λ x. x .name), at .applied-count);
             seen-le = at .c-taken;
-            line = line;
+            seen-up = at .seen-le;
+            bears = bears;
           }
 
       made-fits : T (𝓐 .fits (o .edit) (docAt d l w (length (mine l w)) (c .taken)))

@@ -28,6 +28,11 @@ pub all-from : {A : Type 0} (Q : A → Type 0) (d : A) (xs : List A) → ((i : �
 all-from Q d [] f = tt
 all-from Q d (x ∷ xs) f = (f 0 (suc-le-suc zero-le), all-from Q d xs (λ i h. f (suc i) (suc-le-suc h)))
 
+pub all-at : {A : Type 0} (Q : A → Type 0) (d : A) (xs : List A) → All Q xs → (i : ℕ) → i < length xs → Q (getD xs i d)
+all-at Q d [] h i lt = absurd (not-suc-le-zero lt)
+all-at Q d (x ∷ xs) h zero lt = h .0
+all-at Q d (x ∷ xs) h (suc i) lt = all-at Q d xs (h .1) i (le-of-suc-le-suc lt)
+
 module _ {A : Type 0} (p : A → Bool) (d : A) where
   pub select-append : (xs ys : List A) → select p (xs ++ ys) ≡ select p xs ++ select p ys
   unfolding select
@@ -115,6 +120,17 @@ module _ {A : Type 0} (p : A → Bool) (d : A) where
       go true k ih = suc-le-suc (ih k)
       go false zero ih = zero-le
       go false (suc k) ih = ih k
+
+  -- what comes behind xs lags by those of xs at least
+  pub lag-from : (xs ys : List A) → length (select p xs) ≤ lag (xs ++ ys) (length (reject p xs))
+  unfolding lag select reject counted
+  lag-from [] ys = zero-le
+  lag-from (x ∷ xs) ys = go (p x) (lag-from xs ys)
+    where
+      go : (b : Bool) → length (select p xs) ≤ lag (xs ++ ys) (length (reject p xs))
+          → length (cond b (x ∷ select p xs) (select p xs)) ≤ counted b (length (cond b (reject p xs) (x ∷ reject p xs))) (λ k′. lag (xs ++ ys) k′)
+      go true ih = suc-le-suc ih
+      go false ih = ih
 
   pub lag-append : (xs ys : List A) (k : ℕ) → k < length (reject p xs) → lag (xs ++ ys) k ≡ lag xs k
   unfolding lag reject counted
@@ -351,16 +367,18 @@ module _ {A : Type 0} (p : A → Bool) (d : A) where
       go false i zero f g ih = ih i 0 f (λ k lt. absurd (not-suc-le-zero lt))
       go false i (suc j) f g ih = (g 0 (suc-le-suc zero-le) (suc-le-suc zero-le), ih i j f (λ k lt ln. g (suc k) (suc-le-suc lt) (suc-le-suc ln)))
 
-  -- where the j-th that p rejects stands, and a property of all before it
+  -- where the j-th that p rejects stands, how many are before it, and a property of them all
   pub record Before (Q : A → Type 0) (xs : List A) (j : ℕ) : Type 0 where
     pub front : List A
     pub back : List A
     pub whole : xs ≡ front ++ getD (reject p xs) j d ∷ back
     pub every : All Q front
+    pub count : length (reject p front) ≡ j
+    pub lags : length (select p front) ≡ lag xs j
 
   pub before-rejected : (Q : A → Type 0) (xs : List A) (j : ℕ) → j < length (reject p xs) → ((k : ℕ) → k < length (select p xs) → Q (getD (select p xs) k d))
       → ((k : ℕ) → k < j → k < length (reject p xs) → Q (getD (reject p xs) k d)) → Before Q xs j
-  unfolding select reject
+  unfolding select reject lag counted
   before-rejected Q [] j h f g = absurd (omega arith)
   before-rejected Q (x ∷ xs) j h f g = go (p x) refl j h f g (λ j h f g. before-rejected Q xs j h f g)
     where
@@ -371,8 +389,15 @@ module _ {A : Type 0} (p : A → Bool) (d : A) where
           → ((k : ℕ) → k < j → k < length (reject p xs) → Q (getD (reject p xs) k d)) → Before Q xs j) → Before Q (x ∷ xs) j
       go true e j h f g ih =
           let r = ih j h (λ k lt. f (suc k) (suc-le-suc lt)) g in
-          record { front = x ∷ r .front; back = r .back; whole = rw e (ap {B = List A} (λ l. x ∷ l) (r .whole)); every = (f 0 (suc-le-suc zero-le), r .every) }
-      go false e zero h f g ih = record { front = []; back = xs; whole = rw e refl; every = tt }
+          record {
+            front = x ∷ r .front;
+            back = r .back;
+            whole = rw e (ap {B = List A} (λ l. x ∷ l) (r .whole));
+            every = (f 0 (suc-le-suc zero-le), r .every);
+            count = rw e (r .count);
+            lags = rw e (ap suc (r .lags));
+          }
+      go false e zero h f g ih = record { front = []; back = xs; whole = rw e refl; every = tt; count = refl; lags = rw e refl }
       go false e (suc j) h f g ih =
           let r = ih j (le-of-suc-le-suc h) f (λ k lt ln. g (suc k) (suc-le-suc lt) (suc-le-suc ln)) in
           record {
@@ -380,4 +405,6 @@ module _ {A : Type 0} (p : A → Bool) (d : A) where
             back = r .back;
             whole = rw e (ap {B = List A} (λ l. x ∷ l) (r .whole));
             every = (g 0 (suc-le-suc zero-le) (suc-le-suc zero-le), r .every);
+            count = rw e (ap suc (r .count));
+            lags = rw e (r .lags);
           }

@@ -15,6 +15,7 @@ use Rattle.jupiter.specs.Point.{point, blank, own, oth}
 use Rattle.jupiter.specs.History.{History, order, missing}
 use Rattle.jupiter.specs.Ends.{End, Ends}
 use Rattle.jupiter.proofs.Lists as L
+use Rattle.jupiter.proofs.Lists.{All, all-at}
 use Rattle.jupiter.proofs.Grid.{ltb-true, ltb-lt, own-line, own-name, oth-line, docAt}
 use Rattle.jupiter.proofs.Line.{LineAt, between-good}
 use Rattle.jupiter.proofs.World.{mine-served, others-served, Inv, taken, missing-is}
@@ -72,6 +73,9 @@ module _ {𝓐 : Algebra} where
       go : (b : Bool) → same n (x .name) ≡ b → b || holds (names xs) n ≡ true → (holds (names xs) n ≡ true → HeldAt xs n) → HeldAt (x ∷ xs) n
       go true e k ih = record { place = 0; below = suc-le-suc zero-le; named-so = sym (same-eq n (x .name) e) }
       go false e k ih = let r = ih k in record { place = suc (r .place); below = suc-le-suc (r .below); named-so = r .named-so }
+
+  pub held-all : (P : Name → Type 0) (xs : List (Made 𝓐)) → All (λ e. P (e .name)) xs → (n : Name) → holds (names xs) n ≡ true → P n
+  held-all P xs every n h = let r = held-at xs n h in subst P (r .named-so) (all-at (λ e. P (e .name)) blank xs every (r .place) (r .below))
 
   holds-without : (done less : List (Made 𝓐)) (n : Name) → holds (names (without done less)) n ≡ holds (names done) n && not (holds (names less) n)
   unfolding holds without select

@@ -51,17 +51,19 @@ module _ {𝓐 : Algebra} where
   oth-forms-stay d laws s r cs l i j =
       oth-form-same l (order (s .history) l) (order (run s cs .history) l) (run-ok d laws cs s r .later .grows l) i j
 
-  -- A message's edit is of the line that made it, and adds what the edit as made adds.
+  -- A message's edit may bear the name of the edit as made, and adds what the edit as made adds.
   module _ (laws : Laws 𝓐) (l : ℕ) (w : List (Made 𝓐)) (contexts : Contexts l w) (taken : ℕ) (x : EditMessage 𝓐) where
-    pub up-by : UpOk l w taken x → T (𝓐 .by l (x .edit))
-    up-by ok = subst (λ e. T (𝓐 .by l e)) (sym (ok .edit)) (form-by laws l (own l w (ok .index)) (point l w (ok .index) (x .seen)) (contexts .own-by (ok .index) (ok .made)))
+    pub up-by : (ok : UpOk l w taken x) → T (𝓐 .by (own l w (ok .index) .name) (x .edit))
+    up-by ok =
+        subst (λ e. T (𝓐 .by (own l w (ok .index) .name) e)) (sym (ok .edit))
+        (form-by laws _ (own l w (ok .index)) (point l w (ok .index) (x .seen)) (contexts .own-by (ok .index) (ok .made)))
 
     pub up-growth : (ok : UpOk l w taken x) → 𝓐 .grows (x .edit) ≡ 𝓐 .grows (own l w (ok .index) .edit)
     up-growth ok = ap (𝓐 .grows) (ok .edit) ∙ form-grows laws (own l w (ok .index)) (point l w (ok .index) (x .seen))
 
-    pub down-by : (ok : DownOk l w taken x) → T (𝓐 .by (oth l w (ok .index) .name .line) (x .edit))
+    pub down-by : (ok : DownOk l w taken x) → T (𝓐 .by (oth l w (ok .index) .name) (x .edit))
     down-by ok =
-        subst (λ e. T (𝓐 .by (oth l w (ok .index) .name .line) e)) (sym (ok .edit))
+        subst (λ e. T (𝓐 .by (oth l w (ok .index) .name) e)) (sym (ok .edit))
         (form-by laws _ (oth l w (ok .index)) (point l w (x .seen) (ok .index)) (contexts .oth-by (ok .index) (ok .made)))
 
     pub down-growth : (ok : DownOk l w taken x) → 𝓐 .grows (x .edit) ≡ 𝓐 .grows (oth l w (ok .index) .edit)

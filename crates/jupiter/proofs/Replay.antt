@@ -56,11 +56,21 @@ pub is-false : (b : Bool) → (b ≡ true → ⊥) → b ≡ false
 is-false true h = absurd (h refl)
 is-false false h = refl
 
+pub same-sym : (x y : Name) → same x y ≡ false → same y x ≡ false
+same-sym x y e = same-differ y x (λ q. true≢false (sym (same-refl x) ∙ ap (same x) (sym q) ∙ e))
+
+pub holds-both : (xs ys : List Name) (x : Name) → holds (xs ++ ys) x ≡ holds xs x || holds ys x
+unfolding holds
+holds-both [] ys x = refl
+holds-both (y ∷ xs) ys x = ap (λ b. same x y || b) (holds-both xs ys x) ∙ sym (or-assoc (same x y) (holds xs x) (holds ys x))
+
 module _ {𝓐 : Algebra} where
+  names-append : (es fs : List (Made 𝓐)) → names (es ++ fs) ≡ names es ++ names fs
+  names-append [] fs = refl
+  names-append (e ∷ es) fs = ap {B = List Name} (λ r. e .name ∷ r) (names-append es fs)
+
   pub holds-append : (es fs : List (Made 𝓐)) (x : Name) → holds (names (es ++ fs)) x ≡ holds (names es) x || holds (names fs) x
-  unfolding holds
-  holds-append [] fs x = refl
-  holds-append (e ∷ es) fs x = ap (λ b. same x (e .name) || b) (holds-append es fs x) ∙ sym (or-assoc (same x (e .name)) (holds (names es) x) (holds (names fs) x))
+  holds-append es fs x = ap (λ r. holds r x) (names-append es fs) ∙ holds-both (names es) (names fs) x
 
   pub holds-snoc : (es : List (Made 𝓐)) (e : Made 𝓐) (x : Name) → holds (names (es ++ (e ∷ []))) x ≡ holds (names es) x || same x (e .name)
   unfolding holds

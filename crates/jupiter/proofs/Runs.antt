@@ -8,7 +8,7 @@ use mathlib.Core.List.{List, [], _∷_}
 use lib.Dec.{ltb, leb, eqb, leb→le, le→leb}
 use lib.ListN.{length, getElem?}
 use Rattle.jupiter.specs.Algebra.{Algebra, Laws}
-use Rattle.jupiter.specs.History.{History, order, madeBy, afterEdit, afterUp, afterDown, afterJoin}
+use Rattle.jupiter.specs.History.{History, order, madeBy, newName, afterEdit, afterUp, afterDown, afterJoin}
 use Rattle.jupiter.specs.Ends.{Ends, canSend, message, current, canTake, editing, takingUp, takingDown, ackingUp, ackingDown}
 use Rattle.jupiter.specs.Run.{Message, up, down, upAck, downAck, Call, edit, sendUp, sendDown, tellUp, tellDown, deliver, join, State, initial, writes, goes, lineOf, silent, unused, joins, receive, step, run}
 use Rattle.jupiter.proofs.Lists.{All, all-append, all-map}
@@ -164,13 +164,19 @@ module _ {𝓐 : Algebra} (d : 𝓐 .Doc) where
 
     pub step-ok : (s : State 𝓐) → Reached s → (call : Call 𝓐) → Onward s (step s call)
     unfolding step receive
-    step-ok s r (edit l e) = go (𝓐 .by l e && 𝓐 .fits e (s .ends .docs l)) refl
+    step-ok s r (edit l e) = go (bears && suits) refl
       where
-        go : (b : Bool) → 𝓐 .by l e && 𝓐 .fits e (s .ends .docs l) ≡ b → Onward s (cond b (goes (editing l e) (afterEdit l e) s) s)
+        bears : Bool
+        bears = 𝓐 .by (newName (s .history) l) e
+
+        suits : Bool
+        suits = 𝓐 .fits e (s .ends .docs l)
+
+        go : (b : Bool) → bears && suits ≡ b → Onward s (cond b (goes (editing l e) (afterEdit l e) s) s)
         go false q = stays s r
         go true q =
             moves s r (editing l e) (afterEdit l e) (longer-edit l e (s .history))
-            (step-edit d (s .start) (s .ends) (s .history) (r .inv) laws l e (to-T _ (and-left (𝓐 .by l e) (𝓐 .fits e (s .ends .docs l)) q)) (to-T _ (and-right (𝓐 .by l e) (𝓐 .fits e (s .ends .docs l)) q)))
+            (step-edit d (s .start) (s .ends) (s .history) (r .inv) laws l e (to-T _ (and-left bears suits q)) (to-T _ (and-right bears suits q)))
     step-ok s r (sendUp l k) = go (canSend k (s .ends .clients l)) refl
       where
         go : (b : Bool) → canSend k (s .ends .clients l) ≡ b → Onward s (cond b (writes (up l (message k (s .ends .clients l))) s) s)
@@ -208,5 +214,8 @@ module _ {𝓐 : Algebra} (d : 𝓐 .Doc) where
         let b = run-ok cs (step s c) (a .reached) in
         record { reached = b .reached; later = later-trans _ _ _ _ _ _ (a .later) (b .later) }
 
-    pub starts : Reached (initial d)
+    starts : Reached (initial d)
     starts = record { inv = from-opening d (initial d .ends) (initial d .history) (opens d); fine = tt; openings = λ l. opening-first d }
+
+    pub reached-by : (cs : List (Call 𝓐)) → Reached (run (initial d) cs)
+    reached-by cs = run-ok cs (initial d) starts .reached

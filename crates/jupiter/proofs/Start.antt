@@ -9,7 +9,7 @@ use mathlib.Core.List.{[]}
 use lib.Dec.{T, eqb}
 use lib.ListN.{length, getD, drop}
 use Rattle.jupiter.specs.Algebra.{Algebra, Laws}
-use Rattle.jupiter.specs.History.{at, History, madeBy, afterEdit, afterUp, afterDown, afterJoin}
+use Rattle.jupiter.specs.History.{at, History, madeBy, newName, afterEdit, afterUp, afterDown, afterJoin}
 use Rattle.jupiter.specs.Ends.{past, over, End, EditMessage, Ends, fresh, keeps, unacked, acks, takes, arrived, message, editing, takingUp, takingDown, ackingUp, ackingDown, joining}
 use Rattle.jupiter.specs.Run.{Message, up, down, upAck, downAck, lineOf}
 use Rattle.jupiter.proofs.Grid.{eqb-eq}
@@ -214,9 +214,9 @@ module _ {𝓐 : Algebra} (d : 𝓐 .Doc) where
     abbrev pub Goes : Ends 𝓐 → History 𝓐 → Type 0
     Goes E′ h′ = Step d (whole start E) h (whole start E′) h′
 
-    pub step-edit : Laws 𝓐 → (l : ℕ) (e : 𝓐 .Edit) → T (𝓐 .by l e) → T (𝓐 .fits e (E .docs l)) → Goes (editing l e E) (afterEdit l e h)
-    step-edit laws l e by-l ok =
-        subst (λ X. Step d (whole start E) h X (afterEdit l e h)) (editing-whole start E l e) (S.step-edit d laws (whole start E) h inv l e by-l ok)
+    pub step-edit : Laws 𝓐 → (l : ℕ) (e : 𝓐 .Edit) → T (𝓐 .by (newName h l) e) → T (𝓐 .fits e (E .docs l)) → Goes (editing l e E) (afterEdit l e h)
+    step-edit laws l e bears ok =
+        subst (λ X. Step d (whole start E) h X (afterEdit l e h)) (editing-whole start E l e) (S.step-edit d laws (whole start E) h inv l e bears ok)
 
     pub step-up : Laws 𝓐 → (l : ℕ) (m : EditMessage 𝓐) → UpMessage d (whole start E) h l (wholeUp (start l) m) → m .number ≡ suc (E .lines l .taken) → E .lines l .acked ≤ m .seen
         → Goes (takingUp l m E) (afterUp l h)

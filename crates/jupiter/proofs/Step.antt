@@ -12,7 +12,7 @@ use Rattle.jupiter.specs.Algebra.{Algebra, Laws}
 use Rattle.jupiter.specs.Made.{Name, Made, holds, select, reject, names, isBy, mine, others}
 use Rattle.jupiter.specs.Form.{grown, listAt, inOrder, replay}
 use Rattle.jupiter.specs.Point.{blank, oth, ownForm, othForm}
-use Rattle.jupiter.specs.History.{History, noHistory, order, newEdit, afterEdit, serves, afterUp, applies, afterDown}
+use Rattle.jupiter.specs.History.{History, noHistory, order, newName, newEdit, afterEdit, serves, afterUp, applies, afterDown}
 use Rattle.jupiter.specs.Ends.{EditMessage, Ends, opened, keeps, acks, takes, arrived, message, editing, takingUp, takingDown, ackingUp, ackingDown}
 use Rattle.jupiter.proofs.Lists as L
 use Rattle.jupiter.proofs.Segment.{segment-none}
@@ -98,10 +98,12 @@ module _ {𝓐 : Algebra} (d : 𝓐 .Doc) where
                 own-number = λ i h. absurd (not-suc-le-zero h);
                 oth-inj = λ j k h. absurd (not-suc-le-zero h);
                 ctx-own = λ i k h. absurd (not-suc-le-zero h);
+                ctx-mine = λ i x h. absurd (not-suc-le-zero h);
                 ctx-oth = λ i j h. absurd (not-suc-le-zero h);
                 oth-ctx = λ j x h. absurd (not-suc-le-zero h);
                 seen-le = λ i h. absurd (not-suc-le-zero h);
                 causal = λ i j h. absurd (not-suc-le-zero h);
+                seen-up = λ i k h. absurd (not-suc-le-zero h);
                 own-by = λ i h. absurd (not-suc-le-zero h);
                 oth-by = λ j h. absurd (not-suc-le-zero h);
               };
@@ -146,13 +148,13 @@ module _ {𝓐 : Algebra} (d : 𝓐 .Doc) where
       shown′ = refl
 
   -- ---- a client makes an edit
-  pub step-edit : Laws 𝓐 → (E : Ends 𝓐) (h : History 𝓐) → Inv d E h → (l : ℕ) (e : 𝓐 .Edit) → T (𝓐 .by l e) → T (𝓐 .fits e (E .docs l)) → Step E h (editing l e E) (afterEdit l e h)
+  pub step-edit : Laws 𝓐 → (E : Ends 𝓐) (h : History 𝓐) → Inv d E h → (l : ℕ) (e : 𝓐 .Edit) → T (𝓐 .by (newName h l) e) → T (𝓐 .fits e (E .docs l)) → Step E h (editing l e E) (afterEdit l e h)
   unfolding afterEdit
-  step-edit laws E h inv l e by-l ok =
+  step-edit laws E h inv l e bears ok =
       record {
-        inv = inv-edit d laws E h inv l e by-l ok;
+        inv = inv-edit d laws E h inv l e bears ok;
         later = record {
-          grows = grows-edit d laws E h inv l e by-l ok;
+          grows = grows-edit d laws E h inv l e bears ok;
           c-later = λ k. c-le k (eqb l k) refl;
           v-later = λ k. le-refl _;
           kept = λ k x. kept′ k x (eqb l k) refl;
@@ -176,7 +178,7 @@ module _ {𝓐 : Algebra} (d : 𝓐 .Doc) where
       set-same′ k true q =
           subst (λ r. inOrder (h .served ++ (h .untaken l ++ (newEdit h l e ∷ []))) (h .applied r) ≡ inOrder (h .served ++ h .untaken r) (h .applied r)) (eqb-eq l k q)
           (ap (λ r. inOrder r (h .applied l)) (sym (append-assoc (h .served) (h .untaken l) (newEdit h l e ∷ [])))
-          ∙ inOrder-insert (order h l) (newEdit h l e) [] (h .applied l) (edit-new d laws E h inv l e by-l ok) ∙ ap (λ r. inOrder r (h .applied l)) (append-nil (order h l)))
+          ∙ inOrder-insert (order h l) (newEdit h l e) [] (h .applied l) (edit-new d laws E h inv l e bears ok) ∙ ap (λ r. inOrder r (h .applied l)) (append-nil (order h l)))
       set-same′ k false q = refl
 
   -- ---- the server takes the next edit of a line

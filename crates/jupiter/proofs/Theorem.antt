@@ -1,10 +1,9 @@
 -- The theorems: of every list of calls, what `Claims` says.
-use Prim.Native.Nat.{ℕ, zero, suc, _+_, _-_, _≤_, _<_, suc-le-suc}
-use native.Mathlib.Nat.{le-of-suc-le-suc, not-suc-le-zero}
+use Prim.Native.Nat.{ℕ, suc, _+_, _-_, _≤_, _<_, suc-le-suc}
 use native.Mathlib.Omega.{arith}
 use mathlib.Core.Path.{_≡_, refl, sym, ap, _∙_, subst}
 use mathlib.Core.Bool.{Bool, true, _&&_}
-use mathlib.Core.List.{List, [], _∷_}
+use mathlib.Core.List.{List, _∷_}
 use lib.Dec.{T}
 use lib.Seq.{drop-cons}
 use lib.ListN.{length, getD, length-drop}
@@ -16,7 +15,7 @@ use Rattle.jupiter.specs.History.{History, order, missing}
 use Rattle.jupiter.specs.Ends.{End, EditMessage, Ends, arrived, message}
 use Rattle.jupiter.specs.Run.{Message, up, down, upAck, downAck, edit, State, initial, run}
 use Rattle.jupiter.specs.Claims.{ClosedSet, Written, Delivers, LineClaim, Claim, Who, server, client, setOf, Converges, QuiescentConsistency}
-use Rattle.jupiter.proofs.Lists.{All}
+use Rattle.jupiter.proofs.Lists.{all-at}
 use Rattle.jupiter.proofs.Segment.{segment-length, segment-get}
 use Rattle.jupiter.proofs.Grid.{eqb-same, ltb-true, docAt}
 use Rattle.jupiter.proofs.Line.{LineAt, set-is, down-arrives, up-form, pending-good-c, pending-good-v, unacked-c, unacked-v}
@@ -25,13 +24,8 @@ use Rattle.jupiter.proofs.World.{others-served, Inv, missing-is, first-
 use Rattle.jupiter.proofs.Step.{down-fits, up-fits}
 use Rattle.jupiter.proofs.Start.{wholeClient, wholeServer, wholeUp, wholeDown, wholeMessage, whole, unacked-whole, arrived-whole, up-message, down-message}
 use Rattle.jupiter.proofs.Opening.{since}
-use Rattle.jupiter.proofs.Runs.{leb-true, wholeEnds, Fine, Reached, all-get, run-ok, starts}
+use Rattle.jupiter.proofs.Runs.{leb-true, wholeEnds, Fine, Reached, all-get, reached-by}
 use Rattle.jupiter.proofs.Meeting.{client-less, server-less, meet, server-doc, untaken-is}
-
-all-index : {𝓐 : Algebra} (Q : Made 𝓐 → Type 0) (xs : List (Made 𝓐)) → All Q xs → (i : ℕ) → i < length xs → Q (getD xs i blank)
-all-index Q [] h i lt = absurd (not-suc-le-zero lt)
-all-index Q (x ∷ xs) h zero lt = h .0
-all-index Q (x ∷ xs) h (suc i) lt = all-index Q xs (h .1) i (le-of-suc-le-suc lt)
 
 and-true : (a b : Bool) → a ≡ true → b ≡ true → a && b ≡ true
 and-true a b e f = rw (e, f) refl
@@ -188,7 +182,7 @@ module _ {𝓐 : Algebra} (d : 𝓐 .Doc) where
 
   sets-closed : (s : State 𝓐) → Reached d s → (x : Who) → ClosedSet (setOf x s)
   sets-closed s r server i lt n t = served-closed (s .history) (r .inv .closed) i lt n t
-  sets-closed s r (client l) i lt n t = all-index _ (s .history .applied l) (r .inv .closed .applied-closed l) i lt n t
+  sets-closed s r (client l) i lt n t = all-at _ blank (s .history .applied l) (r .inv .closed .applied-closed l) i lt n t
 
   pub claim : (s : State 𝓐) → Reached d s → Claim d s
   claim s r =
@@ -204,7 +198,7 @@ module _ {𝓐 : Algebra} (d : 𝓐 .Doc) where
 
 -- Demands 2 and 3, with no limit on any count.
 pub converges : (𝓐 : Algebra) → Laws 𝓐 → Converges 𝓐
-converges 𝓐 laws d cs = claim d (run (initial d) cs) (run-ok d laws cs (initial d) (starts d laws) .reached)
+converges 𝓐 laws d cs = claim d (run (initial d) cs) (reached-by d laws cs)
 
 pub quiescent-consistency : (𝓐 : Algebra) → Laws 𝓐 → QuiescentConsistency 𝓐
 quiescent-consistency 𝓐 laws d cs l quiet = converges 𝓐 laws d cs .lines l .equal (quiet .0) (quiet .1)

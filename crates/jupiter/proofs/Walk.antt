@@ -13,7 +13,7 @@ use Rattle.jupiter.specs.Made.{Made, mine, others}
 use Rattle.jupiter.specs.Point.{own}
 use Rattle.jupiter.proofs.Grid.{ltb-true, ltb-lt, below-suc, seenOf, lagOf, Contexts, Good}
 
-order-of : (a b : ℕ) → (a < b) ⊎ (b ≤ a)
+pub order-of : (a b : ℕ) → (a < b) ⊎ (b ≤ a)
 order-of a b = go (ltb a b) refl
   where
     go : (x : Bool) → ltb a b ≡ x → (a < b) ⊎ (b ≤ a)

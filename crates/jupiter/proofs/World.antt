@@ -13,7 +13,7 @@ use Rattle.jupiter.specs.Algebra.{Algebra, Laws}
 use Rattle.jupiter.specs.Made.{Name, Made, holds, names, isBy, mine, others}
 use Rattle.jupiter.specs.Form.{form, listAt, inOrder, replay}
 use Rattle.jupiter.specs.Point.{blank, own, oth}
-use Rattle.jupiter.specs.History.{at, History, order, madeBy, missing, newEdit, makes, afterEdit, serves, afterUp, applies, afterDown}
+use Rattle.jupiter.specs.History.{at, History, order, missing, newName, newEdit, makes, afterEdit, serves, afterUp, applies, afterDown}
 use Rattle.jupiter.specs.Ends.{End, EditMessage, Ends, keeps, acks, takes, arrived, editing, takingUp, takingDown, ackingUp, ackingDown}
 use Rattle.jupiter.proofs.Lists as L
 use Rattle.jupiter.proofs.Lists.{All, all-append}
@@ -62,7 +62,7 @@ module _ {𝓐 : Algebra} (d : 𝓐 .Doc) where
     pub lines : (l : ℕ) → LineInv l (h .served) (h .untaken l) (h .applied l) (taken E) (E .clients l) (E .lines l) (E .docs l)
 
   -- ---- a client makes an edit
-  module _ (laws : Laws 𝓐) (E : Ends 𝓐) (h : History 𝓐) (inv : Inv E h) (l : ℕ) (e : 𝓐 .Edit) (by-l : T (𝓐 .by l e)) (ok : T (𝓐 .fits e (E .docs l))) where
+  module _ (laws : Laws 𝓐) (E : Ends 𝓐) (h : History 𝓐) (inv : Inv E h) (l : ℕ) (e : 𝓐 .Edit) (bears : T (𝓐 .by (newName h l) e)) (ok : T (𝓐 .fits e (E .docs l))) where
     abbrev us : List (Made 𝓐)
     us = h .untaken l
 
@@ -72,14 +72,14 @@ module _ {𝓐 : Algebra} (d : 𝓐 .Doc) where
     abbrev o : Made 𝓐
     o = newEdit h l e
 
-    number : suc (madeBy h l) ≡ suc (length (mine l w))
-    number = ap suc (sym (ap length (mine-served l (h .served) us (inv .lines l .untaken-own)) ∙ length-append (mine l (h .served)) us))
+    number : newName h l .number ≡ suc (length (mine l w))
+    number = let n = ap length (mine-served l (h .served) us (inv .lines l .untaken-own)) ∙ length-append (mine l (h .served)) us in omega arith
 
     abbrev was : LineAt d l w (h .served) (h .applied l) (E .clients l) (E .lines l) (E .docs l)
     was = inv .lines l .line
 
     new : NewOwn l w (E .clients l .taken) o
-    new = made-new d l w (h .served) (h .applied l) (E .clients l) (E .lines l) (E .docs l) was laws e (suc (madeBy h l)) number by-l ok
+    new = made-new d l w (h .served) (h .applied l) (E .clients l) (E .lines l) (E .docs l) was laws e (newName h l .number) number bears ok
 
     assoc : w ++ (o ∷ []) ≡ h .served ++ (us ++ (o ∷ []))
     assoc = append-assoc (h .served) us (o ∷ [])
@@ -88,7 +88,7 @@ module _ {𝓐 : Algebra} (d : 𝓐 .Doc) where
     edit-line =
         record {
           line = subst (λ r. LineAt d l r (h .served) (h .applied l ++ (o ∷ [])) (keeps e (E .clients l)) (E .lines l) (𝓐 .apply e (E .docs l))) assoc
-              (line-edit d l w (h .served) (h .applied l) (E .clients l) (E .lines l) (E .docs l) was laws e (suc (madeBy h l)) number by-l ok);
+              (line-edit d l w (h .served) (h .applied l) (E .clients l) (E .lines l) (E .docs l) was laws e (newName h l .number) number bears ok);
           untaken-own = all-append (λ y. isBy l y ≡ true) us (o ∷ []) (inv .lines l .untaken-own) (eqb-same l, tt);
           v-count = inv .lines l .v-count;
           applied-bound = λ k x kl t. go k x kl (holds-split (h .applied l) o (named k x) t);
@@ -141,7 +141,7 @@ module _ {𝓐 : Algebra} (d : 𝓐 .Doc) where
         go k false q = inv .lines k
 
     pub edit-new : holds (names (h .applied l)) (o .name) ≡ false
-    edit-new = made-fresh d l w (h .served) (h .applied l) (E .clients l) (E .lines l) (E .docs l) was laws e (suc (madeBy h l)) number by-l ok
+    edit-new = made-fresh d l w (h .served) (h .applied l) (E .clients l) (E .lines l) (E .docs l) was laws e (newName h l .number) number bears ok
 
     pub grows-edit : (k : ℕ) → Grows k (order h k) (order (afterEdit l e h) k)
     unfolding afterEdit
@@ -150,7 +150,7 @@ module _ {𝓐 : Algebra} (d : 𝓐 .Doc) where
         go : (b : Bool) → eqb l k ≡ b → Grows k (h .served ++ h .untaken k) (h .served ++ cond b (us ++ (o ∷ [])) (h .untaken k))
         go true q =
             subst (λ r. Grows r (h .served ++ h .untaken r) (h .served ++ (us ++ (o ∷ [])))) (eqb-eq l k q)
-            (subst (Grows l w) assoc (made-grows d l w (h .served) (h .applied l) (E .clients l) (E .lines l) (E .docs l) was laws e (suc (madeBy h l)) number by-l ok))
+            (subst (Grows l w) assoc (made-grows d l w (h .served) (h .applied l) (E .clients l) (E .lines l) (E .docs l) was laws e (newName h l .number) number bears ok))
         go false q = grows-refl k (h .served ++ h .untaken k)
 
   -- ---- acknowledgements
@@ -349,9 +349,8 @@ module _ {𝓐 : Algebra} (d : 𝓐 .Doc) where
     o-context : Bounded l (taken E) (o .context)
     o-context = subst (λ e. Bounded l (taken E) (e .context)) o-is (uinv .context-bound a umade)
 
-    o-line : T (𝓐 .by (o .name .line) (o .edit))
-    o-line =
-        subst (λ n. T (𝓐 .by (n .line) (o .edit))) (sym o-name) (subst (λ e. T (𝓐 .by l (e .edit))) o-is (uinv .line .grid .contexts .own-by a umade))
+    o-bears : T (𝓐 .by (o .name) (o .edit))
+    o-bears = subst (λ e. T (𝓐 .by (e .name) (e .edit))) o-is (uinv .line .grid .contexts .own-by a umade)
 
     -- it arrives in its form at what the server has applied, and fits
     pub arrives : arrived x (E .lines l) ≡ form o (h .served)
@@ -415,7 +414,7 @@ module _ {𝓐 : Algebra} (d : 𝓐 .Doc) where
             fresh′ = λ j hj. same-differ (o .name) _ (λ q. number-new (oth k (h .served ++ ks) j .name) (inv .lines k .oth-bound j hj) (sym q));
             unknown = λ i hi. new-to (own k (h .served ++ ks) i .context) k lk (inv .lines k .context-bound i hi);
             knows = λ y t. subst (λ n. y ≤ n) (inv .lines k .v-count) (o-context k y (λ q. lk (sym q)) t);
-            line = o-line;
+            bears = o-bears;
           }
 
       other-line : LineInv k (h .served ++ (o ∷ [])) ks (h .applied k) (taken E′) (E .clients k) (keeps (arrived x (E .lines l)) (E .lines k)) (E .docs k)

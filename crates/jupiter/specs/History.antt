@@ -6,7 +6,7 @@ use mathlib.Core.List.{List, [], _∷_, _++_}
 use lib.Dec.{eqb}
 use lib.ListN.{length}
 use Rattle.jupiter.specs.Algebra.{Algebra}
-use Rattle.jupiter.specs.Made.{Made, holds, select, names, isBy, mine}
+use Rattle.jupiter.specs.Made.{Name, Made, holds, select, names, isBy, mine}
 
 -- a family of values, one for each line, with the value of line l replaced
 abbrev pub at : {A : Type 0} → ℕ → A → (ℕ → A) → ℕ → A
@@ -36,9 +36,13 @@ module _ {𝓐 : Algebra} where
   unfoldable pub missing : History 𝓐 → ℕ → List (Made 𝓐)
   missing h l = select (λ e. not (isBy l e) && not (holds (names (h .applied l)) (e .name))) (h .served)
 
+  -- the name of client l's next edit
+  abbrev pub newName : History 𝓐 → ℕ → Name
+  newName h l = record { line = l; number = suc (madeBy h l) }
+
   -- client l makes an edit: its context is what the client has applied
   abbrev pub newEdit : History 𝓐 → ℕ → 𝓐 .Edit → Made 𝓐
-  newEdit h l e = record { name = record { line = l; number = suc (madeBy h l) }; edit = e; context = names (h .applied l) }
+  newEdit h l e = record { name = newName h l; edit = e; context = names (h .applied l) }
 
   abbrev pub makes : ℕ → Made 𝓐 → History 𝓐 → History 𝓐
   makes l e h =

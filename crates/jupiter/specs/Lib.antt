@@ -1,3 +1,4 @@
+pub mod Name
 pub mod Algebra
 pub mod Made
 pub mod Form
@@ -6,3 +7,6 @@ pub mod History
 pub mod Ends
 pub mod Run
 pub mod Claims
+pub mod Origins
+pub mod Orders
+pub mod Standing

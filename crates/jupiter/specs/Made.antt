@@ -1,29 +1,17 @@
 -- Edits as they were made (01: "What an edit becomes").
 use Prim.Native.Nat.{ℕ}
-use mathlib.Core.Bool.{Bool, false, _&&_, _||_, cond}
+use mathlib.Core.Bool.{Bool, cond}
 use mathlib.Core.List.{List, [], _∷_, map}
 use lib.Dec.{eqb}
 use Rattle.jupiter.specs.Algebra.{Algebra}
-
--- An edit's name: the line of the client that made it, and its number among that client's edits, from 1. It never changes, whatever
--- form the edit takes.
-pub record Name : Type 0 where
-  pub line : ℕ
-  pub number : ℕ
-
-abbrev pub same : Name → Name → Bool
-same x y = eqb (x .line) (y .line) && eqb (x .number) (y .number)
+pub use Rattle.jupiter.specs.Name.{Name}
+unfoldable pub use Rattle.jupiter.specs.Name.{same, holds}
 
 -- The edit as its client made it, with its context: the names of the edits that the client had applied, in its order of applying.
 pub record Made (𝓐 : Algebra) : Type 0 where
   pub name : Name
   pub edit : 𝓐 .Edit
   pub context : List Name
-
--- the name is one of the list's
-unfoldable pub holds : List Name → Name → Bool
-holds [] x = false
-holds (y ∷ ys) x = same x y || holds ys x
 
 -- the elements that pass a test, and those that do not, in their order
 unfoldable pub select : {A : Type 0} → (A → Bool) → List A → List A

@@ -6,7 +6,7 @@ use mathlib.Core.List.{List, [], _∷_, _++_}
 use lib.Dec.{eqb}
 use lib.ListN.{length, getElem?}
 use Rattle.jupiter.specs.Algebra.{Algebra}
-use Rattle.jupiter.specs.History.{at, History, noHistory, madeBy, afterEdit, afterUp, afterDown, afterJoin}
+use Rattle.jupiter.specs.History.{at, History, noHistory, madeBy, newName, afterEdit, afterUp, afterDown, afterJoin}
 use Rattle.jupiter.specs.Ends.{EditMessage, Ends, opened, canSend, message, current, canTake, editing, takingUp, takingDown, ackingUp, ackingDown, joining}
 
 -- What was written, with its line. An end takes only what goes its way on its line, so the message says who may take it.
@@ -79,7 +79,7 @@ module _ {𝓐 : Algebra} where
 
   unfoldable pub step : State 𝓐 → Call 𝓐 → State 𝓐
   step s (edit l e) =
-      cond (𝓐 .by l e && 𝓐 .fits e (s .ends .docs l)) (goes (editing l e) (afterEdit l e) s) s
+      cond (𝓐 .by (newName (s .history) l) e && 𝓐 .fits e (s .ends .docs l)) (goes (editing l e) (afterEdit l e) s) s
   step s (sendUp l k) =
       cond (canSend k (s .ends .clients l)) (writes (up l (message k (s .ends .clients l))) s) s
   step s (sendDown l k) =
