@@ -3,12 +3,12 @@ use mathlib.Core.Path.{_≡_, refl, ap, sym, _∙_, subst}
 use Prim.Native.Nat.{ℕ, suc, _+_, _-_, _≤_, _<_}
 use native.Mathlib.Omega.{arith}
 use mathlib.Core.List.{List, _∷_, _++_}
-use lib.ListN.{length, take, drop, replicate, take-append-drop, length-take, length-drop}
-use lib.Seq.{take-append-seam, drop-append-seam, drop-drop}
+use lib.ListN.{length, take, drop, replicate, take-append-drop, length-append, length-take, length-drop}
+use lib.Seq.{take-append-seam, drop-append-seam, drop-drop, length-take-le}
 use Rattle.ot.specs.declared.Form.{Form}
 use Rattle.ot.specs.declared.Form.the-variants as form
-use Rattle.ot.specs.Edit.{Edit, Nothing, Delete, Insert, edit, insertedAt, deletedAt, applied, sizeAfter, fits}
-use Rattle.list.specs.Items.{padded, behind, Room, Edited, StaysPadded}
+use Rattle.ot.specs.Edit.{Edit, Nothing, Delete, Insert, edit, insertedAt, deletedAt, appliedAs, applied, sizeAfter, fits}
+use Rattle.list.specs.Items.{padded, behind, edited, Room, Edited, StaysPadded}
 use borrow.Rule.Slice.PartMut.{putMid}
 use Rattle.list.proofs.Sweep.{raised, lowered, part-raised, part-lowered}
 use Rattle.ot.proofs.Fits.{between-true, length-inserted, length-deleted}
@@ -54,24 +54,39 @@ part-inserted k n x a b h l e =
     ∙ ap (λ (j : ℕ). insertedAt k x (take n a) ++ drop j a) (let j : suc n ≡ n + 1 = omega arith in j)
 
 pub edited-nothing : {f : Form} {n : ℕ} {a : List ℕ} (x : ℕ) → f ≡ form.Nothing → Edited (edit f x) n a a n
-unfolding applied behind sizeAfter
+unfolding appliedAs behind sizeAfter
 edited-nothing {n = n} {a = a} x q =
     subst (λ (g : Form). Edited (edit g x) n a a n) (sym q) (record { items = sym (take-append-drop n a); length = refl })
 
 pub edited-delete : {f : Form} {p n : ℕ} {a b : List ℕ} (x : ℕ) → f ≡ form.Delete p → b ≡ deletedAt (p - 1) (take n a) ++ 0 ∷ drop n a → Edited (edit f x) n a b (n - 1)
-unfolding applied behind sizeAfter
+unfolding appliedAs behind sizeAfter
 edited-delete {n = n} {a = a} {b = b} x q h = subst (λ (g : Form). Edited (edit g x) n a b (n - 1)) (sym q) (record { items = h; length = refl })
 
 pub edited-insert : {f : Form} {p s n : ℕ} {a b : List ℕ} (x : ℕ) → f ≡ form.Insert p s → b ≡ insertedAt (p - 1) x (take n a) ++ drop (n + 1) a → Edited (edit f x) n a b (n + 1)
-unfolding applied behind sizeAfter
+unfolding appliedAs behind sizeAfter
 edited-insert {p = p} {n = n} {a = a} {b = b} x q h =
     subst (λ (g : Form). Edited (edit g x) n a b (n + 1)) (sym q) (record { items = h ∙ ap (λ (t : List ℕ). insertedAt (p - 1) x (take n a) ++ t) (sym (drop-drop 1 n a)); length = refl })
+
+-- an edit of the list leaves the array as long as it was
+pub edited-length : (e : Edit) (n : ℕ) (a : List ℕ) → Room e n (length a) → length (edited e n a) ≡ length a
+unfolding appliedAs behind
+edited-length Nothing n a r = ap length (take-append-drop n a)
+edited-length (Delete p) n a r =
+    let h = room-delete {f = form.Delete p} 0 refl r in
+    let k : length (take n a) ≡ n = length-take-le n a (r .before) in
+    length-append (deletedAt (p - 1) (take n a)) (0 ∷ drop n a)
+    ∙ omega (arith, length-deleted (p - 1) (take n a) (omega (arith, k)), length-drop n a, k)
+edited-length (Insert p x s) n a r =
+    let h = room-insert {f = form.Insert p s} x refl r in
+    let k : length (take n a) ≡ n = length-take-le n a (r .before) in
+    length-append (insertedAt (p - 1) x (take n a)) (drop 1 (drop n a))
+    ∙ omega (arith, length-inserted (p - 1) x (take n a), length-drop 1 (drop n a), length-drop n a, k)
 
 -- ---- unused places
 
 -- behind the list, with the list's length written as it is
 behind-padded : (m : ℕ) (e : Edit) (l : List ℕ) → Room e (length l) m → behind e (replicate (m - length l) 0) ≡ replicate (m - length (applied e l)) 0
-unfolding behind applied
+unfolding behind appliedAs
 behind-padded m Nothing l r = refl
 behind-padded m (Delete p) l r =
     let h = room-delete {f = form.Delete p} 0 refl r in

@@ -1,5 +1,5 @@
 -- Laws of the array that holds a list: the loop that fills it with the initial list, and what it is once the test of its unused places has passed.
-use Prim.Native.Nat.{ℕ, suc, _+_, _-_, _≤_, _<_}
+use Prim.Native.Nat.{ℕ, zero, suc, _+_, _-_, _≤_, _<_}
 use native.Mathlib.Numerals.{add-one}
 use native.Mathlib.Omega.{arith}
 use mathlib.Core.Path.{_≡_, refl, ap, _∙_, sym}
@@ -11,7 +11,7 @@ use lib.Seq.{drop-cons, getD-take}
 use lib.Bits.{bitOr}
 use borrow.Author.Tests.{eqb-true}
 use Rattle.ot.proofs.Fits.{and-left, and-right}
-use Rattle.list.proofs.Pad.{pad-of, fill-turn, fill-end}
+use Rattle.list.proofs.Pad.{pad-of, pad-drop, fill-turn, fill-end}
 use Rattle.list.proofs.Zero.{or-zero}
 use Rattle.list.proofs.Sweep.{swept}
 use Rattle.list.specs.Items.{capacity, padded, stored, allZero}
@@ -33,18 +33,29 @@ unfolding allZero
 zero-end l i flag h =
     sym (and-true flag) ∙ ap (λ (r : List ℕ). flag && allZero r) (sym (drop-of-length-le l {i = i} h))
 
-zeros : (l : List ℕ) → allZero l ≡ true → l ≡ replicate (length l) 0
+pub zeros : (l : List ℕ) → allZero l ≡ true → l ≡ replicate (length l) 0
 unfolding allZero
 zeros [] h = refl
 zeros (x ∷ l) h =
     ap (λ (y : ℕ). y ∷ l) (eqb-true x 0 (and-left (eqb x 0) (allZero l) h))
     ∙ ap (λ (r : List ℕ). 0 ∷ r) (zeros l (and-right (eqb x 0) (allZero l) h))
 
--- An array whose places from len on are zero is the store of its first len items.
+pub all-zero : (n : ℕ) → allZero (replicate n 0) ≡ true
+unfolding allZero
+all-zero zero = refl
+all-zero (suc n) = all-zero n
+
+-- An array whose places from len on are zero holds its first len items.
+pub padded-of : (n : ℕ) (a : List ℕ) (len : ℕ) → length a ≡ n → len ≤ n → allZero (drop len a) ≡ true → a ≡ padded 0 n (take len a)
+padded-of n a len e h z =
+    pad-of n 0 a len e h
+    (zeros (drop len a) z ∙ ap (λ (m : ℕ). replicate m 0) (length-drop len a ∙ ap (λ (m : ℕ). m - len) e))
+
+pub padded-zero : (n : ℕ) (l : List ℕ) → allZero (drop (length l) (padded 0 n l)) ≡ true
+padded-zero n l = ap allZero (pad-drop n 0 l (length l) (omega arith)) ∙ all-zero (n - length l)
+
 pub stored-of : (a : List ℕ) (len : ℕ) → length a ≡ capacity → len ≤ capacity → allZero (drop len a) ≡ true → a ≡ stored (take len a)
-stored-of a len e h z =
-    pad-of capacity 0 a len e h
-    (zeros (drop len a) z ∙ ap (λ (n : ℕ). replicate n 0) (length-drop len a ∙ ap (λ (n : ℕ). n - len) e))
+stored-of = padded-of capacity
 
 -- ---- the loop that puts the first m items of l into an array of n zeros, after i turns
 

@@ -4,3 +4,4 @@ pub mod Pad
 pub mod Zero
 pub mod Parts
 pub mod Items
+pub mod Places

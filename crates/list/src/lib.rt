@@ -1,12 +1,39 @@
-// A list in the first places of an array: the initial list, an edit applied in place, and the test that unused places are zero.
+// A list in the first places of an array: the initial list, an edit applied in place, and the test that unused places are zero. A place
+// holds an item and its origin; items and origins are arrays of their own, an origin a word.
 ghost use mathlib.Core.Path.{_≡_};
-ghost use Prim.Native.Nat.{_-_, _<_};
-ghost use mathlib.Core.List.{[], _∷_, _++_};
+ghost use Prim.Native.Nat.{ℕ, _-_, _<_, _≤_};
+ghost use mathlib.Core.List.{List, [], _∷_, _++_};
 ghost use lib.ListN.{length, getD, take, drop, replicate};
 ghost use Rattle.ot.specs.Edit.{edit};
-ghost use Rattle.list.specs.Items.{capacity, initialItems, allZero, Room, Edited};
+ghost use Rattle.limits.specs.Limits.{maxInitial};
+ghost use Rattle.list.specs.Items.{capacity, stored, initialItems, allZero, Room, Edited};
+ghost use Rattle.list.specs.Places.{initialPlaces, originsOf, wordOf, originAt};
 use limits::INITIAL;
 use ot::Form;
+
+// Which edit put an item on the list: its client's line and its number there. Line 0 is the initial list, with the place as number.
+pub struct Origin {
+    pub line: u8,
+    pub number: u16,
+}
+
+// An origin as a word.
+pub fn word_of(o: Origin) -> u32
+    ensures { λ r. ⌜ r ≡ wordOf o ⌝ }
+{
+    o.line as u32 * 65536 + o.number as u32
+}
+
+// The origin that a word is, where its line has 8 bits.
+pub fn origin_at(word: u32) -> Origin
+    requires { ⌜ word < 16777216 ⌝ }
+    ensures { λ r. ⌜ r ≡ originAt word ⌝ }
+{
+    Origin {
+        line: (word / 65536) as u8,
+        number: (word % 65536) as u16,
+    }
+}
 
 // Puts x in front of a part of a list whose last place is not in use; what stands there moves up by one. The part begins where x goes,
 // so that the compiler makes the loop one move of memory.
@@ -59,7 +86,7 @@ pub fn apply(items: &mut [u32], len: u16, f: Form, x: u32) -> u16
 }
 
 // The item at place i, counted from 0; 0 past the end.
-fn item_at(items: &[u32], i: usize) -> u32
+pub fn item_at(items: &[u32], i: usize) -> u32
     ensures { λ r. ⌜ r ≡ getD (now (items .entry)) i 0 ⌝ }
 {
     if i < items.len() { items[i] } else { 0 }
@@ -72,6 +99,16 @@ pub fn initial(items: &[u32], list: &mut [u32])
 {
     for i in 0..INITIAL {
         list[i] = item_at(items, i);
+    }
+}
+
+// Puts the origins of an initial list of len items into an array that is zero.
+pub fn initial_origins(len: usize, list: &mut [u32])
+    requires { ⌜ (len ≤ maxInitial) × (now list ≡ replicate capacity 0) ⌝ }
+    ensures { λ _. ⌜ ((xs : List ℕ) → length xs ≡ len → now (list .exit) ≡ stored (originsOf (initialPlaces xs))) ⌝ }
+{
+    for i in 0..len {
+        list[i] = i as u32 + 1;
     }
 }
 

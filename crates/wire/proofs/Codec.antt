@@ -1,20 +1,21 @@
 -- Reading and writing keep what `Codec` says of them.
-use Prim.Native.Nat.{ℕ, zero, suc, _+_, _*_, _/_, _%_, _≤_, _<_}
-use native.Mathlib.Nat.{div-add-mod', mod-lt, div-lt-iff-lt-mul, mul-add-div-right, mul-add-mod-self-right, div-eq-of-lt, mod-eq-of-lt, add-zero}
+use Prim.Native.Nat.{ℕ, zero, suc, _+_, _/_, _%_, _≤_, _<_}
+use native.Mathlib.Nat.{div-add-mod', mod-lt, div-lt-iff-lt-mul}
 use native.Mathlib.Omega.{arith}
-use mathlib.Core.Path.{_≡_, refl, sym, ap, _∙_}
+use mathlib.Core.Path.{_≡_, refl, sym, ap, subst, _∙_}
 use mathlib.Core.Bool.{Bool, true, false, _&&_, cond}
 use mathlib.Core.List.{List, [], _∷_, _++_}
 use lib.Dec.{leb, eqb, lit<}
 use lib.ListN.{length, getD}
-use borrow.Author.Tests.{eq-eqb, ne-eqb, eqb-true, leb-true}
+use borrow.Author.Tests.{eq-eqb, eqb-true, leb-true}
+use Rattle.list.proofs.Places.{high, low}
 use Rattle.wire.specs.declared.Header.{Header}
 use Rattle.wire.specs.declared.Message.{Message}
 use Rattle.wire.specs.declared.Message.the-variants.{Insert, Delete, Nothing, Ack}
 use Rattle.wire.specs.declared.Read.{Read}
 use Rattle.wire.specs.declared.Read.the-variants as read
 use Rattle.wire.specs.Message.{inRange, headerInRange}
-use Rattle.wire.specs.Bytes.{bytesOf, header, sizeOfKind, twoAt, fourAt, fieldsOf, parsed}
+use Rattle.wire.specs.Bytes.{bytesOf, header, origin, sizeOfKind, twoAt, fourAt, fieldsOf, parsed}
 use Rattle.wire.proofs.Ranges.{both, header-bounds, insert-bounds, delete-bounds, ack-bounds}
 use Rattle.wire.specs.Codec.{AreBytes, Codec}
 
@@ -63,16 +64,23 @@ spread [] (suc n) e = cc
 spread (a ∷ s) zero e = cc
 spread (a ∷ s) (suc n) e = ap (λ (l : List ℕ). a ∷ l) (spread s n (cc))
 
-high : (b a k : ℕ) → a < k → 0 < k → (b * k + a) / k ≡ b
-high b a k h z = mul-add-div-right z b a ∙ ap (λ (n : ℕ). b + n) (div-eq-of-lt h) ∙ add-zero b
+-- a kind byte, or a byte that is none
+data Kind : ℕ → Type 0 where
+  insert : Kind 5
+  delete : Kind 7
+  nothing : Kind 8
+  ack : Kind 4
+  other : (k : ℕ) → sizeOfKind k ≡ 0 → Kind k
 
-low : (b a k : ℕ) → a < k → (b * k + a) % k ≡ a
-low b a k h = mul-add-mod-self-right b k a ∙ mod-eq-of-lt h
-
-no-kind : (k : ℕ) → sizeOfKind (suc (suc (suc (suc (suc k))))) ≡ 0
-no-kind k =
-    let differs : (j : ℕ) → j < 5 → eqb (suc (suc (suc (suc (suc k))))) j ≡ false = λ j h. ne-eqb _ j (λ e. omega arith) in
-    simp (differs 1 (lit< tt), differs 2 (lit< tt), differs 3 (lit< tt), differs 4 (lit< tt))
+kind : (k : ℕ) → Kind k
+kind k = go (eqb k 5) refl (eqb k 7) refl (eqb k 8) refl (eqb k 4) refl
+  where
+    go : (a : Bool) → eqb k 5 ≡ a → (b : Bool) → eqb k 7 ≡ b → (c : Bool) → eqb k 8 ≡ c → (d : Bool) → eqb k 4 ≡ d → Kind k
+    go true p b q c r d s = subst Kind (sym (eqb-true k 5 p)) insert
+    go false p true q c r d s = subst Kind (sym (eqb-true k 7 q)) delete
+    go false p false q true r d s = subst Kind (sym (eqb-true k 8 r)) nothing
+    go false p false q false r true s = subst Kind (sym (eqb-true k 4 s)) ack
+    go false p false q false r false s = other k (simp (p, q, r, s))
 
 module _ (s : List ℕ) (bytes : AreBytes s) where
   high-of : (i : ℕ) → twoAt s i / 256 ≡ getD s i 0
@@ -90,16 +98,13 @@ module _ (s : List ℕ) (bytes : AreBytes s) where
   second-of : (i : ℕ) → fourAt s i % 65536 ≡ twoAt s (i + 2)
   second-of i = low (twoAt s i) (twoAt s (i + 2)) 65536 (two-fits (i + 2))
 
-  bytes-of-fields : (k : ℕ) → getD s 0 0 ≡ k → length s ≡ sizeOfKind k → 1 ≤ length s → bytesOf (fieldsOf k s) ≡ s
+  bytes-of-fields : {k : ℕ} → Kind k → getD s 0 0 ≡ k → length s ≡ sizeOfKind k → 1 ≤ length s → bytesOf (fieldsOf k s) ≡ s
   unfolding bytesOf places
-  bytes-of-fields zero e n h = absurd (omega arith)
-  bytes-of-fields (suc zero) e n h = simp (first-of, second-of, high-of, low-of) (sym (rw e at (spread s 14 n)))
-  bytes-of-fields (suc (suc zero)) e n h = simp (high-of, low-of) (sym (rw e at (spread s 9 n)))
-  bytes-of-fields (suc (suc (suc zero))) e n h = simp (high-of, low-of) (sym (rw e at (spread s 7 n)))
-  bytes-of-fields (suc (suc (suc (suc zero)))) e n h = simp (high-of, low-of) (sym (rw e at (spread s 5 n)))
-  bytes-of-fields (suc (suc (suc (suc (suc k))))) e n h =
-      let none = no-kind k in
-      absurd (omega arith)
+  bytes-of-fields insert e n h = simp (first-of, second-of, high-of, low-of) (sym (rw e at (spread s 17 n)))
+  bytes-of-fields delete e n h = simp (high-of, low-of) (sym (rw e at (spread s 12 n)))
+  bytes-of-fields nothing e n h = simp (high-of, low-of) (sym (rw e at (spread s 10 n)))
+  bytes-of-fields ack e n h = simp (high-of, low-of) (sym (rw e at (spread s 5 n)))
+  bytes-of-fields (other k none) e n h = absurd (omega arith)
 
 chosen : (b : Bool) (x y : Message) → cond b (read.Message x) read.Refused ≡ read.Message y → (b ≡ true) × (x ≡ y)
 chosen true x y e = (refl, cc)
@@ -122,7 +127,7 @@ module _ (s : List ℕ) (m : Message) (e : parsed s ≡ read.Message m) where
   read-in-range = rw (parts .3) at (parts .2)
 
   read-written : AreBytes s → bytesOf m ≡ s
-  read-written bytes = rw (← (parts .3)) (bytes-of-fields s bytes (getD s 0 0) refl (parts .1) (parts .0))
+  read-written bytes = rw (← (parts .3)) (bytes-of-fields s bytes (kind (getD s 0 0)) refl (parts .1) (parts .0))
 
 others-refused : (s : List ℕ) → AreBytes s → ((m : Message) → inRange m ≡ true → bytesOf m ≡ s → ⊥) → parsed s ≡ read.Refused
 others-refused s bytes none = found (parsed s) refl
@@ -150,18 +155,23 @@ all-header h s e hs =
     let b = header-bounds h e in
     one (h .line) (omega arith) (one (h .direction) (omega arith) (pair (h .number) (omega arith) (pair (h .seen) (omega arith) hs)))
 
+all-origin : (h : Header) → headerInRange h ≡ true → Each (origin (h .origin))
+all-origin h e =
+    let b = header-bounds h e in
+    one (h .origin .line) (omega arith) (pair (h .origin .number) (omega arith) none)
+
 all-bytes : (m : Message) → inRange m ≡ true → Each (bytesOf m)
 unfolding bytesOf inRange
 all-bytes (Insert h p x r) e =
     let b = insert-bounds h p x r e in
     let item : x / 65536 < 65536 = div-lt-iff-lt-mul (lit< tt) .1 (omega arith) in
-    one 1 (lit< tt)
-    (all-header h _ (b .header-in-range)
-    (pair p (omega arith) (pair (x / 65536) item (pair (x % 65536) (mod-lt x (lit< tt)) (one r (omega arith) none)))))
+    let rest = one r (omega arith) (all-origin h (b .header-in-range)) in
+    one 5 (lit< tt)
+    (all-header h _ (b .header-in-range) (pair p (omega arith) (pair (x / 65536) item (pair (x % 65536) (mod-lt x (lit< tt)) rest))))
 all-bytes (Delete h p) e =
     let b = delete-bounds h p e in
-    one 2 (lit< tt) (all-header h _ (b .header-in-range) (pair p (omega arith) none))
-all-bytes (Nothing h) e = one 3 (lit< tt) (all-header h [] e none)
+    one 7 (lit< tt) (all-header h _ (b .header-in-range) (pair p (omega arith) (all-origin h (b .header-in-range))))
+all-bytes (Nothing h) e = one 8 (lit< tt) (all-header h _ e (all-origin h e))
 all-bytes (Ack l d s) e =
     let b = ack-bounds l d s e in
     one 4 (lit< tt) (one l (omega arith) (one d (omega arith) (pair s (omega arith) none)))

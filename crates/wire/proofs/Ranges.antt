@@ -7,7 +7,7 @@ use lib.Dec.{leb, eqb}
 use borrow.Author.Tests.{eqb-true, leb-true}
 use Rattle.wire.specs.declared.Header.{Header}
 use Rattle.wire.specs.declared.Message.the-variants.{Insert, Delete, Ack}
-use Rattle.wire.specs.Message.{between, headerInRange, inRange}
+use Rattle.wire.specs.Message.{between, originInRange, headerInRange, inRange}
 use Rattle.limits.specs.Limits.{maxEdits, maxOthers}
 
 pub both : (a b : Bool) → a && b ≡ true → (a ≡ true) × (b ≡ true)
@@ -23,13 +23,17 @@ within low high n e =
     let tests = both (leb low n) (leb n high) e in
     (leb-true low n (tests .0), leb-true n high (tests .1))
 
-pub record HeaderBounds (line direction number seen : ℕ) : Type 0 where
-  pub line-low : 1 ≤ line
-  pub line-high : line ≤ 8
-  pub direction-high : direction ≤ 1
-  pub number-low : 1 ≤ number
-  pub number-high : number ≤ 2800
-  pub seen-high : seen ≤ 2800
+pub record HeaderBounds (h : Header) : Type 0 where
+  pub line-low : 1 ≤ h .line
+  pub line-high : h .line ≤ 8
+  pub direction-high : h .direction ≤ 1
+  pub number-low : 1 ≤ h .number
+  pub number-high : h .number ≤ 2800
+  pub seen-high : h .seen ≤ 2800
+  pub maker-low : 1 ≤ h .origin .line
+  pub maker-high : h .origin .line ≤ 8
+  pub made-low : 1 ≤ h .origin .number
+  pub made-high : h .origin .number ≤ 400
 
 -- the tests of one direction
 directed : (k most room d n s : ℕ) → eqb d k && (between 1 most n && leb s room) ≡ true → (d ≡ k) × (1 ≤ n) × (n ≤ most) × (s ≤ room)
@@ -39,16 +43,20 @@ directed k most room d n s e =
     let bounds = within 1 most n (counts .0) in
     (eqb-true d k (tests .0), bounds .0, bounds .1, leb-true s room (counts .1))
 
-pub header-bounds : (h : Header) → headerInRange h ≡ true → HeaderBounds (h .line) (h .direction) (h .number) (h .seen)
+pub header-bounds : (h : Header) → headerInRange h ≡ true → HeaderBounds h
 header-bounds h e =
     let up = eqb (h .direction) 0 && (between 1 maxEdits (h .number) && leb (h .seen) maxOthers) in
     let down = eqb (h .direction) 1 && (between 1 maxOthers (h .number) && leb (h .seen) maxEdits) in
-    let tests = both (between 1 8 (h .line)) (up || down) e in
-    let lines = within 1 8 (h .line) (tests .0) in
+    let tests = both (between 1 8 (h .line) && (up || down)) (originInRange (h .origin)) e in
+    let own = both (between 1 8 (h .line)) (up || down) (tests .0) in
+    let lines = within 1 8 (h .line) (own .0) in
+    let origins = both (between 1 8 (h .origin .line)) (between 1 400 (h .origin .number)) (tests .1) in
+    let makers = within 1 8 (h .origin .line) (origins .0) in
+    let made = within 1 400 (h .origin .number) (origins .1) in
     either up down
     (λ u. let t = directed 0 maxEdits maxOthers (h .direction) (h .number) (h .seen) u in omega arith)
     (λ u. let t = directed 1 maxOthers maxEdits (h .direction) (h .number) (h .seen) u in omega arith)
-    (tests .1)
+    (own .1)
 
 pub record InsertBounds (h : Header) (position item priority : ℕ) : Type 0 where
   pub header-in-range : headerInRange h ≡ true

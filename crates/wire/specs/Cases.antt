@@ -7,12 +7,13 @@ use Rattle.wire.specs.declared.Message.the-variants.{Insert, Ack}
 use Rattle.wire.specs.declared.Read.the-variants as read
 use Rattle.wire.specs.Bytes.{bytesOf, parsed}
 
--- insert, line 1, up, number 1, seen 0, position 1, item 30; its priority is its line
+-- insert, line 1, up, number 1, seen 0, position 1, item 30; its priority is its line, and its origin line 1, number 1
 abbrev pub p9 : Message
-p9 = Insert (record { line = 1; direction = 0; number = 1; seen = 0 }) 1 30 1
+p9 = Insert (record { line = 1; direction = 0; number = 1; seen = 0; origin = record { line = 1; number = 1 } }) 1 30 1
 
 abbrev pub p9Bytes : List ℕ
-p9Bytes = 0x01 ∷ 0x01 ∷ 0x00 ∷ 0x00 ∷ 0x01 ∷ 0x00 ∷ 0x00 ∷ 0x00 ∷ 0x01 ∷ 0x00 ∷ 0x00 ∷ 0x00 ∷ 0x1E ∷ 0x01 ∷ []
+p9Bytes =
+    0x05 ∷ 0x01 ∷ 0x00 ∷ 0x00 ∷ 0x01 ∷ 0x00 ∷ 0x00 ∷ 0x00 ∷ 0x01 ∷ 0x00 ∷ 0x00 ∷ 0x00 ∷ 0x1E ∷ 0x01 ∷ 0x01 ∷ 0x00 ∷ 0x01 ∷ []
 
 -- acknowledgement, line 2, down, seen 3
 abbrev pub p10 : Message

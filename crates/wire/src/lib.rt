@@ -2,14 +2,17 @@
 ghost use mathlib.Core.Path.{_≡_};
 ghost use Rattle.ot.specs.Edit.{edit};
 ghost use Rattle.wire.specs.Message.{messageOf};
+use list::Origin;
 use ot::Form;
 
-// What every edit message begins with. Direction 0 goes up to the server, 1 down to a client.
+// What every edit message has beside its edit. Direction 0 goes up to the server, 1 down to a client. The origin (02: N4) is the line of the
+// client that made the edit, and its number there.
 pub struct Header {
     pub line: u8,
     pub direction: u8,
     pub number: u16,
     pub seen: u16,
+    pub origin: Origin,
 }
 
 // A message, a variant for each kind.

@@ -16,50 +16,50 @@ use Rattle.wire.specs.Bytes.{sizeOfKind, twoAt, fourAt, headerAt, fieldsOf, par
 use Rattle.wire.specs.Codec.{AreBytes}
 use Rattle.wire_read.specs.declared.Size.{Size}
 use Rattle.wire_read.specs.declared.Size.the-variants as size
-use Rattle.wire_read.specs.Size.{sizeOf}
+use Rattle.wire_read.specs.Size.{sizeOf, ackHeader}
 
 -- no kind that stands in front of the last
 abbrev Other : ℕ → Type 0
-Other k = (k ≡ 1 → ⊥) × (k ≡ 2 → ⊥) × (k ≡ 3 → ⊥)
+Other k = (k ≡ 5 → ⊥) × (k ≡ 7 → ⊥) × (k ≡ 8 → ⊥)
 
 -- ---- the fields, read one by one
 
-module _ (s : List ℕ) {k : ℕ} {h : Header} (header-read : h ≡ headerAt s) where
-  pub insert-fields : {p x r : ℕ} → k ≡ 1 → p ≡ twoAt s 7 → x ≡ fourAt s 9 → r ≡ getD s 13 0 → Insert h p x r ≡ fieldsOf k s
-  insert-fields e p x r = simp (e, header-read, p, x, r)
+module _ (s : List ℕ) {k : ℕ} where
+  pub insert-fields : {h : Header} {p x r : ℕ} → k ≡ 5 → h ≡ headerAt s 14 → p ≡ twoAt s 7 → x ≡ fourAt s 9 → r ≡ getD s 13 0 → Insert h p x r ≡ fieldsOf k s
+  insert-fields e h p x r = simp (e, h, p, x, r)
 
-  pub delete-fields : {p : ℕ} → k ≡ 2 → p ≡ twoAt s 7 → Delete h p ≡ fieldsOf k s
-  delete-fields e p = simp (e, header-read, p)
+  pub delete-fields : {h : Header} {p : ℕ} → k ≡ 7 → h ≡ headerAt s 9 → p ≡ twoAt s 7 → Delete h p ≡ fieldsOf k s
+  delete-fields e h p = simp (e, h, p)
 
-  pub nothing-fields : k ≡ 3 → Nothing h ≡ fieldsOf k s
-  nothing-fields e = simp (e, header-read)
+  pub nothing-fields : {h : Header} → k ≡ 8 → h ≡ headerAt s 7 → Nothing h ≡ fieldsOf k s
+  nothing-fields e h = simp (e, h)
 
-  pub ack-fields : Other k → Ack (h .line) (h .direction) (h .number) ≡ fieldsOf k s
-  ack-fields o = simp (ne-eqb _ _ (o .0), ne-eqb _ _ (o .1), ne-eqb _ _ (o .2), header-read)
+  pub ack-fields : {l d n : ℕ} → Other k → l ≡ getD s 1 0 → d ≡ getD s 2 0 → n ≡ twoAt s 3 → Ack l d n ≡ fieldsOf k s
+  ack-fields o l d n = simp (ne-eqb _ _ (o .0), ne-eqb _ _ (o .1), ne-eqb _ _ (o .2), l, d, n)
 
 -- ---- their ranges; a number that a kind does not have was given as 1, and drops out of the tests
 
 abbrev tests : Header → ℕ → ℕ → Bool
 tests h p r = headerInRange h && between 1 512 p && between 1 8 r
 
-module _ (s : List ℕ) {k : ℕ} {h : Header} {b : Bool} (header-read : h ≡ headerAt s) where
-  pub insert-range : {p r : ℕ} → AreBytes s → k ≡ 1 → p ≡ twoAt s 7 → r ≡ getD s 13 0 → b ≡ tests h p r → b ≡ inRange (fieldsOf k s)
+module _ (s : List ℕ) {k : ℕ} {h : Header} {b : Bool} where
+  pub insert-range : {p r : ℕ} → AreBytes s → k ≡ 5 → h ≡ headerAt s 14 → p ≡ twoAt s 7 → r ≡ getD s 13 0 → b ≡ tests h p r → b ≡ inRange (fieldsOf k s)
   unfolding inRange
-  insert-range bytes e p r t =
+  insert-range bytes e h p r t =
       let fits : fourAt s 9 ≤ 4294967295 = omega (arith, bytes 9, bytes 10, bytes 11, bytes 12) in
-      simp (t, e, header-read, p, r, le-leb _ _ fits, and-true)
+      simp (t, e, h, p, r, le-leb _ _ fits, and-true)
 
-  pub delete-range : {p : ℕ} → k ≡ 2 → p ≡ twoAt s 7 → b ≡ tests h p 1 → b ≡ inRange (fieldsOf k s)
+  pub delete-range : {p : ℕ} → k ≡ 7 → h ≡ headerAt s 9 → p ≡ twoAt s 7 → b ≡ tests h p 1 → b ≡ inRange (fieldsOf k s)
   unfolding inRange
-  delete-range e p t = simp (t, e, header-read, p, and-true)
+  delete-range e h p t = simp (t, e, h, p, and-true)
 
-  pub nothing-range : k ≡ 3 → b ≡ tests h 1 1 → b ≡ inRange (fieldsOf k s)
+  pub nothing-range : k ≡ 8 → h ≡ headerAt s 7 → b ≡ tests h 1 1 → b ≡ inRange (fieldsOf k s)
   unfolding inRange
-  nothing-range e t = simp (t, e, header-read, and-true)
+  nothing-range e h t = simp (t, e, h, and-true)
 
-  pub ack-range : Other k → b ≡ tests (record { line = h .line; direction = h .direction; number = 1; seen = h .number }) 1 1 → b ≡ inRange (fieldsOf k s)
+  pub ack-range : Other k → h ≡ ackHeader s → b ≡ tests h 1 1 → b ≡ inRange (fieldsOf k s)
   unfolding inRange
-  ack-range o t = simp (t, ne-eqb _ _ (o .0), ne-eqb _ _ (o .1), ne-eqb _ _ (o .2), header-read, and-true)
+  ack-range o h t = simp (t, ne-eqb _ _ (o .0), ne-eqb _ _ (o .1), ne-eqb _ _ (o .2), h, and-true)
 
 -- ---- what the kind byte decides
 

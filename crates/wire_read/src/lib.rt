@@ -4,19 +4,31 @@ ghost use mathlib.Core.Bool.{_&&_};
 ghost use Prim.Native.Nat.{_<_};
 ghost use lib.ListN.{getD};
 ghost use Rattle.limits.specs.Limits.{maxLines, maxItems};
-ghost use Rattle.wire.specs.Message.{between, headerInRange, inRange};
+ghost use Rattle.wire.specs.Message.{between, originInRange, headerInRange, inRange};
 ghost use Rattle.wire.specs.Bytes.{twoAt, fourAt, headerAt, fieldsOf, parsed};
-ghost use Rattle.wire_read.specs.Size.{sizeOf};
+ghost use Rattle.wire_read.specs.Size.{sizeOf, ackHeader};
+use list::Origin;
 use wire::Header;
 use wire::Message;
 use wire::Read;
 
 // ---- the ranges of the fields
 
-// The header of an edit message, its position p and its priority r, field by field.
-fn numbers_in_range(line: u8, direction: u8, number: u16, seen: u16, p: u16, r: u8) -> bool
-    ensures { λ b. ⌜ b ≡ (headerInRange (record { line = line; direction = direction; number = number; seen = seen }) && between 1 maxItems p && between 1 maxLines r) ⌝ }
+fn origin_in_range(o: Origin) -> bool
+    ensures { λ b. ⌜ b ≡ originInRange o ⌝ }
 {
+    let line = (1 <= o.line) & (o.line <= limits::LINES);
+    line & ((1 <= o.number) & (o.number <= limits::EDITS))
+}
+
+// The header of an edit message, its position p and its priority r.
+fn numbers_in_range(h: Header, p: u16, r: u8) -> bool
+    ensures { λ b. ⌜ b ≡ (headerInRange h && between 1 maxItems p && between 1 maxLines r) ⌝ }
+{
+    let line = h.line;
+    let direction = h.direction;
+    let number = h.number;
+    let seen = h.seen;
     let mut up = 1 <= number;
     up &= number <= limits::EDITS;
     up &= seen <= limits::OTHERS;
@@ -25,6 +37,7 @@ fn numbers_in_range(line: u8, direction: u8, number: u16, seen: u16, p: u16, r: 
     down &= seen <= limits::EDITS;
     let mut all = (1 <= line) & (line <= limits::LINES);
     all &= (direction == 0) & up | (direction == 1) & down;
+    all &= origin_in_range(h.origin);
     all &= (1 <= p) & (p as usize <= limits::ITEMS);
     all & ((1 <= r) & (r <= limits::LINES))
 }
@@ -55,14 +68,21 @@ fn four_at(s: &[u8], i: usize) -> u32
     two_at(s, i) as u32 * 65536 + two_at(s, i + 2) as u32
 }
 
-fn header_at(s: &[u8]) -> Header
-    ensures { λ r. ⌜ r ≡ headerAt (now (s .entry)) ⌝ }
+// The header of an edit message whose origin stands from i on.
+fn header_at(s: &[u8], i: usize) -> Header
+    requires { ⌜ i < 15 ⌝ }
+    ensures { λ r. ⌜ r ≡ headerAt (now (s .entry)) i ⌝ }
 {
+    let origin = Origin {
+        line: byte_at(s, i),
+        number: two_at(s, i + 1),
+    };
     Header {
         line: byte_at(s, 1),
         direction: byte_at(s, 2),
         number: two_at(s, 3),
         seen: two_at(s, 5),
+        origin,
     }
 }
 
@@ -76,10 +96,10 @@ pub fn size_of_kind(kind: u8) -> Size
     ensures { λ r. ⌜ r ≡ sizeOf kind ⌝ }
 {
     match kind {
-        1 => Size::Bytes(14),
-        2 => Size::Bytes(9),
-        3 => Size::Bytes(7),
         4 => Size::Bytes(5),
+        5 => Size::Bytes(17),
+        7 => Size::Bytes(12),
+        8 => Size::Bytes(10),
         _ => Size::Refused,
     }
 }
@@ -88,33 +108,43 @@ pub fn size_of_kind(kind: u8) -> Size
 fn fields(kind: u8, s: &[u8]) -> Message
     ensures { λ r. ⌜ r ≡ fieldsOf kind (now (s .entry)) ⌝ }
 {
-    let h = header_at(s);
     match kind {
-        1 => Message::Insert(h, two_at(s, 7), four_at(s, 9), byte_at(s, 13)),
-        2 => Message::Delete(h, two_at(s, 7)),
-        3 => Message::Nothing(h),
-        _ => Message::Ack(h.line, h.direction, h.number),
+        5 => Message::Insert(
+            header_at(s, 14),
+            two_at(s, 7),
+            four_at(s, 9),
+            byte_at(s, 13),
+        ),
+        7 => Message::Delete(header_at(s, 9), two_at(s, 7)),
+        8 => Message::Nothing(header_at(s, 7)),
+        _ => Message::Ack(byte_at(s, 1), byte_at(s, 2), two_at(s, 3)),
     }
 }
 
-// Whether they are. A number that a kind does not have is given as 1, which is in every range; an acknowledgement has what it has seen
-// at the place of a number.
+// The header that an acknowledgement would have: what it has seen stands at the place of a number, and a number that it does not have is 1,
+// which is in every range.
+fn ack_header(s: &[u8]) -> Header
+    ensures { λ r. ⌜ r ≡ ackHeader (now (s .entry)) ⌝ }
+{
+    let origin = Origin { line: 1, number: 1 };
+    Header {
+        line: byte_at(s, 1),
+        direction: byte_at(s, 2),
+        number: 1,
+        seen: two_at(s, 3),
+        origin,
+    }
+}
+
+// Whether they are. A number that a kind does not have is given as 1.
 fn in_range(kind: u8, s: &[u8]) -> bool
     ensures { λ r. ⌜ r ≡ inRange (fieldsOf kind (now (s .entry))) ⌝ }
 {
-    let h = header_at(s);
     match kind {
-        1 => numbers_in_range(
-            h.line,
-            h.direction,
-            h.number,
-            h.seen,
-            two_at(s, 7),
-            byte_at(s, 13),
-        ),
-        2 => numbers_in_range(h.line, h.direction, h.number, h.seen, two_at(s, 7), 1),
-        3 => numbers_in_range(h.line, h.direction, h.number, h.seen, 1, 1),
-        _ => numbers_in_range(h.line, h.direction, 1, h.number, 1, 1),
+        5 => numbers_in_range(header_at(s, 14), two_at(s, 7), byte_at(s, 13)),
+        7 => numbers_in_range(header_at(s, 9), two_at(s, 7), 1),
+        8 => numbers_in_range(header_at(s, 7), 1, 1),
+        _ => numbers_in_range(ack_header(s), 1, 1),
     }
 }
 

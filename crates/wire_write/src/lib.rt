@@ -1,9 +1,9 @@
 // The bytes of a message, into a buffer that is lent.
 ghost use mathlib.Core.Path.{_≡_};
-ghost use mathlib.Core.List.{[], _∷_, _++_};
+ghost use mathlib.Core.List.{_++_};
 ghost use Prim.Native.Nat.{_/_, _%_};
-ghost use lib.ListN.{length, take};
-ghost use Rattle.wire.specs.Bytes.{two, four, header, bytesOf};
+ghost use lib.ListN.{length, take, replicate};
+ghost use Rattle.wire.specs.Bytes.{bytesOf};
 ghost use Rattle.wire_write.specs.Buffer.{Written};
 use wire::Header;
 use wire::Message;
@@ -13,9 +13,9 @@ pub fn size(m: Message) -> usize
     ensures { λ r. ⌜ r ≡ length (bytesOf m) ⌝ }
 {
     match m {
-        Message::Insert(_, _, _, _) => 14,
-        Message::Delete(_, _) => 9,
-        Message::Nothing(_) => 7,
+        Message::Insert(_, _, _, _) => 17,
+        Message::Delete(_, _) => 12,
+        Message::Nothing(_) => 10,
         Message::Ack(_, _, _) => 5,
     }
 }
@@ -32,14 +32,16 @@ fn low(n: u16) -> u8
     (n % 256) as u8
 }
 
-// All that a message can hold, in its places: a kind that has less takes only the first of these bytes.
-fn pack(kind: u8, h: Header, p: u16, x: u32, r: u8) -> [u8; 14]
-    ensures { λ b. ⌜ b ≡ kind ∷ header h ++ two p ++ four x ++ (r ∷ []) ⌝ }
+// ---- the bytes of each kind, with zeros behind them
+
+fn insert_bytes(h: Header, p: u16, x: u32, r: u8) -> [u8; 17]
+    ensures { λ b. ⌜ b ≡ bytesOf (Message.Insert h p x r) ⌝ }
 {
     let upper = (x / 65536) as u16;
     let lower = (x % 65536) as u16;
+    let made = h.origin.number;
     [
-        kind,
+        5,
         h.line,
         h.direction,
         high(h.number),
@@ -53,29 +55,94 @@ fn pack(kind: u8, h: Header, p: u16, x: u32, r: u8) -> [u8; 14]
         high(lower),
         low(lower),
         r,
+        h.origin.line,
+        high(made),
+        low(made),
     ]
 }
 
-// The bytes of a message, with zeros behind them.
-fn bytes(m: Message) -> [u8; 14]
+fn delete_bytes(h: Header, p: u16) -> [u8; 17]
+    ensures { λ b. ⌜ b ≡ bytesOf (Message.Delete h p) ++ replicate 5 0 ⌝ }
+{
+    [
+        7,
+        h.line,
+        h.direction,
+        high(h.number),
+        low(h.number),
+        high(h.seen),
+        low(h.seen),
+        high(p),
+        low(p),
+        h.origin.line,
+        high(h.origin.number),
+        low(h.origin.number),
+        0,
+        0,
+        0,
+        0,
+        0,
+    ]
+}
+
+fn nothing_bytes(h: Header) -> [u8; 17]
+    ensures { λ b. ⌜ b ≡ bytesOf (Message.Nothing h) ++ replicate 7 0 ⌝ }
+{
+    [
+        8,
+        h.line,
+        h.direction,
+        high(h.number),
+        low(h.number),
+        high(h.seen),
+        low(h.seen),
+        h.origin.line,
+        high(h.origin.number),
+        low(h.origin.number),
+        0,
+        0,
+        0,
+        0,
+        0,
+        0,
+        0,
+    ]
+}
+
+fn ack_bytes(line: u8, direction: u8, seen: u16) -> [u8; 17]
+    ensures { λ b. ⌜ b ≡ bytesOf (Message.Ack line direction seen) ++ replicate 12 0 ⌝ }
+{
+    let high = high(seen);
+    let low = low(seen);
+    [
+        4,
+        line,
+        direction,
+        high,
+        low,
+        0,
+        0,
+        0,
+        0,
+        0,
+        0,
+        0,
+        0,
+        0,
+        0,
+        0,
+        0,
+    ]
+}
+
+fn bytes(m: Message) -> [u8; 17]
     ensures { λ b. ⌜ take (length (bytesOf m)) b ≡ bytesOf m ⌝ }
 {
     match m {
-        Message::Insert(h, p, x, r) => pack(1, h, p, x, r),
-        Message::Delete(h, p) => pack(2, h, p, 0, 0),
-        Message::Nothing(h) => pack(3, h, 0, 0, 0),
-        Message::Ack(line, direction, seen) => pack(
-            4,
-            Header {
-                line,
-                direction,
-                number: seen,
-                seen: 0,
-            },
-            0,
-            0,
-            0,
-        ),
+        Message::Insert(h, p, x, r) => insert_bytes(h, p, x, r),
+        Message::Delete(h, p) => delete_bytes(h, p),
+        Message::Nothing(h) => nothing_bytes(h),
+        Message::Ack(line, direction, seen) => ack_bytes(line, direction, seen),
     }
 }
 
@@ -89,7 +156,7 @@ pub fn write(m: Message, out: &mut [u8]) -> usize
         return 0;
     }
     let b = bytes(m);
-    for i in 0..14 {
+    for i in 0..17 {
         if n <= i {
             continue;
         }

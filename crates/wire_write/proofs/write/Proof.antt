@@ -11,7 +11,7 @@ abbrev Inv-loop : tie.InvT-loop
 Inv-loop out₀ n b i₀ out i = CopiedBy b out₀ n out i
 
 abbrev μ-loop : tie.MeasureT-loop
-μ-loop out₀ n b i₀ out i = 14 - i
+μ-loop out₀ n b i₀ out i = 17 - i
 
 size-requires : tie.Need-size-requires Inv-loop μ-loop
 size-requires c κs = search needs

@@ -1,7 +1,8 @@
--- `wire_write::pack` meets its contract: every byte is high or low of a number.
+-- `wire_write::insert_bytes` meets its contract: every byte is high or low of a number.
 use borrow.Author.Needs.{needs}
-use Rattle.wire_write.proofs.pack.Statement.{statement}
-use Rattle.wire_write.proofs.pack.Tie as tie
+use Rattle.wire.specs.Bytes.{bytesOf}
+use Rattle.wire_write.proofs.insert_bytes.Statement.{statement}
+use Rattle.wire_write.proofs.insert_bytes.Tie as tie
 
 cast-upper : tie.Need-cast-upper
 cast-upper c = search needs
@@ -39,9 +40,17 @@ high-requires-5 c κs = search needs
 low-requires-5 : tie.Need-low-requires-5
 low-requires-5 c κs = search needs
 
+high-requires-6 : tie.Need-high-requires-6
+high-requires-6 c κs = search needs
+
+low-requires-6 : tie.Need-low-requires-6
+low-requires-6 c κs = search needs
+
 returns : tie.Need-returns
+unfolding bytesOf
 returns c =
-    let upper = c .before .before in
+    let lower = c .before .before in
+    let upper = lower .before .before in
     let position = upper .before .before in
     let seen = position .before .before in
     let number = seen .before .before in
@@ -54,12 +63,14 @@ returns c =
       position .low3 .ensures,
       upper .before .high4 .ensures,
       upper .low4 .ensures,
-      c .before .high5 .ensures,
-      c .low5 .ensures,
+      lower .before .high5 .ensures,
+      lower .low5 .ensures,
+      c .before .high6 .ensures,
+      c .low6 .ensures,
     )
 
-pub pack-spec : {M : Type 1} → statement M
-pack-spec =
+pub insert-bytes-spec : {M : Type 1} → statement M
+insert-bytes-spec =
     tie.close
     (tie.spec
     cast-upper
@@ -74,4 +85,6 @@ pack-spec =
     low-requires-4
     high-requires-5
     low-requires-5
+    high-requires-6
+    low-requires-6
     returns)
