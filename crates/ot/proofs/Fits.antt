@@ -1,13 +1,13 @@
--- Tests of edits as facts about numbers and back; lengths after an edit.
-use mathlib.Core.Path.{_≡_, refl}
+-- Tests of edits as facts about numbers and back; the length of a list after an edit, and what stands on it.
+use mathlib.Core.Path.{_≡_, refl, ap}
 use mathlib.Core.Bool.{Bool, true, false, _&&_}
-use Prim.Native.Nat.{ℕ, _+_, _-_, _≤_, _<_}
+use Prim.Native.Nat.{ℕ, zero, suc, _+_, _-_, _≤_, _<_}
 use native.Mathlib.Omega.{arith}
-use mathlib.Core.List.{List}
+use mathlib.Core.List.{List, [], _∷_, map}
 use lib.Dec.{leb, ltb}
 use lib.ListN.{length, length-append, length-take, length-drop}
 use borrow.Author.Tests.{ltb-true, ltb-false, leb-true, le-leb}
-use Rattle.ot.specs.Edit.{Edit, Nothing, Delete, Insert, insertedAt, deletedAt, applied, sizeAfter, fits}
+use Rattle.ot.specs.Edit.{Edit, Nothing, Delete, Insert, insertedAt, deletedAt, edit, formOf, appliedAs, applied, sizeAfter, fits}
 
 -- ---- tests
 
@@ -51,14 +51,39 @@ length-deleted i l h = simp (length-append, length-take, length-drop) (omega ari
 pub length-deleted-le : {A : Type 0} (i : ℕ) (l : List A) → length (deletedAt i l) ≤ length l
 length-deleted-le i l = simp (length-append, length-take, length-drop) (omega arith)
 
-pub size : (e : Edit) (l : List ℕ) → fits e (length l) ≡ true → length (applied e l) ≡ sizeAfter e (length l)
-unfolding applied fits sizeAfter
-size Nothing l f = refl
-size (Delete p) l f = length-deleted (p - 1) l (omega (arith, between-true 1 p (length l) f))
-size (Insert p x r) l f = length-inserted (p - 1) x l
+pub size : {A : Type 0} (f : ℕ → A) (e : Edit) (l : List A) → fits e (length l) ≡ true → length (appliedAs f e l) ≡ sizeAfter e (length l)
+unfolding appliedAs fits sizeAfter
+size f Nothing l h = refl
+size f (Delete p) l h = length-deleted (p - 1) l (omega (arith, between-true 1 p (length l) h))
+size f (Insert p x r) l h = length-inserted (p - 1) (f x) l
 
-pub grows : (e : Edit) (l : List ℕ) → length (applied e l) ≤ length l + 1
-unfolding applied
-grows Nothing l = omega arith
-grows (Delete p) l = omega (arith, length-deleted-le (p - 1) l)
-grows (Insert p x r) l = omega (arith, length-inserted (p - 1) x l)
+pub grows : {A : Type 0} (f : ℕ → A) (e : Edit) (l : List A) → length (appliedAs f e l) ≤ length l + 1
+unfolding appliedAs
+grows f Nothing l = omega arith
+grows f (Delete p) l = omega (arith, length-deleted-le (p - 1) l)
+grows f (Insert p x r) l = omega (arith, length-inserted (p - 1) (f x) l)
+
+-- ---- what stands on the list
+
+map-inserted : {A B : Type 0} (h : A → B) (i : ℕ) (x : A) (l : List A) → map h (insertedAt i x l) ≡ insertedAt i (h x) (map h l)
+map-inserted h zero x l = refl
+map-inserted h (suc i) x [] = refl
+map-inserted {B = B} h (suc i) x (y ∷ l) = ap (λ (r : List B). h y ∷ r) (map-inserted h i x l)
+
+map-deleted : {A B : Type 0} (h : A → B) (i : ℕ) (l : List A) → map h (deletedAt i l) ≡ deletedAt i (map h l)
+map-deleted h zero [] = refl
+map-deleted h (suc i) [] = refl
+map-deleted h zero (y ∷ l) = refl
+map-deleted {B = B} h (suc i) (y ∷ l) = ap (λ (r : List B). h y ∷ r) (map-deleted h i l)
+
+pub looked : {A B : Type 0} (h : A → B) (f : ℕ → A) (e : Edit) (l : List A) → map h (appliedAs f e l) ≡ appliedAs (λ x. h (f x)) e (map h l)
+unfolding appliedAs
+looked h f Nothing l = refl
+looked h f (Delete p) l = map-deleted h (p - 1) l
+looked h f (Insert p x r) l = map-inserted h (p - 1) (f x) l
+
+pub alike : (y : ℕ) (e : Edit) (l : List ℕ) → appliedAs (λ x. y) e l ≡ applied (edit (formOf e) y) l
+unfolding appliedAs
+alike y Nothing l = refl
+alike y (Delete p) l = refl
+alike y (Insert p x r) l = refl

@@ -2,6 +2,7 @@
 use Rattle.ot.specs.Laws.{Laws}
 use Rattle.ot.proofs.Fits as fits
 use Rattle.ot.proofs.Keeps as keeps
+use Rattle.ot.proofs.Moves as moves
 use Rattle.ot.proofs.Square as square
 
 pub laws : Laws
@@ -13,8 +14,11 @@ laws =
       form-moves = keeps.form-moves;
       item-stays = keeps.item-stays;
       keeps = keeps.keeps;
+      shifts = moves.shifts;
       moves = keeps.moves;
       stays = keeps.stays;
       size = fits.size;
       grows = fits.grows;
+      looked = fits.looked;
+      alike = fits.alike;
     }

@@ -1,7 +1,7 @@
 pub mod Exchange
 pub mod Fits
 pub mod Keeps
-pub mod Moved
+pub mod Moves
 pub mod Square
 pub mod Laws
 pub mod Cases

@@ -8,7 +8,7 @@ use lib.Dec.{leb, ltb, eqb}
 use lib.ListN.{length}
 use borrow.Author.Tests.{ltb-true, leb-true, leb-false, eqb-false, lt-ltb, le-ltb, le-leb, lt-leb, not-true}
 use Rattle.ot.specs.declared.Form.the-variants as form
-use Rattle.ot.specs.Edit.{Edit, Nothing, Delete, Insert, edit, deletedAt, applied, sizeAfter, fits, transformed}
+use Rattle.ot.specs.Edit.{Edit, Nothing, Delete, Insert, edit, deletedAt, appliedAs, sizeAfter, fits, transformed}
 use Rattle.ot.specs.Laws.{distinct, Closes}
 use Rattle.ot.proofs.Exchange.{swap-insert-insert, swap-insert-delete, swap-delete-insert, swap-delete-delete}
 use Rattle.ot.proofs.Fits.{between-true, true-between, Order, below, level, above, order, size}
@@ -46,95 +46,96 @@ fits-after (Insert p x r) (Insert q y s) n f g =
 
 -- ---- both orders give one list
 
-abbrev Meets : Edit → Edit → List ℕ → Type 0
-Meets a b l = applied (transformed b a) (applied a l) ≡ applied (transformed a b) (applied b l)
+abbrev Meets : {A : Type 0} → (ℕ → A) → (ℕ → A) → Edit → Edit → List A → Type 0
+Meets f g a b l = appliedAs g (transformed b a) (appliedAs f a l) ≡ appliedAs f (transformed a b) (appliedAs g b l)
 
-module _ (l : List ℕ) where
+module _ {A : Type 0} (l : List A) where
   -- two deletes, the first in front
-  deletes-below : (p q : ℕ) → 1 ≤ p → p < q → q ≤ length l → Meets (Delete p) (Delete q) l
-  unfolding applied transformed
-  deletes-below p q h o k =
+  deletes-below : (f g : ℕ → A) (p q : ℕ) → 1 ≤ p → p < q → q ≤ length l → Meets f g (Delete p) (Delete q) l
+  unfolding appliedAs transformed
+  deletes-below f g p q h o k =
       rw (lt-ltb p q o, le-ltb q p (omega arith))
       (sym (swap-delete-delete (p - 1) (q - 1 - 1) (q - 1) l (omega arith) (omega arith) (omega arith)))
 
-  deletes-level : (p q : ℕ) → p ≡ q → Meets (Delete p) (Delete q) l
-  unfolding applied transformed
-  deletes-level p q o =
+  deletes-level : (f g : ℕ → A) (p q : ℕ) → p ≡ q → Meets f g (Delete p) (Delete q) l
+  unfolding appliedAs transformed
+  deletes-level f g p q o =
       rw (le-ltb p q (omega arith), le-ltb q p (omega arith)) (ap (λ (n : ℕ). deletedAt (n - 1) l) o)
 
-  deletes : (p q : ℕ) → 1 ≤ p → p ≤ length l → 1 ≤ q → q ≤ length l → Order p q → Meets (Delete p) (Delete q) l
-  deletes p q h₁ h₂ k₁ k₂ (below o) = deletes-below p q h₁ o k₂
-  deletes p q h₁ h₂ k₁ k₂ (level o) = deletes-level p q o
-  deletes p q h₁ h₂ k₁ k₂ (above o) = sym (deletes-below q p k₁ o h₂)
+  deletes : (f g : ℕ → A) (p q : ℕ) → 1 ≤ p → p ≤ length l → 1 ≤ q → q ≤ length l → Order p q → Meets f g (Delete p) (Delete q) l
+  deletes f g p q h₁ h₂ k₁ k₂ (below o) = deletes-below f g p q h₁ o k₂
+  deletes f g p q h₁ h₂ k₁ k₂ (level o) = deletes-level f g p q o
+  deletes f g p q h₁ h₂ k₁ k₂ (above o) = sym (deletes-below g f q p k₁ o h₂)
 
   -- of two inserts the first stays, the second moves up: it stands behind, or both stand at one place and the first's priority is smaller
-  inserts-below : (p x r q y s : ℕ) → 1 ≤ p → p < q → q ≤ length l + 1 → Meets (Insert p x r) (Insert q y s) l
-  unfolding applied transformed
-  inserts-below p x r q y s h o k =
+  inserts-below : (f g : ℕ → A) (p x r q y s : ℕ) → 1 ≤ p → p < q → q ≤ length l + 1 → Meets f g (Insert p x r) (Insert q y s) l
+  unfolding appliedAs transformed
+  inserts-below f g p x r q y s h o k =
       rw (lt-ltb p q o, le-ltb q p (omega arith))
-      (swap-insert-insert (p - 1) (q - 1) (q + 1 - 1) x y l (omega arith) (omega arith) (omega arith))
+      (swap-insert-insert (p - 1) (q - 1) (q + 1 - 1) (f x) (g y) l (omega arith) (omega arith) (omega arith))
 
-  inserts-level : (p x r q y s : ℕ) → 1 ≤ p → p ≡ q → q ≤ length l + 1 → r < s → Meets (Insert p x r) (Insert q y s) l
-  unfolding applied transformed
-  inserts-level p x r q y s h o k t =
+  inserts-level : (f g : ℕ → A) (p x r q y s : ℕ) → 1 ≤ p → p ≡ q → q ≤ length l + 1 → r < s → Meets f g (Insert p x r) (Insert q y s) l
+  unfolding appliedAs transformed
+  inserts-level f g p x r q y s h o k t =
       rw (le-ltb p q (omega arith), le-ltb q p (omega arith), lt-ltb r s t, le-ltb s r (omega arith))
-      (swap-insert-insert (p - 1) (q - 1) (q + 1 - 1) x y l (omega arith) (omega arith) (omega arith))
+      (swap-insert-insert (p - 1) (q - 1) (q + 1 - 1) (f x) (g y) l (omega arith) (omega arith) (omega arith))
 
-  inserts : (p x r q y s : ℕ) → 1 ≤ p → p ≤ length l + 1 → 1 ≤ q → q ≤ length l + 1 → (r ≡ s → ⊥) → Order p q → Order r s
-      → Meets (Insert p x r) (Insert q y s) l
-  inserts p x r q y s h₁ h₂ k₁ k₂ d (below o) t = inserts-below p x r q y s h₁ o k₂
-  inserts p x r q y s h₁ h₂ k₁ k₂ d (above o) t = sym (inserts-below q y s p x r k₁ o h₂)
-  inserts p x r q y s h₁ h₂ k₁ k₂ d (level o) (below t) = inserts-level p x r q y s h₁ o k₂ t
-  inserts p x r q y s h₁ h₂ k₁ k₂ d (level o) (level t) = absurd (d t)
-  inserts p x r q y s h₁ h₂ k₁ k₂ d (level o) (above t) = sym (inserts-level q y s p x r k₁ (sym o) h₂ t)
+  inserts : (f g : ℕ → A) (p x r q y s : ℕ) → 1 ≤ p → p ≤ length l + 1 → 1 ≤ q → q ≤ length l + 1 → (r ≡ s → ⊥) → Order p q → Order r s
+      → Meets f g (Insert p x r) (Insert q y s) l
+  inserts f g p x r q y s h₁ h₂ k₁ k₂ d (below o) t = inserts-below f g p x r q y s h₁ o k₂
+  inserts f g p x r q y s h₁ h₂ k₁ k₂ d (above o) t = sym (inserts-below g f q y s p x r k₁ o h₂)
+  inserts f g p x r q y s h₁ h₂ k₁ k₂ d (level o) (below t) = inserts-level f g p x r q y s h₁ o k₂ t
+  inserts f g p x r q y s h₁ h₂ k₁ k₂ d (level o) (level t) = absurd (d t)
+  inserts f g p x r q y s h₁ h₂ k₁ k₂ d (level o) (above t) = sym (inserts-level g f q y s p x r k₁ (sym o) h₂ t)
 
-  insert-first : (p x r q : ℕ) → 1 ≤ p → p ≤ q → q ≤ length l → Meets (Insert p x r) (Delete q) l
-  unfolding applied transformed
-  insert-first p x r q h o k =
-      rw (le-leb p q o, le-ltb q p o) (swap-insert-delete (p - 1) (q - 1) (q + 1 - 1) x l (omega arith) (omega arith) (omega arith))
+  insert-first : (f g : ℕ → A) (p x r q : ℕ) → 1 ≤ p → p ≤ q → q ≤ length l → Meets f g (Insert p x r) (Delete q) l
+  unfolding appliedAs transformed
+  insert-first f g p x r q h o k =
+      rw (le-leb p q o, le-ltb q p o) (swap-insert-delete (p - 1) (q - 1) (q + 1 - 1) (f x) l (omega arith) (omega arith) (omega arith))
 
-  delete-first : (p x r q : ℕ) → 1 ≤ q → q < p → p ≤ length l + 1 → Meets (Insert p x r) (Delete q) l
-  unfolding applied transformed
-  delete-first p x r q h o k =
-      rw (lt-leb p q o, lt-ltb q p o) (swap-delete-insert (q - 1) (p - 1 - 1) (p - 1) x l (omega arith) (omega arith) (omega arith))
+  delete-first : (f g : ℕ → A) (p x r q : ℕ) → 1 ≤ q → q < p → p ≤ length l + 1 → Meets f g (Insert p x r) (Delete q) l
+  unfolding appliedAs transformed
+  delete-first f g p x r q h o k =
+      rw (lt-leb p q o, lt-ltb q p o) (swap-delete-insert (q - 1) (p - 1 - 1) (p - 1) (f x) l (omega arith) (omega arith) (omega arith))
 
-  mixed : (p x r q : ℕ) → 1 ≤ p → p ≤ length l + 1 → 1 ≤ q → q ≤ length l → Order p q → Meets (Insert p x r) (Delete q) l
-  mixed p x r q h₁ h₂ k₁ k₂ (below o) = insert-first p x r q h₁ (omega arith) k₂
-  mixed p x r q h₁ h₂ k₁ k₂ (level o) = insert-first p x r q h₁ (omega arith) k₂
-  mixed p x r q h₁ h₂ k₁ k₂ (above o) = delete-first p x r q k₁ o h₂
+  mixed : (f g : ℕ → A) (p x r q : ℕ) → 1 ≤ p → p ≤ length l + 1 → 1 ≤ q → q ≤ length l → Order p q → Meets f g (Insert p x r) (Delete q) l
+  mixed f g p x r q h₁ h₂ k₁ k₂ (below o) = insert-first f g p x r q h₁ (omega arith) k₂
+  mixed f g p x r q h₁ h₂ k₁ k₂ (level o) = insert-first f g p x r q h₁ (omega arith) k₂
+  mixed f g p x r q h₁ h₂ k₁ k₂ (above o) = delete-first f g p x r q k₁ o h₂
 
 -- an insert's priorities differ where the test says so
 apart : (r s : ℕ) → not (eqb r s) ≡ true → r ≡ s → ⊥
 apart r s t = eqb-false r s (not-true (eqb r s) t)
 
-meets : (a b : Edit) (l : List ℕ) → fits a (length l) ≡ true → fits b (length l) ≡ true → distinct a b ≡ true → Meets a b l
-unfolding applied transformed fits distinct
-meets Nothing Nothing l f g d = refl
-meets Nothing (Delete q) l f g d = refl
-meets Nothing (Insert q y s) l f g d = refl
-meets (Delete p) Nothing l f g d = refl
-meets (Delete p) (Delete q) l f g d =
-    let h = between-true 1 p (length l) f in
-    let k = between-true 1 q (length l) g in
-    deletes l p q (h .0) (h .1) (k .0) (k .1) (order p q)
-meets (Delete p) (Insert q y s) l f g d =
-    let h = between-true 1 p (length l) f in
-    let k = between-true 1 q (length l + 1) g in
-    sym (mixed l q y s p (k .0) (k .1) (h .0) (h .1) (order q p))
-meets (Insert p x r) Nothing l f g d = refl
-meets (Insert p x r) (Delete q) l f g d =
-    let h = between-true 1 p (length l + 1) f in
-    let k = between-true 1 q (length l) g in
-    mixed l p x r q (h .0) (h .1) (k .0) (k .1) (order p q)
-meets (Insert p x r) (Insert q y s) l f g d =
-    let h = between-true 1 p (length l + 1) f in
-    let k = between-true 1 q (length l + 1) g in
-    inserts l p x r q y s (h .0) (h .1) (k .0) (k .1) (apart r s d) (order p q) (order r s)
+meets : {A : Type 0} (f g : ℕ → A) (a b : Edit) (l : List A) → fits a (length l) ≡ true → fits b (length l) ≡ true → distinct a b ≡ true → Meets f g a b l
+unfolding appliedAs transformed fits distinct
+meets f g Nothing Nothing l u v d = refl
+meets f g Nothing (Delete q) l u v d = refl
+meets f g Nothing (Insert q y s) l u v d = refl
+meets f g (Delete p) Nothing l u v d = refl
+meets f g (Delete p) (Delete q) l u v d =
+    let h = between-true 1 p (length l) u in
+    let k = between-true 1 q (length l) v in
+    deletes l f g p q (h .0) (h .1) (k .0) (k .1) (order p q)
+meets f g (Delete p) (Insert q y s) l u v d =
+    let h = between-true 1 p (length l) u in
+    let k = between-true 1 q (length l + 1) v in
+    sym (mixed l g f q y s p (k .0) (k .1) (h .0) (h .1) (order q p))
+meets f g (Insert p x r) Nothing l u v d = refl
+meets f g (Insert p x r) (Delete q) l u v d =
+    let h = between-true 1 p (length l + 1) u in
+    let k = between-true 1 q (length l) v in
+    mixed l f g p x r q (h .0) (h .1) (k .0) (k .1) (order p q)
+meets f g (Insert p x r) (Insert q y s) l u v d =
+    let h = between-true 1 p (length l + 1) u in
+    let k = between-true 1 q (length l + 1) v in
+    inserts l f g p x r q y s (h .0) (h .1) (k .0) (k .1) (apart r s d) (order p q) (order r s)
 
-pub square : (a b : Edit) (l : List ℕ) → fits a (length l) ≡ true → fits b (length l) ≡ true → distinct a b ≡ true → Closes a b l
-square a b l f g d =
+pub square : {A : Type 0} (f g : ℕ → A) (a b : Edit) (l : List A) → fits a (length l) ≡ true → fits b (length l) ≡ true → distinct a b ≡ true
+    → Closes f g a b l
+square f g a b l u v d =
     record {
-      left = rw (size b l g) (fits-after a b (length l) f g);
-      right = rw (size a l f) (fits-after b a (length l) g f);
-      same = meets a b l f g d;
+      left = rw (size g b l v) (fits-after a b (length l) u v);
+      right = rw (size f a l u) (fits-after b a (length l) v u);
+      same = meets f g a b l u v d;
     }

@@ -43,10 +43,15 @@ insertedAt i x l = take i l ++ (x ∷ drop i l)
 abbrev pub deletedAt : {A : Type 0} → ℕ → List A → List A
 deletedAt i l = take i l ++ drop (suc i) l
 
-unfoldable pub applied : Edit → List ℕ → List ℕ
-applied Nothing l = l
-applied (Delete p) l = deletedAt (p - 1) l
-applied (Insert p x r) l = insertedAt (p - 1) x l
+-- What an edit makes of a list in which an item x stands as f x: alone, or with what the list holds beside its items.
+unfoldable pub appliedAs : {A : Type 0} → (ℕ → A) → Edit → List A → List A
+appliedAs f Nothing l = l
+appliedAs f (Delete p) l = deletedAt (p - 1) l
+appliedAs f (Insert p x r) l = insertedAt (p - 1) (f x) l
+
+-- of a list of items
+abbrev pub applied : Edit → List ℕ → List ℕ
+applied e l = appliedAs (λ x. x) e l
 
 -- how many items a list of n has after the edit
 unfoldable pub sizeAfter : Edit → ℕ → ℕ

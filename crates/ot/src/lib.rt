@@ -1,7 +1,7 @@
 // Operational transformation: the form of one edit after another.
 ghost use mathlib.Core.Path.{_≡_};
 ghost use Prim.Native.Nat.{ℕ, _<_};
-ghost use Rattle.ot.specs.Form.{positionOf, moved};
+ghost use Rattle.ot.specs.Form.{positionOf, how, shifted, deleteAfter, movedSo};
 ghost use Rattle.ot.specs.Edit.{edit, fits};
 
 // The form of an edit: what it does, and where. Positions count from 1. The item that an insert brings stands beside the form: no
@@ -16,65 +16,135 @@ pub enum Form {
     Insert(u16, u8),
 }
 
-// The form of a delete at p after b.
-fn delete_moved(p: u16, b: Form) -> Form
-    requires { ⌜ p < 65535 ⌝ }
-    ensures { λ r. ⌜ r ≡ moved (Form.Delete p) b ⌝ }
+// How a position moves past another edit: not at all, down one, up one; or the edit is gone.
+pub enum Move {
+    Still,
+    Down,
+    Up,
+    Gone,
+}
+
+// What transforming gives: the form, and how its position moved.
+pub struct Moved {
+    pub form: Form,
+    pub how: Move,
+}
+
+// The position, 0 for nothing.
+pub fn position(f: Form) -> u16
+    ensures { λ r. ⌜ r ≡ positionOf f ⌝ }
+{
+    match f {
+        Form::Nothing => 0,
+        Form::Delete(p) => p,
+        Form::Insert(p, _) => p,
+    }
+}
+
+// How a delete at p moves past b.
+fn delete_moves(p: u16, b: Form) -> Move
+    ensures { λ r. ⌜ r ≡ how (Form.Delete p) b ⌝ }
 {
     match b {
-        Form::Nothing => Form::Delete(p),
+        Form::Nothing => Move::Still,
         Form::Delete(q) => {
             if p < q {
-                return Form::Delete(p);
+                return Move::Still;
             }
             if q < p {
-                return Form::Delete(p - 1);
+                return Move::Down;
             }
-            Form::Nothing
+            Move::Gone
         }
         Form::Insert(q, _) => {
             if p < q {
-                return Form::Delete(p);
+                return Move::Still;
             }
-            Form::Delete(p + 1)
+            Move::Up
         }
     }
 }
 
-// The position after b of an insert at p with priority r.
-fn insert_moved(p: u16, r: u8, b: Form) -> u16
-    requires { ⌜ p < 65535 ⌝ }
-    ensures { λ n. ⌜ n ≡ positionOf (moved (Form.Insert p r) b) ⌝ }
+// How an insert at p with priority r moves past b.
+fn insert_moves(p: u16, r: u8, b: Form) -> Move
+    ensures { λ m. ⌜ m ≡ how (Form.Insert p r) b ⌝ }
 {
     match b {
-        Form::Nothing => p,
+        Form::Nothing => Move::Still,
         Form::Delete(q) => {
             if p <= q {
-                return p;
+                return Move::Still;
             }
-            p - 1
+            Move::Down
         }
         Form::Insert(q, s) => {
             if p < q {
-                return p;
+                return Move::Still;
             }
             if (q < p) | (s < r) {
-                return p + 1;
+                return Move::Up;
             }
-            p
+            Move::Still
         }
     }
 }
 
-// The form of a after b. The bound leaves room for the one place that a position can move up.
-pub fn transform(a: Form, b: Form) -> Form
+// Where a position stands after a move; 0 for an edit that is gone.
+fn shift(p: u16, how: Move) -> u16
+    requires { ⌜ p < 65535 ⌝ }
+    ensures { λ r. ⌜ r ≡ shifted how p ⌝ }
+{
+    match how {
+        Move::Still => p,
+        Move::Down => {
+            if p == 0 {
+                return 0;
+            }
+            p - 1
+        }
+        Move::Up => p + 1,
+        Move::Gone => 0,
+    }
+}
+
+// A delete at p after a move.
+fn delete_after(p: u16, how: Move) -> Form
+    requires { ⌜ p < 65535 ⌝ }
+    ensures { λ r. ⌜ r ≡ deleteAfter p how ⌝ }
+{
+    let at = shift(p, how);
+    match how {
+        Move::Still => Form::Delete(at),
+        Move::Down => Form::Delete(at),
+        Move::Up => Form::Delete(at),
+        Move::Gone => Form::Nothing,
+    }
+}
+
+// The form of a after b, and how it moved. The bound leaves room for the one place that a position can move up.
+pub fn transform(a: Form, b: Form) -> Moved
     requires { ⌜ positionOf a < 65535 ⌝ }
-    ensures { λ r. ⌜ r ≡ moved a b ⌝ }
+    ensures { λ r. ⌜ r ≡ movedSo a b ⌝ }
 {
     match a {
-        Form::Nothing => Form::Nothing,
-        Form::Delete(p) => delete_moved(p, b),
-        Form::Insert(p, r) => Form::Insert(insert_moved(p, r, b), r),
+        Form::Nothing => Moved {
+            form: Form::Nothing,
+            how: Move::Still,
+        },
+        Form::Delete(p) => {
+            let how = delete_moves(p, b);
+            Moved {
+                form: delete_after(p, how),
+                how,
+            }
+        }
+        Form::Insert(p, r) => {
+            let how = insert_moves(p, r, b);
+            Moved {
+                form: Form::Insert(shift(p, how), r),
+                how,
+            }
+        }
     }
 }
 

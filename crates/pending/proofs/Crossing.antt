@@ -16,7 +16,6 @@ use Rattle.ot.specs.Edit.{edit}
 use Rattle.ot.specs.Laws.{within}
 use Rattle.ot.proofs.Laws.{laws}
 use Rattle.ot.proofs.Fits.{and-left, and-right, between-true}
-use Rattle.list.specs.Items.{padded}
 use Rattle.list.proofs.Sweep.{swept}
 use Rattle.list.proofs.Pad.{fill-turn, fill-end}
 use Rattle.model.specs.Cross.{placed}

@@ -91,13 +91,13 @@ priority-at right (e ∷ es) zero h = and-left (priority right e) (priorities ri
 priority-at right (e ∷ es) (suc i) h = priority-at right es i (and-right (priority right e) (priorities right es) h)
 
 module _ (es : List Edit) (few : length es ≤ maxPending) (i : ℕ) where
-  place-at : i < maxPending → getD (slotsOf es) i 0 ≡ place (getD es i Nothing)
+  pub slots-place : i < maxPending → getD (slotsOf es) i 0 ≡ placeOf (formOf (getD es i Nothing))
   unfolding slotsOf
-  place-at h = List·getD-append (placesOf es) (itemsOf es) 0 i (omega (arith, numbers-length place es few)) ∙ numbers-at place refl es i
+  slots-place h = List·getD-append (placesOf es) (itemsOf es) 0 i (omega (arith, numbers-length place es few)) ∙ numbers-at place refl es i
 
-  item-at : getD (slotsOf es) (maxPending + i) 0 ≡ itemOf (getD es i Nothing)
+  pub slots-item : getD (slotsOf es) (maxPending + i) 0 ≡ itemOf (getD es i Nothing)
   unfolding slotsOf
-  item-at =
+  slots-item =
       ap (λ (n : ℕ). getD (placesOf es ++ itemsOf es) (n + i) 0) (sym (numbers-length place es few))
       ∙ getD-append-add (placesOf es) (itemsOf es) i 0 ∙ numbers-at itemOf refl es i
 
@@ -110,7 +110,7 @@ slots-read-back right es h p q b =
     (λ i k.
     let inside : i < length es = omega arith in
     edits-at (slotsOf es) 0 (length es) i inside ∙ ap (editIn (slotsOf es)) (zero-add i)
-    ∙ ap₂ (λ (n x : ℕ). edit (formAt n) x) (place-at es h i (omega arith)) (item-at es h i)
+    ∙ ap₂ (λ (n x : ℕ). edit (formAt n) x) (slots-place es h i (omega arith)) (slots-item es h i)
     ∙ slot-read-back right b (getD es i Nothing) (placed-at es i p) (priority-at right es i q))
 
 -- ---- one more edit, which brings an item only if it is an insert

@@ -54,25 +54,18 @@ fn form_at(place: u32) -> Form
     Form::Insert(p, r)
 }
 
-// The number at place i, counted from 0; 0 past the end.
-fn word_at(words: &[u32], i: usize) -> u32
-    ensures { λ r. ⌜ r ≡ getD (now (words .entry)) i 0 ⌝ }
-{
-    if i < words.len() { words[i] } else { 0 }
-}
-
 // The form of the edit in slot i, counted from 0, and its item.
 pub fn form_in(words: &[u32], i: usize) -> Form
     ensures { λ r. ⌜ r ≡ formIn (now (words .entry)) i ⌝ }
 {
-    form_at(word_at(words, i))
+    form_at(list::item_at(words, i))
 }
 
 pub fn item_in(words: &[u32], i: usize) -> u32
     requires { ⌜ i < maxPending ⌝ }
     ensures { λ r. ⌜ r ≡ getD (now (words .entry)) (maxPending + i) 0 ⌝ }
 {
-    word_at(words, PENDING + i)
+    list::item_at(words, PENDING + i)
 }
 
 // ---- crossing
@@ -106,10 +99,10 @@ pub fn cross(
     let mut passed = 0;
     while passed < count {
         let p = form_at(words[from + passed]);
-        let form = ot::transform(p, current);
+        let form = ot::transform(p, current).form;
         later[passed] = place_of(form);
         good = good & is_placed(form);
-        current = ot::transform(current, p);
+        current = ot::transform(current, p).form;
         passed += 1;
     }
     Crossed {
@@ -142,6 +135,15 @@ fn put(words: &mut [u32], part: &[u32])
     for i in 0..words.len() {
         words[i] = part[i];
     }
+}
+
+// The first gone of gone + count words go; the others move down, and what is left of the 64 is zero.
+pub fn drop_front(words: &mut [u32], gone: usize, count: usize)
+    requires { ⌜ (length (now words) ≡ maxPending) × (gone + count ≤ maxPending) ⌝ }
+    ensures { λ _. ⌜ now (words .exit) ≡ padded 0 maxPending (take count (drop gone (now (words .entry)))) ⌝ }
+{
+    let left = moved_down(words, gone, count);
+    put(words, &left);
 }
 
 // The first gone of gone + count edits go. The places of the others are later's, and their items, which no transformation changes, move

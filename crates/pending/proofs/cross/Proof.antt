@@ -87,11 +87,11 @@ loop-again c =
     let r = read placed in
     let t = turn r in
     crossing-turn (ready (t .before)) (t .before .loop .inv)
-    (r .form-at .result) (placed .before .before .transform .result) (c .transform2 .result) (placed .before .place-of .result) (placed .is-placed .result) (t .loop-test .taken)
-    (r .form-at .ensures) (placed .before .before .transform .ensures) (placed .before .place-of .ensures) (placed .is-placed .ensures) (c .transform2 .ensures)
+    (r .form-at .result) (placed .before .before .transform .result .form) (c .transform2 .result .form) (placed .before .place-of .result) (placed .is-placed .result) (t .loop-test .taken)
+    (r .form-at .ensures) (ap (λ m. m .form) (placed .before .before .transform .ensures)) (placed .before .place-of .ensures) (placed .is-placed .ensures) (ap (λ m. m .form) (c .transform2 .ensures))
 
-cast-t18 : tie.Need-cast-t18 Inv-loop μ-loop
-cast-t18 c = omega (arith, few (c .before), c .before .loop .inv .turns)
+cast-t19 : tie.Need-cast-t19 Inv-loop μ-loop
+cast-t19 c = omega (arith, few (c .before), c .before .loop .inv .turns)
 
 returns : tie.Need-returns Inv-loop μ-loop
 returns c =
@@ -118,5 +118,5 @@ cross-spec =
     add-passed
     loop-less
     loop-again
-    cast-t18
+    cast-t19
     returns)

@@ -3,14 +3,14 @@ use borrow.Author.Needs.{needs}
 use Rattle.pending.proofs.item_in.Statement.{statement}
 use Rattle.pending.proofs.item_in.Tie as tie
 
-add-word-at : tie.Need-add-word-at
-add-word-at c = search needs
+add-item-at : tie.Need-add-item-at
+add-item-at c = search needs
 
-word-at-requires : tie.Need-word-at-requires
-word-at-requires c κs = search needs
+item-at-requires : tie.Need-item-at-requires
+item-at-requires c κs = search needs
 
 returns : tie.Need-returns
-returns c = c .word-at .ensures
+returns c = c .item-at .ensures
 
 pub item-in-spec : {M : Type 1} → statement M
-item-in-spec = tie.close (tie.spec add-word-at word-at-requires returns)
+item-in-spec = tie.close (tie.spec add-item-at item-at-requires returns)

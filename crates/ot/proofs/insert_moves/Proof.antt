@@ -1,8 +1,8 @@
--- `ot::insert_moved` meets its contract: each return is a law of proofs/Moved.antt.
-use Rattle.ot.proofs.Moved.{past-nothing, before-delete, behind-delete, before-insert, behind-insert, stays-at-insert}
+-- `ot::insert_moves` meets its contract: each return is a law of proofs/Moves.antt.
+use Rattle.ot.proofs.Moves.{past-nothing, before-delete, behind-delete, before-insert, behind-insert, stays-at-insert}
 use borrow.Author.Needs.{needs}
-use Rattle.ot.proofs.insert_moved.Statement.{statement}
-use Rattle.ot.proofs.insert_moved.Tie as tie
+use Rattle.ot.proofs.insert_moves.Statement.{statement}
+use Rattle.ot.proofs.insert_moves.Tie as tie
 
 -- the start, where b is a delete and where it is an insert
 abbrev deleting : tie.After-known-told → tie.Start
@@ -20,17 +20,11 @@ enum-known-b c = search needs
 returns : tie.Need-returns
 returns c = let s = deleting (c .before) in before-delete (s .args .p) (s .args .r) (c .before .before .b .given .1) (c .if1 .taken)
 
-sub-result : tie.Need-sub-result
-sub-result c = search needs
-
 enum-known-b-2 : tie.Need-enum-known-b-2
 enum-known-b-2 c = search needs
 
 returns-2 : tie.Need-returns-2
 returns-2 c = let s = inserting (c .before) in before-insert (s .args .p) (s .args .r) (c .before .before .b2 .given .1) (c .if2 .taken)
-
-add-result : tie.Need-add-result
-add-result c = search needs
 
 returns-3 : tie.Need-returns-3
 returns-3 c =
@@ -50,17 +44,15 @@ returns-6 c =
     let s = inserting told in
     stays-at-insert (s .args .p) (s .args .r) (told .before .b2 .given .1) (c .before .if2 .left) (c .if3 .left)
 
-pub insert-moved-spec : {M : Type 1} → statement M
-insert-moved-spec =
+pub insert-moves-spec : {M : Type 1} → statement M
+insert-moves-spec =
     tie.close
     (tie.spec
     enum-told
     enum-known-b
     returns
-    sub-result
     enum-known-b-2
     returns-2
-    add-result
     returns-3
     returns-4
     returns-5
