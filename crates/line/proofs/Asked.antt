@@ -9,7 +9,9 @@ use lib.ListN.{length}
 use borrow.Author.Tests.{leb-true, le-leb, lt-leb, lt-ltb, le-ltb, eqb-true, eqb-false, eq-eqb, ne-eqb}
 use Rattle.limits.specs.Limits.{maxItems}
 use Rattle.ot.specs.declared.Form.{Form}
-use Rattle.ot.specs.Edit.{Edit, edit, applied, fits}
+use Rattle.ot.specs.Edit.{Edit, edit, fits}
+use Rattle.list.specs.declared.Origin.{Origin}
+use Rattle.list.specs.Places.{Place, appliedBy}
 use Rattle.wire.specs.declared.Header.{Header}
 use Rattle.wire.specs.declared.Message.the-variants as message
 use Rattle.model.specs.Cross.{over, allPlaced}
@@ -109,13 +111,13 @@ pub refusal-seen : (v : Line) (m : model.Line) (len : ℕ) (a : Arrival) → ref
 refusal-seen v m len a z = asked-seen v (a .number) (a .seen) (a .carries) (then-left (asks (arrivalAsked v (a .number) (a .seen) (a .carries))) _ z)
 
 -- question 9 by the length of the list is the model's of the list
-nine-model : (m : model.Line) (items : List ℕ) (seen : ℕ) (e : Edit) → length items ≤ maxItems
+nine-model : (m : model.Line) (items : List Place) (o : Origin) (seen : ℕ) (e : Edit) → length items ≤ maxItems
     → nine m (length items) seen e
     ≡ (fits (model.carried m seen e) (length items) && allPlaced (over e (model.unacked m seen))
-    && leb (length (applied (model.carried m seen e) items)) maxItems)
-nine-model m items seen e h =
-    ap (λ (b : Bool). allPlaced (over e (model.unacked m seen)) && b) (fits-model (model.carried m seen e) items h)
-    ∙ swap (allPlaced (over e (model.unacked m seen))) (fits (model.carried m seen e) (length items)) (leb (length (applied (model.carried m seen e) items)) maxItems)
+    && leb (length (appliedBy o (model.carried m seen e) items)) maxItems)
+nine-model m items o seen e h =
+    ap (λ (b : Bool). allPlaced (over e (model.unacked m seen)) && b) (fits-model o (model.carried m seen e) items h)
+    ∙ swap (allPlaced (over e (model.unacked m seen))) (fits (model.carried m seen e) (length items)) (leb (length (appliedBy o (model.carried m seen e) items)) maxItems)
   where
     swap : (a b c : Bool) → (a && (b && c)) ≡ (b && a && c)
     swap true true c = refl
@@ -124,11 +126,11 @@ nine-model m items seen e h =
     swap false false c = refl
 
 -- The model's questions of an edit: 5 to 9, then what else the end asks.
-pub edit-asked : (v : Line) (words items : List ℕ) (h : Header) (f : Form) (x : ℕ) (more : List Question) → length items ≤ maxItems
+pub edit-asked : (v : Line) (words : List ℕ) (items : List Place) (h : Header) (f : Form) (x : ℕ) (more : List Question) → length items ≤ maxItems
     → asks (model.takeQuestions (lineOf v words) items h (edit f x) more)
     ≡ thenAsked (refusalOf v (lineOf v words) (length items) (carrying h f x)) (asks more)
 edit-asked v words items h f x more few =
-    ap (λ (b : Bool). asks (five b ++ more)) (sym (nine-model (lineOf v words) items (h .seen) (edit f x) few))
+    ap (λ (b : Bool). asks (five b ++ more)) (sym (nine-model (lineOf v words) items (h .origin) (h .seen) (edit f x) few))
     ∙ asks-append (five ninth) more numbered
     ∙ ap (λ (r : ℕ). thenAsked r (asks more)) (asks-append (arrivalAsked v (h .number) (h .seen) true) (ask 9 ninth ∷ []) first)
   where

@@ -7,6 +7,7 @@ use lib.ListN.{length, take, drop, length-map}
 use borrow.Author.Tests.{eqb-false, ne-eqb, eq-eqb}
 use Rattle.limits.specs.Limits.{maxPending}
 use Rattle.ot.specs.declared.Form.{Form}
+use Rattle.ot.specs.declared.Form.the-variants as form
 use Rattle.ot.specs.Edit.{Edit, edit, formOf, itemOf}
 use Rattle.ot.proofs.Laws.{laws}
 use Rattle.list.specs.Items.{padded}
@@ -19,10 +20,11 @@ use Rattle.pending.specs.Crossing.{formsFrom, overForms, placedForms, crossed, 
 use Rattle.pending.proofs.Forms.{past-forms, over-forms, over-items, placed-forms, steps-length}
 use Rattle.line.specs.declared.Line.{Line}
 use Rattle.line.specs.declared.taking.Arrival.{Arrival}
+use Rattle.line.specs.declared.taking.Report.{Report}
 use Rattle.line.specs.declared.taking.Decision.{Decision}
-use Rattle.line.specs.Line.{lineOf, Kept}
+use Rattle.line.specs.Line.{lineOf, countsOf, Kept}
 use Rattle.line.specs.Keeping.{fitsList}
-use Rattle.line.specs.Taking.{editOf, arrivalAsked, nine, refusalOf, refusing, done, deciding, Decided, Later, Between}
+use Rattle.line.specs.Taking.{editOf, arrivalAsked, nine, refusalOf, noReport, refusing, done, takenAs, deciding, Decided, Later, Between}
 use Rattle.line.proofs.Asked.{then-yes, then-no, asked-seen}
 use Rattle.line.proofs.Staying.{left-forms, left-length, left-ready, left-places}
 
@@ -37,7 +39,7 @@ deciding-yes r v d e = rw (eq-eqb r 0 e)
 -- an arrival that does or does not carry an edit
 abbrev as-carrying : Bool → Arrival → Arrival
 as-carrying b a =
-    record { line = a .line; direction = a .direction; number = a .number; seen = a .seen; carries = b; form = a .form; item = a .item }
+    record { line = a .line; direction = a .direction; number = a .number; seen = a .seen; carries = b; form = a .form; item = a .item; origin = a .origin }
 
 -- ---- the edit past those that stay, by forms
 
@@ -100,12 +102,14 @@ module _ (v : Line) (words : List ℕ) (k : Kept v words) (len inserts : ℕ) (a
     pub ready : Ready (a .seen - v .acked) (v .made - a .seen) words
     ready = left-ready v words k (a .seen) seen-between
 
-    pub acked-done : a .carries ≡ false → later ≡ padded 0 maxPending (take (v .made - a .seen) (drop (a .seen - v .acked) words))
-        → Decided v words len inserts a (done m inserts (as-carrying false a)) later
-    acked-done f el =
+    pub acked-done : a .carries ≡ false → (report : Report) → report ≡ noReport
+        → later ≡ padded 0 maxPending (take (v .made - a .seen) (drop (a .seen - v .acked) words))
+        → Decided v words len inserts a (record { refusal = 0; report = report; line = countsOf (model.lineAcked (a .seen) m); form = form.Nothing }) later
+    acked-done f report er el =
         record {
           answer =
-              ap (λ (b : Bool). done m inserts (as-carrying b a)) (sym f)
+              ap (λ (k : Report). record { refusal = 0; report = k; line = countsOf (model.lineAcked (a .seen) m); form = form.Nothing }) er
+              ∙ ap (λ (b : Bool). done m inserts (as-carrying b a)) (sym f)
               ∙ deciding-yes (refusalOf v m len a) v (done m inserts a) (last-asks false f);
           stay =
               λ _. subst (λ (b : Bool). Later v (a .seen) words later (cond b (model.lineTaken inserts (a .seen) (editOf a) m) (model.lineAcked (a .seen) m) .pending))
@@ -129,18 +133,19 @@ module _ (v : Line) (words : List ℕ) (k : Kept v words) (len inserts : ℕ) (a
       pub nine-no : (d : Decision) → (x .placed && b) ≡ false → d ≡ refusing 9 v → Decided v words len inserts a d later
       nine-no d f ed = refused 9 d (eqb-false 9 0 refl) ed (sym (nine-is false f))
 
-      -- the counts once the edit is taken
-      abbrev counts : Line
-      counts = record { made = v .made; taken = v .taken + 1; acked = a .seen; inserts = inserts }
+      -- the edit came as f, was applied as g and transformed past so many
+      abbrev taken : ℕ → Form → Form → Decision
+      taken passed f g = takenAs v inserts (a .seen) f (record { form = g; placed = x .placed; passed = passed })
 
-      pub taken-done : (x .placed && b) ≡ true → later ≡ filled (overForms (a .form) (formsFrom words (a .seen - v .acked) (v .made - a .seen)))
-          → Decided v words len inserts a (record { refusal = 0; passed = x .passed; line = counts; form = x .form }) later
-      taken-done y el =
+      pub taken-done : (d : Decision) → (x .placed && b) ≡ true → d ≡ takenAs v inserts (a .seen) (a .form) x
+          → later ≡ filled (overForms (a .form) (formsFrom words (a .seen - v .acked) (v .made - a .seen)))
+          → Decided v words len inserts a d later
+      taken-done d y ed el =
           record {
             answer =
-                ap (λ (n : ℕ). record { refusal = 0; passed = n; line = counts; form = x .form })
-                (passed-is a staying x crossing ∙ left-length v words k (a .seen) seen-between)
-                ∙ ap (λ (f : Form). record { refusal = 0; passed = v .made - a .seen; line = counts; form = f }) (form-is a staying x crossing)
+                ed
+                ∙ ap (λ (n : ℕ). taken n (a .form) (x .form)) (passed-is a staying x crossing ∙ left-length v words k (a .seen) seen-between)
+                ∙ ap₂ (taken (v .made - a .seen)) (sym (laws .form-of (a .form) (a .item))) (form-is a staying x crossing)
                 ∙ ap (λ (c : Bool). done m inserts (as-carrying c a)) (sym t)
                 ∙ deciding-yes (refusalOf v m len a) v (done m inserts a) (nine-is true y);
             stay =

@@ -1,4 +1,4 @@
--- Question 9 by the length alone is question 9 of the list, and what an edit that passes it does to the array.
+-- Question 9 by the length alone is question 9 of the list, and what an edit that passes it does to the arrays of items and origins.
 use Prim.Native.Nat.{ℕ, _+_, _-_, _≤_}
 use native.Mathlib.Omega.{arith}
 use mathlib.Core.Path.{_≡_, refl, ap, _∙_, sym, subst}
@@ -8,10 +8,13 @@ use lib.Dec.{leb}
 use lib.ListN.{length}
 use borrow.Author.Tests.{leb-true, le-leb}
 use Rattle.limits.specs.Limits.{maxItems}
-use Rattle.ot.specs.Edit.{Edit, Nothing, Delete, Insert, applied, sizeAfter, fits}
+use Rattle.ot.specs.declared.Form.{Form}
+use Rattle.ot.specs.Edit.{Edit, Nothing, Delete, Insert, edit, sizeAfter, fits}
 use Rattle.ot.proofs.Laws.{laws}
+use Rattle.list.specs.declared.Origin.{Origin}
 use Rattle.list.specs.Items.{stored, edited, Room}
-use Rattle.list.proofs.Array.{array}
+use Rattle.list.specs.Places.{Place, placeOf, appliedBy, wordOf, itemsOf, originsOf}
+use Rattle.list.proofs.Places.{room-alike, items-edited, origins-edited}
 use Rattle.model.specs.Cross.{insertsOf}
 use Rattle.model.proofs.Tests.{and-left, and-right}
 use Rattle.line.specs.Keeping.{fitsList}
@@ -23,12 +26,12 @@ sizes Nothing n h = le-leb (n + 0) maxItems (omega arith) ∙ sym (le-leb n maxI
 sizes (Delete p) n h = le-leb (n + 0) maxItems (omega arith) ∙ sym (le-leb (n - 1) maxItems (omega arith))
 sizes (Insert p x r) n h = refl
 
-pub fits-model : (e : Edit) (l : List ℕ) → length l ≤ maxItems
-    → fitsList e (length l) ≡ (fits e (length l) && leb (length (applied e l)) maxItems)
-fits-model e l h = go (fits e (length l)) refl
+pub fits-model : (o : Origin) (e : Edit) (l : List Place) → length l ≤ maxItems
+    → fitsList e (length l) ≡ (fits e (length l) && leb (length (appliedBy o e l)) maxItems)
+fits-model o e l h = go (fits e (length l)) refl
   where
-    go : (b : Bool) → fits e (length l) ≡ b → (b && leb (length l + insertsOf e) maxItems) ≡ (b && leb (length (applied e l)) maxItems)
-    go true f = sizes e (length l) h ∙ ap (λ (n : ℕ). leb n maxItems) (sym (laws .size e l f))
+    go : (b : Bool) → fits e (length l) ≡ b → (b && leb (length l + insertsOf e) maxItems) ≡ (b && leb (length (appliedBy o e l)) maxItems)
+    go true f = sizes e (length l) h ∙ ap (λ (n : ℕ). leb n maxItems) (sym (laws .size (placeOf o) e l f))
     go false f = refl
 
 pub fits-room : (e : Edit) (n : ℕ) → n ≤ maxItems → fitsList e n ≡ true → Room e n maxItems
@@ -39,15 +42,28 @@ fits-room e n h r =
       after = leb-true (sizeAfter e n) maxItems (sym (sizes e n h) ∙ and-right (fits e n) (leb (n + insertsOf e) maxItems) r);
     }
 
--- the list l in the array, after an edit
-pub room-stored : (e : Edit) (n : ℕ) (a l : List ℕ) → a ≡ stored l → length l ≡ n → Room e n maxItems → edited e n a ≡ stored (applied e l)
-room-stored e n a l s k r =
-    ap (edited e n) s ∙ ap (λ (m : ℕ). edited e m (stored l)) (sym k)
-    ∙ array maxItems e l (subst (λ (m : ℕ). Room e m maxItems) (sym k) r)
+-- room for an edit is room for one of the same form, whatever item it brings
+pub room-form : {n m : ℕ} (f : Form) (x y : ℕ) → Room (edit f x) n m → Room (edit f y) n m
+room-form {n} {m} f x y r = subst (λ (g : Form). Room (edit g y) n m) (laws .form-of f x) (room-alike y (edit f x) r)
 
-pub room-length : (e : Edit) (n : ℕ) (l : List ℕ) → length l ≡ n → Room e n maxItems → sizeAfter e n ≡ length (applied e l)
-room-length e n l k r =
-    ap (sizeAfter e) (sym k) ∙ sym (laws .size e l (subst (λ (m : ℕ). fits e m ≡ true) (sym k) (r .fitting)))
+-- the places l in the two arrays, after an edit of form f and item x
+module _ (o : Origin) (f : Form) (x n : ℕ) (l : List Place) (k : length l ≡ n) (r : Room (edit f x) n maxItems) where
+  abbrev e : Edit
+  e = edit f x
+
+  room : Room e (length l) maxItems
+  room = subst (λ (m : ℕ). Room e m maxItems) (sym k) r
+
+  pub room-items : (a : List ℕ) → a ≡ stored (itemsOf l) → edited e n a ≡ stored (itemsOf (appliedBy o e l))
+  room-items a s = ap (edited e n) s ∙ ap (λ (m : ℕ). edited e m (stored (itemsOf l))) (sym k) ∙ items-edited o e l room
+
+  pub room-origins : (a : List ℕ) → a ≡ stored (originsOf l) → edited (edit f (wordOf o)) n a ≡ stored (originsOf (appliedBy o e l))
+  room-origins a s =
+      ap (edited (edit f (wordOf o)) n) s ∙ ap (λ (m : ℕ). edited (edit f (wordOf o)) m (stored (originsOf l))) (sym k)
+      ∙ ap (λ (g : Form). edited (edit g (wordOf o)) (length l) (stored (originsOf l))) (sym (laws .form-of f x)) ∙ origins-edited o e l room
+
+  pub room-length : sizeAfter e n ≡ length (appliedBy o e l)
+  room-length = ap (sizeAfter e) (sym k) ∙ sym (laws .size (placeOf o) e l (room .fitting))
 
 -- the code's two tests
 pub fits-parts : (e : Edit) (n k : ℕ) (b : Bool) → b ≡ fits e n → k ≡ insertsOf e → (b && leb (n + k) maxItems) ≡ fitsList e n

@@ -10,6 +10,8 @@ use borrow.Author.Tests.{lt-leb, le-leb, eqb-false, ne-eqb}
 use Rattle.limits.specs.Limits.{maxPending}
 use Rattle.ot.specs.declared.Form.{Form}
 use Rattle.ot.specs.Edit.{edit}
+use Rattle.list.specs.declared.Origin.{Origin}
+use Rattle.wire.specs.declared.Header.{Header}
 use Rattle.wire.specs.declared.Message.{Message}
 use Rattle.wire.specs.declared.Message.the-variants.{Insert, Delete, Nothing, Ack}
 use Rattle.wire.specs.Message.{messageOf}
@@ -55,14 +57,18 @@ send-asked v words number m lent = asks-append (numberAsked v number) (ask 14 (l
 
 -- ---- the message
 
-pub message-of : (line direction : ℕ) (v : Line) (words : List ℕ) (number i : ℕ) (f : Form) (x : ℕ) (m : Message) → IsPending v number
+-- what it says beside the edit
+abbrev pub headerOf : ℕ → ℕ → Origin → Line → ℕ → Header
+headerOf line direction origin v number =
+    record { line = line; direction = direction; number = number; seen = v .taken; origin = origin }
+
+pub message-of : (line direction : ℕ) (origin : Origin) (v : Line) (words : List ℕ) (number i : ℕ) (f : Form) (x : ℕ) (m : Message) → IsPending v number
     → i ≡ number - 1 - v .acked → f ≡ formIn words i → x ≡ getD words (maxPending + i) 0
-    → m ≡ messageOf (record { line = line; direction = direction; number = number; seen = v .taken }) (edit f x)
-    → m ≡ model.lineMessage line direction (lineOf v words) number
-message-of line direction v words number i f x m p ei ef ex em =
+    → m ≡ messageOf (headerOf line direction origin v number) (edit f x) → m ≡ model.lineMessage line direction origin (lineOf v words) number
+message-of line direction origin v words number i f x m p ei ef ex em =
     let at : 0 + (number - (v .acked + 1)) ≡ i = omega (arith, p .0, ei) in
     let inside : number - (v .acked + 1) < v .made - v .acked = omega (arith, p .0, p .1) in
-    em ∙ ap (messageOf (record { line = line; direction = direction; number = number; seen = v .taken }))
+    em ∙ ap (messageOf (headerOf line direction origin v number))
     (ap₂ edit ef ex ∙ sym (edits-at words 0 (v .made - v .acked) (number - (v .acked + 1)) inside ∙ ap (editIn words) at))
 
 -- ---- the end of a sending

@@ -8,17 +8,22 @@ use lib.ListN.{length, take, drop, replicate}
 use Rattle.limits.specs.Limits.{maxPending}
 use Rattle.ot.specs.declared.Form.{Form}
 use Rattle.ot.specs.declared.Form.the-variants as form
+use Rattle.ot.specs.Form.{positionOf}
 use Rattle.ot.specs.Edit.{Edit, Nothing, edit, formOf, itemOf}
 use Rattle.list.specs.Items.{padded}
 use Rattle.wire.specs.declared.Header.{Header}
 use Rattle.wire.specs.declared.Message.{Message}
 use Rattle.wire.specs.declared.Message.the-variants as message
 use Rattle.model.specs.Cross.{over, allPlaced}
+use Rattle.model.specs.Questions as questions
 use Rattle.model.specs.Questions.{Question, ask, asks}
+use Rattle.model.specs.Edits.{noOrigin}
 use Rattle.model.specs.Line as model
+use Rattle.pending.specs.declared.Crossed.{Crossed}
 use Rattle.pending.specs.Slots.{placesOf}
 use Rattle.line.specs.declared.Line.{Line}
 use Rattle.line.specs.declared.taking.Arrival.{Arrival}
+use Rattle.line.specs.declared.taking.Report.{Report}
 use Rattle.line.specs.declared.taking.Decision.{Decision}
 use Rattle.line.specs.Line.{lineOf, countsOf}
 use Rattle.line.specs.Keeping.{fitsList, thenAsked}
@@ -27,15 +32,15 @@ use Rattle.line.specs.Keeping.{fitsList, thenAsked}
 
 abbrev pub carrying : Header → Form → ℕ → Arrival
 carrying h f x =
-    record { line = h .line; direction = h .direction; number = h .number; seen = h .seen; carries = true; form = f; item = x }
+    record { line = h .line; direction = h .direction; number = h .number; seen = h .seen; carries = true; form = f; item = x; origin = h .origin }
 
--- an acknowledgement carries no edit and has no number
+-- an acknowledgement carries no edit and has no number and no origin
 abbrev pub arrivalOf : Message → Arrival
 arrivalOf (message.Insert h p x r) = carrying h (form.Insert p r) x
 arrivalOf (message.Delete h p) = carrying h (form.Delete p) 0
 arrivalOf (message.Nothing h) = carrying h form.Nothing 0
 arrivalOf (message.Ack l d s) =
-    record { line = l; direction = d; number = 0; seen = s; carries = false; form = form.Nothing; item = 0 }
+    record { line = l; direction = d; number = 0; seen = s; carries = false; form = form.Nothing; item = 0; origin = noOrigin }
 
 abbrev pub editOf : Arrival → Edit
 editOf a = edit (a .form) (a .item)
@@ -63,22 +68,42 @@ refusalOf v m len a =
 
 -- ---- the decision
 
--- the line then, the edit as it is applied, and the count of the answer
+-- the line then, the edit as it is applied, and the report of the answer
 abbrev pub lineThen : model.Line → ℕ → Arrival → model.Line
 lineThen m inserts a = cond (a .carries) (model.lineTaken inserts (a .seen) (editOf a) m) (model.lineAcked (a .seen) m)
 
 abbrev pub editThen : model.Line → Arrival → Edit
 editThen m a = cond (a .carries) (model.carried m (a .seen) (editOf a)) Nothing
 
-abbrev pub passedBy : model.Line → Arrival → ℕ
-passedBy m a = cond (a .carries) (m .made - a .seen) 0
+-- a report of the model in a struct
+abbrev pub reportIn : questions.Report → Report
+reportIn k = record { passed = k .passed; arrived = k .arrived; applied = k .applied }
+
+abbrev pub noReport : Report
+noReport = reportIn questions.noReport
+
+abbrev pub reportOf : model.Line → Arrival → questions.Report
+reportOf m a = cond (a .carries) (model.lineReport m (a .seen) (editOf a)) questions.noReport
+
+abbrev pub reportBy : model.Line → Arrival → Report
+reportBy m a = reportIn (reportOf m a)
 
 abbrev pub refusing : ℕ → Line → Decision
-refusing r v = record { refusal = r; passed = 0; line = v; form = form.Nothing }
+refusing r v = record { refusal = r; report = noReport; line = v; form = form.Nothing }
 
 abbrev pub done : model.Line → ℕ → Arrival → Decision
 done m inserts a =
-    record { refusal = 0; passed = passedBy m a; line = countsOf (lineThen m inserts a); form = formOf (editThen m a) }
+    record { refusal = 0; report = reportBy m a; line = countsOf (lineThen m inserts a); form = formOf (editThen m a) }
+
+-- an edit that came as f is taken: x is what crossing made of it
+abbrev pub takenAs : Line → ℕ → ℕ → Form → Crossed → Decision
+takenAs v inserts seen f x =
+    record {
+      refusal = 0;
+      report = record { passed = x .passed; arrived = positionOf f; applied = positionOf (x .form) };
+      line = record { made = v .made; taken = v .taken + 1; acked = seen; inserts = inserts };
+      form = x .form;
+    }
 
 unfoldable pub deciding : ℕ → Line → Decision → Decision
 deciding r v d = cond (eqb r 0) d (refusing r v)

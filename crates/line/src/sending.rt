@@ -5,6 +5,7 @@ ghost use Rattle.model.specs.Line as model;
 ghost use Rattle.line.specs.Line.{lineOf, Kept};
 ghost use Rattle.line.specs.Sending.{answered, unwritten, numberAsked, finished, IsPending};
 use crate::Line;
+use list::Origin;
 use wire::Header;
 use wire::Message;
 
@@ -27,10 +28,17 @@ pub fn ask_number(v: Line, number: u16) -> u8
     0
 }
 
-// The message of a pending edit.
-pub fn message(line: u8, direction: u8, v: Line, words: &[u32], number: u16) -> Message
+// The message of a pending edit, whose origin the end knows.
+pub fn message(
+    line: u8,
+    direction: u8,
+    origin: Origin,
+    v: Line,
+    words: &[u32],
+    number: u16,
+) -> Message
     requires { ⌜ IsPending v number × Kept v (now words) ⌝ }
-    ensures { λ r. ⌜ r ≡ model.lineMessage line direction (lineOf v (now (words .entry))) number ⌝ }
+    ensures { λ r. ⌜ r ≡ model.lineMessage line direction origin (lineOf v (now (words .entry))) number ⌝ }
 {
     let i = (number - 1 - v.acked) as usize;
     let h = Header {
@@ -38,6 +46,7 @@ pub fn message(line: u8, direction: u8, v: Line, words: &[u32], number: u16) -> 
         direction,
         number,
         seen: v.taken,
+        origin,
     };
     wire::of_edit(h, pending::form_in(words, i), pending::item_in(words, i))
 }

@@ -6,14 +6,16 @@ ghost use Rattle.limits.specs.Limits.{maxItems, maxPending};
 ghost use Rattle.ot.specs.Form.{positionOf};
 ghost use Rattle.model.specs.Questions.{asks};
 ghost use Rattle.line.specs.Line.{Kept};
-ghost use Rattle.line.specs.Taking.{carrying, arrivalOf, seenAsked, arrivalAsked, refusing, Decided, zeros, Between, accepted};
+ghost use Rattle.line.specs.Taking.{carrying, arrivalOf, seenAsked, arrivalAsked, noReport, refusing, takenAs, Decided, zeros, Between, accepted};
 use crate::Line;
 use limits::PENDING;
+use list::Origin;
 use ot::Form;
+use pending::Crossed;
 use wire::Header;
 use wire::Message;
 
-// A message, edit or acknowledgement alike: an acknowledgement carries no edit and has no number.
+// A message, edit or acknowledgement alike: an acknowledgement carries no edit and has no number and no origin.
 pub struct Arrival {
     pub line: u8,
     pub direction: u8,
@@ -22,13 +24,23 @@ pub struct Arrival {
     pub carries: bool,
     pub form: Form,
     pub item: u32,
+    // which edit it is: its client's line and its number there
+    pub origin: Origin,
 }
 
-// What a message makes of a line: 0 or the number of the question that says no, how many pending edits the edit was transformed past, the
-// counts then, and the form of the edit to apply. The places of the pending edits that stay go into a lent array beside it.
+// What the taking of an edit reports: how many pending edits it was transformed past, the position in which it arrived, and the one in which it
+// was applied, 0 for nothing.
+pub struct Report {
+    pub passed: u16,
+    pub arrived: u16,
+    pub applied: u16,
+}
+
+// What a message makes of a line: 0 or the number of the question that says no, the report, the counts then, and the form of the edit to
+// apply. The places of the pending edits that stay go into a lent array beside it.
 pub struct Decision {
     pub refusal: u8,
-    pub passed: u16,
+    pub report: Report,
     pub line: Line,
     pub form: Form,
 }
@@ -36,6 +48,7 @@ pub struct Decision {
 fn carrying(h: Header, form: Form, item: u32) -> Arrival
     ensures { λ r. ⌜ r ≡ carrying h form item ⌝ }
 {
+    let origin = h.origin;
     Arrival {
         line: h.line,
         direction: h.direction,
@@ -44,6 +57,7 @@ fn carrying(h: Header, form: Form, item: u32) -> Arrival
         carries: true,
         form,
         item,
+        origin,
     }
 }
 
@@ -62,6 +76,7 @@ pub fn split(m: Message) -> Arrival
             carries: false,
             form: Form::Nothing,
             item: 0,
+            origin: Origin { line: 0, number: 0 },
         },
     }
 }
@@ -94,14 +109,50 @@ fn ask(v: Line, number: u16, seen: u16, carries: bool) -> u8
     ask_seen(v, seen)
 }
 
+// A refusal or an acknowledgement has nothing to report, and neither has an edit made here.
+pub fn no_report() -> Report
+    ensures { λ r. ⌜ r ≡ noReport ⌝ }
+{
+    Report {
+        passed: 0,
+        arrived: 0,
+        applied: 0,
+    }
+}
+
 pub fn refusing(refusal: u8, line: Line) -> Decision
     ensures { λ r. ⌜ r ≡ refusing refusal line ⌝ }
 {
     Decision {
         refusal,
-        passed: 0,
+        report: no_report(),
         line,
         form: Form::Nothing,
+    }
+}
+
+// An edit that came as f is taken: x is what crossing made of it.
+fn take_edit(v: Line, inserts: u16, seen: u16, f: Form, x: Crossed) -> Decision
+    requires { ⌜ v .taken < 65535 ⌝ }
+    ensures { λ r. ⌜ r ≡ takenAs v inserts seen f x ⌝ }
+{
+    let form = x.form;
+    let line = Line {
+        made: v.made,
+        taken: v.taken + 1,
+        acked: seen,
+        inserts,
+    };
+    let report = Report {
+        passed: x.passed,
+        arrived: ot::position(f),
+        applied: ot::position(form),
+    };
+    Decision {
+        refusal: 0,
+        report,
+        line,
+        form,
     }
 }
 
@@ -128,18 +179,7 @@ pub fn decide(
         let x = pending::cross(words, gone, count, f, later);
         let form = x.form;
         if x.placed & crate::fits_list(form, len) {
-            let line = Line {
-                made: v.made,
-                taken: v.taken + 1,
-                acked: a.seen,
-                inserts,
-            };
-            return Decision {
-                refusal: 0,
-                passed: x.passed,
-                line,
-                form,
-            };
+            return take_edit(v, inserts, a.seen, f, x);
         }
         return refusing(9, v);
     }
@@ -152,7 +192,7 @@ pub fn decide(
     };
     Decision {
         refusal: 0,
-        passed: 0,
+        report: no_report(),
         line,
         form: Form::Nothing,
     }

@@ -91,3 +91,15 @@ all-both s t from (suc count) =
     cross true false false d = refl
     cross true false true d = refl
     cross true true c d = refl
+
+-- a test of all numbers below n, as one of the first so many and another of those behind them
+pub all-parted : (test first rest : ℕ → Bool) (few n : ℕ) → few ≤ n → ((i : ℕ) → i < few → test i ≡ first i)
+    → ((i : ℕ) → few ≤ i → i < n → test i ≡ rest i)
+    → allFrom test 0 n ≡ (allFrom first 0 few && allFrom rest few (n - few))
+all-parted test first rest few n most f r =
+    let all : n ≡ few + (n - few) = omega arith in
+    ap (allFrom test 0) all ∙ all-split test 0 few (n - few)
+    ∙ ap₂ (λ (a b : Bool). a && b)
+    (all-same test first 0 few (λ i h. ap test (zero-add i) ∙ f i h ∙ ap first (sym (zero-add i))))
+    (ap (λ (k : ℕ). allFrom test k (n - few)) (zero-add few)
+    ∙ all-same test rest few (n - few) (λ i h. r (few + i) (omega arith) (omega arith)))

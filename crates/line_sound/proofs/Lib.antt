@@ -3,3 +3,4 @@ pub mod Right
 pub mod Tests
 pub mod Words
 pub mod Stored
+pub mod Makers

@@ -1,5 +1,5 @@
 -- What the loops over a line's slots compute, and question 2 of the line from it.
-use Prim.Native.Nat.{ℕ, zero, suc, _+_, _-_, _≤_, _<_}
+use Prim.Native.Nat.{ℕ, zero, suc, _+_, _-_, _*_, _/_, _≤_, _<_}
 use native.Mathlib.Nat.{zero-add}
 use native.Mathlib.Omega.{arith}
 use mathlib.Core.Path.{_≡_, refl, ap, ap₂, _∙_, sym}
@@ -21,7 +21,7 @@ use Rattle.line.specs.declared.Line.{Line}
 use Rattle.line.specs.Line.{pendingIn}
 use Rattle.line_sound.specs.Sound.{tidyAt, emptyAt, soundLine}
 use Rattle.line_sound.specs.Slots.{rightSlot, keptSlot, keptAt, rightAt, zeroAt, pastAt, soundSlots, countsSound}
-use Rattle.line_sound.proofs.All.{all-turn, all-split, each-all, all-same, all-both}
+use Rattle.line_sound.proofs.All.{all-turn, all-split, each-all, all-same, all-both, all-parted}
 use Rattle.line_sound.proofs.Right.{right-same, kept-is}
 
 -- A turn of a loop that ORs all words together.
@@ -41,19 +41,19 @@ past-turn places items count i j to zero′ e h =
     all-turn (pastAt count places items) j to zero′ (ltb j count || eqb (bitOr (getD places i 0) (getD items i 0)) 0) h
     (ap (λ (b : Bool). ltb j count || b) (or-zero (getD places i 0) (getD items i 0) ∙ ap (zeroAt places items) e))
 
--- ---- the slots, lent as places and items
+-- ---- by eights
 
--- a test of all slots, as one of the first so many and another of those behind them
-parted : (test first rest : ℕ → Bool) (slots : ℕ) → slots ≤ maxPending → ((i : ℕ) → i < slots → test i ≡ first i)
-    → ((i : ℕ) → slots ≤ i → i < maxPending → test i ≡ rest i)
-    → allFrom test 0 maxPending ≡ (allFrom first 0 slots && allFrom rest slots (maxPending - slots))
-parted test first rest slots most f r =
-    let all : maxPending ≡ slots + (maxPending - slots) = omega arith in
-    ap (allFrom test 0) all ∙ all-split test 0 slots (maxPending - slots)
-    ∙ ap₂ (λ (a b : Bool). a && b)
-    (all-same test first 0 slots (λ i h. ap test (zero-add i) ∙ f i h ∙ ap first (sym (zero-add i))))
-    (ap (λ (k : ℕ). allFrom test k (maxPending - slots)) (zero-add slots)
-    ∙ all-same test rest slots (maxPending - slots) (λ i h. r (slots + i) (omega arith) (omega arith)))
+-- the eights that are all in use, and those that are looked at
+abbrev pub full : ℕ → ℕ
+full count = count / 8 * 8
+
+abbrev pub eights : ℕ → ℕ
+eights count = (count + 7) / 8 * 8
+
+pub eights-hold : (count : ℕ) → count ≤ maxPending → (full count ≤ count) × ((count ≤ eights count) × (eights count ≤ maxPending))
+eights-hold count h = (omega arith, (omega arith, omega arith))
+
+-- ---- the slots, lent as places and items
 
 module _ (good : ℕ → Bool) (ps xs : List ℕ) (count : ℕ) where
   abbrev slotIs : ℕ → Bool → Bool
@@ -88,7 +88,7 @@ module _ (good : ℕ → Bool) (ps xs : List ℕ) (count : ℕ) where
   unfolding soundSlots
   slots-parted full slots right past unused low few most er ep eu =
       ap₂ (λ (a b : Bool). a && b) (ap₂ (λ (a b : Bool). a && b) er ep ∙ kept-parted full slots low (omega arith)) eu
-      ∙ sym (parted (keptAt good count ps xs) (keptAt good count ps xs) (zeroAt ps xs) slots most (λ i h. refl)
+      ∙ sym (all-parted (keptAt good count ps xs) (keptAt good count ps xs) (zeroAt ps xs) slots maxPending most (λ i h. refl)
       (λ i h k. ap (slotIs i) (le-ltb i count (omega arith))))
       ∙ ap (λ (b : Bool). b && allFrom (keptAt good count ps xs) 0 maxPending) (sym (le-leb count maxPending (omega arith)))
 
@@ -156,7 +156,7 @@ module _ (right : ℕ → Bool) (words : List ℕ) where
   kept-words : (count : ℕ) → count ≤ maxPending → allFrom (keptAt right count (placesIn words) (itemsIn words)) 0 maxPending
       ≡ (allFrom rightIn 0 count && allFrom (emptyAt words) count (maxPending - count))
   kept-words count few =
-      parted (keptAt right count (placesIn words) (itemsIn words)) rightIn (emptyAt words) count few
+      all-parted (keptAt right count (placesIn words) (itemsIn words)) rightIn (emptyAt words) count maxPending few
       (λ i h.
       ap (slotIs right (placesIn words) (itemsIn words) count i) (lt-ltb i count h)
       ∙ ap₂ (rightSlot right) (place-lent words i (omega arith)) (item-lent words i (omega arith)))

@@ -4,22 +4,20 @@ use native.Mathlib.Nat.{zero-add}
 use native.Mathlib.Omega.{arith}
 use mathlib.Core.Path.{_≡_, refl, ap, ap₂, _∙_, sym}
 use mathlib.Core.Bool.{Bool, true, false, _&&_}
-use mathlib.Core.List.{List, [], _∷_, _++_, map}
+use mathlib.Core.List.{List, [], _∷_}
 use lib.Dec.{ltb, eqb}
-use lib.ListN.{length, getD, length-map, List·getD-append, List·getD-map, List·getD-eq-default}
-use lib.Seq.{ext-getD, getD-append-add}
+use lib.ListN.{length, getD, List·getD-eq-default}
+use lib.Seq.{ext-getD}
 use borrow.Author.Tests.{eqb-true, leb-true, ltb-true, ltb-false}
 use Rattle.limits.specs.Limits.{maxPending}
 use Rattle.ot.specs.Edit.{Edit, Nothing, formOf, itemOf}
 use Rattle.ot.proofs.Laws.{laws}
-use Rattle.list.specs.Items.{padded}
-use Rattle.list.proofs.Pad.{pad-length, pad-getD}
 use Rattle.model.specs.Cross.{allPlaced}
 use Rattle.model.specs.Questions.{every}
 use Rattle.model.specs.Line as model
 use Rattle.model.proofs.Tests.{and-left, and-right, hold}
-use Rattle.pending.specs.Slots.{size, placeOf, formIn, editIn, editsFrom, placesOf, itemsOf, slotsOf, allFrom}
-use Rattle.pending.proofs.Slots.{edits-length, edits-at, slots-length}
+use Rattle.pending.specs.Slots.{size, placeOf, formIn, editIn, editsFrom, slotsOf, allFrom}
+use Rattle.pending.proofs.Slots.{edits-length, edits-at, slots-length, slots-place, slots-item}
 use Rattle.line.specs.declared.Line.{Line}
 use Rattle.line.specs.Line.{lineOf, Kept}
 use Rattle.line_sound.specs.Sound.{tidyAt, emptyAt, tidy, soundLine, emptyLine}
@@ -27,29 +25,8 @@ use Rattle.line_sound.specs.Slots.{zeroAt, soundSlots, countsSound}
 use Rattle.line_sound.proofs.All.{all-each}
 use Rattle.line_sound.proofs.Tests.{slots-same, placesIn, itemsIn, zero-words, four, line-is}
 
--- ---- the words for a list of edits, by their places
-
 abbrev placeIn : Edit → ℕ
 placeIn e = placeOf (formOf e)
-
-module _ (word : Edit → ℕ) (z : word Nothing ≡ 0) (es : List Edit) where
-  filled-length : length es ≤ maxPending → length (padded 0 maxPending (map word es)) ≡ maxPending
-  filled-length h = pad-length maxPending 0 (map word es) (rw length-map h)
-
-  filled-at : (i : ℕ) → getD (padded 0 maxPending (map word es)) i 0 ≡ word (getD es i Nothing)
-  filled-at i = pad-getD maxPending 0 (map word es) i ∙ ap (getD (map word es) i) (sym z) ∙ List·getD-map word es i Nothing
-
-module _ (es : List Edit) (few : length es ≤ maxPending) (i : ℕ) where
-  pub slots-place : i < maxPending → getD (slotsOf es) i 0 ≡ placeIn (getD es i Nothing)
-  unfolding slotsOf
-  slots-place h =
-      List·getD-append (placesOf es) (itemsOf es) 0 i (omega (arith, filled-length placeIn refl es few)) ∙ filled-at placeIn refl es i
-
-  pub slots-item : getD (slotsOf es) (maxPending + i) 0 ≡ itemOf (getD es i Nothing)
-  unfolding slotsOf
-  slots-item =
-      ap (λ (n : ℕ). getD (placesOf es ++ itemsOf es) (n + i) 0) (sym (filled-length placeIn refl es few))
-      ∙ getD-append-add (placesOf es) (itemsOf es) i 0 ∙ filled-at itemOf refl es i
 
 -- ---- the edits that words hold
 

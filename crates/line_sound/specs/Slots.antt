@@ -6,8 +6,10 @@ use lib.Dec.{eqb, leb, ltb}
 use lib.ListN.{getD}
 use Rattle.limits.specs.Limits.{maxPending, maxEdits, maxInserts}
 use Rattle.ot.specs.Edit.{edit, itemOf}
+use Rattle.list.specs.Places.{originAt}
 use Rattle.model.specs.Questions.{every}
 use Rattle.model.specs.Cross.{placed, priority}
+use Rattle.model.specs.Server.{otherMaker}
 use Rattle.pending.specs.Slots.{placeOf, formAt, allFrom}
 use Rattle.line.specs.declared.Line.{Line}
 
@@ -59,3 +61,11 @@ soundSlots good count places items = leb count maxPending && allFrom (keptAt goo
 abbrev pub countsSound : ℕ → Line → Bool
 countsSound edits v =
     every (leb edits maxEdits ∷ leb (v .acked) (v .made) ∷ leb (v .inserts) maxInserts ∷ leb (v .inserts) edits ∷ [])
+
+-- the word of an origin: in use or zero
+abbrev pub keptMaker : ℕ → ℕ → Bool → ℕ → Bool
+keptMaker n line used word = cond used (otherMaker n line (originAt word)) (eqb word 0)
+
+-- word j, where the first count are in use
+abbrev pub keptMakerAt : ℕ → ℕ → ℕ → List ℕ → ℕ → Bool
+keptMakerAt n line count words j = keptMaker n line (ltb j count) (getD words j 0)

@@ -3,11 +3,14 @@ use Prim.Native.Nat.{ℕ, _+_, _-_}
 use mathlib.Core.Bool.{Bool, true, false, _&&_}
 use mathlib.Core.List.{List, [], _∷_}
 use lib.Dec.{eqb}
-use lib.ListN.{getD}
+use lib.ListN.{getD, drop}
 use Rattle.limits.specs.Limits.{maxPending}
 use Rattle.ot.specs.Edit.{itemOf}
+use Rattle.list.specs.Items.{allZero}
+use Rattle.list.specs.Places.{originAt}
 use Rattle.model.specs.Questions.{every}
 use Rattle.model.specs.Line as model
+use Rattle.model.specs.Server.{otherMaker}
 use Rattle.pending.specs.Slots.{placeOf, formIn, editIn, allFrom}
 use Rattle.line.specs.declared.Line.{Line}
 use Rattle.line.specs.Line.{lineOf}
@@ -34,6 +37,16 @@ tidy count words = allFrom (tidyAt words) 0 count && allFrom (emptyAt words) cou
 unfoldable pub soundLine : ℕ → (ℕ → Bool) → Line → List ℕ → Bool
 soundLine edits right v words =
     every (model.lineTests edits right (lineOf v words)) && tidy (v .made - v .acked) words
+
+-- ---- the origins of the edits that the server keeps for a line
+
+-- another client of 1 to n made it, as one of its 400
+abbrev pub makerAt : ℕ → ℕ → List ℕ → ℕ → Bool
+makerAt n line words i = otherMaker n line (originAt (getD words i 0))
+
+-- the first count are in use, and the others are zero
+unfoldable pub makersSound : ℕ → ℕ → ℕ → List ℕ → Bool
+makersSound n line count words = allFrom (makerAt n line words) 0 count && allZero (drop count words)
 
 -- a line that is not in use: zeros
 unfoldable pub emptyLine : Line → List ℕ → Bool

@@ -6,8 +6,8 @@ ghost use lib.ListN.{length};
 ghost use Rattle.limits.specs.Limits.{maxPending};
 ghost use Rattle.pending.specs.Slots.{size, allFrom};
 ghost use Rattle.line.specs.Line.{Kept};
-ghost use Rattle.line_sound.specs.Sound.{rightPriority, soundLine, emptyLine};
-ghost use Rattle.line_sound.specs.Slots.{lowest, highest, leftOut, allowed, rightSlot, rightAt, pastAt, zeroAt, soundSlots, countsSound};
+ghost use Rattle.line_sound.specs.Sound.{rightPriority, soundLine, makersSound, emptyLine};
+ghost use Rattle.line_sound.specs.Slots.{lowest, highest, leftOut, allowed, rightSlot, rightAt, pastAt, zeroAt, soundSlots, countsSound, keptMaker, keptMakerAt};
 use limits::EDITS;
 use limits::INSERTS;
 use limits::PENDING;
@@ -154,6 +154,47 @@ pub fn is_sound(edits: u16, v: Line, words: &[u32], n: u8, rank: u8, own: bool) 
             high(n, rank, own),
             other(rank, own),
         )
+}
+
+// The origin of a pending edit: another line of 1 to n, and a number of 1 to 400. A word that is not in use is zero.
+fn is_kept(word: u32, used: bool, n: u32, line: u32) -> bool
+    ensures { λ r. ⌜ r ≡ keptMaker n line used word ⌝ }
+{
+    let maker = word / 65536;
+    let number = word % 65536;
+    let right = (1 <= maker) & (maker <= n) & !(maker == line);
+    let made = right & ((1 <= number) & (number <= EDITS as u32));
+    (used & made) | (!used & (word == 0))
+}
+
+// The first of a line's origins, of which count are in use. The loop has no branch, and counts in 32 bits as past_zero does.
+fn makers_kept(words: &[u32], slots: u32, count: u32, n: u32, line: u32) -> bool
+    requires { ⌜ slots ≤ length (now words) ⌝ }
+    ensures { λ r. ⌜ r ≡ allFrom (keptMakerAt n line count (now (words .entry))) 0 slots ⌝ }
+{
+    let mut right = true;
+    let mut i = 0usize;
+    for j in 0..slots {
+        right = right & is_kept(words[i], j < count, n, line);
+        i += 1;
+    }
+    right
+}
+
+// Question 2 of the origins of a line's pending edits, of which there are so many. They are looked at by eights, as the slots are.
+pub fn makers_sound(words: &[u32], count: usize, n: u8, line: u8) -> bool
+    requires { ⌜ length (now words) ≡ maxPending ⌝ }
+    ensures { λ r. ⌜ r ≡ makersSound n line count (now (words .entry)) ⌝ }
+{
+    if count > PENDING {
+        return false;
+    }
+    if count == 0 {
+        return list::zero_from(words, 0);
+    }
+    let slots = (count + 7) / 8 * 8;
+    makers_kept(words, slots as u32, count as u32, n as u32, line as u32)
+        & list::zero_from(words, slots)
 }
 
 // Question 2 of a line that is not in use.

@@ -1,10 +1,10 @@
-use Rattle.line_sound.proofs.Tests.{slots-many, slots-none, slots-parted}
+use Rattle.line_sound.proofs.Tests.{slots-many, slots-none, slots-parted, full, eights, eights-hold}
 use Rattle.line_sound.specs.Slots.{allowed}
 use mathlib.Core.Bool.{Bool}
 use mathlib.Core.List.{List}
 use denote.Ref.{now}
 use native.Mathlib.Omega.{arith}
-use Prim.Native.Nat.{ℕ, _+_, _*_, _/_, _≤_}
+use Prim.Native.Nat.{ℕ, _≤_}
 use borrow.Author.Needs.{needs}
 use Rattle.line_sound.proofs.slots_sound.Statement.{statement}
 use Rattle.line_sound.proofs.slots_sound.Tie as tie
@@ -17,16 +17,6 @@ places s = now (s .args .places)
 
 abbrev items : tie.Start → List ℕ
 items s = now (s .args .items)
-
--- the eights that are all in use, and those that are looked at
-abbrev full : ℕ → ℕ
-full count = count / 8 * 8
-
-abbrev eights : ℕ → ℕ
-eights count = (count + 7) / 8 * 8
-
-eights-hold : (count : ℕ) → count ≤ 64 → (full count ≤ count) × ((count ≤ eights count) × (eights count ≤ 64))
-eights-hold count h = (omega arith, (omega arith, omega arith))
 
 -- where the count is at most 64
 abbrev start : tie.Else1 → tie.Start

@@ -32,7 +32,7 @@ returns c =
     let x = c .before in
     let f = x .before in
     let s = start (f .before) in
-    message-of (s .args .line) (s .args .direction) (s .args .v) (now (s .args .words)) (s .args .number) _ (f .form-in .result) (x .item-in .result) (c .of-edit .result)
+    message-of (s .args .line) (s .args .direction) (s .args .origin) (s .args .v) (now (s .args .words)) (s .args .number) _ (f .form-in .result) (x .item-in .result) (c .of-edit .result)
     (s .pre .0) refl (f .form-in .ensures) (x .item-in .ensures) (c .of-edit .ensures)
 
 pub message-spec : {M : Type 1} → statement M

@@ -70,8 +70,8 @@ cross-requires c κs =
 fits-list-requires : tie.Need-fits-list-requires
 fits-list-requires c κs = search needs
 
-add-t20 : tie.Need-add-t20
-add-t20 c = search needs
+take-edit-requires : tie.Need-take-edit-requires
+take-edit-requires c κs = came (yes-so-far (carries (transformed (c .before)) .before)) .pre .0 .1
 
 returns-2 : tie.Need-returns-2
 returns-2 c =
@@ -82,7 +82,7 @@ returns-2 c =
     let s = came e in
     taken-done (s .args .v) (now (s .args .words)) (s .pre .1 .0) (s .args .len) (s .args .inserts) (s .args .a) _
     (e .before .ask .result) (e .before .ask .ensures) (e .if1 .left) (carries x .if2 .taken) (x .cross .result) (x .cross .ensures .0)
-    (f .fits-list .result) (f .fits-list .ensures) (t .if3 .taken) (x .cross .ensures .1)
+    (f .fits-list .result) (f .fits-list .ensures) (c .take-edit .result) (t .if3 .taken) (c .take-edit .ensures) (x .cross .ensures .1)
 
 refusing-requires-2 : tie.Need-refusing-requires-2
 refusing-requires-2 c κs = search needs
@@ -101,13 +101,17 @@ returns-3 c =
 moved-down-requires : tie.Need-moved-down-requires
 moved-down-requires c κs = let r = slots-ready (yes-so-far (c .before)) in (omega (arith, r .few), omega (arith, r .few, r .size))
 
+no-report-requires : tie.Need-no-report-requires
+no-report-requires c κs = search needs
+
 returns-4 : tie.Need-returns-4
 returns-4 c =
-    let t = c .before in
+    let d = c .before in
+    let t = d .before in
     let e = yes-so-far (t .before) in
     let s = came e in
     acked-done (s .args .v) (now (s .args .words)) (s .pre .1 .0) (s .args .len) (s .args .inserts) (s .args .a) _
-    (e .before .ask .result) (e .before .ask .ensures) (e .if1 .left) (t .if2 .left) (c .moved-down .ensures)
+    (e .before .ask .result) (e .before .ask .ensures) (e .if1 .left) (t .if2 .left) (c .no-report .result) (c .no-report .ensures) (d .moved-down .ensures)
 
 pub decide-spec : {M : Type 1} → statement M
 decide-spec =
@@ -122,9 +126,10 @@ decide-spec =
     cast-count
     cross-requires
     fits-list-requires
-    add-t20
+    take-edit-requires
     returns-2
     refusing-requires-2
     returns-3
     moved-down-requires
+    no-report-requires
     returns-4)
