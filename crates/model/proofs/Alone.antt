@@ -9,7 +9,7 @@ use Rattle.wire.specs.declared.Message.the-variants as message
 use Rattle.wire.specs.declared.Read.{Read}
 use Rattle.wire.specs.declared.Read.the-variants as read
 use Rattle.wire.specs.Bytes.{bytesOf, parsed}
-use Rattle.model.specs.Questions.{asks, Answer, answer, Sent, sent}
+use Rattle.model.specs.Questions.{asks, Report, noReport, Answer, answer, Sent, sent}
 use Rattle.model.specs.Client.{Client, ownRank, editClient, clientMessage, sendClientQuestions, sendClient, tellClientQuestions, tellClient, clientTakesEdit, clientTakesAck, clientReads, takeClient}
 use Rattle.model.specs.Server.{Server, lineOf, serverMessage, sendServerQuestions, sendServer, tellServerQuestions, tellServer, serverTakesEdit, serverTakesAck, serverReads, takeServer}
 use Rattle.model.specs.Claim.{Back, Unwritten, PastStays, LeavesAlone}
@@ -18,7 +18,7 @@ use Rattle.model.specs.Ours.{clientCalls, serverCalls, ours}
 use Rattle.model.proofs.Outcome as outcomes
 use Rattle.model.proofs.Outcome.{Outcome, outcome, Posted, posted}
 
-back : {E : Type 0} (r : ℕ) (old new : E) (k : ℕ) → Back old (answer r old new k)
+back : {E : Type 0} (r : ℕ) (old new : E) (k : Report) → Back old (answer r old new k)
 back r old new k = go (answer r old new k) (outcome r old new k)
   where
     go : (a : Answer _) → Outcome r old new k a → Back old a
@@ -34,11 +34,11 @@ sent-alone r bytes lent = go (sent r bytes lent) (posted r bytes lent)
 
 pub edit-back : (m : Client) (e : Edit) → Back m (editClient m e)
 unfolding editClient
-edit-back m e = back _ m _ 0
+edit-back m e = back _ m _ noReport
 
 client-reads : (m : Client) (r : Read) → Back m (clientReads m r)
 unfolding clientTakesEdit clientTakesAck
-client-reads m read.Refused = back _ m m 0
+client-reads m read.Refused = back _ m m noReport
 client-reads m (read.Message (message.Insert h p x q)) = back _ m _ _
 client-reads m (read.Message (message.Delete h p)) = back _ m _ _
 client-reads m (read.Message (message.Nothing h)) = back _ m _ _
@@ -50,7 +50,7 @@ client-back m bytes = client-reads m (parsed bytes)
 
 server-reads : (m : Server) (r : Read) → Back m (serverReads m r)
 unfolding serverTakesEdit serverTakesAck
-server-reads m read.Refused = back _ m m 0
+server-reads m read.Refused = back _ m m noReport
 server-reads m (read.Message (message.Insert h p x q)) = back _ m _ _
 server-reads m (read.Message (message.Delete h p)) = back _ m _ _
 server-reads m (read.Message (message.Nothing h)) = back _ m _ _

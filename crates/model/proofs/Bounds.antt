@@ -5,9 +5,10 @@ use mathlib.Core.List.{List, [], _∷_, _++_, append-nil}
 use Prim.Native.Nat.{ℕ, suc, _+_, _-_, _≤_, _<_}
 use native.Mathlib.Omega.{arith}
 use lib.Dec.{eqb}
-use lib.ListN.{length, getD}
+use lib.ListN.{length, getD, length-map, List·getD-map}
 use borrow.Author.Tests.{eqb-true, eqb-false, ne-eqb}
 use Rattle.ot.specs.Edit.{Edit, Nothing, fits}
+use Rattle.list.specs.Places.{Place, placeOf}
 use Rattle.jupiter.specs.Algebra.{Algebra, Laws}
 use Rattle.jupiter.specs.Made.{Made, select, isBy, mine, others}
 use Rattle.jupiter.specs.Point.{blank, point, ownForm, othForm}
@@ -16,19 +17,19 @@ use Rattle.jupiter.specs.Ends as ends
 use Rattle.jupiter.specs.Claims.{inserts}
 use Rattle.jupiter.proofs.Lists as L
 use Rattle.jupiter.proofs.Lists.{All, all-append, all-map}
-use Rattle.jupiter.proofs.Segment.{segment-length, segment-get}
+use Rattle.jupiter.proofs.Segment.{segment, segment-length, segment-get}
 use Rattle.jupiter.proofs.Grid.{Edge, docAt}
 use Rattle.jupiter.proofs.Line.{LineAt, pending-good-c, pending-good-v}
 use Rattle.jupiter.proofs.World.{mine-served}
 use Rattle.jupiter.proofs.Size.{size-bound, inserts-append, inserts-point, inserts-total, sumTo-bound}
 use Rattle.model.specs.Limits.{maxInserts, maxLines}
 use Rattle.model.specs.Cross.{placed, allPlaced}
-use Rattle.model.specs.Edits.{Rule, editsBy, edits}
+use Rattle.model.specs.Edits.{Named, noOrigin, Rule, editsBy, edits}
 use Rattle.model.specs.Run.{State}
 use Rattle.model.specs.Ours.{ours}
 use Rattle.model.proofs.Tests.{both}
 use Rattle.model.proofs.Cross.{fits-placed}
-use Rattle.model.proofs.Instance.{from-T}
+use Rattle.model.proofs.Instance.{from-T, editsOf}
 use Rattle.model.proofs.SoundClient.{client-facts}
 use Rattle.model.proofs.SoundServer.{server-facts, line-fact}
 use Rattle.model.proofs.Sim.{clientFrom, serverFrom, line-from, OfLines, Moment, Sim}
@@ -39,7 +40,7 @@ unfolding select
 mine-none l k d [] a = refl
 mine-none l k d (y ∷ ys) a = rw (ne-eqb k (y .name .line) (λ e. eqb-false l k d (eqb-true l (y .name .line) (a .0) ∙ sym e))) (mine-none l k d ys (a .1))
 
-module _ (n : ℕ) (items : List ℕ) {ranks : List ℕ} {from : Moment ranks} (s : State ours ranks) (sim : Sim n items from s) (few : length items ≤ 128) where
+module _ (n : ℕ) (items : List Place) {ranks : List ℕ} {from : Moment ranks} (s : State ours ranks) (sim : Sim n items from s) (few : length items ≤ 128) where
   abbrev h : History (edits ranks)
   h = s .recorded .history
 
@@ -78,7 +79,7 @@ module _ (n : ℕ) (items : List ℕ) {ranks : List ℕ} {from : Moment ranks} (
           omega (arith, ap inserts same, server-most k c d, sim .si-is k)
 
 -- ---- lists at points, and the pending edits there
-pub doc-most : {by : Rule} → Laws (editsBy by) → (items : List ℕ) (w : List (Made (editsBy by))) → length items + inserts w ≤ 512 → (l i j : ℕ) → length (docAt items l w i j) ≤ 512
+pub doc-most : {by : Rule} → Laws (editsBy by) → (items : List Place) (w : List (Made (editsBy by))) → length items + inserts w ≤ 512 → (l i j : ℕ) → length (docAt items l w i j) ≤ 512
 doc-most laws items w m l i j = omega (arith, size-bound laws items (point l w i j), inserts-point l w i j)
 
 placed-all : (es : List Edit) → ((i : ℕ) → i < length es → placed (getD es i Nothing) ≡ true) → allPlaced es ≡ true
@@ -86,39 +87,42 @@ unfolding allPlaced
 placed-all [] p = refl
 placed-all (e ∷ es) p = both (placed e) (allPlaced es) (p 0 (omega arith)) (placed-all es (λ i lt. p (suc i) (omega arith)))
 
-edge-placed : {by : Rule} (e : Edit) (d d′ : List ℕ) → Edge (editsBy by) e d d′ → length d ≤ 512 → length d′ ≤ 512 → placed e ≡ true
-edge-placed e d d′ g a b = fits-placed e d a (from-T (fits e (length d)) (g .fits)) (subst (λ (x : List ℕ). length x ≤ 512) (g .gives) b)
+edge-placed : {by : Rule} (e : Named) (d d′ : List Place) → Edge (editsBy by) e d d′ → length d ≤ 512 → length d′ ≤ 512 → placed (e .edit) ≡ true
+edge-placed e d d′ g a b = fits-placed (placeOf (e .origin)) (e .edit) d a (from-T (fits (e .edit) (length d)) (g .fits)) (subst (λ (x : List Place). length x ≤ 512) (g .gives) b)
 
-module _ {by : Rule} (laws : Laws (editsBy by)) (items : List ℕ) (l : ℕ) (w served applied′ : List (Made (editsBy by))) (c v : ends.End (editsBy by)) (doc : List ℕ) (line : LineAt items l w served applied′ c v doc)
-    (m : length items + inserts w ≤ 512) where
-  pub client-placed : allPlaced (c .pending) ≡ true
-  client-placed =
-      let f : ℕ → Edit = λ i. ownForm l w i (c .taken) in
-      let len : length (c .pending) ≡ length (mine l w) - c .acked = ap length (line .c-pending) ∙ segment-length f (c .acked) (length (mine l w)) in
-      placed-all (c .pending)
+-- the pending edits, each in the form that f gives its number
+module _ (es : List Named) (f : ℕ → Named) (low high : ℕ) (pending : es ≡ segment f low high) where
+  abbrev none : Named
+  none = record { origin = noOrigin; edit = Nothing }
+
+  pending-at : (i : ℕ) → low + i < high → getD es i none ≡ f (low + i)
+  pending-at i lt =
+      ap (λ (r : List Named). getD r i none) pending ∙ ap (λ (j : ℕ). getD (segment f low high) j none) (omega arith) ∙ segment-get f none low high (low + i) (omega arith) lt
+
+  segment-placed : ((k : ℕ) → low ≤ k → k < high → placed (f k .edit) ≡ true) → allPlaced (editsOf es) ≡ true
+  segment-placed each =
+      let len : length (editsOf es) ≡ high - low = length-map es (λ e. e .edit) ∙ ap length pending ∙ segment-length f low high in
+      placed-all (editsOf es)
       (λ i lt.
-      let k : ℕ = c .acked + i in
-      let km : k < length (mine l w) = omega arith in
-      let is : getD (c .pending) i Nothing ≡ f k =
-      ap (λ (es : List Edit). getD es i Nothing) (line .c-pending) ∙ ap (λ (j : ℕ). getD (Rattle.jupiter.proofs.Segment.segment f (c .acked) (length (mine l w))) j Nothing) (omega arith)
-      ∙ segment-get f Nothing (c .acked) (length (mine l w)) k (omega arith) km in
-      ap placed is
-      ∙ edge-placed (f k) (docAt items l w k (c .taken)) (docAt items l w (suc k) (c .taken))
-      (line .grid .own-edge k (c .taken) (pending-good-c items l w served applied′ c v doc line k (omega arith) (omega arith)) km (line .seen-le k km))
+      subst (λ (e : Edit). placed e ≡ true) (sym (List·getD-map (λ e. e .edit) es i none ∙ ap (λ (e : Named). e .edit) (pending-at i (omega arith))))
+      (each (low + i) (omega arith) (omega arith)))
+
+module _ {by : Rule} (laws : Laws (editsBy by)) (items : List Place) (l : ℕ) (w served applied′ : List (Made (editsBy by))) (c v : ends.End (editsBy by)) (doc : List Place) (line : LineAt items l w served applied′ c v doc)
+    (m : length items + inserts w ≤ 512) where
+  pub client-placed : allPlaced (editsOf (c .pending)) ≡ true
+  client-placed =
+      let f : ℕ → Named = λ i. ownForm l w i (c .taken) in
+      segment-placed (c .pending) f (c .acked) (length (mine l w)) (line .c-pending)
+      (λ k low km.
+      edge-placed (f k) (docAt items l w k (c .taken)) (docAt items l w (suc k) (c .taken))
+      (line .grid .own-edge k (c .taken) (pending-good-c items l w served applied′ c v doc line k low (omega arith)) km (line .seen-le k km))
       (doc-most laws items w m l k (c .taken)) (doc-most laws items w m l (suc k) (c .taken)))
 
-  pub server-placed : allPlaced (v .pending) ≡ true
+  pub server-placed : allPlaced (editsOf (v .pending)) ≡ true
   server-placed =
-      let f : ℕ → Edit = λ j. othForm l w (v .taken) j in
-      let len : length (v .pending) ≡ length (others l w) - v .acked = ap length (line .v-pending) ∙ segment-length f (v .acked) (length (others l w)) in
-      placed-all (v .pending)
-      (λ i lt.
-      let k : ℕ = v .acked + i in
-      let km : k < length (others l w) = omega arith in
-      let is : getD (v .pending) i Nothing ≡ f k =
-      ap (λ (es : List Edit). getD es i Nothing) (line .v-pending) ∙ ap (λ (j : ℕ). getD (Rattle.jupiter.proofs.Segment.segment f (v .acked) (length (others l w))) j Nothing) (omega arith)
-      ∙ segment-get f Nothing (v .acked) (length (others l w)) k (omega arith) km in
-      ap placed is
-      ∙ edge-placed (f k) (docAt items l w (v .taken) k) (docAt items l w (v .taken) (suc k))
-      (line .grid .oth-edge (v .taken) k (pending-good-v items l w served applied′ c v doc line k (omega arith) (omega arith)) km (line .lag-le k km))
+      let f : ℕ → Named = λ j. othForm l w (v .taken) j in
+      segment-placed (v .pending) f (v .acked) (length (others l w)) (line .v-pending)
+      (λ k low km.
+      edge-placed (f k) (docAt items l w (v .taken) k) (docAt items l w (v .taken) (suc k))
+      (line .grid .oth-edge (v .taken) k (pending-good-v items l w served applied′ c v doc line k low (omega arith)) km (line .lag-le k km))
       (doc-most laws items w m l (v .taken) k) (doc-most laws items w m l (v .taken) (suc k)))

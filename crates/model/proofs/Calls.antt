@@ -1,5 +1,5 @@
 -- Every call of a list of calls keeps the sheet with the theory.
-use mathlib.Core.Path.{_≡_, refl, ap, sym, _∙_, subst}
+use mathlib.Core.Path.{_≡_, refl, ap, ap₂, sym, _∙_, subst}
 use mathlib.Core.Bool.{Bool, true, false, not, _&&_, cond}
 use mathlib.Core.Option.{Option, none, some}
 use mathlib.Core.List.{List, [], _∷_, _++_, map}
@@ -8,15 +8,17 @@ use native.Mathlib.Numerals.{add-one}
 use native.Mathlib.Omega.{arith}
 use native.Mathlib.Nat.{le-refl}
 use lib.Dec.{eqb, leb, ltb}
-use lib.ListN.{length, take, drop, getElem?}
+use lib.ListN.{length, take, drop, getD, getElem?, List·getD-map}
 use lib.Seq.{take-append-seam}
 use borrow.Author.Tests.{eqb-true, ne-eqb, eq-eqb, leb-true, ltb-true, le-leb}
-use Rattle.ot.specs.Edit.{Edit, Nothing, Delete, Insert, applied, fits}
+use Rattle.ot.specs.Edit.{Edit, Nothing, Delete, Insert, fits}
+use Rattle.list.specs.declared.Origin.{Origin}
+use Rattle.list.specs.Places.{Place}
 use Rattle.wire.specs.declared.Header.{Header}
 use Rattle.wire.specs.declared.Message.the-variants as message
 use Rattle.wire.specs.declared.Read.{Read}
 use Rattle.wire.specs.declared.Read.the-variants as read
-use Rattle.wire.specs.Message.{messageOf, headerInRange, inRange, between}
+use Rattle.wire.specs.Message.{messageOf, originInRange, headerInRange, inRange, between}
 use Rattle.wire.specs.Bytes.{bytesOf, parsed}
 use Rattle.wire.proofs.Codec.{codec}
 use Rattle.wire.proofs.Ranges.{insert-bounds, delete-bounds}
@@ -29,29 +31,31 @@ use Rattle.jupiter.specs.Ends.{Ends}
 use Rattle.jupiter.specs.Run.{Message, up, down, upAck, downAck}
 use Rattle.jupiter.proofs.Lists.{All}
 use Rattle.jupiter.proofs.Step.{UpMessage, DownMessage, up-message, down-message}
-use Rattle.model.specs.Limits.{maxItems}
-use Rattle.model.specs.Questions.{ask, asks, Answer, answer, Sent}
+use Rattle.model.specs.Limits.{maxEdits, maxItems}
+use Rattle.model.specs.Questions.{ask, asks, noReport, Answer, answer, Sent}
 use Rattle.model.specs.Cross.{priority}
-use Rattle.model.specs.Line.{Line, other, lineMessage}
-use Rattle.model.specs.Client.{Client, soundClient, edited, editQuestions, editClient, clientMessage, sendClientQuestions, sendClient, tellClientQuestions, tellClient, clientTaken, clientAcked, clientEditQuestions, clientTakesEdit, clientAckQuestions, clientTakesAck, clientTakes, clientReads, takeClient}
-use Rattle.model.specs.Server.{Server, lineOf, soundServer, serverMessage, sendServerQuestions, sendServer, tellServerQuestions, tellServer, serverTaken, serverAcked, serverEditQuestions, serverTakesEdit, serverAckQuestions, serverTakesAck, serverTakes, serverReads, takeServer}
+use Rattle.model.specs.Line.{Line, other, lineMessage, lineReport}
+use Rattle.model.specs.Client.{Client, soundClient, listThen, edited, editQuestions, editClient, clientMessage, sendClientQuestions, sendClient, tellClientQuestions, tellClient, clientTaken, clientAcked, clientEditQuestions, clientTakesEdit, clientAckQuestions, clientTakesAck, clientTakes, clientReads, takeClient}
+use Rattle.model.specs.Server.{Server, lineOf, makersOf, otherMaker, soundServer, makerAt, ownOrigin, serverMessage, sendServerQuestions, sendServer, tellServerQuestions, tellServer, serverTaken, serverAcked, serverEditQuestions, serverTakesEdit, serverAckQuestions, serverTakesAck, serverTakes, serverReads, takeServer}
 use Rattle.model.specs.Ranks.{rankOf}
-use Rattle.model.specs.Edits.{Rule, editsBy, edits}
+use Rattle.model.specs.Edits.{Named, noOrigin, Rule, editsBy, edits}
 use Rattle.model.specs.Sheet.{Call, insert, delete, send, tell, receive, junk}
 use Rattle.model.specs.Log as logs
-use Rattle.model.specs.Log.{Log, wireMessage, messageBytes, takenAt, editMessage, ackMessage, hears, writes, took, tookUp, tookDown, logged, refusedLog, log}
+use Rattle.model.specs.Log.{Log, headerOf, wireMessage, messageBytes, takenAt, editMessage, ackMessage, hears, writes, took, tookUp, tookDown, logged, refusedLog, log}
 use Rattle.model.specs.Run.{State, answered, written, handed, call, callable, unreadable, areBytes}
 use Rattle.model.specs.Ours.{End, client, server, answerAs, ours}
-use Rattle.model.proofs.Tests.{never, and-left, and-right, yes-all, between-true}
+use Rattle.model.proofs.Tests.{never, both, four, and-left, and-right, yes-all, between-true, true-between}
 use Rattle.model.proofs.SoundLine.{Asked, asked}
 use Rattle.model.proofs.SoundClient.{ClientFacts, client-facts}
-use Rattle.model.proofs.SoundServer.{ServerFacts, server-facts, ServerLine, line-fact, made-most, takenSum, lastQuestions}
+use Rattle.model.proofs.SoundServer.{ServerFacts, server-facts, ServerLine, line-fact, makers-fact, maker-at, made-most, takenSum, lastQuestions}
 use Rattle.model.proofs.Sound.{three, edits-sound, client-takes-edit, client-takes-ack, server-takes-edit, server-takes-ack}
+use Rattle.model.proofs.Instance.{makersIn}
+use Rattle.model.proofs.Origins.{up-origin}
 use Rattle.model.proofs.Small.{Small}
 use Rattle.model.proofs.Outcome as outcomes
 use Rattle.model.proofs.Outcome.{Outcome, outcome, Posted, posted}
 use Rattle.model.proofs.Ranges.{line-bytes, line-priority, line-range, up-range, down-range, up-ack-range, down-ack-range}
-use Rattle.model.proofs.Sim.{clientFrom, serverFrom, lineFrom, headerOf, line-from, MessageOk, Moment, Sim, ranked}
+use Rattle.model.proofs.Sim.{clientFrom, serverFrom, lineFrom, line-from, makers-from, MessageOk, Moment, Sim, ranked}
 use Rattle.model.proofs.Follow.{refused, edits-on, takes-down, takes-up, acks-down, acks-up, writes-on}
 
 -- the log of a refused call, and of one that was not
@@ -102,7 +106,7 @@ server-ack-message : {𝓐 : Algebra} (h : History 𝓐) (line t : ℕ) → leng
 unfolding ackMessage takenAt
 server-ack-message h line t e = ap (downAck line) e
 
-module _ (n : ℕ) (items : List ℕ) {ranks : List ℕ} {from : Moment ranks} (s : State ours ranks) (sim : Sim n items from s) where
+module _ (n : ℕ) (items : List Place) {ranks : List ℕ} {from : Moment ranks} (s : State ours ranks) (sim : Sim n items from s) where
   abbrev w : Log ranks
   w = s .recorded
 
@@ -114,12 +118,12 @@ module _ (n : ℕ) (items : List ℕ) {ranks : List ℕ} {from : Moment ranks} (
 
   -- the end comes back as it was handed in
   turned-down : (a : ℕ) (c : Call) (r : ℕ) (e : End) → (r ≡ 0 → ⊥) → s .ends a ≡ e → refusedLog w c ≡ hears w (w .heard)
-      → Sim n items from (answered ours s a c (record { refusal = r; end = e; passed = 0 }))
+      → Sim n items from (answered ours s a c (record { refusal = r; end = e; report = noReport }))
   turned-down a c r e d same quiet =
       subst
-      (λ (z : Log ranks). Sim n items from (record { ends = at a e (s .ends); messages = s .messages; passed = s .passed ++ (0 ∷ []); recorded = z }))
+      (λ (z : Log ranks). Sim n items from (record { ends = at a e (s .ends); messages = s .messages; reports = s .reports ++ (noReport ∷ []); recorded = z }))
       (sym (log-no w c r d ∙ quiet))
-      (subst (λ (y : End). Sim n items from (record { ends = at a y (s .ends); messages = s .messages; passed = s .passed ++ (0 ∷ []); recorded = hears w (w .heard) })) same
+      (subst (λ (y : End). Sim n items from (record { ends = at a y (s .ends); messages = s .messages; reports = s .reports ++ (noReport ∷ []); recorded = hears w (w .heard) })) same
       (refused n items s sim a))
 
   -- ---- at client l
@@ -131,41 +135,41 @@ module _ (n : ℕ) (items : List ℕ) {ranks : List ℕ} {from : Moment ranks} (
     sound = sim .client-sound l lo hi
 
     edit-call : (c : Call) (e : Edit) → priority (eqb (rankOf ranks l)) e ≡ true → Small e → logged w c ≡ logs.edited w l e → refusedLog w c ≡ hears w (w .heard)
-        → (a : Answer Client) → Outcome (asks (editQuestions C e)) C (edited C e) 0 a → soundClient (a .end) ≡ true
+        → (a : Answer Client) → Outcome (asks (editQuestions C e)) C (edited C e) noReport a → soundClient (a .end) ≡ true
         → Sim n items from (answered ours s l c (answerAs client a))
     unfolding log
     edit-call c e pr sm made quiet a (outcomes.Outcome.no r) ok = turned-down l c (asks (editQuestions C e)) (client C) r (sim .client-is l lo hi) quiet
     edit-call c e pr sm made quiet a (outcomes.Outcome.yes r) ok =
         let y = yes-all (editQuestions C e) (omega arith) r in
-        let q9 = and-left (fits e (length (E .docs l))) (leb (length (applied e (E .docs l))) maxItems) (y .1 .0) in
-        subst (λ (z : Log ranks). Sim n items from (record { ends = at l (client (edited C e)) (s .ends); messages = s .messages; passed = s .passed ++ (0 ∷ []); recorded = z })) (sym made)
+        let q9 = and-left (fits e (length (E .docs l))) (leb (length (listThen C e)) maxItems) (y .1 .0) in
+        subst (λ (z : Log ranks). Sim n items from (record { ends = at l (client (edited C e)) (s .ends); messages = s .messages; reports = s .reports ++ (noReport ∷ []); recorded = z })) (sym made)
         (edits-on n items s sim l lo hi e pr sm q9 ok)
 
     -- an edit message
-    take-edit : (c : Call) (m : ends.EditMessage (edits ranks)) (k : ℕ) (direction : ℕ) → inRange (messageOf (headerOf k direction m) (m .edit)) ≡ true
-        → (direction ≡ 1 → DownMessage items E h k m) → (direction ≡ 1 → logged w c ≡ cond (eqb l k) (tookDown w k (m .seen)) (hears w (w .heard)))
+    take-edit : (c : Call) (m : ends.EditMessage (edits ranks)) (k : ℕ) (direction : ℕ) → inRange (messageOf (headerOf k direction m) (m .edit .edit)) ≡ true
+        → (direction ≡ 1 → DownMessage items E h k m) → (direction ≡ 1 → logged w c ≡ cond (eqb l k) (tookDown w k m) (hears w (w .heard)))
         → refusedLog w c ≡ hears w (w .heard)
         → (a : Answer Client)
-        → Outcome (asks (clientEditQuestions C (headerOf k direction m) (m .edit))) C (clientTaken C (m .seen) (m .edit)) (E .clients l .made - m .seen) a
+        → Outcome (asks (clientEditQuestions C (headerOf k direction m) (m .edit .edit))) C (clientTaken C (m .edit .origin) (m .seen) (m .edit .edit)) (lineReport (C .own) (m .seen) (m .edit .edit)) a
         → soundClient (a .end) ≡ true → Sim n items from (answered ours s l c (answerAs client a))
     unfolding log
     take-edit c m k direction range fine made quiet a (outcomes.Outcome.no r) ok =
-        turned-down l c (asks (clientEditQuestions C (headerOf k direction m) (m .edit))) (client C) r (sim .client-is l lo hi) quiet
+        turned-down l c (asks (clientEditQuestions C (headerOf k direction m) (m .edit .edit))) (client C) r (sim .client-is l lo hi) quiet
     take-edit c m k direction range fine made quiet a (outcomes.Outcome.yes r) ok =
         let hd : Header = headerOf k direction m in
-        let y = yes-all (clientEditQuestions C hd (m .edit)) (omega arith) r in
-        let q4 = three (eqb direction 1) (eqb k l) (priority (other n (rankOf ranks l)) (m .edit)) (y .1 .0) in
+        let y = yes-all (clientEditQuestions C hd (m .edit .edit)) (omega arith) r in
+        let q4 = four (eqb direction 1) (eqb k l) (priority (other n (rankOf ranks l)) (m .edit .edit)) (other n l (m .edit .origin .line)) (y .1 .0) in
         let down-way : direction ≡ 1 = eqb-true direction 1 (q4 .0) in
         let mine-way : k ≡ l = eqb-true k l (q4 .1) in
-        let q = asked (C .own) (E .docs l) hd (m .edit) [] (y .1 .1) in
-        subst (λ (z : Log ranks). Sim n items from (record { ends = at l (client (clientTaken C (m .seen) (m .edit))) (s .ends); messages = s .messages; passed = s .passed ++ ((E .clients l .made - m .seen) ∷ []); recorded = z }))
-        (sym (made down-way ∙ ap (λ (i : ℕ). cond (eqb l i) (tookDown w i (m .seen)) (hears w (w .heard))) mine-way ∙ rw (eq-eqb l l refl)))
+        let q = asked (C .own) (E .docs l) hd (m .edit .edit) [] (y .1 .1) in
+        subst (λ (z : Log ranks). Sim n items from (record { ends = at l (client (clientTaken C (m .edit .origin) (m .seen) (m .edit .edit))) (s .ends); messages = s .messages; reports = s .reports ++ (lineReport (C .own) (m .seen) (m .edit .edit) ∷ []); recorded = z }))
+        (sym (made down-way ∙ ap (λ (i : ℕ). cond (eqb l i) (tookDown w i m) (hears w (w .heard))) mine-way ∙ rw (eq-eqb l l refl)))
         (takes-down n items s sim l lo hi m (subst (λ (i : ℕ). DownMessage items E h i m) mine-way (fine down-way)) (q .next ∙ add-one (E .clients l .taken)) (q .low)
-        (small-range hd (m .edit) range) ok)
+        (small-range hd (m .edit .edit) range) ok)
 
     -- an acknowledgement
     take-ack : (c : Call) (k direction seen : ℕ) → (direction ≡ 1 → seen ≤ E .lines k .taken) → (direction ≡ 1 → logged w c ≡ cond (eqb l k) (hears w (logs.hearing w k k seen)) (hears w (w .heard))) → refusedLog w c ≡ hears w (w .heard)
-        → (a : Answer Client) → Outcome (asks (clientAckQuestions C k direction seen)) C (clientAcked C seen) 0 a → soundClient (a .end) ≡ true
+        → (a : Answer Client) → Outcome (asks (clientAckQuestions C k direction seen)) C (clientAcked C seen) noReport a → soundClient (a .end) ≡ true
         → Sim n items from (answered ours s l c (answerAs client a))
     unfolding log
     take-ack c k direction seen fine made quiet a (outcomes.Outcome.no r) ok = turned-down l c (asks (clientAckQuestions C k direction seen)) (client C) r (sim .client-is l lo hi) quiet
@@ -173,7 +177,7 @@ module _ (n : ℕ) (items : List ℕ) {ranks : List ℕ} {from : Moment ranks} (
         let y = yes-all (clientAckQuestions C k direction seen) (omega arith) r in
         let down-way : direction ≡ 1 = eqb-true direction 1 (and-left (eqb direction 1) (eqb k l) (y .1 .0)) in
         let mine-way : k ≡ l = eqb-true k l (and-right (eqb direction 1) (eqb k l) (y .1 .0)) in
-        subst (λ (z : Log ranks). Sim n items from (record { ends = at l (client (clientAcked C seen)) (s .ends); messages = s .messages; passed = s .passed ++ (0 ∷ []); recorded = z }))
+        subst (λ (z : Log ranks). Sim n items from (record { ends = at l (client (clientAcked C seen)) (s .ends); messages = s .messages; reports = s .reports ++ (noReport ∷ []); recorded = z }))
         (sym (made down-way ∙ ap (λ (i : ℕ). cond (eqb l i) (hears w (logs.hearing w i i seen)) (hears w (w .heard))) mine-way ∙ rw (eq-eqb l l refl)))
         (acks-down n items s sim l lo hi seen (leb-true (E .clients l .acked) seen (y .1 .1 .0)) (subst (λ (i : ℕ). seen ≤ E .lines i .taken) mine-way (fine down-way)) ok)
 
@@ -183,23 +187,23 @@ module _ (n : ℕ) (items : List ℕ) {ranks : List ℕ} {from : Moment ranks} (
     unfolding took clientTakesEdit clientTakesAck
     take-message c (up k m) ok made quiet =
         let hd : Header = headerOf k 0 m in
-        subst (λ (a : Answer Client). Sim n items from (answered ours s l c (answerAs client a))) (sym (client-message C hd (m .edit)))
-        (take-edit c m k 0 (ok .1) (λ e. absurd (omega arith)) (λ e. absurd (omega arith)) quiet (clientTakesEdit C hd (m .edit))
-        (outcome (asks (clientEditQuestions C hd (m .edit))) C (clientTaken C (m .seen) (m .edit)) (E .clients l .made - m .seen))
-        (client-takes-edit C hd (m .edit) (header-range hd (m .edit) (ok .1)) sound))
+        subst (λ (a : Answer Client). Sim n items from (answered ours s l c (answerAs client a))) (sym (client-message C hd (m .edit .edit)))
+        (take-edit c m k 0 (ok .1) (λ e. absurd (omega arith)) (λ e. absurd (omega arith)) quiet (clientTakesEdit C hd (m .edit .edit))
+        (outcome (asks (clientEditQuestions C hd (m .edit .edit))) C (clientTaken C (m .edit .origin) (m .seen) (m .edit .edit)) (lineReport (C .own) (m .seen) (m .edit .edit)))
+        (client-takes-edit C hd (m .edit .edit) (header-range hd (m .edit .edit) (ok .1)) sound))
     take-message c (down k m) ok made quiet =
         let hd : Header = headerOf k 1 m in
-        subst (λ (a : Answer Client). Sim n items from (answered ours s l c (answerAs client a))) (sym (client-message C hd (m .edit)))
-        (take-edit c m k 1 (ok .1) (λ e. ok .0) (λ e. made) quiet (clientTakesEdit C hd (m .edit))
-        (outcome (asks (clientEditQuestions C hd (m .edit))) C (clientTaken C (m .seen) (m .edit)) (E .clients l .made - m .seen))
-        (client-takes-edit C hd (m .edit) (header-range hd (m .edit) (ok .1)) sound))
+        subst (λ (a : Answer Client). Sim n items from (answered ours s l c (answerAs client a))) (sym (client-message C hd (m .edit .edit)))
+        (take-edit c m k 1 (ok .1) (λ e. ok .0) (λ e. made) quiet (clientTakesEdit C hd (m .edit .edit))
+        (outcome (asks (clientEditQuestions C hd (m .edit .edit))) C (clientTaken C (m .edit .origin) (m .seen) (m .edit .edit)) (lineReport (C .own) (m .seen) (m .edit .edit)))
+        (client-takes-edit C hd (m .edit .edit) (header-range hd (m .edit .edit) (ok .1)) sound))
     take-message c (upAck k seen) ok made quiet =
-        take-ack c k 0 seen (λ e. absurd (omega arith)) (λ e. absurd (omega arith)) quiet (clientTakesAck C k 0 seen) (outcome (asks (clientAckQuestions C k 0 seen)) C (clientAcked C seen) 0) (client-takes-ack C k 0 seen sound)
+        take-ack c k 0 seen (λ e. absurd (omega arith)) (λ e. absurd (omega arith)) quiet (clientTakesAck C k 0 seen) (outcome (asks (clientAckQuestions C k 0 seen)) C (clientAcked C seen) noReport) (client-takes-ack C k 0 seen sound)
     take-message c (downAck k seen) ok made quiet =
-        take-ack c k 1 seen (λ e. ok .0) (λ e. made) quiet (clientTakesAck C k 1 seen) (outcome (asks (clientAckQuestions C k 1 seen)) C (clientAcked C seen) 0) (client-takes-ack C k 1 seen sound)
+        take-ack c k 1 seen (λ e. ok .0) (λ e. made) quiet (clientTakesAck C k 1 seen) (outcome (asks (clientAckQuestions C k 1 seen)) C (clientAcked C seen) noReport) (client-takes-ack C k 1 seen sound)
 
     -- bytes that no message has
-    take-junk : (c : Call) (a : Answer Client) → Outcome (asks (ask 2 (soundClient C) ∷ ask 3 false ∷ [])) C C 0 a → refusedLog w c ≡ hears w (w .heard)
+    take-junk : (c : Call) (a : Answer Client) → Outcome (asks (ask 2 (soundClient C) ∷ ask 3 false ∷ [])) C C noReport a → refusedLog w c ≡ hears w (w .heard)
         → Sim n items from (answered ours s l c (answerAs client a))
     take-junk c a (outcomes.Outcome.no r) quiet = turned-down l c (asks (ask 2 (soundClient C) ∷ ask 3 false ∷ [])) (client C) r (sim .client-is l lo hi) quiet
     take-junk c a (outcomes.Outcome.yes r) quiet = never (yes-all (ask 2 (soundClient C) ∷ ask 3 false ∷ []) (omega arith) r .1 .0)
@@ -212,31 +216,31 @@ module _ (n : ℕ) (items : List ℕ) {ranks : List ℕ} {from : Moment ranks} (
   line-of : (k : ℕ) → 1 ≤ k → k ≤ n → lineOf S k ≡ lineFrom (E .lines k) (sim .si k)
   line-of k a b = line-from n (length items) ranks (E .doc) (E .lines) (sim .si) k a b
 
-  serve-edit : (c : Call) (m : ends.EditMessage (edits ranks)) (k : ℕ) (direction : ℕ) → inRange (messageOf (headerOf k direction m) (m .edit)) ≡ true
-      → (direction ≡ 0 → UpMessage items E h k m) → (direction ≡ 0 → logged w c ≡ tookUp w k (m .seen))
+  serve-edit : (c : Call) (m : ends.EditMessage (edits ranks)) (k : ℕ) (direction : ℕ) → inRange (messageOf (headerOf k direction m) (m .edit .edit)) ≡ true
+      → (direction ≡ 0 → UpMessage items E h k m) → (direction ≡ 0 → logged w c ≡ tookUp w k m)
       → refusedLog w c ≡ hears w (w .heard)
       → (a : Answer Server)
-      → Outcome (asks (serverEditQuestions S (headerOf k direction m) (m .edit))) S (serverTaken S k (m .seen) (m .edit)) (lineOf S k .made - m .seen) a
+      → Outcome (asks (serverEditQuestions S (headerOf k direction m) (m .edit .edit))) S (serverTaken S k (m .edit .origin) (m .seen) (m .edit .edit)) (lineReport (lineOf S k) (m .seen) (m .edit .edit)) a
       → soundServer (a .end) ≡ true → Sim n items from (answered ours s 0 c (answerAs server a))
   unfolding log
   serve-edit c m k direction range fine made quiet a (outcomes.Outcome.no r) ok =
-      turned-down 0 c (asks (serverEditQuestions S (headerOf k direction m) (m .edit))) (server S) r (sim .server-is) quiet
+      turned-down 0 c (asks (serverEditQuestions S (headerOf k direction m) (m .edit .edit))) (server S) r (sim .server-is) quiet
   serve-edit c m k direction range fine made quiet a (outcomes.Outcome.yes r) ok =
       let hd : Header = headerOf k direction m in
-      let y = yes-all (serverEditQuestions S hd (m .edit)) (omega arith) r in
-      let q4 = three (eqb direction 0) (between 1 n k) (priority (eqb (rankOf ranks k)) (m .edit)) (y .1 .0) in
+      let y = yes-all (serverEditQuestions S hd (m .edit .edit)) (omega arith) r in
+      let q4 = four (eqb direction 0) (between 1 n k) (priority (eqb (rankOf ranks k)) (m .edit .edit)) (ownOrigin hd) (y .1 .0) in
       let up-way : direction ≡ 0 = eqb-true direction 0 (q4 .0) in
       let there = between-true 1 n k (q4 .1) in
       let same = line-of k (there .0) (there .1) in
-      let q = subst (λ (v : Line). Asked v (E .doc) hd (m .edit)) same (asked (lineOf S k) (E .doc) hd (m .edit) (lastQuestions S hd (m .edit)) (y .1 .1)) in
-      subst (λ (v : Line). Sim n items from (record { ends = at 0 (server (serverTaken S k (m .seen) (m .edit))) (s .ends); messages = s .messages; passed = s .passed ++ ((v .made - m .seen) ∷ []); recorded = logged w c }))
+      let q = subst (λ (v : Line). Asked v (E .doc) hd (m .edit .edit)) same (asked (lineOf S k) (E .doc) hd (m .edit .edit) (lastQuestions S hd (m .edit .edit)) (y .1 .1)) in
+      subst (λ (v : Line). Sim n items from (record { ends = at 0 (server (serverTaken S k (m .edit .origin) (m .seen) (m .edit .edit))) (s .ends); messages = s .messages; reports = s .reports ++ (lineReport v (m .seen) (m .edit .edit) ∷ []); recorded = logged w c }))
       (sym same)
-      (subst (λ (z : Log ranks). Sim n items from (record { ends = at 0 (server (serverTaken S k (m .seen) (m .edit))) (s .ends); messages = s .messages; passed = s .passed ++ ((E .lines k .made - m .seen) ∷ []); recorded = z }))
+      (subst (λ (z : Log ranks). Sim n items from (record { ends = at 0 (server (serverTaken S k (m .edit .origin) (m .seen) (m .edit .edit))) (s .ends); messages = s .messages; reports = s .reports ++ (lineReport (lineFrom (E .lines k) (sim .si k)) (m .seen) (m .edit .edit) ∷ []); recorded = z }))
       (sym (made up-way))
-      (takes-up n items s sim k (there .0) (there .1) m (fine up-way) (q .next ∙ add-one (E .lines k .taken)) (q .low) (small-range hd (m .edit) range) ok))
+      (takes-up n items s sim k (there .0) (there .1) m (fine up-way) (q .next ∙ add-one (E .lines k .taken)) (q .low) (small-range hd (m .edit .edit) range) ok))
 
   serve-ack : (c : Call) (k direction seen : ℕ) → (direction ≡ 0 → seen ≤ E .clients k .taken) → (direction ≡ 0 → logged w c ≡ hears w (logs.hearing w 0 k seen)) → refusedLog w c ≡ hears w (w .heard)
-      → (a : Answer Server) → Outcome (asks (serverAckQuestions S k direction seen)) S (serverAcked S k seen) 0 a → soundServer (a .end) ≡ true
+      → (a : Answer Server) → Outcome (asks (serverAckQuestions S k direction seen)) S (serverAcked S k seen) noReport a → soundServer (a .end) ≡ true
       → Sim n items from (answered ours s 0 c (answerAs server a))
   unfolding log
   serve-ack c k direction seen fine made quiet a (outcomes.Outcome.no r) ok = turned-down 0 c (asks (serverAckQuestions S k direction seen)) (server S) r (sim .server-is) quiet
@@ -245,7 +249,7 @@ module _ (n : ℕ) (items : List ℕ) {ranks : List ℕ} {from : Moment ranks} (
       let up-way : direction ≡ 0 = eqb-true direction 0 (and-left (eqb direction 0) (between 1 n k) (y .1 .0)) in
       let there = between-true 1 n k (and-right (eqb direction 0) (between 1 n k) (y .1 .0)) in
       let low : E .lines k .acked ≤ seen = subst (λ (v : Line). v .acked ≤ seen) (line-of k (there .0) (there .1)) (leb-true (lineOf S k .acked) seen (y .1 .1 .0)) in
-      subst (λ (z : Log ranks). Sim n items from (record { ends = at 0 (server (serverAcked S k seen)) (s .ends); messages = s .messages; passed = s .passed ++ (0 ∷ []); recorded = z })) (sym (made up-way))
+      subst (λ (z : Log ranks). Sim n items from (record { ends = at 0 (server (serverAcked S k seen)) (s .ends); messages = s .messages; reports = s .reports ++ (noReport ∷ []); recorded = z })) (sym (made up-way))
       (acks-up n items s sim k (there .0) (there .1) seen low (fine up-way) ok)
 
   serve-message : (c : Call) (x : Message (edits ranks)) → MessageOk n ranks items E h x → logged w c ≡ took w 0 (some x) → refusedLog w c ≡ hears w (w .heard)
@@ -253,22 +257,22 @@ module _ (n : ℕ) (items : List ℕ) {ranks : List ℕ} {from : Moment ranks} (
   unfolding took serverTakesEdit serverTakesAck
   serve-message c (up k m) ok made quiet =
       let hd : Header = headerOf k 0 m in
-      subst (λ (a : Answer Server). Sim n items from (answered ours s 0 c (answerAs server a))) (sym (server-message S hd (m .edit)))
-      (serve-edit c m k 0 (ok .1) (λ e. ok .0) (λ e. made) quiet (serverTakesEdit S hd (m .edit))
-      (outcome (asks (serverEditQuestions S hd (m .edit))) S (serverTaken S k (m .seen) (m .edit)) (lineOf S k .made - m .seen))
-      (server-takes-edit S hd (m .edit) (header-range hd (m .edit) (ok .1)) (sim .server-sound)))
+      subst (λ (a : Answer Server). Sim n items from (answered ours s 0 c (answerAs server a))) (sym (server-message S hd (m .edit .edit)))
+      (serve-edit c m k 0 (ok .1) (λ e. ok .0) (λ e. made) quiet (serverTakesEdit S hd (m .edit .edit))
+      (outcome (asks (serverEditQuestions S hd (m .edit .edit))) S (serverTaken S k (m .edit .origin) (m .seen) (m .edit .edit)) (lineReport (lineOf S k) (m .seen) (m .edit .edit)))
+      (server-takes-edit S hd (m .edit .edit) (header-range hd (m .edit .edit) (ok .1)) (sim .server-sound)))
   serve-message c (down k m) ok made quiet =
       let hd : Header = headerOf k 1 m in
-      subst (λ (a : Answer Server). Sim n items from (answered ours s 0 c (answerAs server a))) (sym (server-message S hd (m .edit)))
-      (serve-edit c m k 1 (ok .1) (λ e. absurd (omega arith)) (λ e. absurd (omega arith)) quiet (serverTakesEdit S hd (m .edit))
-      (outcome (asks (serverEditQuestions S hd (m .edit))) S (serverTaken S k (m .seen) (m .edit)) (lineOf S k .made - m .seen))
-      (server-takes-edit S hd (m .edit) (header-range hd (m .edit) (ok .1)) (sim .server-sound)))
+      subst (λ (a : Answer Server). Sim n items from (answered ours s 0 c (answerAs server a))) (sym (server-message S hd (m .edit .edit)))
+      (serve-edit c m k 1 (ok .1) (λ e. absurd (omega arith)) (λ e. absurd (omega arith)) quiet (serverTakesEdit S hd (m .edit .edit))
+      (outcome (asks (serverEditQuestions S hd (m .edit .edit))) S (serverTaken S k (m .edit .origin) (m .seen) (m .edit .edit)) (lineReport (lineOf S k) (m .seen) (m .edit .edit)))
+      (server-takes-edit S hd (m .edit .edit) (header-range hd (m .edit .edit) (ok .1)) (sim .server-sound)))
   serve-message c (upAck k seen) ok made quiet =
-      serve-ack c k 0 seen (λ e. ok .0) (λ e. made) quiet (serverTakesAck S k 0 seen) (outcome (asks (serverAckQuestions S k 0 seen)) S (serverAcked S k seen) 0) (server-takes-ack S k 0 seen (sim .server-sound))
+      serve-ack c k 0 seen (λ e. ok .0) (λ e. made) quiet (serverTakesAck S k 0 seen) (outcome (asks (serverAckQuestions S k 0 seen)) S (serverAcked S k seen) noReport) (server-takes-ack S k 0 seen (sim .server-sound))
   serve-message c (downAck k seen) ok made quiet =
-      serve-ack c k 1 seen (λ e. absurd (omega arith)) (λ e. absurd (omega arith)) quiet (serverTakesAck S k 1 seen) (outcome (asks (serverAckQuestions S k 1 seen)) S (serverAcked S k seen) 0) (server-takes-ack S k 1 seen (sim .server-sound))
+      serve-ack c k 1 seen (λ e. absurd (omega arith)) (λ e. absurd (omega arith)) quiet (serverTakesAck S k 1 seen) (outcome (asks (serverAckQuestions S k 1 seen)) S (serverAcked S k seen) noReport) (server-takes-ack S k 1 seen (sim .server-sound))
 
-  serve-junk : (c : Call) (a : Answer Server) → Outcome (asks (ask 2 (soundServer S) ∷ ask 3 false ∷ [])) S S 0 a → refusedLog w c ≡ hears w (w .heard)
+  serve-junk : (c : Call) (a : Answer Server) → Outcome (asks (ask 2 (soundServer S) ∷ ask 3 false ∷ [])) S S noReport a → refusedLog w c ≡ hears w (w .heard)
       → Sim n items from (answered ours s 0 c (answerAs server a))
   serve-junk c a (outcomes.Outcome.no r) quiet = turned-down 0 c (asks (ask 2 (soundServer S) ∷ ask 3 false ∷ [])) (server S) r (sim .server-is) quiet
   serve-junk c a (outcomes.Outcome.yes r) quiet = never (yes-all (ask 2 (soundServer S) ∷ ask 3 false ∷ []) (omega arith) r .1 .0)
@@ -280,14 +284,14 @@ module _ (n : ℕ) (items : List ℕ) {ranks : List ℕ} {from : Moment ranks} (
       → (a : Sent) → Posted r bytes lent a → Sim n items from (written ours s c a)
   unfolding log
   post c r bytes lent x made quiet ok a (outcomes.Posted.no d) =
-      subst (λ (z : Log ranks). Sim n items from (record { ends = s .ends; messages = cond (eqb r 0) (s .messages ++ (take 0 lent ∷ [])) (s .messages); passed = s .passed; recorded = z }))
+      subst (λ (z : Log ranks). Sim n items from (record { ends = s .ends; messages = cond (eqb r 0) (s .messages ++ (take 0 lent ∷ [])) (s .messages); reports = s .reports; recorded = z }))
       (sym (log-no w c r d ∙ quiet))
-      (subst (λ (b : Bool). Sim n items from (record { ends = s .ends; messages = cond b (s .messages ++ (take 0 lent ∷ [])) (s .messages); passed = s .passed; recorded = w }))
+      (subst (λ (b : Bool). Sim n items from (record { ends = s .ends; messages = cond b (s .messages ++ (take 0 lent ∷ [])) (s .messages); reports = s .reports; recorded = w }))
       (sym (ne-eqb r 0 d)) sim)
   post c r bytes lent x made quiet ok a (outcomes.Posted.yes z) =
-      subst (λ (y : Log ranks). Sim n items from (record { ends = s .ends; messages = s .messages ++ (take (length bytes) (bytes ++ drop (length bytes) lent) ∷ []); passed = s .passed; recorded = y }))
+      subst (λ (y : Log ranks). Sim n items from (record { ends = s .ends; messages = s .messages ++ (take (length bytes) (bytes ++ drop (length bytes) lent) ∷ []); reports = s .reports; recorded = y }))
       (sym made)
-      (subst (λ (b : List ℕ). Sim n items from (record { ends = s .ends; messages = s .messages ++ (b ∷ []); passed = s .passed; recorded = writes w x }))
+      (subst (λ (b : List ℕ). Sim n items from (record { ends = s .ends; messages = s .messages ++ (b ∷ []); reports = s .reports; recorded = writes w x }))
       (sym (take-append-seam bytes (drop (length bytes) lent) ∙ ok z .1)) (writes-on n items s sim x (ok z .0)))
 
   -- client l sends the edit of a number
@@ -300,21 +304,29 @@ module _ (n : ℕ) (items : List ℕ) {ranks : List ℕ} {from : Moment ranks} (
       up-is line =
           let ok = up-message items E h (sim .inv) l number low high in
           client-edit-message h l line number (E .clients l .taken) lo (sim .taken l)
-          ∙ ap (λ (e : Edit). up l (record { number = number; seen = E .clients l .taken; edit = e }))
+          ∙ ap (λ (e : Named). up l (record { number = number; seen = E .clients l .taken; edit = e }))
           (ap (λ (i : ℕ). ownForm l (order h l) i (E .clients l .taken)) (omega (arith, ok .number)) ∙ sym (ok .edit))
 
+      -- its origin: the client's line and the number
+      up-made : record { line = l; number = number } ≡ ends.message number (E .clients l) .edit .origin
+      up-made = sym (up-origin ranks items E h (sim .inv) l (ends.message number (E .clients l)) (up-message items E h (sim .inv) l number low high))
+
       pub up-bytes : bytesOf (clientMessage (clientFrom n l ranks (E .clients l) (E .docs l) (sim .ci l)) number) ≡ messageBytes (up l (ends.message number (E .clients l)))
-      up-bytes = line-bytes (E .clients l) (sim .ci l) number l 0
+      up-bytes = line-bytes (E .clients l) (sim .ci l) number l 0 (record { line = l; number = number }) up-made
 
       pub up-ok : MessageOk n ranks items E h (up l (ends.message number (E .clients l)))
-      up-ok = (
-        up-message items E h (sim .inv) l number low high,
-        line-range (E .clients l) (sim .ci l) number (E .clients l .made) (eqb (rankOf ranks l)) (F .own) low high (headerOf l 0 (ends.message number (E .clients l)))
-            (up-range l number (E .clients l .taken) lo (omega (arith, F .lines .1)) (omega arith) (omega (arith, F .own .edits)) (F .taken))
-            (λ r e. let z : rankOf ranks l ≡ r = eqb-true (rankOf ranks l) r e in let k = ranked sim .each l lo hi in (omega arith, omega (arith, F .lines .1)))
-            (sim .client-small l),
-        (lo, hi, line-priority (E .clients l) (sim .ci l) number (E .clients l .made) (eqb (rankOf ranks l)) (F .own) low high),
-      )
+      up-ok =
+          let few : number ≤ maxEdits = omega (arith, F .own .edits) in
+          let in-range : originInRange (record { line = l; number = number }) ≡ true =
+          both (between 1 8 l) (between 1 maxEdits number) (true-between 1 8 l lo (omega (arith, F .lines .1))) (true-between 1 maxEdits number (omega arith) few) in (
+            up-message items E h (sim .inv) l number low high,
+            line-range (E .clients l) (sim .ci l) number (E .clients l .made) (eqb (rankOf ranks l)) (F .own) low high (headerOf l 0 (ends.message number (E .clients l)))
+                (up-range l number (E .clients l .taken) (ends.message number (E .clients l) .edit .origin) lo (omega (arith, F .lines .1)) (omega arith) few (F .taken)
+                (subst (λ (o : Origin). originInRange o ≡ true) up-made in-range))
+                (λ r e. let z : rankOf ranks l ≡ r = eqb-true (rankOf ranks l) r e in let k = ranked sim .each l lo hi in (omega arith, omega (arith, F .lines .1)))
+                (sim .client-small l),
+            (lo, hi, line-priority (E .clients l) (sim .ci l) number (E .clients l .made) (eqb (rankOf ranks l)) (F .own) low high),
+          )
 
     client-sends : (line number : ℕ) (lent : List ℕ) → Sim n items from (written ours s (send l line number lent) (sendClient (clientFrom n l ranks (E .clients l) (E .docs l) (sim .ci l)) line number lent))
     unfolding sendClient logged refusedLog
@@ -353,21 +365,44 @@ module _ (n : ℕ) (items : List ℕ) {ranks : List ℕ} {from : Moment ranks} (
       down-is =
           let ok = down-message items E h (sim .inv) l number low high in
           server-edit-message h l number (E .lines l .taken) (sym (sim .inv .lines l .v-count))
-          ∙ ap (λ (e : Edit). down l (record { number = number; seen = E .lines l .taken; edit = e }))
+          ∙ ap (λ (e : Named). down l (record { number = number; seen = E .lines l .taken; edit = e }))
           (ap (othForm l (order h l) (E .lines l .taken)) (omega (arith, ok .number)) ∙ sym (ok .edit))
 
+      -- its origin is one that the server keeps beside the line
+      down-made : makerAt S l number ≡ ends.message number (E .lines l) .edit .origin
+      down-made =
+          ap₂ (λ (os : List Origin) (v : Line). getD os (number - (v .acked + 1)) noOrigin) (makers-from n (length items) ranks (E .doc) (E .lines) (sim .si) l lo hi) (line-of l lo hi)
+          ∙ ap (λ (j : ℕ). getD (makersIn (E .lines l .pending)) (number - j) noOrigin) (add-one (E .lines l .acked))
+          ∙ List·getD-map (λ e. e .origin) (E .lines l .pending) (number - suc (E .lines l .acked)) (record { origin = noOrigin; edit = Nothing })
+
+      -- and so another client's
+      down-other : otherMaker n l (ends.message number (E .lines l) .edit .origin) ≡ true
+      down-other =
+          let os = makersOf S l in
+          let kept = makers-fact S G l lo hi in
+          let place : number - (lineOf S l .acked + 1) < length os = omega (arith, kept .count, ap (λ (v : Line). v .acked) (line-of l lo hi), ap (λ (v : Line). v .made) (line-of l lo hi)) in
+          subst (λ (o : Origin). otherMaker n l o ≡ true) down-made (maker-at n l os (number - (lineOf S l .acked + 1)) place (kept .others))
+
       pub down-bytes : bytesOf (serverMessage S l number) ≡ messageBytes (down l (ends.message number (E .lines l)))
-      down-bytes = ap (λ (v : Line). bytesOf (lineMessage l 1 v number)) (line-of l lo hi) ∙ line-bytes (E .lines l) (sim .si l) number l 1
+      down-bytes =
+          ap (λ (v : Line). bytesOf (lineMessage l 1 (makerAt S l number) v number)) (line-of l lo hi)
+          ∙ line-bytes (E .lines l) (sim .si l) number l 1 (makerAt S l number) down-made
 
       pub down-ok : MessageOk n ranks items E h (down l (ends.message number (E .lines l)))
-      down-ok = (
-        down-message items E h (sim .inv) l number low high,
-        line-range (E .lines l) (sim .si l) number (E .lines l .taken) (other n (rankOf ranks l)) (K .line) low high (headerOf l 1 (ends.message number (E .lines l)))
-            (down-range l number (E .lines l .taken) lo (omega (arith, G .n .1)) (omega arith) (omega (arith, subst (λ (v : Line). v .made ≤ 2800) (line-of l lo hi) (made-most S G l lo hi))) (K .line .edits))
-            (λ r e. let z = between-true 1 n r (and-left (between 1 n r) (not (eqb r (rankOf ranks l))) e) in (z .0, omega (arith, G .n .1)))
-            (sim .server-small l),
-        (lo, hi, line-priority (E .lines l) (sim .si l) number (E .lines l .taken) (other n (rankOf ranks l)) (K .line) low high),
-      )
+      down-ok =
+          let o = ends.message number (E .lines l) .edit .origin in
+          let from = and-left (other n l (o .line)) (between 1 maxEdits (o .number)) down-other in
+          let there = between-true 1 n (o .line) (and-left (between 1 n (o .line)) (not (eqb (o .line) l)) from) in
+          let in-range : originInRange o ≡ true =
+          both (between 1 8 (o .line)) (between 1 maxEdits (o .number)) (true-between 1 8 (o .line) (there .0) (omega (arith, G .n .1)))
+          (and-right (other n l (o .line)) (between 1 maxEdits (o .number)) down-other) in (
+            down-message items E h (sim .inv) l number low high,
+            line-range (E .lines l) (sim .si l) number (E .lines l .taken) (other n (rankOf ranks l)) (K .line) low high (headerOf l 1 (ends.message number (E .lines l)))
+                (down-range l number (E .lines l .taken) o lo (omega (arith, G .n .1)) (omega arith) (omega (arith, subst (λ (v : Line). v .made ≤ 2800) (line-of l lo hi) (made-most S G l lo hi))) (K .line .edits) in-range)
+                (λ r e. let z = between-true 1 n r (and-left (between 1 n r) (not (eqb r (rankOf ranks l))) e) in (z .0, omega (arith, G .n .1)))
+                (sim .server-small l),
+            (lo, hi, line-priority (E .lines l) (sim .si l) number (E .lines l .taken) (other n (rankOf ranks l)) (K .line) low high, from),
+          )
 
     server-sends : (number : ℕ) (lent : List ℕ) → asks (sendServerQuestions S l number lent) ≡ 0 → MessageOk n ranks items E h (editMessage h 0 l number) × (bytesOf (serverMessage S l number) ≡ messageBytes (editMessage h 0 l number))
     server-sends number lent z =
@@ -418,7 +453,7 @@ pub unread : (r : Read) → unreadable r ≡ true → r ≡ read.Refused
 unread read.Refused e = refl
 unread (read.Message m) e = never e
 
-module _ (n : ℕ) (items : List ℕ) {ranks : List ℕ} {from : Moment ranks} (s : State ours ranks) (sim : Sim n items from s) where
+module _ (n : ℕ) (items : List Place) {ranks : List ℕ} {from : Moment ranks} (s : State ours ranks) (sim : Sim n items from s) where
   -- a message taken at end a
   takes-at : (a i : ℕ) → a ≤ n → (b : List ℕ) → getElem? (s .messages) i ≡ some b → Sim n items from (answered ours s a (receive a i) (ours .take (s .ends a) b))
   unfolding takeClient takeServer logged refusedLog
@@ -445,13 +480,13 @@ module _ (n : ℕ) (items : List ℕ) {ranks : List ℕ} {from : Moment ranks} (
       let S = serverFrom n (length items) ranks (sim .E .doc) (sim .E .lines) (sim .si) in
       subst (λ (d : End). Sim n items from (answered ours s 0 (junk 0 bytes) (ours .take d bytes))) (sym (sim .server-is))
       (subst (λ (r : Read). Sim n items from (answered ours s 0 (junk 0 bytes) (answerAs server (serverReads S r)))) (sym e)
-      (serve-junk n items s sim (junk 0 bytes) (answer (asks (ask 2 (soundServer S) ∷ ask 3 false ∷ [])) S S 0) (outcome (asks (ask 2 (soundServer S) ∷ ask 3 false ∷ [])) S S 0) refl))
+      (serve-junk n items s sim (junk 0 bytes) (answer (asks (ask 2 (soundServer S) ∷ ask 3 false ∷ [])) S S noReport) (outcome (asks (ask 2 (soundServer S) ∷ ask 3 false ∷ [])) S S noReport) refl))
   junks-at (suc a) bytes hi e =
       let C = clientFrom n (suc a) ranks (sim .E .clients (suc a)) (sim .E .docs (suc a)) (sim .ci (suc a)) in
       subst (λ (d : End). Sim n items from (answered ours s (suc a) (junk (suc a) bytes) (ours .take d bytes))) (sym (sim .client-is (suc a) (omega arith) hi))
       (subst (λ (r : Read). Sim n items from (answered ours s (suc a) (junk (suc a) bytes) (answerAs client (clientReads C r)))) (sym e)
-      (take-junk n items s sim (suc a) (omega arith) hi (junk (suc a) bytes) (answer (asks (ask 2 (soundClient C) ∷ ask 3 false ∷ [])) C C 0)
-      (outcome (asks (ask 2 (soundClient C) ∷ ask 3 false ∷ [])) C C 0) refl))
+      (take-junk n items s sim (suc a) (omega arith) hi (junk (suc a) bytes) (answer (asks (ask 2 (soundClient C) ∷ ask 3 false ∷ [])) C C noReport)
+      (outcome (asks (ask 2 (soundClient C) ∷ ask 3 false ∷ [])) C C noReport) refl))
 
   sends-at : (a l number : ℕ) (lent : List ℕ) → a ≤ n → Sim n items from (written ours s (send a l number lent) (ours .send (s .ends a) l number lent))
   sends-at zero l number lent hi = subst (λ (e : End). Sim n items from (written ours s (send 0 l number lent) (ours .send e l number lent))) (sym (sim .server-is)) (server-posts n items s sim l number lent)
@@ -471,7 +506,7 @@ module _ (n : ℕ) (items : List ℕ) {ranks : List ℕ} {from : Moment ranks} (
   unfolding editClient
   edits-at c l e lo hi pr sm made quiet =
       let C = clientFrom n l ranks (sim .E .clients l) (sim .E .docs l) (sim .ci l) in
-      edit-call n items s sim l lo hi c e pr sm made quiet (editClient C e) (outcome (asks (editQuestions C e)) C (edited C e) 0) (edits-sound C e pr (sim .client-sound l lo hi))
+      edit-call n items s sim l lo hi c e pr sm made quiet (editClient C e) (outcome (asks (editQuestions C e)) C (edited C e) noReport) (edits-sound C e pr (sim .client-sound l lo hi))
 
   pub called : (c : Call) → callable n c ≡ true → Sim n items from (call ours s c)
   unfolding call callable handed logged refusedLog

@@ -4,18 +4,19 @@ use mathlib.Core.Bool.{Bool, true, false, cond}
 use mathlib.Core.Option.{Option, none, some}
 use mathlib.Core.List.{List, [], _∷_, map}
 use Prim.Native.Nat.{ℕ, zero, suc, _≤_}
-use native.Mathlib.Omega.{arith}
 use lib.ListN.{getElem?}
 use borrow.Author.Tests.{le-leb}
-use Rattle.jupiter.specs.Form.{grown, listAt, replay}
+use Rattle.list.specs.Places.{Place, initialPlaces}
 use Rattle.jupiter.specs.Ends.{Ends}
 use Rattle.jupiter.specs.Run as theory
 use Rattle.jupiter.specs.Run.{Message, up, down, upAck, downAck}
-use Rattle.jupiter.specs.Claims.{Who, SameSet, docOf}
+use Rattle.jupiter.specs.Claims.{SameSet, docOf}
 use Rattle.jupiter.specs.Claims as claims
+use Rattle.jupiter.specs.Origins.{Opening}
+use Rattle.jupiter.specs.Orders as theory-order
 use Rattle.jupiter.proofs.Step.{Later}
-use Rattle.jupiter.proofs.Start.{whole, whole-none, from-opening}
-use Rattle.jupiter.proofs.Runs.{Reached, Onward}
+use Rattle.jupiter.proofs.Start.{whole, whole-none}
+use Rattle.jupiter.proofs.Runs.{Onward}
 use Rattle.jupiter.proofs.Consistency as theorem
 use Rattle.model.specs.Questions.{Question, asks}
 use Rattle.model.specs.Ranks.{among}
@@ -25,9 +26,13 @@ use Rattle.model.specs.Log.{Log, log, madeAt, takenAt, messageBytes}
 use Rattle.model.specs.Numbers.{taking, handing, number}
 use Rattle.model.specs.Run.{State, callable, handed, handedNumber, call, numberOf, run, start}
 use Rattle.model.specs.Claim.{Holds, Opened, Converges}
-use Rattle.model.specs.Ours.{End, server, ours}
-use Rattle.model.specs.Consequences.{appliedAt, after, Consistent, TakingRefusals, Agree, Consequences}
-use Rattle.model.proofs.Sim.{Moment, Sim, present, from-here}
+use Rattle.model.specs.Ours.{server, ours}
+use Rattle.model.specs.Order.{SameOrder}
+use Rattle.model.specs.Consequences.{appliedAt, after, Consistent, OneOrder, TakingRefusals, Agree, Consequences}
+use Rattle.model.proofs.Places.{namesOf, edit-origins, may-open, shown-order}
+use Rattle.model.proofs.Orders.{places-order}
+use Rattle.model.proofs.Sim.{Moment, Sim, present, from-here, laws}
+use Rattle.model.proofs.Reached.{who, stateOf, reached, shows}
 use Rattle.model.proofs.Converges.{opening, starts, runs, server-asked, converges}
 
 -- ---- the log is settled by the calls
@@ -120,9 +125,9 @@ agree S T c d =
       messages = λ n ranks items o calls.
           let h = both-hold S T c d n ranks items o calls in
           same-messages S T n (after S n ranks items calls) (after T n ranks items calls) (h .0) (h .1) (same-run S T c d n ranks items o calls);
-      passed = λ n ranks items o calls.
+      reports = λ n ranks items o calls.
           let h = both-hold S T c d n ranks items o calls in
-          h .0 .passed ∙ ap (λ (w : Log ranks). w .passed) (same-run S T c d n ranks items o calls) ∙ sym (h .1 .passed);
+          h .0 .reports ∙ ap (λ (w : Log ranks). w .reports) (same-run S T c d n ranks items o calls) ∙ sym (h .1 .reports);
       numbers = λ n ranks items o calls.
           let h = both-hold S T c d n ranks items o calls in
           same-number S T n (after S n ranks items calls) (after T n ranks items calls) (h .0) (h .1) (same-run S T c d n ranks items o calls);
@@ -161,23 +166,9 @@ refusals S c n ranks items o calls a i hi =
     let s = after S n ranks items calls in
     subst Allowed (sym (c .holds n ranks items o calls .numbers (receive a i) (le-leb a n hi))) (allowed n (s .recorded) a (getElem? (s .recorded .messages) i))
 
--- ---- consistency of ours
+-- ---- consistency and order of ours
 
--- an end as the theory names it
-abbrev who : ℕ → Who
-who zero = claims.server
-who (suc a) = claims.client (suc a)
-
--- the theory's state: every line is there from the opening
-abbrev stateOf : {ranks : List ℕ} → Moment ranks → theory.State (edits ranks)
-stateOf m = record { ends = m .ends; history = m .history; messages = []; start = λ l. 0 }
-
-reached : {n : ℕ} {items ranks : List ℕ} {from : Moment ranks} {s : State ours ranks} (sim : Sim n items from s) → Reached items (stateOf (present sim))
-unfolding replay listAt grown
-reached {items = items} {s = s} sim =
-    record { inv = from-opening items (sim .E) (s .recorded .history) (sim .inv); fine = tt; openings = λ l. record { behind = refl; list = refl } }
-
-module _ (n : ℕ) (items : List ℕ) {ranks : List ℕ} {from : Moment ranks} (s t : State ours ranks) (sim : Sim n items from s) (more : Sim n items (present sim) t) where
+module _ (n : ℕ) (items : List Place) {ranks : List ℕ} {from : Moment ranks} (s t : State ours ranks) (sim : Sim n items from s) (more : Sim n items (present sim) t) where
   onward : Onward items (stateOf (present sim)) (stateOf (present more))
   onward =
       record {
@@ -186,10 +177,6 @@ module _ (n : ℕ) (items : List ℕ) {ranks : List ℕ} {from : Moment ranks} (
             (subst (λ (X : Ends (edits ranks)). Later (sim .E) (s .recorded .history) X (t .recorded .history)) (sym (whole-none (more .E))) (more .later));
       }
 
-  shows : {o : Moment ranks} (u : State ours ranks) (sim′ : Sim n items o u) (a : ℕ) → a ≤ n → ours .items (u .ends a) ≡ docOf (who a) (stateOf (present sim′))
-  shows u sim′ zero hi = ap (λ (e : End). ours .items e) (sim′ .server-is)
-  shows u sim′ (suc a) hi = ap (λ (e : End). ours .items e) (sim′ .client-is (suc a) (omega arith) hi)
-
   abbrev now : theory.State (edits ranks)
   now = stateOf (present sim)
 
@@ -197,7 +184,7 @@ module _ (n : ℕ) (items : List ℕ) {ranks : List ℕ} {from : Moment ranks} (
   then = stateOf (present more)
 
   ours-strong : (a b : ℕ) → a ≤ n → b ≤ n → SameSet (appliedAt (s .recorded .history) a) (appliedAt (t .recorded .history) b) → ours .items (s .ends a) ≡ ours .items (t .ends b)
-  ours-strong a b ha hb same = shows s sim a ha ∙ go a b same ∙ sym (shows t more b hb)
+  ours-strong a b ha hb same = shows sim a ha ∙ go a b same ∙ sym (shows more b hb)
     where
       go : (a b : ℕ) → SameSet (appliedAt (s .recorded .history) a) (appliedAt (t .recorded .history) b) → docOf (who a) now ≡ docOf (who b) then
       go zero zero f = theorem.consistent items now then (reached sim) onward claims.server claims.server f
@@ -205,7 +192,13 @@ module _ (n : ℕ) (items : List ℕ) {ranks : List ℕ} {from : Moment ranks} (
       go (suc a) zero f = theorem.consistent items now then (reached sim) onward (claims.client (suc a)) claims.server f
       go (suc a) (suc b) f = theorem.consistent items now then (reached sim) onward (claims.client (suc a)) (claims.client (suc b)) f
 
--- ---- consistency of any sheet
+  ours-order : Opening (edit-origins ranks) items → (a b : ℕ) → a ≤ n → b ≤ n → theory-order.SameOrder (namesOf (ours .items (s .ends a))) (namesOf (ours .items (t .ends b)))
+  ours-order opening a b ha hb =
+      subst (λ (l : List Place). theory-order.SameOrder (namesOf l) (namesOf (ours .items (t .ends b)))) (sym (shows sim a ha))
+      (subst (λ (l : List Place). theory-order.SameOrder (namesOf (docOf (who a) now)) (namesOf l)) (sym (shows more b hb))
+      (shown-order ranks items (laws sim) opening now then (reached sim) onward (who a) (who b)))
+
+-- ---- consistency and order of any sheet
 
 module _ (S : Sheet) (c : Converges S) (n : ℕ) (ranks items : List ℕ) (o : Opened S n ranks items) (calls : List Call) where
   -- where ours is led
@@ -215,27 +208,54 @@ module _ (S : Sheet) (c : Converges S) (n : ℕ) (ranks items : List ℕ) (o : O
   ours-open : Opened ours n ranks items
   ours-open = opened-too S ours c converges n ranks items o
 
-  led : Sim n items (opening items) there
+  led : Sim n (initialPlaces items) (opening items) there
   led =
       let asked = server-asked n ranks items (ours-open .server) in
-      runs n items calls (start ours n ranks items) (starts n ranks items (asked .0) (asked .1) (asked .2) (asked .3))
+      runs n (initialPlaces items) calls (start ours n ranks items) (starts n ranks items (asked .0) (asked .1) (asked .2) (asked .3))
+
+  -- where S is led, and that it shows what ours shows there and after more calls
+  abbrev here : State S ranks
+  here = after S n ranks items calls
+
+  good-here : Good S n here
+  good-here = good-on S n (start S n ranks items) (c .holds n ranks items o) calls
+
+  good-there : Good ours n there
+  good-there = good-on ours n (start ours n ranks items) (converges .holds n ranks items ours-open) calls
+
+  same-here : here .recorded ≡ there .recorded
+  same-here = same-run S ours c converges n ranks items o calls
+
+  same-further : (more : List Call) → run S n here more .recorded ≡ run ours n there more .recorded
+  same-further more = same-log S ours n more here there good-here good-there same-here
+
+  shows-further : (more : List Call) (a : ℕ) → a ≤ n → S .items (run S n here more .ends a) ≡ ours .items (run ours n there more .ends a)
+  shows-further more a ha = good-here more .lists a ha ∙ ap (λ (w : Log ranks). w .shown a) (same-further more) ∙ sym (good-there more .lists a ha)
+
+  shows-here : (a : ℕ) → a ≤ n → S .items (here .ends a) ≡ ours .items (there .ends a)
+  unfolding run
+  shows-here = shows-further []
+
+  led-further : (more : List Call) → Sim n (initialPlaces items) (present led) (run ours n there more)
+  led-further more = runs n (initialPlaces items) more there (from-here led)
 
   strong : (more : List Call) (a b : ℕ) → a ≤ n → b ≤ n
-      → SameSet (appliedAt (after S n ranks items calls .recorded .history) a) (appliedAt (run S n (after S n ranks items calls) more .recorded .history) b)
-      → S .items (after S n ranks items calls .ends a) ≡ S .items (run S n (after S n ranks items calls) more .ends b)
+      → SameSet (appliedAt (here .recorded .history) a) (appliedAt (run S n here more .recorded .history) b)
+      → S .items (here .ends a) ≡ S .items (run S n here more .ends b)
   strong more a b ha hb same =
-      let s = after S n ranks items calls in
-      let t = run S n s more in
       let u = run ours n there more in
-      let gs : Good S n s = good-on S n (start S n ranks items) (c .holds n ranks items o) calls in
-      let gt : Good ours n there = good-on ours n (start ours n ranks items) (converges .holds n ranks items ours-open) calls in
-      let e : s .recorded ≡ there .recorded = same-run S ours c converges n ranks items o calls in
-      let f : t .recorded ≡ u .recorded = same-log S ours n more s there gs gt e in
-      good-now S n s gs .lists a ha ∙ ap (λ (w : Log ranks). w .shown a) e ∙ sym (good-now ours n there gt .lists a ha)
-      ∙ ours-strong n items there u led (runs n items more there (from-here led)) a b ha hb
-      (subst (λ (w : Log ranks). SameSet (appliedAt (there .recorded .history) a) (appliedAt (w .history) b)) f
-      (subst (λ (w : Log ranks). SameSet (appliedAt (w .history) a) (appliedAt (t .recorded .history) b)) e same))
-      ∙ gt more .lists b hb ∙ ap (λ (w : Log ranks). w .shown b) (sym f) ∙ sym (gs more .lists b hb)
+      shows-here a ha
+      ∙ ours-strong n (initialPlaces items) there u led (led-further more) a b ha hb
+      (subst (λ (w : Log ranks). SameSet (appliedAt (there .recorded .history) a) (appliedAt (w .history) b)) (same-further more)
+      (subst (λ (w : Log ranks). SameSet (appliedAt (w .history) a) (appliedAt (run S n here more .recorded .history) b)) same-here same))
+      ∙ sym (shows-further more b hb)
+
+  in-order : (more : List Call) (a b : ℕ) → a ≤ n → b ≤ n → SameOrder (S .items (here .ends a)) (S .items (run S n here more .ends b))
+  in-order more a b ha hb =
+      places-order (S .items (here .ends a)) (S .items (run S n here more .ends b)) (good-now S n here good-here .origins a ha) (good-here more .origins b hb)
+      (subst (λ (l : List Place). theory-order.SameOrder (namesOf l) (namesOf (S .items (run S n here more .ends b)))) (sym (shows-here a ha))
+      (subst (λ (l : List Place). theory-order.SameOrder (namesOf (ours .items (there .ends a))) (namesOf l)) (sym (shows-further more b hb))
+      (ours-order n (initialPlaces items) there (run ours n there more) led (led-further more) (may-open ranks items) a b ha hb)))
 
 pub consistent : (S : Sheet) → Converges S → Consistent S
 consistent S c =
@@ -244,5 +264,8 @@ consistent S c =
       strong = λ n ranks items o calls. strong S c n ranks items o calls;
     }
 
+pub order : (S : Sheet) → Converges S → OneOrder S
+order S c n ranks items o calls more a b = in-order S c n ranks items o calls more a b
+
 pub consequences : Consequences
-consequences = record { consistent = consistent; refusals = refusals; agree = agree }
+consequences = record { consistent = consistent; order = order; refusals = refusals; agree = agree }

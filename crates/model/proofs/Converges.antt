@@ -7,15 +7,19 @@ use native.Mathlib.Omega.{arith}
 use lib.Dec.{leb}
 use lib.ListN.{length}
 use borrow.Author.Tests.{leb-true}
+use Rattle.list.specs.declared.Origin.{Origin}
+use Rattle.list.specs.Places.{Place, initialPlaces}
+use Rattle.list.proofs.Places.{initial-length}
 use Rattle.jupiter.specs.Made.{select, reject}
 use Rattle.jupiter.specs.Form.{replay}
 use Rattle.jupiter.specs.History.{History, noHistory, order, missing}
 use Rattle.jupiter.specs.Ends as ends
 use Rattle.jupiter.specs.Ends.{Ends}
 use Rattle.jupiter.specs.Claims.{inserts, LineClaim}
+use Rattle.jupiter.specs.Origins.{Once, Opening}
 use Rattle.jupiter.proofs.Step.{opens, later-refl}
 use Rattle.model.specs.Limits.{maxLines, maxPending, maxInitial}
-use Rattle.model.specs.Questions.{asks, between, Answer}
+use Rattle.model.specs.Questions.{asks, between, noReport, Answer}
 use Rattle.model.specs.Line.{Line, noLine}
 use Rattle.model.specs.Client.{Client, noClient, openClientQuestions, openClient}
 use Rattle.model.specs.Server.{Server, noServer, soundServer, openServerQuestions, openServer}
@@ -31,7 +35,9 @@ use Rattle.model.proofs.SoundServer.{server-facts, ServerLine, line-fac
 use Rattle.model.proofs.Sound.{accepted, opens-client, opens-server}
 use Rattle.model.proofs.Opens.{freshClient, freshServer, client-opens, server-opens}
 use Rattle.model.proofs.Table.{table-replicate}
-use Rattle.model.proofs.Sim.{clientFrom, serverFrom, line-from, Moment, Sim}
+use Rattle.model.proofs.Places.{namesOf, edit-origins, may-open, shown-once}
+use Rattle.model.proofs.Sim.{clientFrom, serverFrom, line-from, Moment, Sim, present, laws}
+use Rattle.model.proofs.Reached.{who, stateOf, reached, shows}
 use Rattle.model.proofs.Counts as counts
 use Rattle.model.proofs.Calls.{called}
 use Rattle.model.proofs.Next.{delivers-down, delivers-up}
@@ -44,7 +50,7 @@ some-left : {A : Type 0} (xs : List A) → (xs ≡ [] → ⊥) → 1 ≤ length 
 some-left [] h = absurd (h refl)
 some-left (x ∷ xs) h = omega arith
 
-module _ (n : ℕ) (items : List ℕ) {ranks : List ℕ} {from : Moment ranks} (s : State ours ranks) (sim : Sim n items from s) (few : length items ≤ maxInitial) where
+module _ (n : ℕ) (items : List Place) {ranks : List ℕ} {from : Moment ranks} (s : State ours ranks) (sim : Sim n items from s) (few : length items ≤ maxInitial) where
   abbrev h : History (edits ranks)
   h = s .recorded .history
 
@@ -96,14 +102,15 @@ module _ (n : ℕ) (items : List ℕ) {ranks : List ℕ} {from : Moment ranks} (
           below : (m k : ℕ) → m - k ≤ maxPending → k ≤ m → (m ≡ k + maxPending → ⊥) → m - k < maxPending
           below m k r t f = omega arith
 
-  pub holds : Holds ours n s
-  holds =
+  pub holds : Opening (edit-origins ranks) items → Holds ours n s
+  holds opening-list =
       record {
         lists = λ a b. shown a b;
+        origins = λ a b. subst (λ (l : List Place). Once (namesOf l)) (sym (shows sim a b)) (shown-once ranks items (laws sim) opening-list (stateOf (present sim)) (reached sim) (who a));
         messages = sim .messages;
         read-back = reads-back n items s sim few;
         numbers = numbered n items s sim few;
-        passed = sim .passed;
+        reports = sim .reports;
         lines = on-line;
       }
     where
@@ -114,29 +121,40 @@ module _ (n : ℕ) (items : List ℕ) {ranks : List ℕ} {from : Moment ranks} (
 -- ---- opening
 
 abbrev pub opening : {ranks : List ℕ} → List ℕ → Moment ranks
-opening items = record { ends = ends.opened items; history = noHistory }
+opening items = record { ends = ends.opened (initialPlaces items); history = noHistory }
 
 module _ (n : ℕ) (ranks items : List ℕ) (lo : 1 ≤ n) (hi : n ≤ maxLines) (few : length items ≤ maxInitial) (good : ranking n ranks ≡ true) where
   abbrev fresh : ends.End (edits ranks)
   fresh = record { made = 0; taken = 0; acked = 0; pending = [] }
 
-  server-starts : openServer n ranks items .end ≡ serverFrom n (length items) ranks items (λ l. fresh) (λ l. 0)
+  -- the list at every end
+  abbrev places : List Place
+  places = initialPlaces items
+
+  server-starts : openServer n ranks items .end ≡ serverFrom n (length places) ranks places (λ l. fresh) (λ l. 0)
   server-starts =
       ap (λ (a : Answer Server). a .end) (server-opens n ranks items lo hi few good)
-      ∙ ap (λ (vs : List Line). record { n = n; initial = length items; ranks = ranks; items = items; lines = vs }) (table-replicate noLine 1 n)
+      ∙ (λ i. record {
+        n = n;
+        initial = sym (initial-length items) i;
+        ranks = ranks;
+        items = places;
+        lines = table-replicate noLine 1 n i;
+        makers = table-replicate {A = List Origin} [] 1 n i;
+      })
 
-  client-starts : (l : ℕ) → 1 ≤ l → l ≤ n → openClient n l ranks items .end ≡ clientFrom n l ranks fresh items 0
+  client-starts : (l : ℕ) → 1 ≤ l → l ≤ n → openClient n l ranks items .end ≡ clientFrom n l ranks fresh places 0
   client-starts l a b = ap (λ (r : Answer Client). r .end) (client-opens n l ranks items lo hi a b few good)
 
-  pub starts : Sim n items (opening items) (start ours n ranks items)
+  pub starts : Sim n places (opening items) (start ours n ranks items)
   unfolding select reject inserts
   starts =
       record {
-        E = ends.opened items;
+        E = ends.opened places;
         ci = λ l. 0;
         si = λ l. 0;
-        inv = opens items;
-        later = later-refl (ends.opened items) noHistory;
+        inv = opens places;
+        later = later-refl (ends.opened places) noHistory;
         server-is = ap server server-starts;
         client-is = opened;
         server-sound = ap soundServer (sym server-starts) ∙ opens-server n ranks items (ap (λ (a : Answer Server). a .refusal) (server-opens n ranks items lo hi few good));
@@ -147,7 +165,7 @@ module _ (n : ℕ) (ranks items : List ℕ) (lo : 1 ≤ n) (hi : n ≤ maxLines)
         client-heard = λ l a. refl;
         messages = refl;
         written = tt;
-        passed = refl;
+        reports = refl;
         taken = λ l. refl;
         served-lines = tt;
         ci-is = λ l. refl;
@@ -156,13 +174,13 @@ module _ (n : ℕ) (ranks items : List ℕ) (lo : 1 ≤ n) (hi : n ≤ maxLines)
         server-small = λ l. tt;
       }
     where
-      opened : (l : ℕ) → 1 ≤ l → l ≤ n → Rattle.model.specs.Run.opened ours n ranks items l ≡ client (clientFrom n l ranks fresh items 0)
+      opened : (l : ℕ) → 1 ≤ l → l ≤ n → Rattle.model.specs.Run.opened ours n ranks items l ≡ client (clientFrom n l ranks fresh places 0)
       opened zero a b = absurd (omega arith)
       opened (suc l) a b = ap client (client-starts (suc l) a b)
 
 -- ---- every list of calls
 
-pub runs : (n : ℕ) (items : List ℕ) {ranks : List ℕ} {from : Moment ranks} (calls : List Call) (s : State ours ranks) → Sim n items from s → Sim n items from (run ours n s calls)
+pub runs : (n : ℕ) (items : List Place) {ranks : List ℕ} {from : Moment ranks} (calls : List Call) (s : State ours ranks) → Sim n items from s → Sim n items from (run ours n s calls)
 unfolding run
 runs n items {from = from} [] s sim = sim
 runs n items {from = from} (c ∷ cs) s sim = runs n items cs (cond (callable n c) (call ours s c) s) (go (callable n c) refl)
@@ -175,7 +193,7 @@ runs n items {from = from} (c ∷ cs) s sim = runs n items cs (cond (callable n 
 pub server-asked : (n : ℕ) (ranks items : List ℕ) → openServer n ranks items .refusal ≡ 0 → (1 ≤ n) × (n ≤ maxLines) × (length items ≤ maxInitial) × (ranking n ranks ≡ true)
 unfolding openServer
 server-asked n ranks items e =
-    let z = accepted (asks (openServerQuestions n ranks items)) noServer (freshServer n ranks items) 0 e in
+    let z = accepted (asks (openServerQuestions n ranks items)) noServer (freshServer n ranks items) noReport e in
     let y = yes-all (openServerQuestions n ranks items) (omega arith) z in
     let t = hold (between 1 maxLines n ∷ leb (length items) maxInitial ∷ []) (y .0) in
     let b = between-true 1 maxLines n (t .0) in
@@ -184,10 +202,12 @@ server-asked n ranks items e =
 pub converges : Converges ours
 converges =
     record {
-      opens-server = λ n ranks items a. unfold openServer in (refusal-is (asks (openServerQuestions n ranks items)) noServer (freshServer n ranks items) 0);
-      opens-client = λ n l ranks items a. unfold openClient in (refusal-is (asks (openClientQuestions n l ranks items)) noClient (freshClient n l ranks items) 0);
+      opens-server = λ n ranks items a. unfold openServer in (refusal-is (asks (openServerQuestions n ranks items)) noServer (freshServer n ranks items) noReport);
+      opens-client = λ n l ranks items a. unfold openClient in (refusal-is (asks (openClientQuestions n l ranks items)) noClient (freshClient n l ranks items) noReport);
       alone = alone;
       holds = λ n ranks items opened calls.
           let asked = server-asked n ranks items (opened .server) in
-          holds n items (run ours n (start ours n ranks items) calls) (runs n items calls (start ours n ranks items) (starts n ranks items (asked .0) (asked .1) (asked .2) (asked .3))) (asked .2);
+          let places = initialPlaces items in
+          holds n places (run ours n (start ours n ranks items) calls) (runs n places calls (start ours n ranks items) (starts n ranks items (asked .0) (asked .1) (asked .2) (asked .3)))
+          (subst (λ (k : ℕ). k ≤ maxInitial) (sym (initial-length items)) (asked .2)) (may-open ranks items);
     }

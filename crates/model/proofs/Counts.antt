@@ -5,6 +5,7 @@ use Prim.Native.Nat.{ℕ, zero, suc, _≤_}
 use native.Mathlib.Nat.{zero-add}
 use native.Mathlib.Omega.{arith}
 use lib.ListN.{length, length-append}
+use Rattle.list.specs.Places.{Place}
 use Rattle.jupiter.specs.Algebra.{Algebra}
 use Rattle.jupiter.specs.Made.{mine, others}
 use Rattle.jupiter.specs.History.{History, madeBy}
@@ -37,7 +38,7 @@ server-taken-at : {𝓐 : Algebra} (h : History 𝓐) (l : ℕ) → takenAt h 0 
 unfolding takenAt
 server-taken-at h l = refl
 
-module _ (n : ℕ) (items : List ℕ) {ranks : List ℕ} {from : Moment ranks} (s : State ours ranks) (sim : Sim n items from s) (l : ℕ) where
+module _ (n : ℕ) (items : List Place) {ranks : List ℕ} {from : Moment ranks} (s : State ours ranks) (sim : Sim n items from s) (l : ℕ) where
   abbrev h : History (edits ranks)
   h = s .recorded .history
 

@@ -1,42 +1,38 @@
 -- Laws of the pending edits: what appending, dropping and crossing leave true of them.
 use mathlib.Core.Path.{_≡_, refl, ap, sym, _∙_}
-use mathlib.Core.Bool.{Bool, true, _&&_}
+use mathlib.Core.Bool.{Bool, true}
 use mathlib.Core.Option.{Option, none, some}
 use mathlib.Core.List.{List, [], _∷_, _++_}
-use Prim.Native.Nat.{ℕ, zero, suc, _+_, _≤_}
+use Prim.Native.Nat.{ℕ, suc, _+_, _-_, _≤_, _<_}
 use native.Mathlib.Omega.{arith}
-use lib.ListN.{length, drop}
-use Rattle.ot.specs.Edit.{Edit, Nothing, Delete, Insert, applied, sizeAfter, fits, transformed}
+use lib.ListN.{length, getD, drop}
+use Rattle.ot.specs.Edit.{Edit, Nothing, Delete, Insert, appliedAs, sizeAfter, fits, transformed}
 use Rattle.ot.specs.Laws.{stamp, within}
+use Rattle.ot.proofs.Fits.{length-inserted, length-deleted-le}
 use Rattle.ot.proofs.Laws.{laws}
 use Rattle.model.specs.Limits.{maxItems}
 use Rattle.model.specs.Cross.{past, over, placed, allPlaced, priority, priorities, insertsOf}
-use Rattle.model.proofs.Tests.{both, and-left, and-right, between-true, true-between}
+use Rattle.model.proofs.Tests.{both, and-left, and-right, between-true, true-between, all-append, all-drop, all-at}
 
 -- Of an edit that fits and leaves at most 512 items the position is 1 to 512.
-pub fits-placed : (e : Edit) (l : List ℕ) → length l ≤ maxItems → fits e (length l) ≡ true → length (applied e l) ≤ maxItems → placed e ≡ true
+pub fits-placed : {A : Type 0} (g : ℕ → A) (e : Edit) (l : List A) → length l ≤ maxItems → fits e (length l) ≡ true → length (appliedAs g e l) ≤ maxItems → placed e ≡ true
 unfolding fits within sizeAfter
-fits-placed Nothing l m f h = refl
-fits-placed (Delete p) l m f h =
+fits-placed g Nothing l m f h = refl
+fits-placed g (Delete p) l m f h =
     let k = between-true 1 (length l) p f in
     true-between 1 maxItems p (k .0) (omega arith)
-fits-placed (Insert p x r) l m f h =
+fits-placed g (Insert p x r) l m f h =
     let k = between-true 1 (length l + 1) p f in
-    true-between 1 maxItems p (k .0) (omega (arith, laws .size (Insert p x r) l f))
+    true-between 1 maxItems p (k .0) (omega (arith, laws .size g (Insert p x r) l f))
 
--- a list of edits whose every edit passes a test: appended to, dropped from
-module _ (test : Edit → Bool) (all : List Edit → Bool) (none-fails : all [] ≡ true) (next : (e : Edit) (es : List Edit) → all (e ∷ es) ≡ (test e && all es)) where
-  all-append : (es : List Edit) (e : Edit) → all es ≡ true → test e ≡ true → all (es ++ (e ∷ [])) ≡ true
-  all-append [] e a t = next e [] ∙ both (test e) (all []) t none-fails
-  all-append (d ∷ es) e a t =
-      let b = sym (next d es) ∙ a in
-      next d (es ++ (e ∷ [])) ∙ both (test d) (all (es ++ (e ∷ []))) (and-left (test d) (all es) b) (all-append es e (and-right (test d) (all es) b) t)
+-- an edit adds to a list what it inserts
+pub size-inserts : {A : Type 0} (g : ℕ → A) (e : Edit) (l : List A) → length (appliedAs g e l) ≤ length l + insertsOf e
+unfolding appliedAs
+size-inserts g Nothing l = omega arith
+size-inserts g (Delete p) l = omega (arith, length-deleted-le (p - 1) l)
+size-inserts g (Insert p x r) l = omega (arith, length-inserted (p - 1) (g x) l)
 
-  all-drop : (k : ℕ) (es : List Edit) → all es ≡ true → all (drop k es) ≡ true
-  all-drop zero es a = a
-  all-drop (suc k) [] a = a
-  all-drop (suc k) (d ∷ es) a = all-drop k es (and-right (test d) (all es) (sym (next d es) ∙ a))
-
+-- a list of edits whose every edit passes a test: appended to, dropped from, read
 pub placed-append : (es : List Edit) (e : Edit) → allPlaced es ≡ true → placed e ≡ true → allPlaced (es ++ (e ∷ [])) ≡ true
 unfolding allPlaced
 placed-append = all-append placed allPlaced refl (λ e es. refl)
@@ -45,6 +41,10 @@ pub placed-drop : (k : ℕ) (es : List Edit) → allPlaced es ≡ true → allPl
 unfolding allPlaced
 placed-drop = all-drop placed allPlaced refl (λ e es. refl)
 
+pub placed-at : (es : List Edit) (i : ℕ) → i < length es → allPlaced es ≡ true → placed (getD es i Nothing) ≡ true
+unfolding allPlaced
+placed-at es i = all-at placed allPlaced refl (λ e es. refl) es i Nothing
+
 pub priorities-append : (good : ℕ → Bool) (es : List Edit) (e : Edit) → priorities good es ≡ true → priority good e ≡ true → priorities good (es ++ (e ∷ [])) ≡ true
 unfolding priorities
 priorities-append good = all-append (priority good) (priorities good) refl (λ e es. refl)
@@ -52,6 +52,10 @@ priorities-append good = all-append (priority good) (priorities good) refl (λ e
 pub priorities-drop : (good : ℕ → Bool) (k : ℕ) (es : List Edit) → priorities good es ≡ true → priorities good (drop k es) ≡ true
 unfolding priorities
 priorities-drop good = all-drop (priority good) (priorities good) refl (λ e es. refl)
+
+pub priorities-at : (good : ℕ → Bool) (es : List Edit) (i : ℕ) → i < length es → priorities good es ≡ true → priority good (getD es i Nothing) ≡ true
+unfolding priorities
+priorities-at good es i = all-at (priority good) (priorities good) refl (λ e es. refl) es i Nothing
 
 -- Priority and kind are read off the stamp, which no transformation changes.
 stamped : (ℕ → Bool) → Option (ℕ × ℕ) → Bool

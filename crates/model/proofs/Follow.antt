@@ -8,7 +8,8 @@ use lib.Dec.{eqb}
 use lib.ListN.{length, getD, drop, length-append}
 use lib.Seq.{getD-append-seam}
 use borrow.Author.Tests.{eqb-true, ne-eqb, eq-eqb}
-use Rattle.ot.specs.Edit.{Edit, applied, fits}
+use Rattle.ot.specs.Edit.{Edit, fits}
+use Rattle.list.specs.Places.{Place}
 use Rattle.jupiter.specs.Algebra.{Algebra}
 use Rattle.jupiter.specs.Made.{Made, holds, select, reject, isBy, mine, others}
 use Rattle.jupiter.specs.Form.{form, inOrder}
@@ -26,18 +27,20 @@ use Rattle.jupiter.proofs.World.{Inv, arrives, first-missing, first-untaken, mi
 use Rattle.jupiter.proofs.Step.{Later, later-trans, Step, step-edit, step-up, step-down, step-ack-up, step-ack-down, UpMessage, DownMessage}
 use Rattle.jupiter.proofs.Size.{inserts-append, form-grows}
 use Rattle.jupiter.proofs.Runs.{fine-later}
+use Rattle.model.specs.Questions.{Report, noReport}
 use Rattle.model.specs.Cross.{priority, insertsOf}
+use Rattle.model.specs.Line.{lineReport}
 use Rattle.model.specs.Client.{Client, soundClient, edited, clientTaken, clientAcked}
 use Rattle.model.specs.Server.{Server, soundServer, serverTaken, serverAcked}
 use Rattle.model.specs.Ranks.{rankOf}
-use Rattle.model.specs.Edits.{Rule, editsBy, edits}
+use Rattle.model.specs.Edits.{Named, appliedNamed, Rule, editsBy, edits}
 use Rattle.model.specs.Log as logs
-use Rattle.model.specs.Log.{Log, messageBytes, setOf, madeAt, hears, tookUp, tookDown, writes}
+use Rattle.model.specs.Log.{Log, messageBytes, namedBy, setOf, madeAt, hears, tookUp, tookDown, writes}
 use Rattle.model.specs.Run.{State}
 use Rattle.model.specs.Ours.{client, server, ours}
-use Rattle.model.proofs.Instance.{to-T, by-rank, past-same, over-same}
+use Rattle.model.proofs.Instance.{to-T, by-rank, editsOf, map-drop, past-same, over-same}
 use Rattle.model.proofs.Small.{Small, small-past, small-over, all-drop}
-use Rattle.model.proofs.Sim.{clientFrom, serverFrom, MessageOk, OfLines, Moment, Sim, ranked, laws, at-line, at-other, edited-from, taken-from, server-taken-from, server-acked-from}
+use Rattle.model.proofs.Sim.{lineFrom, clientFrom, serverFrom, MessageOk, OfLines, Moment, Sim, ranked, laws, at-line, at-other, report-from, edited-from, taken-from, acked-from, server-taken-from, server-acked-from}
 
 -- what passes a test, passes it
 selected : {𝓐 : Algebra} (p : Made 𝓐 → Bool) (xs : List (Made 𝓐)) → All (λ x. p x ≡ true) (select p xs)
@@ -56,17 +59,17 @@ client-set h zero e x a q = absurd (omega arith)
 client-set h (suc k) e x a q = q
 
 -- one edit more of line l
-inserts-one-more : {by : Rule} (l : ℕ) (xs : List (Made (editsBy by))) (o : Made (editsBy by)) → isBy l o ≡ true → inserts (mine l (xs ++ (o ∷ []))) ≡ inserts (mine l xs) + insertsOf (o .edit)
+inserts-one-more : {by : Rule} (l : ℕ) (xs : List (Made (editsBy by))) (o : Made (editsBy by)) → isBy l o ≡ true → inserts (mine l (xs ++ (o ∷ []))) ≡ inserts (mine l xs) + insertsOf (o .edit .edit)
 unfolding inserts select
 inserts-one-more l xs o by =
     ap inserts (L.select-in (isBy l) blank xs o [] by) ∙ inserts-append (mine l xs) (o ∷ []) ∙ omega arith
 
-pub inserts-cons : {by : Rule} (o : Made (editsBy by)) (us : List (Made (editsBy by))) → inserts (o ∷ us) ≡ insertsOf (o .edit) + inserts us
+pub inserts-cons : {by : Rule} (o : Made (editsBy by)) (us : List (Made (editsBy by))) → inserts (o ∷ us) ≡ insertsOf (o .edit .edit) + inserts us
 unfolding inserts
 inserts-cons o us = refl
 
 inserts-more : {by : Rule} (l : ℕ) (xs ys : List (Made (editsBy by))) (o : Made (editsBy by)) → isBy l o ≡ true
-    → inserts (mine l (xs ++ (ys ++ (o ∷ [])))) ≡ inserts (mine l (xs ++ ys)) + insertsOf (o .edit)
+    → inserts (mine l (xs ++ (ys ++ (o ∷ [])))) ≡ inserts (mine l (xs ++ ys)) + insertsOf (o .edit .edit)
 inserts-more {by = rule} l xs ys o by = ap (λ (zs : List (Made (editsBy rule))). inserts (mine l zs)) (sym (append-assoc xs ys (o ∷ []))) ∙ inserts-one-more l (xs ++ ys) o by
 
 -- an edit of another line more
@@ -80,10 +83,21 @@ unfolding madeAt
 client-count h zero made a e = absurd (omega arith)
 client-count h (suc l) made a e = e
 
--- the pending edits of an end that takes an edit
-small-taken : {by : Rule} (x : EditMessage (editsBy by)) (v : ends.End (editsBy by)) → All Small (v .pending) → All Small (takes x v .pending)
+-- one report more
+abbrev one-more : List Report → Report → List Report
+one-more ks k = ks ++ (k ∷ [])
+
+-- the pending edits of an end that makes an edit, is acknowledged and takes an edit
+small-kept : {by : Rule} (e : Named) (v : ends.End (editsBy by)) → All Small (editsOf (v .pending)) → Small (e .edit) → All Small (editsOf (keeps e v .pending))
+small-kept e v a sm = subst (All Small) (sym (map-append (λ d. d .edit) (v .pending) (e ∷ []))) (all-append Small (editsOf (v .pending)) (e .edit ∷ []) a (sm, tt))
+
+small-unacked : {by : Rule} (seen : ℕ) (v : ends.End (editsBy by)) → All Small (editsOf (v .pending)) → All Small (editsOf (acks seen v .pending))
+small-unacked seen v a = subst (All Small) (map-drop (λ e. e .edit) (seen - v .acked) (v .pending)) (all-drop Small (seen - v .acked) (editsOf (v .pending)) a)
+
+small-taken : {by : Rule} (x : EditMessage (editsBy by)) (v : ends.End (editsBy by)) → All Small (editsOf (v .pending)) → All Small (editsOf (takes x v .pending))
 small-taken x v a =
-    subst (All Small) (over-same _ (x .edit) (drop (x .seen - v .acked) (v .pending))) (small-over (x .edit) (drop (x .seen - v .acked) (v .pending)) (all-drop Small (x .seen - v .acked) (v .pending) a))
+    let k : ℕ = x .seen - v .acked in
+    subst (All Small) (over-same _ (x .edit) k (v .pending)) (small-over (x .edit .edit) (drop k (editsOf (v .pending))) (all-drop Small k (editsOf (v .pending)) a))
 
 -- what was heard, at the line where it was and at another end
 at-here : (l k : ℕ) (f : ℕ → ℕ) → at l k f l ≡ k
@@ -93,12 +107,12 @@ unheard : (a : ℕ) (f : ℕ → ℕ) (g : ℕ → ℕ → ℕ) (j i : ℕ) → 
 unheard a f g j i h = ap (λ (k : ℕ → ℕ). k i) (at-other a f g j h)
 
 -- every message stays one that can be taken
-messages-later : (n : ℕ) (ranks items : List ℕ) (E E′ : Ends (edits ranks)) (h h′ : History (edits ranks)) → Inv items E h → Later E h E′ h′ → (xs : List (Message (edits ranks)))
+messages-later : (n : ℕ) (ranks : List ℕ) (items : List Place) (E E′ : Ends (edits ranks)) (h h′ : History (edits ranks)) → Inv items E h → Later E h E′ h′ → (xs : List (Message (edits ranks)))
     → All (MessageOk n ranks items E h) xs → All (MessageOk n ranks items E′ h′) xs
 messages-later n ranks items E E′ h h′ inv f xs ok =
     all-map (MessageOk n ranks items E h) (MessageOk n ranks items E′ h′) xs (λ x o. (fine-later items E h E′ h′ inv f x (o .0), o .1, o .2)) ok
 
-module _ (n : ℕ) (items : List ℕ) {ranks : List ℕ} {from : Moment ranks} (s : State ours ranks) (sim : Sim n items from s) where
+module _ (n : ℕ) (items : List Place) {ranks : List ℕ} {from : Moment ranks} (s : State ours ranks) (sim : Sim n items from s) where
   abbrev w : Log ranks
   w = s .recorded
 
@@ -107,8 +121,8 @@ module _ (n : ℕ) (items : List ℕ) {ranks : List ℕ} {from : Moment ranks} (
 
   -- ---- refused
 
-  -- the end comes back as it was, and the count owed is 0
-  pub refused : (a : ℕ) → Sim n items from (record { ends = at a (s .ends a) (s .ends); messages = s .messages; passed = s .passed ++ (0 ∷ []); recorded = hears w (w .heard) })
+  -- the end comes back as it was, and nothing is reported
+  pub refused : (a : ℕ) → Sim n items from (record { ends = at a (s .ends a) (s .ends); messages = s .messages; reports = s .reports ++ (noReport ∷ []); recorded = hears w (w .heard) })
   refused a =
       record {
         E = sim .E;
@@ -126,7 +140,7 @@ module _ (n : ℕ) (items : List ℕ) {ranks : List ℕ} {from : Moment ranks} (
         client-heard = sim .client-heard;
         messages = sim .messages;
         written = sim .written;
-        passed = ap (λ (ks : List ℕ). ks ++ (0 ∷ [])) (sim .passed);
+        reports = ap (λ (ks : List Report). one-more ks noReport) (sim .reports);
         taken = sim .taken;
         served-lines = sim .served-lines;
         ci-is = sim .ci-is;
@@ -151,49 +165,62 @@ module _ (n : ℕ) (items : List ℕ) {ranks : List ℕ} {from : Moment ranks} (
     abbrev C : Client
     C = clientFrom n l ranks (E .clients l) (E .docs l) (sim .ci l)
 
+    abbrev line : LineAt items l (order h l) (h .served) (h .applied l) (E .clients l) (E .lines l) (E .docs l)
+    line = sim .inv .lines l .line
+
+    made-is : E .clients l .made ≡ madeBy h l
+    made-is = line .c-made ∙ ap length (mine-served l (h .served) (h .untaken l) (sim .inv .lines l .untaken-own)) ∙ length-append (mine l (h .served)) (h .untaken l)
+
     module _ (e : Edit) (pr : priority (eqb (rankOf ranks l)) e ≡ true) (sm : Small e) (ok : fits e (length (E .docs l)) ≡ true) (sound : soundClient (edited C e) ≡ true) where
-      step : Step items E h (editing l e E) (afterEdit l e h)
-      step = step-edit items (laws sim) E h (sim .inv) l e (by-rank (ranked sim) l lo hi e pr) (to-T (fits e (length (E .docs l))) ok)
+      -- the edit with its origin: the line and the next number
+      abbrev named : Named
+      named = namedBy w l e
+
+      step : Step items E h (editing l named E) (afterEdit l named h)
+      step = step-edit items (laws sim) E h (sim .inv) l named (by-rank (ranked sim) (named .origin) lo hi e pr) (to-T (fits e (length (E .docs l))) ok)
+
+      is-edited : edited C e ≡ clientFrom n l ranks (keeps named (E .clients l)) (appliedNamed named (E .docs l)) (sim .ci l + insertsOf e)
+      is-edited = edited-from n l ranks (E .clients l) (E .docs l) (sim .ci l) named (ap (λ (k : ℕ). record { line = l; number = suc k }) (sym made-is))
 
       abbrev o : Made (edits ranks)
-      o = newEdit h l e
+      o = newEdit h l named
 
       -- an edit is made in its form at what its client has applied: all of that is in its context
-      made-form : form o (inOrder (order h l) (h .applied l)) ≡ e
+      made-form : form o (inOrder (order h l) (h .applied l)) ≡ named
       unfolding inOrder
       made-form = form-made o (inOrder (order h l) (h .applied l)) (selected (λ x. holds (o .context) (x .name)) (order h l))
 
-      pub edits-on : Sim n items from (record { ends = at l (client (edited C e)) (s .ends); messages = s .messages; passed = s .passed ++ (0 ∷ []); recorded = logs.edited w l e })
+      pub edits-on : Sim n items from (record { ends = at l (client (edited C e)) (s .ends); messages = s .messages; reports = s .reports ++ (noReport ∷ []); recorded = logs.edited w l e })
       unfolding afterEdit
       edits-on =
           record {
-            E = editing l e E;
+            E = editing l named E;
             ci = at l (sim .ci l + insertsOf e) (sim .ci);
             si = sim .si;
             inv = step .inv;
             later = later-trans _ _ _ _ _ _ (sim .later) (step .later);
             server-is = at-other l (client (edited C e)) (s .ends) 0 (λ z. omega arith) ∙ sim .server-is;
             client-is = λ j a b.
-                at-line (λ i x v d k. x ≡ client (clientFrom n i ranks v d k)) l (client (edited C e)) (keeps e (E .clients l)) (applied e (E .docs l)) (sim .ci l + insertsOf e)
-                (s .ends) (E .clients) (E .docs) (sim .ci) j (ap client (edited-from n l ranks (E .clients l) (E .docs l) (sim .ci l) e)) (sim .client-is j a b);
+                at-line (λ i x v d k. x ≡ client (clientFrom n i ranks v d k)) l (client (edited C e)) (keeps named (E .clients l)) (appliedNamed named (E .docs l)) (sim .ci l + insertsOf e)
+                (s .ends) (E .clients) (E .docs) (sim .ci) j (ap client is-edited) (sim .client-is j a b);
             server-sound = sim .server-sound;
             client-sound = λ j a b.
-                at-line (λ i (x : Unit {0}) v d k. soundClient (clientFrom n i ranks v d k) ≡ true) l tt (keeps e (E .clients l)) (applied e (E .docs l)) (sim .ci l + insertsOf e)
-                (λ i. tt) (E .clients) (E .docs) (sim .ci) j (ap soundClient (sym (edited-from n l ranks (E .clients l) (E .docs l) (sim .ci l) e)) ∙ sound) (sim .client-sound j a b);
-            server-shown = at-other l (applied (form o (setOf h l)) (w .shown l)) (w .shown) 0 (λ z. omega arith) ∙ sim .server-shown;
+                at-line (λ i (x : Unit {0}) v d k. soundClient (clientFrom n i ranks v d k) ≡ true) l tt (keeps named (E .clients l)) (appliedNamed named (E .docs l)) (sim .ci l + insertsOf e)
+                (λ i. tt) (E .clients) (E .docs) (sim .ci) j (ap soundClient (sym is-edited) ∙ sound) (sim .client-sound j a b);
+            server-shown = at-other l (appliedNamed (form o (setOf h l)) (w .shown l)) (w .shown) 0 (λ z. omega arith) ∙ sim .server-shown;
             client-shown = λ j a b.
-                at-line (λ i x d (y : Unit {0}) (z : Unit {0}). x ≡ d) l (applied (form o (setOf h l)) (w .shown l)) (applied e (E .docs l)) tt tt
+                at-line (λ i x d (y : Unit {0}) (z : Unit {0}). x ≡ d) l (appliedNamed (form o (setOf h l)) (w .shown l)) (appliedNamed named (E .docs l)) tt tt
                 (w .shown) (E .docs) (λ i. tt) (λ i. tt) j
-                (ap₂ applied (client-set h l o e lo made-form) (sim .client-shown l lo hi)) (sim .client-shown j a b);
+                (ap₂ appliedNamed (client-set h l o named lo made-form) (sim .client-shown l lo hi)) (sim .client-shown j a b);
             server-heard = sim .server-heard;
             client-heard = λ j a.
-                at-line (λ i v (x : Unit {0}) (y : Unit {0}) (z : Unit {0}). w .heard i i ≡ v .acked) l (keeps e (E .clients l)) tt tt tt
+                at-line (λ i v (x : Unit {0}) (y : Unit {0}) (z : Unit {0}). w .heard i i ≡ v .acked) l (keeps named (E .clients l)) tt tt tt
                 (E .clients) (λ i. tt) (λ i. tt) (λ i. tt) j (sim .client-heard l lo) (sim .client-heard j a);
             messages = sim .messages;
-            written = messages-later n ranks items E (editing l e E) h (afterEdit l e h) (sim .inv) (step .later) (w .messages) (sim .written);
-            passed = ap (λ (ks : List ℕ). ks ++ (0 ∷ [])) (sim .passed);
+            written = messages-later n ranks items E (editing l named E) h (afterEdit l named h) (sim .inv) (step .later) (w .messages) (sim .written);
+            reports = ap (λ (ks : List Report). one-more ks noReport) (sim .reports);
             taken = λ j.
-                at-line (λ i xs v (y : Unit {0}) (z : Unit {0}). length (others i xs) ≡ v .taken) l (h .applied l ++ (o ∷ [])) (keeps e (E .clients l)) tt tt
+                at-line (λ i xs v (y : Unit {0}) (z : Unit {0}). length (others i xs) ≡ v .taken) l (h .applied l ++ (o ∷ [])) (keeps named (E .clients l)) tt tt
                 (h .applied) (E .clients) (λ i. tt) (λ i. tt) j
                 (ap length (L.reject-out (isBy l) blank (h .applied l) o [] (eq-eqb l l refl) ∙ ap (others l) (append-nil (h .applied l))) ∙ sim .taken l) (sim .taken j);
             served-lines = sim .served-lines;
@@ -203,23 +230,20 @@ module _ (n : ℕ) (items : List ℕ) {ranks : List ℕ} {from : Moment ranks} (
                 (omega (arith, sim .ci-is l, inserts-more l (h .served) (h .untaken l) o (eq-eqb l l refl))) (sim .ci-is j);
             si-is = sim .si-is;
             client-small = λ j.
-                at-line (λ i v (x : Unit {0}) (y : Unit {0}) (z : Unit {0}). All Small (v .pending)) l (keeps e (E .clients l)) tt tt tt
-                (E .clients) (λ i. tt) (λ i. tt) (λ i. tt) j (all-append Small (E .clients l .pending) (e ∷ []) (sim .client-small l) (sm, tt)) (sim .client-small j);
+                at-line (λ i v (x : Unit {0}) (y : Unit {0}) (z : Unit {0}). All Small (editsOf (v .pending))) l (keeps named (E .clients l)) tt tt tt
+                (E .clients) (λ i. tt) (λ i. tt) (λ i. tt) j (small-kept named (E .clients l) (sim .client-small l) sm) (sim .client-small j);
             server-small = sim .server-small;
           }
 
     -- ---- a client takes its next edit
 
-    module _ (x : EditMessage (edits ranks)) (ok : DownMessage items E h l x) (next : x .number ≡ suc (E .clients l .taken)) (cur : E .clients l .acked ≤ x .seen) (sm : Small (x .edit))
-        (sound : soundClient (clientTaken C (x .seen) (x .edit)) ≡ true) where
+    module _ (x : EditMessage (edits ranks)) (ok : DownMessage items E h l x) (next : x .number ≡ suc (E .clients l .taken)) (cur : E .clients l .acked ≤ x .seen) (sm : Small (x .edit .edit))
+        (sound : soundClient (clientTaken C (x .edit .origin) (x .seen) (x .edit .edit)) ≡ true) where
       down-step : Step items E h (takingDown l x E) (afterDown l h)
       down-step = step-down items E h (sim .inv) l x ok next cur
 
       abbrev g : Made (edits ranks)
       g = oth l (order h l) (E .clients l .taken)
-
-      abbrev line : LineAt items l (order h l) (h .served) (h .applied l) (E .clients l) (E .lines l) (E .docs l)
-      line = sim .inv .lines l .line
 
       missing-first : missing h l ≡ g ∷ drop (suc (E .clients l .taken)) (others l (h .served))
       missing-first = first-missing items E h (sim .inv) l x ok next cur
@@ -230,14 +254,17 @@ module _ (n : ℕ) (items : List ℕ) {ranks : List ℕ} {from : Moment ranks} (
           ap (form g) (set-is items l (order h l) (h .served) (h .applied l) (E .clients l) (E .lines l) (E .docs l) line)
           ∙ sym (down-arrives items l (order h l) (h .served) (h .applied l) (E .clients l) (E .lines l) (E .docs l) line x ok next cur)
 
+      down-applied : form (logs.first (missing h l)) (setOf h l) ≡ arrived x (E .clients l)
+      down-applied = ap (λ (es : List (Made (edits ranks))). form (logs.first es) (setOf h l)) missing-first ∙ client-set h l g (arrived x (E .clients l)) lo down-form
+
       g-other : isBy l g ≡ false
       g-other = L.reject-fails (isBy l) blank (order h l) (E .clients l .taken) (down-made items l (order h l) (h .served) (h .applied l) (E .clients l) (E .lines l) (E .docs l) line x ok next cur)
 
       pub takes-down : Sim n items from (record {
-        ends = at l (client (clientTaken C (x .seen) (x .edit))) (s .ends);
+        ends = at l (client (clientTaken C (x .edit .origin) (x .seen) (x .edit .edit))) (s .ends);
         messages = s .messages;
-        passed = s .passed ++ ((E .clients l .made - x .seen) ∷ []);
-        recorded = tookDown w l (x .seen);
+        reports = s .reports ++ (lineReport (C .own) (x .seen) (x .edit .edit) ∷ []);
+        recorded = tookDown w l x;
       })
       unfolding applies
       takes-down =
@@ -247,29 +274,30 @@ module _ (n : ℕ) (items : List ℕ) {ranks : List ℕ} {from : Moment ranks} (
             si = sim .si;
             inv = down-step .inv;
             later = later-trans _ _ _ _ _ _ (sim .later) (down-step .later);
-            server-is = at-other l (client (clientTaken C (x .seen) (x .edit))) (s .ends) 0 (λ z. omega arith) ∙ sim .server-is;
+            server-is = at-other l (client (clientTaken C (x .edit .origin) (x .seen) (x .edit .edit))) (s .ends) 0 (λ z. omega arith) ∙ sim .server-is;
             client-is = λ j a b.
-                at-line (λ i y v d (k : Unit {0}). y ≡ client (clientFrom n i ranks v d (sim .ci i))) l (client (clientTaken C (x .seen) (x .edit))) (takes x (E .clients l))
-                (applied (arrived x (E .clients l)) (E .docs l)) tt (s .ends) (E .clients) (E .docs) (λ i. tt) j
+                at-line (λ i y v d (k : Unit {0}). y ≡ client (clientFrom n i ranks v d (sim .ci i))) l (client (clientTaken C (x .edit .origin) (x .seen) (x .edit .edit))) (takes x (E .clients l))
+                (appliedNamed (arrived x (E .clients l)) (E .docs l)) tt (s .ends) (E .clients) (E .docs) (λ i. tt) j
                 (ap client (taken-from n l ranks (E .clients l) (E .docs l) (sim .ci l) x)) (sim .client-is j a b);
             server-sound = sim .server-sound;
             client-sound = λ j a b.
                 at-line (λ i (y : Unit {0}) v d (k : Unit {0}). soundClient (clientFrom n i ranks v d (sim .ci i)) ≡ true) l tt (takes x (E .clients l))
-                (applied (arrived x (E .clients l)) (E .docs l)) tt (λ i. tt) (E .clients) (E .docs) (λ i. tt) j
+                (appliedNamed (arrived x (E .clients l)) (E .docs l)) tt (λ i. tt) (E .clients) (E .docs) (λ i. tt) j
                 (ap soundClient (sym (taken-from n l ranks (E .clients l) (E .docs l) (sim .ci l) x)) ∙ sound) (sim .client-sound j a b);
-            server-shown = at-other l (applied (form (logs.first (missing h l)) (setOf h l)) (w .shown l)) (w .shown) 0 (λ z. omega arith) ∙ sim .server-shown;
+            server-shown = at-other l (appliedNamed (form (logs.first (missing h l)) (setOf h l)) (w .shown l)) (w .shown) 0 (λ z. omega arith) ∙ sim .server-shown;
             client-shown = λ j a b.
-                at-line (λ i y d (u : Unit {0}) (z : Unit {0}). y ≡ d) l (applied (form (logs.first (missing h l)) (setOf h l)) (w .shown l))
-                (applied (arrived x (E .clients l)) (E .docs l)) tt tt (w .shown) (E .docs) (λ i. tt) (λ i. tt) j
-                (ap₂ applied (ap (λ (es : List (Made (edits ranks))). form (logs.first es) (setOf h l)) missing-first ∙ client-set h l g (arrived x (E .clients l)) lo down-form) (sim .client-shown l lo hi))
-                (sim .client-shown j a b);
+                at-line (λ i y d (u : Unit {0}) (z : Unit {0}). y ≡ d) l (appliedNamed (form (logs.first (missing h l)) (setOf h l)) (w .shown l))
+                (appliedNamed (arrived x (E .clients l)) (E .docs l)) tt tt (w .shown) (E .docs) (λ i. tt) (λ i. tt) j
+                (ap₂ appliedNamed down-applied (sim .client-shown l lo hi)) (sim .client-shown j a b);
             server-heard = λ j. unheard l (at l (x .seen) (w .heard l)) (w .heard) 0 j (λ z. omega arith) ∙ sim .server-heard j;
             client-heard = λ j a.
                 at-line (λ i f v (y : Unit {0}) (z : Unit {0}). f i ≡ v .acked) l (at l (x .seen) (w .heard l)) (takes x (E .clients l)) tt tt
                 (w .heard) (E .clients) (λ i. tt) (λ i. tt) j (at-here l (x .seen) (w .heard l)) (sim .client-heard j a);
             messages = sim .messages;
             written = messages-later n ranks items E (takingDown l x E) h (afterDown l h) (sim .inv) (down-step .later) (w .messages) (sim .written);
-            passed = ap₂ (λ (ks : List ℕ) (k : ℕ). ks ++ ((k - x .seen) ∷ [])) (sim .passed) (client-count h l (E .clients l .made) lo (line .c-made ∙ ap length (mine-served l (h .served) (h .untaken l) (sim .inv .lines l .untaken-own)) ∙ length-append (mine l (h .served)) (h .untaken l)));
+            reports =
+                ap₂ one-more (sim .reports)
+                (report-from (E .clients l) (sim .ci l) x (madeAt h l l) (form (logs.first (missing h l)) (setOf h l)) (client-count h l (E .clients l .made) lo made-is) down-applied);
             taken = λ j.
                 subst (λ (es : List (Made (edits ranks))). length (others j (applies l es h .applied j)) ≡ at l (takes x (E .clients l)) (E .clients) j .taken) (sym missing-first)
                 (at-line (λ i xs v (y : Unit {0}) (z : Unit {0}). length (others i xs) ≡ v .taken) l (h .applied l ++ (g ∷ [])) (takes x (E .clients l)) tt tt
@@ -279,7 +307,7 @@ module _ (n : ℕ) (items : List ℕ) {ranks : List ℕ} {from : Moment ranks} (
             ci-is = λ j. subst (λ (es : List (Made (edits ranks))). sim .ci j ≡ inserts (mine j (order (applies l es h) j))) (sym missing-first) (sim .ci-is j);
             si-is = λ j. subst (λ (es : List (Made (edits ranks))). sim .si j ≡ inserts (mine j (applies l es h .served))) (sym missing-first) (sim .si-is j);
             client-small = λ j.
-                at-line (λ i v (y : Unit {0}) (z : Unit {0}) (k : Unit {0}). All Small (v .pending)) l (takes x (E .clients l)) tt tt tt
+                at-line (λ i v (y : Unit {0}) (z : Unit {0}) (k : Unit {0}). All Small (editsOf (v .pending))) l (takes x (E .clients l)) tt tt tt
                 (E .clients) (λ i. tt) (λ i. tt) (λ i. tt) j (small-taken x (E .clients l) (sim .client-small l)) (sim .client-small j);
             server-small = sim .server-small;
           }
@@ -291,35 +319,35 @@ module _ (n : ℕ) (items : List ℕ) {ranks : List ℕ} {from : Moment ranks} (
 
     -- the message's edit is the first that the server lacks
     pub first-inserts : (x : EditMessage (edits ranks)) → UpMessage items E h l x → x .number ≡ suc (E .lines l .taken) → (o : Made (edits ranks)) (us : List (Made (edits ranks))) → h .untaken l ≡ o ∷ us
-        → insertsOf (x .edit) ≡ insertsOf (o .edit)
+        → insertsOf (x .edit .edit) ≡ insertsOf (o .edit .edit)
     first-inserts x ok next o us split =
         let o-by : isBy l o ≡ true = subst (λ (r : List (Made (edits ranks))). All (λ y. isBy l y ≡ true) r) split (sim .inv .lines l .untaken-own) .0 in
-        ap insertsOf (ok .edit) ∙ form-grows (laws sim) (own l (order h l) (ok .index)) (point l (order h l) (ok .index) (x .seen))
-        ∙ ap (λ (y : Made (edits ranks)). insertsOf (y .edit))
+        ap (λ (e : Named). insertsOf (e .edit)) (ok .edit) ∙ form-grows (laws sim) (own l (order h l) (ok .index)) (point l (order h l) (ok .index) (x .seen))
+        ∙ ap (λ (y : Made (edits ranks)). insertsOf (y .edit .edit))
         (ap (λ (i : ℕ). getD (mine l (order h l)) i blank) (omega (arith, ok .number, sim .inv .lines l .v-count))
         ∙ ap (λ (r : List (Made (edits ranks))). getD (mine l (h .served ++ r)) (length (mine l (h .served))) blank) split
         ∙ ap (λ (r : List (Made (edits ranks))). getD r (length (mine l (h .served))) blank) (L.select-in (isBy l) blank (h .served) o us o-by)
         ∙ getD-append-seam (mine l (h .served)) o (mine l us) blank)
 
-    module _ (x : EditMessage (edits ranks)) (ok : UpMessage items E h l x) (next : x .number ≡ suc (E .lines l .taken)) (cur : E .lines l .acked ≤ x .seen) (sm : Small (x .edit))
-        (sound : soundServer (serverTaken S l (x .seen) (x .edit)) ≡ true) where
-      abbrev up-line : LineAt items l (order h l) (h .served) (h .applied l) (E .clients l) (E .lines l) (E .docs l)
-      up-line = sim .inv .lines l .line
-
-      abbrev a : Edit
+    module _ (x : EditMessage (edits ranks)) (ok : UpMessage items E h l x) (next : x .number ≡ suc (E .lines l .taken)) (cur : E .lines l .acked ≤ x .seen) (sm : Small (x .edit .edit))
+        (sound : soundServer (serverTaken S l (x .edit .origin) (x .seen) (x .edit .edit)) ≡ true) where
+      abbrev a : Named
       a = arrived x (E .lines l)
 
       abbrev lines′ : ℕ → ends.End (edits ranks)
       lines′ = at l (takes x (E .lines l)) (λ k. keeps a (E .lines k))
 
-      a-small : Small a
+      a-small : Small (a .edit)
       a-small =
-          subst Small (past-same _ (x .edit) (drop (x .seen - E .lines l .acked) (E .lines l .pending)))
-          (small-past (x .edit) (drop (x .seen - E .lines l .acked) (E .lines l .pending)) sm)
+          let k : ℕ = x .seen - E .lines l .acked in
+          subst Small (past-same _ (x .edit) k (E .lines l .pending)) (small-past (x .edit .edit) (drop k (editsOf (E .lines l .pending))) sm)
 
       module _ (o : Made (edits ranks)) (us : List (Made (edits ranks))) (split : h .untaken l ≡ o ∷ us) where
         up-step : Step items E h (takingUp l x E) (serves l (o ∷ us) h)
         up-step = subst (λ (r : List (Made (edits ranks))). Step items E h (takingUp l x E) (serves l r h)) split (step-up items (laws sim) E h (sim .inv) l x ok next cur)
+
+        up-applied : form o (h .served) ≡ arrived x (E .lines l)
+        up-applied = sym (arrives items (laws sim) E h (sim .inv) l x ok next cur o us split)
 
         o-by : isBy l o ≡ true
         o-by = subst (λ (r : List (Made (edits ranks))). All (λ y. isBy l y ≡ true) r) split (sim .inv .lines l .untaken-own) .0
@@ -331,15 +359,15 @@ module _ (n : ℕ) (items : List ℕ) {ranks : List ℕ} {from : Moment ranks} (
             differ q = let z : _≡_ {A = ℕ} 0 1 = cc in omega arith
 
         takes-split : Sim n items from (record {
-          ends = at 0 (server (serverTaken S l (x .seen) (x .edit))) (s .ends);
+          ends = at 0 (server (serverTaken S l (x .edit .origin) (x .seen) (x .edit .edit))) (s .ends);
           messages = s .messages;
-          passed = s .passed ++ ((E .lines l .made - x .seen) ∷ []);
+          reports = s .reports ++ (lineReport (lineFrom (E .lines l) (sim .si l)) (x .seen) (x .edit .edit) ∷ []);
           recorded = record {
             history = serves l (o ∷ us) h;
             shown = logs.shows w 0 (logs.first (o ∷ us));
             heard = logs.hearing w 0 l (x .seen);
             messages = w .messages;
-            passed = w .passed ++ ((madeAt h 0 l - x .seen) ∷ []);
+            reports = w .reports ++ (logs.reported w 0 l x (logs.first (o ∷ us)) ∷ []);
           };
         })
         unfolding serves setOf madeAt
@@ -347,24 +375,25 @@ module _ (n : ℕ) (items : List ℕ) {ranks : List ℕ} {from : Moment ranks} (
             record {
               E = takingUp l x E;
               ci = sim .ci;
-              si = at l (sim .si l + insertsOf (x .edit)) (sim .si);
+              si = at l (sim .si l + insertsOf (x .edit .edit)) (sim .si);
               inv = up-step .inv;
               later = later-trans _ _ _ _ _ _ (sim .later) (up-step .later);
               server-is = ap server (server-taken-from n (length items) ranks (E .doc) (E .lines) (sim .si) l lo hi x);
-              client-is = λ j b c. at-other 0 (server (serverTaken S l (x .seen) (x .edit))) (s .ends) j (λ z. omega arith) ∙ sim .client-is j b c;
+              client-is = λ j b c. at-other 0 (server (serverTaken S l (x .edit .origin) (x .seen) (x .edit .edit))) (s .ends) j (λ z. omega arith) ∙ sim .client-is j b c;
               server-sound = ap soundServer (sym (server-taken-from n (length items) ranks (E .doc) (E .lines) (sim .si) l lo hi x)) ∙ sound;
               client-sound = sim .client-sound;
-              server-shown = ap₂ applied (sym (arrives items (laws sim) E h (sim .inv) l x ok next cur o us split)) (sim .server-shown);
-              client-shown = λ j b c. at-other 0 (applied (form o (h .served)) (w .shown 0)) (w .shown) j (λ z. omega arith) ∙ sim .client-shown j b c;
+              server-shown = ap₂ appliedNamed up-applied (sim .server-shown);
+              client-shown = λ j b c. at-other 0 (appliedNamed (form o (h .served)) (w .shown 0)) (w .shown) j (λ z. omega arith) ∙ sim .client-shown j b c;
               client-heard = λ j b. unheard 0 (at l (x .seen) (w .heard 0)) (w .heard) j j (λ z. omega arith) ∙ sim .client-heard j b;
               server-heard = λ j.
                   at-line (λ i k v (y : Unit {0}) (z : Unit {0}). k ≡ v .acked) l (x .seen) (takes x (E .lines l)) tt tt (w .heard 0) (λ k. keeps a (E .lines k)) (λ i. tt) (λ i. tt) j
                   refl (sim .server-heard j);
               messages = sim .messages;
               written = messages-later n ranks items E (takingUp l x E) h (serves l (o ∷ us) h) (sim .inv) (up-step .later) (w .messages) (sim .written);
-              passed =
-                  ap₂ (λ (ks : List ℕ) (k : ℕ). ks ++ ((k - x .seen) ∷ [])) (sim .passed)
-                  (up-line .v-made ∙ ap length (others-served l (h .served) (h .untaken l) (sim .inv .lines l .untaken-own)));
+              reports =
+                  ap₂ one-more (sim .reports)
+                  (report-from (E .lines l) (sim .si l) x (madeAt h 0 l) (form o (h .served))
+                  (line .v-made ∙ ap length (others-served l (h .served) (h .untaken l) (sim .inv .lines l .untaken-own))) up-applied);
               taken = sim .taken;
               served-lines =
                   all-append (OfLines n) (h .served) (o ∷ []) (sim .served-lines)
@@ -373,9 +402,9 @@ module _ (n : ℕ) (items : List ℕ) {ranks : List ℕ} {from : Moment ranks} (
               si-is = λ j. server-inserts j (eqb l j) refl;
               client-small = sim .client-small;
               server-small = λ j.
-                  at-line (λ i v (y : Unit {0}) (z : Unit {0}) (k : Unit {0}). All Small (v .pending)) l (takes x (E .lines l)) tt tt tt
+                  at-line (λ i v (y : Unit {0}) (z : Unit {0}) (k : Unit {0}). All Small (editsOf (v .pending))) l (takes x (E .lines l)) tt tt tt
                   (λ k. keeps a (E .lines k)) (λ i. tt) (λ i. tt) (λ i. tt) j (small-taken x (E .lines l) (sim .server-small l))
-                  (all-append Small (E .lines j .pending) (a ∷ []) (sim .server-small j) (a-small, tt));
+                  (small-kept a (E .lines j) (sim .server-small j) a-small);
             }
           where
             client-inserts : (j : ℕ) (b : Bool) → eqb l j ≡ b → sim .ci j ≡ inserts (mine j ((h .served ++ (o ∷ [])) ++ cond b us (h .untaken j)))
@@ -388,31 +417,31 @@ module _ (n : ℕ) (items : List ℕ) {ranks : List ℕ} {from : Moment ranks} (
                 ∙ ap inserts (sym (L.select-out (isBy j) blank (h .served) o (h .untaken j) (o-not j e)))
                 ∙ ap (λ (r : List (Made (edits ranks))). inserts (mine j r)) (sym (append-assoc (h .served) (o ∷ []) (h .untaken j)))
 
-            server-inserts : (j : ℕ) (b : Bool) → eqb l j ≡ b → cond b (sim .si l + insertsOf (x .edit)) (sim .si j) ≡ inserts (mine j (h .served ++ (o ∷ [])))
+            server-inserts : (j : ℕ) (b : Bool) → eqb l j ≡ b → cond b (sim .si l + insertsOf (x .edit .edit)) (sim .si j) ≡ inserts (mine j (h .served ++ (o ∷ [])))
             server-inserts j true e =
-                subst (λ (i : ℕ). sim .si l + insertsOf (x .edit) ≡ inserts (mine i (h .served ++ (o ∷ [])))) (eqb-true l j e)
+                subst (λ (i : ℕ). sim .si l + insertsOf (x .edit .edit) ≡ inserts (mine i (h .served ++ (o ∷ [])))) (eqb-true l j e)
                 (omega (arith, sim .si-is l, first-inserts x ok next o us split, inserts-one-more l (h .served) o o-by))
             server-inserts j false e =
                 sim .si-is j ∙ ap (λ (r : List (Made (edits ranks))). inserts (mine j r)) (sym (append-nil (h .served))) ∙ ap inserts (sym (L.select-out (isBy j) blank (h .served) o [] (o-not j e)))
 
       pub takes-up : Sim n items from (record {
-        ends = at 0 (server (serverTaken S l (x .seen) (x .edit))) (s .ends);
+        ends = at 0 (server (serverTaken S l (x .edit .origin) (x .seen) (x .edit .edit))) (s .ends);
         messages = s .messages;
-        passed = s .passed ++ ((E .lines l .made - x .seen) ∷ []);
-        recorded = tookUp w l (x .seen);
+        reports = s .reports ++ (lineReport (lineFrom (E .lines l) (sim .si l)) (x .seen) (x .edit .edit) ∷ []);
+        recorded = tookUp w l x;
       })
       takes-up =
           first-untaken items (laws sim) E h (sim .inv) l x ok next cur (h .untaken l) refl
           (λ r. Sim n items from (record {
-            ends = at 0 (server (serverTaken S l (x .seen) (x .edit))) (s .ends);
+            ends = at 0 (server (serverTaken S l (x .edit .origin) (x .seen) (x .edit .edit))) (s .ends);
             messages = s .messages;
-            passed = s .passed ++ ((E .lines l .made - x .seen) ∷ []);
+            reports = s .reports ++ (lineReport (lineFrom (E .lines l) (sim .si l)) (x .seen) (x .edit .edit) ∷ []);
             recorded = record {
               history = serves l r h;
               shown = logs.shows w 0 (logs.first r);
               heard = logs.hearing w 0 l (x .seen);
               messages = w .messages;
-              passed = w .passed ++ ((madeAt h 0 l - x .seen) ∷ []);
+              reports = w .reports ++ (logs.reported w 0 l x (logs.first r) ∷ []);
             };
           }))
           takes-split
@@ -423,10 +452,13 @@ module _ (n : ℕ) (items : List ℕ) {ranks : List ℕ} {from : Moment ranks} (
       acked-down : Step items E h (ackingDown l seen E) h
       acked-down = step-ack-down items E h (sim .inv) l seen low made
 
+      is-acked : clientAcked C seen ≡ clientFrom n l ranks (acks seen (E .clients l)) (E .docs l) (sim .ci l)
+      is-acked = acked-from n l ranks (E .clients l) (E .docs l) (sim .ci l) seen
+
       pub acks-down : Sim n items from (record {
         ends = at l (client (clientAcked C seen)) (s .ends);
         messages = s .messages;
-        passed = s .passed ++ (0 ∷ []);
+        reports = s .reports ++ (noReport ∷ []);
         recorded = hears w (logs.hearing w l l seen);
       })
       acks-down =
@@ -439,11 +471,11 @@ module _ (n : ℕ) (items : List ℕ) {ranks : List ℕ} {from : Moment ranks} (
             server-is = at-other l (client (clientAcked C seen)) (s .ends) 0 (λ z. omega arith) ∙ sim .server-is;
             client-is = λ j b c.
                 at-line (λ i y v (d : Unit {0}) (k : Unit {0}). y ≡ client (clientFrom n i ranks v (E .docs i) (sim .ci i))) l (client (clientAcked C seen)) (acks seen (E .clients l)) tt tt
-                (s .ends) (E .clients) (λ i. tt) (λ i. tt) j refl (sim .client-is j b c);
+                (s .ends) (E .clients) (λ i. tt) (λ i. tt) j (ap client is-acked) (sim .client-is j b c);
             server-sound = sim .server-sound;
             client-sound = λ j b c.
                 at-line (λ i v (y : Unit {0}) (d : Unit {0}) (k : Unit {0}). soundClient (clientFrom n i ranks v (E .docs i) (sim .ci i)) ≡ true) l (acks seen (E .clients l)) tt tt tt
-                (E .clients) (λ i. tt) (λ i. tt) (λ i. tt) j sound (sim .client-sound j b c);
+                (E .clients) (λ i. tt) (λ i. tt) (λ i. tt) j (ap soundClient (sym is-acked) ∙ sound) (sim .client-sound j b c);
             server-shown = sim .server-shown;
             client-shown = sim .client-shown;
             server-heard = λ j. unheard l (at l seen (w .heard l)) (w .heard) 0 j (λ z. omega arith) ∙ sim .server-heard j;
@@ -452,7 +484,7 @@ module _ (n : ℕ) (items : List ℕ) {ranks : List ℕ} {from : Moment ranks} (
                 (w .heard) (E .clients) (λ i. tt) (λ i. tt) j (at-here l seen (w .heard l)) (sim .client-heard j a);
             messages = sim .messages;
             written = messages-later n ranks items E (ackingDown l seen E) h h (sim .inv) (acked-down .later) (w .messages) (sim .written);
-            passed = ap (λ (ks : List ℕ). ks ++ (0 ∷ [])) (sim .passed);
+            reports = ap (λ (ks : List Report). one-more ks noReport) (sim .reports);
             taken = λ j.
                 at-line (λ i v (y : Unit {0}) (d : Unit {0}) (k : Unit {0}). length (others i (h .applied i)) ≡ v .taken) l (acks seen (E .clients l)) tt tt tt
                 (E .clients) (λ i. tt) (λ i. tt) (λ i. tt) j (sim .taken l) (sim .taken j);
@@ -460,8 +492,8 @@ module _ (n : ℕ) (items : List ℕ) {ranks : List ℕ} {from : Moment ranks} (
             ci-is = sim .ci-is;
             si-is = sim .si-is;
             client-small = λ j.
-                at-line (λ i v (y : Unit {0}) (d : Unit {0}) (k : Unit {0}). All Small (v .pending)) l (acks seen (E .clients l)) tt tt tt
-                (E .clients) (λ i. tt) (λ i. tt) (λ i. tt) j (all-drop Small (seen - E .clients l .acked) (E .clients l .pending) (sim .client-small l)) (sim .client-small j);
+                at-line (λ i v (y : Unit {0}) (d : Unit {0}) (k : Unit {0}). All Small (editsOf (v .pending))) l (acks seen (E .clients l)) tt tt tt
+                (E .clients) (λ i. tt) (λ i. tt) (λ i. tt) j (small-unacked seen (E .clients l) (sim .client-small l)) (sim .client-small j);
             server-small = sim .server-small;
           }
 
@@ -472,7 +504,7 @@ module _ (n : ℕ) (items : List ℕ) {ranks : List ℕ} {from : Moment ranks} (
       pub acks-up : Sim n items from (record {
         ends = at 0 (server (serverAcked S l seen)) (s .ends);
         messages = s .messages;
-        passed = s .passed ++ (0 ∷ []);
+        reports = s .reports ++ (noReport ∷ []);
         recorded = hears w (logs.hearing w 0 l seen);
       })
       acks-up =
@@ -493,20 +525,20 @@ module _ (n : ℕ) (items : List ℕ) {ranks : List ℕ} {from : Moment ranks} (
                 at-line (λ i k v (y : Unit {0}) (z : Unit {0}). k ≡ v .acked) l seen (acks seen (E .lines l)) tt tt (w .heard 0) (E .lines) (λ i. tt) (λ i. tt) j refl (sim .server-heard j);
             messages = sim .messages;
             written = messages-later n ranks items E (ackingUp l seen E) h h (sim .inv) (acked-up .later) (w .messages) (sim .written);
-            passed = ap (λ (ks : List ℕ). ks ++ (0 ∷ [])) (sim .passed);
+            reports = ap (λ (ks : List Report). one-more ks noReport) (sim .reports);
             taken = sim .taken;
             served-lines = sim .served-lines;
             ci-is = sim .ci-is;
             si-is = sim .si-is;
             client-small = sim .client-small;
             server-small = λ j.
-                at-line (λ i v (y : Unit {0}) (d : Unit {0}) (k : Unit {0}). All Small (v .pending)) l (acks seen (E .lines l)) tt tt tt
-                (E .lines) (λ i. tt) (λ i. tt) (λ i. tt) j (all-drop Small (seen - E .lines l .acked) (E .lines l .pending) (sim .server-small l)) (sim .server-small j);
+                at-line (λ i v (y : Unit {0}) (d : Unit {0}) (k : Unit {0}). All Small (editsOf (v .pending))) l (acks seen (E .lines l)) tt tt tt
+                (E .lines) (λ i. tt) (λ i. tt) (λ i. tt) j (small-unacked seen (E .lines l) (sim .server-small l)) (sim .server-small j);
           }
 
   -- ---- a message is written
   pub writes-on : (x : Message (edits ranks)) → MessageOk n ranks items (sim .E) h x
-      → Sim n items from (record { ends = s .ends; messages = s .messages ++ (messageBytes x ∷ []); passed = s .passed; recorded = writes w x })
+      → Sim n items from (record { ends = s .ends; messages = s .messages ++ (messageBytes x ∷ []); reports = s .reports; recorded = writes w x })
   writes-on x ok =
       record {
         E = sim .E;
@@ -524,7 +556,7 @@ module _ (n : ℕ) (items : List ℕ) {ranks : List ℕ} {from : Moment ranks} (
         client-heard = sim .client-heard;
         messages = ap (λ (ms : List (List ℕ)). ms ++ (messageBytes x ∷ [])) (sim .messages) ∙ sym (map-append messageBytes (w .messages) (x ∷ []));
         written = all-append (MessageOk n ranks items (sim .E) h) (w .messages) (x ∷ []) (sim .written) (ok, tt);
-        passed = sim .passed;
+        reports = sim .reports;
         taken = sim .taken;
         served-lines = sim .served-lines;
         ci-is = sim .ci-is;

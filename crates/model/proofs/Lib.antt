@@ -1,6 +1,7 @@
 pub mod Tests
 pub mod Ranks
 pub mod Cross
+pub mod Moves
 pub mod SoundLine
 pub mod SoundClient
 pub mod SoundServer
@@ -8,8 +9,12 @@ pub mod Sound
 pub mod Opens
 pub mod Table
 pub mod Instance
+pub mod Origins
+pub mod Places
+pub mod Orders
 pub mod Small
 pub mod Sim
+pub mod Reached
 pub mod Follow
 pub mod Outcome
 pub mod Alone

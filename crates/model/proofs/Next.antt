@@ -1,6 +1,6 @@
 -- The next message is taken: no question says no.
 use mathlib.Core.Path.{_≡_, refl, ap, ap₂, sym, _∙_, subst}
-use mathlib.Core.Bool.{Bool, true, cond}
+use mathlib.Core.Bool.{Bool, true, _&&_, cond}
 use mathlib.Core.List.{List, [], _∷_, _++_}
 use Prim.Native.Nat.{ℕ, suc, _+_, _-_, _≤_, _<_}
 use native.Mathlib.Numerals.{add-one}
@@ -9,7 +9,8 @@ use lib.Dec.{eqb, leb}
 use lib.ListN.{length, take, drop}
 use lib.Seq.{take-append-seam}
 use borrow.Author.Tests.{eq-eqb, le-leb, lt-ltb}
-use Rattle.ot.specs.Edit.{Edit, applied, fits}
+use Rattle.ot.specs.Edit.{Edit, fits}
+use Rattle.list.specs.Places.{Place}
 use Rattle.wire.specs.declared.Header.{Header}
 use Rattle.wire.specs.declared.Message as message
 use Rattle.wire.specs.Message.{between}
@@ -29,24 +30,23 @@ use Rattle.jupiter.proofs.Step.{UpMessage, DownMessage, up-message, down-messag
 use Rattle.model.specs.Limits.{maxInserts, maxPending, maxItems}
 use Rattle.model.specs.Questions.{asks, Answer, Sent, sent}
 use Rattle.model.specs.Cross.{allPlaced, priority, insertsOf}
-use Rattle.model.specs.Line.{Line, other, sendQuestions}
+use Rattle.model.specs.Line.{Line, other, sendQuestions, carried, lineReport}
 use Rattle.model.specs.Client.{Client, clientMessage, sendClientQuestions, sendClient, clientTaken, clientEditQuestions, clientTakesEdit, clientReads, takeClient}
-use Rattle.model.specs.Server.{Server, lineOf, serverMessage, sendServerQuestions, sendServer, serverTaken, othersRoomy, serverEditQuestions, serverTakesEdit, serverReads, takeServer}
+use Rattle.model.specs.Server.{Server, lineOf, serverMessage, sendServerQuestions, sendServer, serverTaken, othersRoomy, ownOrigin, serverEditQuestions, serverTakesEdit, serverReads, takeServer}
 use Rattle.model.specs.Ranks.{rankOf}
-use Rattle.model.specs.Edits.{Rule, editsBy, edits}
-use Rattle.model.specs.Log.{wireMessage, messageBytes, editMessage}
+use Rattle.model.specs.Edits.{appliedNamed, Rule, editsBy, edits}
+use Rattle.model.specs.Log.{headerOf, wireMessage, messageBytes, editMessage}
 use Rattle.model.specs.Run.{State}
 use Rattle.model.specs.Ours.{client, server, ours}
 use Rattle.model.specs.Claim.{Delivered}
 use Rattle.model.proofs.Tests.{both, Yes, all-yes, true-between}
 use Rattle.model.proofs.SoundLine.{Asked, yes-asked}
-use Rattle.model.proofs.SoundClient.{ClientFacts, client-facts}
-use Rattle.model.proofs.SoundServer.{server-facts, ServerLine, line-fact, takenSum, lastQuestions}
+use Rattle.model.proofs.SoundServer.{lastQuestions}
 use Rattle.model.proofs.Sound.{new-end}
 use Rattle.model.proofs.Table.{table-roomy}
-use Rattle.model.proofs.Instance.{from-T, past-same, over-same}
-use Rattle.model.proofs.Ranges.{line-priority}
-use Rattle.model.proofs.Sim.{clientFrom, serverFrom, lineFrom, headerOf, line-from, server-taken-from, Moment, Sim, laws}
+use Rattle.model.proofs.Instance.{from-T, editsOf, past-same, over-same}
+use Rattle.model.proofs.Origins.{own-origin, up-origin}
+use Rattle.model.proofs.Sim.{clientFrom, serverFrom, lineFrom, Lined, arrived-list, line-from, server-taken-from, Moment, Sim, laws}
 use Rattle.model.proofs.Follow.{first-inserts, inserts-cons}
 use Rattle.model.proofs.Calls.{client-message, server-message, up-is, up-bytes, up-ok, down-is, down-bytes, down-ok}
 use Rattle.model.proofs.Bounds.{inserts-most, client-most, client-more, doc-most, client-placed, server-placed}
@@ -62,21 +62,22 @@ yes-sends : (v : Line) (number : ℕ) (m : message.Message) (lent : List ℕ) �
 yes-sends v number m lent low high long = (true-between (v .acked + 1) (v .made) number (omega arith) high, (le-leb (length (bytesOf m)) (length lent) long, tt))
 
 -- the next edit message, which fits as the theory says: questions 5 to 9
-arrives : {by : Rule} (v : ends.End (editsBy by)) (i l direction : ℕ) (doc : List ℕ) (x : ends.EditMessage (editsBy by)) → x .number ≡ suc (v .taken) → v .acked ≤ x .seen → x .seen ≤ v .made
-    → fits (arrived x v) (length doc) ≡ true → allPlaced (takes x v .pending) ≡ true → length (applied (arrived x v) doc) ≤ maxItems
-    → Asked (lineFrom v i) doc (headerOf l direction x) (x .edit)
+arrives : {by : Rule} (v : ends.End (editsBy by)) (i l direction : ℕ) (doc : List Place) (x : ends.EditMessage (editsBy by)) → x .number ≡ suc (v .taken) → v .acked ≤ x .seen → x .seen ≤ v .made
+    → fits (arrived x v .edit) (length doc) ≡ true → allPlaced (editsOf (takes x v .pending)) ≡ true → length (appliedNamed (arrived x v) doc) ≤ maxItems
+    → Asked (lineFrom v i) doc (headerOf l direction x) (x .edit .edit)
 arrives v i l direction doc x next low high fit placed size =
-    let same = past-same _ (x .edit) (drop (x .seen - v .acked) (v .pending)) in
+    let gone : ℕ = x .seen - v .acked in
+    let same = past-same _ (x .edit) gone (v .pending) in
     record {
       next = next ∙ sym (add-one (v .taken));
       low = low;
       high = high;
       fit = ap (λ (e : Edit). fits e (length doc)) same ∙ fit;
-      placed = ap allPlaced (over-same _ (x .edit) (drop (x .seen - v .acked) (v .pending))) ∙ placed;
-      size = subst (λ (e : Edit). length (applied e doc) ≤ maxItems) (sym same) size;
+      placed = ap allPlaced (over-same _ (x .edit) gone (v .pending)) ∙ placed;
+      size = subst (λ (d : List Place). length d ≤ maxItems) (sym (arrived-list v doc x (carried (lineFrom v i) (x .seen) (x .edit .edit)) same)) size;
     }
 
-module _ (n : ℕ) (items : List ℕ) {ranks : List ℕ} {from : Moment ranks} (s : State ours ranks) (sim : Sim n items from s) (few : length items ≤ 128) (l : ℕ) (lo : 1 ≤ l) (hi : l ≤ n) where
+module _ (n : ℕ) (items : List Place) {ranks : List ℕ} {from : Moment ranks} (s : State ours ranks) (sim : Sim n items from s) (few : length items ≤ 128) (l : ℕ) (lo : 1 ≤ l) (hi : l ≤ n) where
   abbrev h : History (edits ranks)
   h = s .recorded .history
 
@@ -104,24 +105,21 @@ module _ (n : ℕ) (items : List ℕ) {ranks : List ℕ} {from : Moment ranks} (
   on-line : (P : Line → Type 0) → P (lineFrom v (sim .si l)) → P (lineOf S l)
   on-line P p = subst P (sym same-line) p
 
-  K : ServerLine n ranks (takenSum (S .lines)) l (lineFrom v (sim .si l))
-  K = subst (λ (u : Line). ServerLine n ranks (takenSum (S .lines)) l u) same-line (line-fact S (server-facts S (sim .server-sound)) l lo hi)
-
   room : length items + inserts (order h l) ≤ 512
   room = omega (arith, inserts-most n items s sim few l lo hi)
 
   -- ---- a message that goes down, whenever it was written: where questions 4 to 7 say yes, so do 8 and 9
   module _ (x : ends.EditMessage (edits ranks)) (ok : DownMessage items E h l x) (next : x .number ≡ suc (c .taken)) (cur : c .acked ≤ x .seen) where
     -- the line once it is taken
-    after : LineAt items l (order h l) (h .served) (h .applied l ++ (oth l (order h l) (c .taken) ∷ [])) (takes x c) v (applied (arrived x c) (E .docs l))
+    after : LineAt items l (order h l) (h .served) (h .applied l ++ (oth l (order h l) (c .taken) ∷ [])) (takes x c) v (appliedNamed (arrived x c) (E .docs l))
     after = line-down items l (order h l) (h .served) (h .applied l) c v (E .docs l) line x ok next cur
 
-    pub down-asked : Asked (C .own) (E .docs l) (headerOf l 1 x) (x .edit)
+    pub down-asked : Asked (C .own) (E .docs l) (headerOf l 1 x) (x .edit .edit)
     down-asked =
         arrives c (sim .ci l) l 1 (E .docs l) x next cur (omega (arith, ok .seen-le, line .v-taken, line .c-made))
-        (from-T (fits (arrived x c) (length (E .docs l))) (down-fits items E h (sim .inv) l x ok next cur))
-        (client-placed (laws sim) items l (order h l) (h .served) (h .applied l ++ (oth l (order h l) (c .taken) ∷ [])) (takes x c) v (applied (arrived x c) (E .docs l)) after room)
-        (subst (λ (d : List ℕ). length d ≤ maxItems) (sym (after .c-doc)) (doc-most (laws sim) items (order h l) room l (length (mine l (order h l))) (suc (c .taken))))
+        (from-T (fits (arrived x c .edit) (length (E .docs l))) (down-fits items E h (sim .inv) l x ok next cur))
+        (client-placed (laws sim) items l (order h l) (h .served) (h .applied l ++ (oth l (order h l) (c .taken) ∷ [])) (takes x c) v (appliedNamed (arrived x c) (E .docs l)) after room)
+        (subst (λ (d : List Place). length d ≤ maxItems) (sym (after .c-doc)) (doc-most (laws sim) items (order h l) room l (length (mine l (order h l))) (suc (c .taken))))
 
   -- ---- the next edit going down
   module _ (more : c .taken < v .made) (lent : List ℕ) (long : length (messageBytes (editMessage h 0 l (suc (c .taken)))) ≤ length lent) where
@@ -158,26 +156,30 @@ module _ (n : ℕ) (items : List ℕ) {ranks : List ℕ} {from : Moment ranks} (
           ),
         ))
 
-    down-asks : asks (clientEditQuestions C hd (x .edit)) ≡ 0
+    lined : Lined n ranks (down l x)
+    lined = down-ok n items s sim l lo hi number low more .2
+
+    down-asks : asks (clientEditQuestions C hd (x .edit .edit)) ≡ 0
     down-asks =
-        all-yes (clientEditQuestions C hd (x .edit)) (
+        all-yes (clientEditQuestions C hd (x .edit .edit)) (
           sim .client-sound l lo hi,
           (
-            both (eqb l l) (priority (other n (rankOf ranks l)) (x .edit)) (eq-eqb l l refl) (line-priority v (sim .si l) number (v .taken) (other n (rankOf ranks l)) (K .line) low more),
-            yes-asked (C .own) (E .docs l) hd (x .edit) [] (down-asked x ok refl (line .c-acked)) tt,
+            both (eqb l l && priority (other n (rankOf ranks l)) (x .edit .edit)) (other n l (x .edit .origin .line))
+                (both (eqb l l) (priority (other n (rankOf ranks l)) (x .edit .edit)) (eq-eqb l l refl) (lined .2)) (lined .3),
+            yes-asked (C .own) (E .docs l) hd (x .edit .edit) [] (down-asked x ok refl (line .c-acked)) tt,
           ),
         )
 
     -- what was written reads as the message, and the client takes it
     down-taken : takeClient C (take (length (bytesOf (serverMessage S l number))) (bytesOf (serverMessage S l number) ++ drop (length (bytesOf (serverMessage S l number))) lent))
-        ≡ record { refusal = 0; end = clientTaken C (v .taken) (x .edit); passed = c .made - v .taken }
+        ≡ record { refusal = 0; end = clientTaken C (x .edit .origin) (v .taken) (x .edit .edit); report = lineReport (C .own) (v .taken) (x .edit .edit) }
     unfolding takeClient clientTakesEdit
     down-taken =
         ap (λ (b : List ℕ). clientReads C (parsed b))
         (take-append-seam (bytesOf (serverMessage S l number)) (drop (length (bytesOf (serverMessage S l number))) lent) ∙ down-bytes n items s sim l lo hi number low more)
         ∙ ap (clientReads C) (codec .written-read (wireMessage (down l x)) (down-ok n items s sim l lo hi number low more .1))
-        ∙ client-message C hd (x .edit)
-        ∙ new-end (asks (clientEditQuestions C hd (x .edit))) C (clientTaken C (v .taken) (x .edit)) (c .made - v .taken) down-asks
+        ∙ client-message C hd (x .edit .edit)
+        ∙ new-end (asks (clientEditQuestions C hd (x .edit .edit))) C (clientTaken C (x .edit .origin) (v .taken) (x .edit .edit)) (lineReport (C .own) (v .taken) (x .edit .edit)) down-asks
 
     pub delivers-down : Delivered ours (server S) (client C) l number lent
     delivers-down =
@@ -187,22 +189,29 @@ module _ (n : ℕ) (items : List ℕ) {ranks : List ℕ} {from : Moment ranks} (
           rises = ap (λ (r : Sent). takeClient C (take (r .written) (r .buffer)) .end .own .taken) down-sent ∙ ap (λ (r : Answer Client). r .end .own .taken) down-taken ∙ add-one (c .taken);
         }
 
+  -- question 4 of an edit that goes up
+  pub up-4 : (y : ends.EditMessage (edits ranks)) → UpMessage items E h l y → Lined n ranks (up l y) → (between 1 n l && priority (eqb (rankOf ranks l)) (y .edit .edit) && ownOrigin (headerOf l 0 y)) ≡ true
+  up-4 y okay lined′ =
+      both (between 1 n l && priority (eqb (rankOf ranks l)) (y .edit .edit)) (ownOrigin (headerOf l 0 y))
+      (both (between 1 n l) (priority (eqb (rankOf ranks l)) (y .edit .edit)) (true-between 1 n l lo hi) (lined′ .2))
+      (own-origin l 0 y (up-origin ranks items E h (sim .inv) l y okay))
+
   -- ---- a message that goes up, whenever it was written: where questions 4 to 7 say yes, so do 8 to 10
   module _ (y : ends.EditMessage (edits ranks)) (okay : UpMessage items E h l y) (following : y .number ≡ suc (v .taken)) (current : v .acked ≤ y .seen) where
     up-after : LineAt items l (order h l) (h .served ++ (own l (order h l) (v .taken) ∷ [])) (h .applied l) c (takes y v) (E .docs l)
     up-after = line-up items l (order h l) (h .served) (h .applied l) c v (E .docs l) line y okay following current
 
-    up-length : length (applied (arrived y v) (E .doc)) ≤ maxItems
+    up-length : length (appliedNamed (arrived y v) (E .doc)) ≤ maxItems
     up-length =
         let edge = up-edge items l (order h l) (h .served) (h .applied l) c v (E .docs l) line y okay following current in
-        subst (λ (d : List ℕ). length d ≤ maxItems)
-        (edge .gives ∙ ap₂ applied (sym (up-arrives items l (order h l) (h .served) (h .applied l) c v (E .docs l) line y okay following current)) (sym (server-doc items E h (sim .inv) l)))
+        subst (λ (d : List Place). length d ≤ maxItems)
+        (edge .gives ∙ ap₂ appliedNamed (sym (up-arrives items l (order h l) (h .served) (h .applied l) c v (E .docs l) line y okay following current)) (sym (server-doc items E h (sim .inv) l)))
         (doc-most (laws sim) items (order h l) room l (suc (v .taken)) (length (others l (order h l))))
 
     -- the insert that goes up is one that the client has counted
-    up-inserts : sim .si l + insertsOf (y .edit) ≤ maxInserts
+    up-inserts : sim .si l + insertsOf (y .edit .edit) ≤ maxInserts
     up-inserts =
-        first-untaken items (laws sim) E h (sim .inv) l y okay following current (h .untaken l) refl (λ r. sim .si l + insertsOf (y .edit) ≤ maxInserts)
+        first-untaken items (laws sim) E h (sim .inv) l y okay following current (h .untaken l) refl (λ r. sim .si l + insertsOf (y .edit .edit) ≤ maxInserts)
         (λ o us split.
         omega (
           arith,
@@ -212,16 +221,16 @@ module _ (n : ℕ) (items : List ℕ) {ranks : List ℕ} {from : Moment ranks} (
           first-inserts n items s sim l lo hi y okay following o us split,
         ))
 
-    pub up-asked : Asked (lineOf S l) (E .doc) (headerOf l 0 y) (y .edit)
+    pub up-asked : Asked (lineOf S l) (E .doc) (headerOf l 0 y) (y .edit .edit)
     up-asked =
-        on-line (λ u. Asked u (E .doc) (headerOf l 0 y) (y .edit))
+        on-line (λ u. Asked u (E .doc) (headerOf l 0 y) (y .edit .edit))
         (arrives v (sim .si l) l 0 (E .doc) y following current (omega (arith, okay .seen-le, line .c-taken, line .v-made))
-        (from-T (fits (arrived y v) (length (E .doc))) (up-fits items E h (sim .inv) l y okay following current))
+        (from-T (fits (arrived y v .edit) (length (E .doc))) (up-fits items E h (sim .inv) l y okay following current))
         (server-placed (laws sim) items l (order h l) (h .served ++ (own l (order h l) (v .taken) ∷ [])) (h .applied l) c (takes y v) (E .docs l) up-after room)
         up-length)
 
-    pub up-10 : leb (lineOf S l .inserts + insertsOf (y .edit)) maxInserts ≡ true
-    up-10 = on-line (λ u. leb (u .inserts + insertsOf (y .edit)) maxInserts ≡ true) (le-leb (sim .si l + insertsOf (y .edit)) maxInserts up-inserts)
+    pub up-10 : leb (lineOf S l .inserts + insertsOf (y .edit .edit)) maxInserts ≡ true
+    up-10 = on-line (λ u. leb (u .inserts + insertsOf (y .edit .edit)) maxInserts ≡ true) (le-leb (sim .si l + insertsOf (y .edit .edit)) maxInserts up-inserts)
 
   -- ---- the next edit going up
   module _ (more : v .taken < c .made) (roomy-others : (j : ℕ) → 1 ≤ j → j ≤ n → (j ≡ l → ⊥) → E .lines j .made - E .lines j .acked < maxPending) (lent : List ℕ)
@@ -234,9 +243,6 @@ module _ (n : ℕ) (items : List ℕ) {ranks : List ℕ} {from : Moment ranks} (
 
     abbrev up-hd : Header
     up-hd = headerOf l 0 y
-
-    F : ClientFacts C
-    F = client-facts C (sim .client-sound l lo hi)
 
     up-low : c .acked < up-number
     up-low = omega (arith, line .c-acked)
@@ -265,32 +271,32 @@ module _ (n : ℕ) (items : List ℕ) {ranks : List ℕ} {from : Moment ranks} (
         table-roomy (λ j. lineFrom (E .lines j) (sim .si j)) 1 n (l - 1)
         (λ j a b d. lt-ltb (E .lines j .made - E .lines j .acked) maxPending (roomy-others j a (omega arith) (λ e. d (omega arith))))
 
-    up-asks : asks (serverEditQuestions S up-hd (y .edit)) ≡ 0
+    up-asks : asks (serverEditQuestions S up-hd (y .edit .edit)) ≡ 0
     up-asks =
-        all-yes (serverEditQuestions S up-hd (y .edit)) (
+        all-yes (serverEditQuestions S up-hd (y .edit .edit)) (
           sim .server-sound,
           (
-            both (between 1 n l) (priority (eqb (rankOf ranks l)) (y .edit)) (true-between 1 n l lo hi) (line-priority c (sim .ci l) up-number (c .made) (eqb (rankOf ranks l)) (F .own) up-low more),
-            yes-asked (lineOf S l) (E .doc) up-hd (y .edit) (lastQuestions S up-hd (y .edit)) (up-asked y okay refl (line .v-acked))
+            up-4 y okay (up-ok n items s sim l lo hi up-number up-low more .2),
+            yes-asked (lineOf S l) (E .doc) up-hd (y .edit .edit) (lastQuestions S up-hd (y .edit .edit)) (up-asked y okay refl (line .v-acked))
                 (up-10 y okay refl (line .v-acked), (up-roomy, tt)),
           ),
         )
 
     up-taken : takeServer S (take (length (bytesOf (clientMessage C up-number))) (bytesOf (clientMessage C up-number) ++ drop (length (bytesOf (clientMessage C up-number))) lent))
-        ≡ record { refusal = 0; end = serverTaken S l (c .taken) (y .edit); passed = lineOf S l .made - c .taken }
+        ≡ record { refusal = 0; end = serverTaken S l (y .edit .origin) (c .taken) (y .edit .edit); report = lineReport (lineOf S l) (c .taken) (y .edit .edit) }
     unfolding takeServer serverTakesEdit
     up-taken =
         ap (λ (b : List ℕ). serverReads S (parsed b))
         (take-append-seam (bytesOf (clientMessage C up-number)) (drop (length (bytesOf (clientMessage C up-number))) lent) ∙ up-bytes n items s sim l lo hi up-number up-low more)
         ∙ ap (serverReads S) (codec .written-read (wireMessage (up l y)) (up-ok n items s sim l lo hi up-number up-low more .1))
-        ∙ server-message S up-hd (y .edit)
-        ∙ new-end (asks (serverEditQuestions S up-hd (y .edit))) S (serverTaken S l (c .taken) (y .edit)) (lineOf S l .made - c .taken) up-asks
+        ∙ server-message S up-hd (y .edit .edit)
+        ∙ new-end (asks (serverEditQuestions S up-hd (y .edit .edit))) S (serverTaken S l (y .edit .origin) (c .taken) (y .edit .edit)) (lineReport (lineOf S l) (c .taken) (y .edit .edit)) up-asks
 
-    up-rises : lineOf (serverTaken S l (c .taken) (y .edit)) l .taken ≡ suc (lineOf S l .taken)
+    up-rises : lineOf (serverTaken S l (y .edit .origin) (c .taken) (y .edit .edit)) l .taken ≡ suc (lineOf S l .taken)
     up-rises =
         ap (λ (z : Server). lineOf z l .taken) (server-taken-from n (length items) ranks (E .doc) (E .lines) (sim .si) l lo hi y)
         ∙ ap (λ (u : Line). u .taken)
-        (line-from n (length items) ranks (applied (arrived y v) (E .doc)) (at l (takes y v) (λ j. ends.keeps (arrived y v) (E .lines j))) (at l (sim .si l + insertsOf (y .edit)) (sim .si)) l lo hi)
+        (line-from n (length items) ranks (appliedNamed (arrived y v) (E .doc)) (at l (takes y v) (λ j. ends.keeps (arrived y v) (E .lines j))) (at l (sim .si l + insertsOf (y .edit .edit)) (sim .si)) l lo hi)
         ∙ ap (λ (b : Bool). cond b (takes y v) (ends.keeps (arrived y v) v) .taken) (eq-eqb l l refl)
         ∙ ap (λ (u : Line). suc (u .taken)) (sym same-line)
 

@@ -8,7 +8,9 @@ use native.Mathlib.Omega.{arith}
 use lib.Dec.{eqb, leb, ltb}
 use lib.ListN.{length, drop, getElem?}
 use borrow.Author.Tests.{eqb-true, leb-true, le-leb}
-use Rattle.ot.specs.Edit.{Edit, Delete, Insert, applied, fits}
+use Rattle.ot.specs.Edit.{Edit, Delete, Insert, fits}
+use Rattle.list.specs.declared.Origin.{Origin}
+use Rattle.list.specs.Places.{Place, appliedBy}
 use Rattle.wire.specs.declared.Header.{Header}
 use Rattle.wire.specs.declared.Message.the-variants as message
 use Rattle.wire.specs.declared.Read.{Read}
@@ -25,33 +27,33 @@ use Rattle.jupiter.specs.Claims.{inserts}
 use Rattle.jupiter.proofs.Lists.{All}
 use Rattle.jupiter.proofs.Step.{DownMessage}
 use Rattle.model.specs.Limits.{maxInserts, maxEdits, maxPending, maxItems}
-use Rattle.model.specs.Questions.{Question, ask, asks, Answer, answer, Sent, sent}
+use Rattle.model.specs.Questions.{Question, ask, asks, Report, noReport, Answer, answer, Sent, sent}
 use Rattle.model.specs.Cross.{priority, insertsOf}
-use Rattle.model.specs.Line.{Line, other, takeQuestions}
-use Rattle.model.specs.Client.{Client, soundClient, edited, editQuestions, editClient, clientMessage, sendClientQuestions, sendClient, tellClientQuestions, tellClient, clientTaken, clientAcked, clientEditQuestions, clientTakesEdit, clientAckQuestions, clientTakesAck, clientTakes, clientReads, takeClient}
+use Rattle.model.specs.Line.{Line, other, takeQuestions, lineReport}
+use Rattle.model.specs.Client.{Client, soundClient, originHere, edited, editQuestions, editClient, clientMessage, sendClientQuestions, sendClient, tellClientQuestions, tellClient, clientTaken, clientAcked, clientEditQuestions, clientTakesEdit, clientAckQuestions, clientTakesAck, clientTakes, clientReads, takeClient}
 use Rattle.model.specs.Server.{Server, lineOf, soundServer, serverMessage, sendServerQuestions, sendServer, tellServerQuestions, tellServer, serverTaken, serverAcked, othersRoomy, serverEditQuestions, serverTakesEdit, serverAckQuestions, serverTakesAck, serverTakes, serverReads, takeServer}
 use Rattle.model.specs.Ranks.{rankOf}
 use Rattle.model.specs.Edits.{edits}
 use Rattle.model.specs.Sheet.{Call, insert, delete, send, tell, receive, junk}
-use Rattle.model.specs.Log.{Log, wireMessage, messageBytes, madeAt, takenAt}
+use Rattle.model.specs.Log.{Log, headerOf, wireMessage, messageBytes, namedBy, madeAt, takenAt}
 use Rattle.model.specs.Numbers.{roomOn, allBut, editing, sending, telling, next, taking, handing, number}
 use Rattle.model.specs.Run.{State, callable, areBytes, unreadable, handedNumber, numberOf}
 use Rattle.model.specs.Ours.{End, ours}
 use Rattle.model.proofs.Tests.{Alike, alike, never, both, three, and-left, between-true, true-between}
 use Rattle.model.proofs.SoundLine.{Asked, yes-asked}
 use Rattle.model.proofs.SoundServer.{lastQuestions}
-use Rattle.model.proofs.Sim.{clientFrom, serverFrom, lineFrom, headerOf, line-from, Lined, MessageOk, Moment, Sim}
+use Rattle.model.proofs.Sim.{clientFrom, serverFrom, lineFrom, line-from, Lined, MessageOk, Moment, Sim}
 use Rattle.model.proofs.Counts.{client-made, client-taken, server-made, server-taken}
 use Rattle.model.proofs.Rooms.{same-room}
 use Rattle.model.proofs.Calls.{client-message, server-message, unread, up-is, up-bytes, down-is, down-bytes}
-use Rattle.model.proofs.Next.{down-asked, up-asked, up-10}
+use Rattle.model.proofs.Next.{up-4, down-asked, up-asked, up-10}
 
 -- the number of an answer
-pub refusal-is : {E : Type 0} (r : ℕ) (old new : E) (k : ℕ) → answer r old new k .refusal ≡ r
+pub refusal-is : {E : Type 0} (r : ℕ) (old new : E) (k : Report) → answer r old new k .refusal ≡ r
 unfolding answer
 refusal-is {E} r old new k = go (eqb r 0) refl
   where
-    go : (b : Bool) → eqb r 0 ≡ b → (cond {A = Answer E} b (record { refusal = 0; end = new; passed = k }) (record { refusal = r; end = old; passed = 0 })) .refusal ≡ r
+    go : (b : Bool) → eqb r 0 ≡ b → (cond {A = Answer E} b (record { refusal = 0; end = new; report = k }) (record { refusal = r; end = old; report = noReport })) .refusal ≡ r
     go true e = sym (eqb-true r 0 e)
     go false e = refl
 
@@ -63,7 +65,7 @@ sent-is r bytes lent = go (eqb r 0) refl
     go true e = sym (eqb-true r 0 e)
     go false e = refl
 
-module _ (n : ℕ) (items : List ℕ) {ranks : List ℕ} {from : Moment ranks} (s : State ours ranks) (sim : Sim n items from s) (few : length items ≤ 128) where
+module _ (n : ℕ) (items : List Place) {ranks : List ℕ} {from : Moment ranks} (s : State ours ranks) (sim : Sim n items from s) (few : length items ≤ 128) where
   abbrev w : Log ranks
   w = s .recorded
 
@@ -74,15 +76,15 @@ module _ (n : ℕ) (items : List ℕ) {ranks : List ℕ} {from : Moment ranks} (
   E = sim .E
 
   -- Questions 5 to 9 of a line whose counts are the log's: the log asks 5 to 7, and where these say yes, so do 8 and 9.
-  asks-next : (a k direction : ℕ) (u : Line) (doc : List ℕ) (m : ends.EditMessage (edits ranks)) (more log : List Question) → u .taken ≡ takenAt h a k → u .acked ≡ w .heard a k
-      → (m .number ≡ suc (u .taken) → u .acked ≤ m .seen → Asked u doc (headerOf k direction m) (m .edit) × Alike more log)
-      → Alike (takeQuestions u doc (headerOf k direction m) (m .edit) more) (next w a k m log)
+  asks-next : (a k direction : ℕ) (u : Line) (doc : List Place) (m : ends.EditMessage (edits ranks)) (more log : List Question) → u .taken ≡ takenAt h a k → u .acked ≡ w .heard a k
+      → (m .number ≡ suc (u .taken) → u .acked ≤ m .seen → Asked u doc (headerOf k direction m) (m .edit .edit) × Alike more log)
+      → Alike (takeQuestions u doc (headerOf k direction m) (m .edit .edit) more) (next w a k m log)
   asks-next a k direction u doc m more log taken acked rest =
       Alike.same (ap (λ (i : ℕ). ltb i (m .number)) taken) (λ y5.
       Alike.same (ap (λ (i : ℕ). eqb (m .number) (i + 1)) taken) (λ y6.
       Alike.same (ap (λ (i : ℕ). leb i (m .seen)) acked) (λ y7.
       let found = rest (eqb-true (m .number) (u .taken + 1) y6 ∙ add-one (u .taken)) (leb-true (u .acked) (m .seen) y7) in
-      let yes = yes-asked u doc (headerOf k direction m) (m .edit) [] (found .0) tt in
+      let yes = yes-asked u doc (headerOf k direction m) (m .edit .edit) [] (found .0) tt in
       Alike.over (yes .1 .1 .1 .0) (Alike.over (yes .1 .1 .1 .1 .0) (found .1)))))
 
   -- ---- at client l
@@ -109,10 +111,12 @@ module _ (n : ℕ) (items : List ℕ) {ranks : List ℕ} {from : Moment ranks} (
     acked-is = sym (sim .client-heard l lo)
 
     edit-number : (e : Edit) → asks (editQuestions C e) ≡ asks (editing w l e)
+    unfolding madeAt
     edit-number e =
         let shown : E .docs l ≡ w .shown l = sym (sim .client-shown l lo hi) in
+        let origin : originHere C (c .made + 1) ≡ namedBy w l e .origin = ap (originHere C) (add-one (c .made) ∙ ap suc made-is) in
         let count : sim .ci l ≡ inserts (mine l (order h l)) = sim .ci-is l in
-        alike (editQuestions C e) (editing w l e) (Alike.over (sim .client-sound l lo hi) (Alike.same (ap (λ (d : List ℕ). fits e (length d) && leb (length (applied e d)) maxItems) shown)
+        alike (editQuestions C e) (editing w l e) (Alike.over (sim .client-sound l lo hi) (Alike.same (ap₂ (λ (o : Origin) (d : List Place). fits e (length d) && leb (length (appliedBy o e d)) maxItems) origin shown)
         (λ y9. Alike.same (ap (λ (i : ℕ). leb (i + insertsOf e) maxInserts) count)
         (λ y10. Alike.same (ap (λ (m : ℕ). ltb m maxEdits) made-is)
         (λ y11. Alike.same (λ i. ltb (made-is i - acked-is i) maxPending) (λ y12. Alike.done))))))
@@ -136,33 +140,36 @@ module _ (n : ℕ) (items : List ℕ) {ranks : List ℕ} {from : Moment ranks} (
     client-tells k lent = alike (tellClientQuestions C k lent) (telling n l k lent) (Alike.over (sim .client-sound l lo hi) (Alike.same refl (λ y4. Alike.same refl (λ y14. Alike.done))))
 
     -- question 4: an edit that goes down on this line is another client's
-    own-edit : (k : ℕ) (m : ends.EditMessage (edits ranks)) → Lined n ranks (down k m) → (eqb k l && priority (other n (rankOf ranks l)) (m .edit)) ≡ eqb k l
+    own-edit : (k : ℕ) (m : ends.EditMessage (edits ranks)) → Lined n ranks (down k m)
+        → (eqb k l && priority (other n (rankOf ranks l)) (m .edit .edit) && other n l (m .edit .origin .line)) ≡ eqb k l
     own-edit k m ok = go (eqb k l) refl
       where
-        go : (b : Bool) → eqb k l ≡ b → (b && priority (other n (rankOf ranks l)) (m .edit)) ≡ b
-        go true e = subst (λ (i : ℕ). priority (other n (rankOf ranks i)) (m .edit) ≡ true) (eqb-true k l e) (ok .2)
+        go : (b : Bool) → eqb k l ≡ b → (b && priority (other n (rankOf ranks l)) (m .edit .edit) && other n l (m .edit .origin .line)) ≡ b
+        go true e =
+            subst (λ (i : ℕ). (priority (other n (rankOf ranks i)) (m .edit .edit) && other n i (m .edit .origin .line)) ≡ true) (eqb-true k l e)
+            (both (priority (other n (rankOf ranks k)) (m .edit .edit)) (other n k (m .edit .origin .line)) (ok .2) (ok .3))
         go false e = refl
 
     client-takes : (x : Message (edits ranks)) → MessageOk n ranks items E h x → clientTakes C (wireMessage x) .refusal ≡ asks (taking n w l x)
     unfolding clientTakesEdit clientTakesAck takenAt
     client-takes (up k m) ok =
         let hd : Header = headerOf k 0 m in
-        ap (λ (r : Answer Client). r .refusal) (client-message C hd (m .edit)) ∙ refusal-is (asks (clientEditQuestions C hd (m .edit))) C (clientTaken C (m .seen) (m .edit)) (c .made - m .seen)
-        ∙ alike (clientEditQuestions C hd (m .edit)) (taking n w l (up k m)) (Alike.over (sim .client-sound l lo hi) (Alike.same refl (λ y4. never y4)))
+        ap (λ (r : Answer Client). r .refusal) (client-message C hd (m .edit .edit)) ∙ refusal-is (asks (clientEditQuestions C hd (m .edit .edit))) C (clientTaken C (m .edit .origin) (m .seen) (m .edit .edit)) (lineReport (C .own) (m .seen) (m .edit .edit))
+        ∙ alike (clientEditQuestions C hd (m .edit .edit)) (taking n w l (up k m)) (Alike.over (sim .client-sound l lo hi) (Alike.same refl (λ y4. never y4)))
     client-takes (down k m) ok =
         let hd : Header = headerOf k 1 m in
-        ap (λ (r : Answer Client). r .refusal) (client-message C hd (m .edit)) ∙ refusal-is (asks (clientEditQuestions C hd (m .edit))) C (clientTaken C (m .seen) (m .edit)) (c .made - m .seen)
-        ∙ alike (clientEditQuestions C hd (m .edit)) (taking n w l (down k m)) (Alike.over (sim .client-sound l lo hi) (Alike.same (own-edit k m (ok .2)) (λ y4.
-        let own : k ≡ l = eqb-true k l (and-left (eqb k l) (priority (other n (rankOf ranks l)) (m .edit)) y4) in
+        ap (λ (r : Answer Client). r .refusal) (client-message C hd (m .edit .edit)) ∙ refusal-is (asks (clientEditQuestions C hd (m .edit .edit))) C (clientTaken C (m .edit .origin) (m .seen) (m .edit .edit)) (lineReport (C .own) (m .seen) (m .edit .edit))
+        ∙ alike (clientEditQuestions C hd (m .edit .edit)) (taking n w l (down k m)) (Alike.over (sim .client-sound l lo hi) (Alike.same (own-edit k m (ok .2)) (λ y4.
+        let own : k ≡ l = eqb-true k l (three (eqb k l) (priority (other n (rankOf ranks l)) (m .edit .edit)) (other n l (m .edit .origin .line)) y4 .0) in
         asks-next l k 1 (C .own) (E .docs l) m [] [] taken-is (heard-on k own)
         (λ next cur. (
-          subst (λ (i : ℕ). Asked (C .own) (E .docs l) (headerOf i 1 m) (m .edit)) (sym own)
+          subst (λ (i : ℕ). Asked (C .own) (E .docs l) (headerOf i 1 m) (m .edit .edit)) (sym own)
               (down-asked n items s sim few l lo hi m (subst (λ (i : ℕ). DownMessage items E h i m) own (ok .0)) next cur),
           Alike.done,
         )))))
-    client-takes (upAck k seen) ok = refusal-is (asks (clientAckQuestions C k 0 seen)) C (clientAcked C seen) 0 ∙ alike (clientAckQuestions C k 0 seen) (taking n w l (upAck k seen)) (Alike.over (sim .client-sound l lo hi) (Alike.same refl (λ y4. never y4)))
+    client-takes (upAck k seen) ok = refusal-is (asks (clientAckQuestions C k 0 seen)) C (clientAcked C seen) noReport ∙ alike (clientAckQuestions C k 0 seen) (taking n w l (upAck k seen)) (Alike.over (sim .client-sound l lo hi) (Alike.same refl (λ y4. never y4)))
     client-takes (downAck k seen) ok =
-        refusal-is (asks (clientAckQuestions C k 1 seen)) C (clientAcked C seen) 0
+        refusal-is (asks (clientAckQuestions C k 1 seen)) C (clientAcked C seen) noReport
         ∙ alike (clientAckQuestions C k 1 seen) (taking n w l (downAck k seen)) (Alike.over (sim .client-sound l lo hi) (Alike.same refl (λ y4.
         let own : k ≡ l = eqb-true k l y4 in
         Alike.same (ap (λ (i : ℕ). leb i seen) (heard-on k own)) (λ y7.
@@ -215,9 +222,9 @@ module _ (n : ℕ) (items : List ℕ) {ranks : List ℕ} {from : Moment ranks} (
       let lo = ok .2 .0 in
       let hi = ok .2 .1 in
       let same = line-is k lo hi in
-      ap (λ (r : Answer Server). r .refusal) (server-message S hd (m .edit)) ∙ refusal-is (asks (serverEditQuestions S hd (m .edit))) S (serverTaken S k (m .seen) (m .edit)) (lineOf S k .made - m .seen)
-      ∙ alike (serverEditQuestions S hd (m .edit)) (taking n w 0 (up k m)) (Alike.over (sim .server-sound) (Alike.same (both (between 1 n k) (priority (eqb (rankOf ranks k)) (m .edit)) (true-between 1 n k lo hi) (ok .2 .2) ∙ sym (true-between 1 n k lo hi)) (λ y4.
-      asks-next 0 k 0 (lineOf S k) (E .doc) m (lastQuestions S hd (m .edit)) (ask 12 (allBut (roomOn w) k n) ∷ []) (server-taken-is k lo hi) (server-acked-is k lo hi)
+      ap (λ (r : Answer Server). r .refusal) (server-message S hd (m .edit .edit)) ∙ refusal-is (asks (serverEditQuestions S hd (m .edit .edit))) S (serverTaken S k (m .edit .origin) (m .seen) (m .edit .edit)) (lineReport (lineOf S k) (m .seen) (m .edit .edit))
+      ∙ alike (serverEditQuestions S hd (m .edit .edit)) (taking n w 0 (up k m)) (Alike.over (sim .server-sound) (Alike.same (up-4 n items s sim few k lo hi m (ok .0) (ok .2) ∙ sym (true-between 1 n k lo hi)) (λ y4.
+      asks-next 0 k 0 (lineOf S k) (E .doc) m (lastQuestions S hd (m .edit .edit)) (ask 12 (allBut (roomOn w) k n) ∷ []) (server-taken-is k lo hi) (server-acked-is k lo hi)
       (λ next cur.
       let following : m .number ≡ suc (E .lines k .taken) = next ∙ ap (λ (v : Line). suc (v .taken)) same in
       let current : E .lines k .acked ≤ m .seen = subst (λ (v : Line). v .acked ≤ m .seen) same cur in (
@@ -226,23 +233,23 @@ module _ (n : ℕ) (items : List ℕ) {ranks : List ℕ} {from : Moment ranks} (
       )))))
   server-takes (down k m) ok =
       let hd : Header = headerOf k 1 m in
-      ap (λ (r : Answer Server). r .refusal) (server-message S hd (m .edit)) ∙ refusal-is (asks (serverEditQuestions S hd (m .edit))) S (serverTaken S k (m .seen) (m .edit)) (lineOf S k .made - m .seen)
-      ∙ alike (serverEditQuestions S hd (m .edit)) (taking n w 0 (down k m)) (Alike.over (sim .server-sound) (Alike.same refl (λ y4. never y4)))
+      ap (λ (r : Answer Server). r .refusal) (server-message S hd (m .edit .edit)) ∙ refusal-is (asks (serverEditQuestions S hd (m .edit .edit))) S (serverTaken S k (m .edit .origin) (m .seen) (m .edit .edit)) (lineReport (lineOf S k) (m .seen) (m .edit .edit))
+      ∙ alike (serverEditQuestions S hd (m .edit .edit)) (taking n w 0 (down k m)) (Alike.over (sim .server-sound) (Alike.same refl (λ y4. never y4)))
   server-takes (upAck k seen) ok =
       let lo = ok .2 .0 in
       let hi = ok .2 .1 in
-      refusal-is (asks (serverAckQuestions S k 0 seen)) S (serverAcked S k seen) 0
+      refusal-is (asks (serverAckQuestions S k 0 seen)) S (serverAcked S k seen) noReport
       ∙ alike (serverAckQuestions S k 0 seen) (taking n w 0 (upAck k seen)) (Alike.over (sim .server-sound) (Alike.same refl (λ y4.
       Alike.same (ap (λ (i : ℕ). leb i seen) (server-acked-is k lo hi)) (λ y7.
       Alike.over (subst (λ (v : Line). leb seen (v .made) ≡ true) (sym (line-is k lo hi))
       (le-leb seen (E .lines k .made) (omega (arith, ok .0, sim .inv .lines k .line .c-taken, sim .inv .lines k .line .v-made)))) Alike.done))))
-  server-takes (downAck k seen) ok = refusal-is (asks (serverAckQuestions S k 1 seen)) S (serverAcked S k seen) 0 ∙ alike (serverAckQuestions S k 1 seen) (taking n w 0 (downAck k seen)) (Alike.over (sim .server-sound) (Alike.same refl (λ y4. never y4)))
+  server-takes (downAck k seen) ok = refusal-is (asks (serverAckQuestions S k 1 seen)) S (serverAcked S k seen) noReport ∙ alike (serverAckQuestions S k 1 seen) (taking n w 0 (downAck k seen)) (Alike.over (sim .server-sound) (Alike.same refl (λ y4. never y4)))
 
   -- ---- at any end
   edits-at : (l : ℕ) → 1 ≤ l → l ≤ n → (e : Edit) → editClient (clientFrom n l ranks (E .clients l) (E .docs l) (sim .ci l)) e .refusal ≡ asks (editing w l e)
   unfolding editClient
   edits-at zero lo hi e = absurd (omega arith)
-  edits-at (suc a) lo hi e = refusal-is (asks (editQuestions (C a hi) e)) (C a hi) (edited (C a hi) e) 0 ∙ edit-number a hi e
+  edits-at (suc a) lo hi e = refusal-is (asks (editQuestions (C a hi) e)) (C a hi) (edited (C a hi) e) noReport ∙ edit-number a hi e
 
   sends-at : (a l k : ℕ) (lent : List ℕ) → a ≤ n → ours .send (s .ends a) l k lent .refusal ≡ asks (sending n w a l k lent)
   unfolding sendClient sendServer
@@ -272,10 +279,10 @@ module _ (n : ℕ) (items : List ℕ) {ranks : List ℕ} {from : Moment ranks} (
   unfolding takeClient takeServer
   junk-at zero bytes hi e =
       ap (λ (d : End). ours .take d bytes .refusal) (sim .server-is) ∙ ap (λ (r : Read). serverReads S r .refusal) e
-      ∙ refusal-is (asks (ask 2 (soundServer S) ∷ ask 3 false ∷ [])) S S 0 ∙ rw (sim .server-sound)
+      ∙ refusal-is (asks (ask 2 (soundServer S) ∷ ask 3 false ∷ [])) S S noReport ∙ rw (sim .server-sound)
   junk-at (suc a) bytes hi e =
       ap (λ (d : End). ours .take d bytes .refusal) (sim .client-is (suc a) (omega arith) hi) ∙ ap (λ (r : Read). clientReads (C a hi) r .refusal) e
-      ∙ refusal-is (asks (ask 2 (soundClient (C a hi)) ∷ ask 3 false ∷ [])) (C a hi) (C a hi) 0 ∙ rw (sim .client-sound (suc a) (omega arith) hi)
+      ∙ refusal-is (asks (ask 2 (soundClient (C a hi)) ∷ ask 3 false ∷ [])) (C a hi) (C a hi) noReport ∙ rw (sim .client-sound (suc a) (omega arith) hi)
 
   -- a message of the list, and the message that it is of
   hands-at : (a i : ℕ) → a ≤ n → handedNumber ours s a (getElem? (s .messages) i) ≡ handing n w a (getElem? (w .messages) i)

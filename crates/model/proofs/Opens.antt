@@ -6,8 +6,9 @@ use Prim.Native.Nat.{ℕ, _≤_}
 use lib.Dec.{leb}
 use lib.ListN.{length, replicate}
 use borrow.Author.Tests.{le-leb}
+use Rattle.list.specs.Places.{initialPlaces}
 use Rattle.model.specs.Limits.{maxLines, maxInitial}
-use Rattle.model.specs.Questions.{asks, between}
+use Rattle.model.specs.Questions.{asks, between, noReport}
 use Rattle.model.specs.Ranks.{ranking}
 use Rattle.model.specs.Line.{noLine}
 use Rattle.model.specs.Client.{Client, noClient, openClientQuestions, openClient}
@@ -16,10 +17,10 @@ use Rattle.model.proofs.Tests.{held, all-yes, true-between}
 use Rattle.model.proofs.Sound.{new-end}
 
 abbrev pub freshClient : ℕ → ℕ → List ℕ → List ℕ → Client
-freshClient n l ranks items = record { n = n; line = l; ranks = ranks; items = items; own = noLine }
+freshClient n l ranks items = record { n = n; line = l; ranks = ranks; items = initialPlaces items; own = noLine }
 
 abbrev pub freshServer : ℕ → List ℕ → List ℕ → Server
-freshServer n ranks items = record { n = n; initial = length items; ranks = ranks; items = items; lines = replicate n noLine }
+freshServer n ranks items = record { n = n; initial = length items; ranks = ranks; items = initialPlaces items; lines = replicate n noLine; makers = replicate n [] }
 
 pub client-asks : (n l : ℕ) (ranks items : List ℕ) → 1 ≤ n → n ≤ maxLines → 1 ≤ l → l ≤ n → length items ≤ maxInitial → ranking n ranks ≡ true → asks (openClientQuestions n l ranks items) ≡ 0
 client-asks n l ranks items a b c d e r =
@@ -38,11 +39,11 @@ server-asks n ranks items a b e r =
     )
 
 pub client-opens : (n l : ℕ) (ranks items : List ℕ) → 1 ≤ n → n ≤ maxLines → 1 ≤ l → l ≤ n → length items ≤ maxInitial → ranking n ranks ≡ true
-    → openClient n l ranks items ≡ record { refusal = 0; end = freshClient n l ranks items; passed = 0 }
+    → openClient n l ranks items ≡ record { refusal = 0; end = freshClient n l ranks items; report = noReport }
 unfolding openClient
-client-opens n l ranks items a b c d e r = new-end (asks (openClientQuestions n l ranks items)) noClient (freshClient n l ranks items) 0 (client-asks n l ranks items a b c d e r)
+client-opens n l ranks items a b c d e r = new-end (asks (openClientQuestions n l ranks items)) noClient (freshClient n l ranks items) noReport (client-asks n l ranks items a b c d e r)
 
 pub server-opens : (n : ℕ) (ranks items : List ℕ) → 1 ≤ n → n ≤ maxLines → length items ≤ maxInitial → ranking n ranks ≡ true
-    → openServer n ranks items ≡ record { refusal = 0; end = freshServer n ranks items; passed = 0 }
+    → openServer n ranks items ≡ record { refusal = 0; end = freshServer n ranks items; report = noReport }
 unfolding openServer
-server-opens n ranks items a b e r = new-end (asks (openServerQuestions n ranks items)) noServer (freshServer n ranks items) 0 (server-asks n ranks items a b e r)
+server-opens n ranks items a b e r = new-end (asks (openServerQuestions n ranks items)) noServer (freshServer n ranks items) noReport (server-asks n ranks items a b e r)

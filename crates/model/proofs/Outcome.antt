@@ -6,18 +6,18 @@ use Prim.Native.Nat.{ℕ}
 use lib.Dec.{eqb}
 use lib.ListN.{length, drop}
 use borrow.Author.Tests.{eqb-true, eqb-false}
-use Rattle.model.specs.Questions.{Answer, answer, Sent, sent}
+use Rattle.model.specs.Questions.{Report, noReport, Answer, answer, Sent, sent}
 
-pub data Outcome {E : Type 0} (r : ℕ) (old new : E) (k : ℕ) : Answer E → Type 0 where
-  no : (r ≡ 0 → ⊥) → Outcome r old new k (record { refusal = r; end = old; passed = 0 })
-  yes : r ≡ 0 → Outcome r old new k (record { refusal = 0; end = new; passed = k })
+pub data Outcome {E : Type 0} (r : ℕ) (old new : E) (k : Report) : Answer E → Type 0 where
+  no : (r ≡ 0 → ⊥) → Outcome r old new k (record { refusal = r; end = old; report = noReport })
+  yes : r ≡ 0 → Outcome r old new k (record { refusal = 0; end = new; report = k })
 
-pub outcome : {E : Type 0} (r : ℕ) (old new : E) (k : ℕ) → Outcome r old new k (answer r old new k)
+pub outcome : {E : Type 0} (r : ℕ) (old new : E) (k : Report) → Outcome r old new k (answer r old new k)
 unfolding answer
 outcome {E} r old new k = go (eqb r 0) refl
   where
     go : (b : Bool) → eqb r 0 ≡ b
-        → Outcome r old new k (cond {A = Answer E} b (record { refusal = 0; end = new; passed = k }) (record { refusal = r; end = old; passed = 0 }))
+        → Outcome r old new k (cond {A = Answer E} b (record { refusal = 0; end = new; report = k }) (record { refusal = r; end = old; report = noReport }))
     go true e = Outcome.yes (eqb-true r 0 e)
     go false e = Outcome.no (eqb-false r 0 e)
 

@@ -1,15 +1,16 @@
 -- The sheet follows the theory: its ends are the theory's ends with 01's limits, and its log is the theory's history.
-use mathlib.Core.Path.{_≡_, refl, ap, ap₂, _∙_, subst}
+use mathlib.Core.Path.{_≡_, refl, ap, ap₂, sym, _∙_, subst}
 use mathlib.Core.Bool.{Bool, true, false, cond}
-use mathlib.Core.List.{List, map}
-use Prim.Native.Nat.{ℕ, _+_, _-_, _≤_}
+use mathlib.Core.List.{List, [], _∷_, _++_, map, map-append}
+use Prim.Native.Nat.{ℕ, suc, _+_, _-_, _≤_}
 use native.Mathlib.Numerals.{add-one}
 use native.Mathlib.Omega.{arith}
 use lib.Dec.{eqb}
 use lib.ListN.{length, drop}
 use borrow.Author.Tests.{eqb-true}
-use Rattle.ot.specs.Edit.{Edit, applied}
-use Rattle.wire.specs.declared.Header.{Header}
+use Rattle.ot.specs.Edit.{Edit}
+use Rattle.list.specs.declared.Origin.{Origin}
+use Rattle.list.specs.Places.{Place, appliedBy}
 use Rattle.wire.specs.Message.{inRange}
 use Rattle.jupiter.specs.Algebra.{Algebra, Laws}
 use Rattle.jupiter.specs.Made.{Made, mine, others}
@@ -22,44 +23,51 @@ use Rattle.jupiter.proofs.Lists.{All}
 use Rattle.jupiter.proofs.World.{Inv}
 use Rattle.jupiter.proofs.Step.{Later, later-refl}
 use Rattle.jupiter.proofs.Runs.{Fine}
+use Rattle.model.specs.Questions.{Report}
 use Rattle.model.specs.Cross.{past, priority, insertsOf}
-use Rattle.model.specs.Line.{Line, noLine, other, lineKeeps, unacked, lineAcked, lineTaken, carried}
+use Rattle.model.specs.Line.{Line, noLine, other, lineKeeps, unacked, lineAcked, lineTaken, carried, positionAt, lineReport}
 use Rattle.model.specs.Client.{Client, soundClient, with, edited, clientTaken, clientAcked}
-use Rattle.model.specs.Server.{Server, lineOf, soundServer, atPlace, serverTaken, serverAcked}
+use Rattle.model.specs.Server.{Server, lineOf, makersOf, soundServer, atPlace, unackedMakers, serverTaken, serverAcked}
 use Rattle.model.specs.Ranks.{rankOf}
-use Rattle.model.specs.Edits.{Rule, editsBy, edits}
+use Rattle.model.specs.Edits.{Named, appliedNamed, Rule, editsBy, edits}
 use Rattle.model.specs.Log.{wireMessage, messageBytes}
 use Rattle.model.specs.Run.{State}
 use Rattle.model.specs.Ours.{client, server, ours}
 use Rattle.model.proofs.Table.{table, table-cong, table-get, table-at, cond-ne}
 use Rattle.model.proofs.Ranks.{Ranking, ranking-facts}
 use Rattle.model.proofs.SoundServer.{server-facts}
-use Rattle.model.proofs.Instance.{edit-laws, past-same, over-same}
+use Rattle.model.proofs.Instance.{edit-laws, editsOf, makersIn, map-drop, past-same, over-same, past-origin, over-origins}
 use Rattle.model.proofs.Small.{Small}
 
 -- the theory's end of a line, as a line, and as the client's end
 abbrev pub lineFrom : {by : Rule} → ends.End (editsBy by) → ℕ → Line
-lineFrom v i = record { made = v .made; taken = v .taken; acked = v .acked; inserts = i; pending = v .pending }
+lineFrom v i = record { made = v .made; taken = v .taken; acked = v .acked; inserts = i; pending = editsOf (v .pending) }
 
-abbrev pub clientFrom : {by : Rule} → ℕ → ℕ → List ℕ → ends.End (editsBy by) → List ℕ → ℕ → Client
+abbrev pub clientFrom : {by : Rule} → ℕ → ℕ → List ℕ → ends.End (editsBy by) → List Place → ℕ → Client
 clientFrom n l ranks v items i = record { n = n; line = l; ranks = ranks; items = items; own = lineFrom v i }
 
-abbrev pub serverFrom : {by : Rule} → ℕ → ℕ → List ℕ → List ℕ → (ℕ → ends.End (editsBy by)) → (ℕ → ℕ) → Server
-serverFrom n initial ranks items vs is = record { n = n; initial = initial; ranks = ranks; items = items; lines = table (λ j. lineFrom (vs j) (is j)) 1 n }
+-- the server's end, with the origins of the pending edits beside the lines
+abbrev pub serverFrom : {by : Rule} → ℕ → ℕ → List ℕ → List Place → (ℕ → ends.End (editsBy by)) → (ℕ → ℕ) → Server
+serverFrom n initial ranks items vs is =
+    record {
+      n = n;
+      initial = initial;
+      ranks = ranks;
+      items = items;
+      lines = table (λ j. lineFrom (vs j) (is j)) 1 n;
+      makers = table (λ j. makersIn (vs j .pending)) 1 n;
+    }
 
--- the header of an edit message; direction 0 goes up to the server, 1 down
-abbrev pub headerOf : {by : Rule} → ℕ → ℕ → EditMessage (editsBy by) → Header
-headerOf l direction m = record { line = l; direction = direction; number = m .number; seen = m .seen }
-
--- it goes on a line that there is, and an insert has a rank that question 4 lets through at the end it goes to
+-- It goes on a line that there is, and question 4 lets it through at the end it goes to: an insert by its rank, an edit that comes down by the
+-- line of its origin. One that goes up has its own line and number as origin (`Origins.up-origin`).
 abbrev pub Lined : {by : Rule} → ℕ → List ℕ → Message (editsBy by) → Type 0
-Lined n ranks (up l m) = (1 ≤ l) × (l ≤ n) × (priority (eqb (rankOf ranks l)) (m .edit) ≡ true)
-Lined n ranks (down l m) = (1 ≤ l) × (l ≤ n) × (priority (other n (rankOf ranks l)) (m .edit) ≡ true)
+Lined n ranks (up l m) = (1 ≤ l) × (l ≤ n) × (priority (eqb (rankOf ranks l)) (m .edit .edit) ≡ true)
+Lined n ranks (down l m) = (1 ≤ l) × (l ≤ n) × (priority (other n (rankOf ranks l)) (m .edit .edit) ≡ true) × (other n l (m .edit .origin .line) ≡ true)
 Lined n ranks (upAck l seen) = (1 ≤ l) × (l ≤ n)
 Lined n ranks (downAck l seen) = (1 ≤ l) × (l ≤ n)
 
 -- a message that was written: it can be taken at any time, and its fields are in range
-abbrev pub MessageOk : ℕ → (ranks : List ℕ) → List ℕ → Ends (edits ranks) → History (edits ranks) → Message (edits ranks) → Type 0
+abbrev pub MessageOk : ℕ → (ranks : List ℕ) → List Place → Ends (edits ranks) → History (edits ranks) → Message (edits ranks) → Type 0
 MessageOk n ranks items E h x = Fine items E h x × (inRange (wireMessage x) ≡ true) × Lined n ranks x
 
 abbrev pub OfLines : {𝓐 : Algebra} → ℕ → Made 𝓐 → Type 0
@@ -70,8 +78,8 @@ pub record Moment (ranks : List ℕ) : Type 0 where
   pub ends : Ends (edits ranks)
   pub history : History (edits ranks)
 
--- where the calls since the moment `from` have led
-pub record Sim (n : ℕ) (items : List ℕ) {ranks : List ℕ} (from : Moment ranks) (s : State ours ranks) : Type 0 where
+-- where the calls since the moment `from` have led; `items` are the places that the ends were opened with
+pub record Sim (n : ℕ) (items : List Place) {ranks : List ℕ} (from : Moment ranks) (s : State ours ranks) : Type 0 where
   -- the theory's ends, and the inserts that the client and the server count on each line
   pub E : Ends (edits ranks)
   pub ci : ℕ → ℕ
@@ -88,19 +96,19 @@ pub record Sim (n : ℕ) (items : List ℕ) {ranks : List ℕ} (from : Moment ra
   pub client-heard : (l : ℕ) → 1 ≤ l → s .recorded .heard l l ≡ E .clients l .acked
   pub messages : s .messages ≡ map messageBytes (s .recorded .messages)
   pub written : All (MessageOk n ranks items E (s .recorded .history)) (s .recorded .messages)
-  pub passed : s .passed ≡ s .recorded .passed
+  pub reports : s .reports ≡ s .recorded .reports
   pub taken : (l : ℕ) → length (others l (s .recorded .history .applied l)) ≡ E .clients l .taken
   pub served-lines : All (OfLines n) (s .recorded .history .served)
   pub ci-is : (l : ℕ) → ci l ≡ inserts (mine l (order (s .recorded .history) l))
   pub si-is : (l : ℕ) → si l ≡ inserts (mine l (s .recorded .history .served))
-  pub client-small : (l : ℕ) → All Small (E .clients l .pending)
-  pub server-small : (l : ℕ) → All Small (E .lines l .pending)
+  pub client-small : (l : ℕ) → All Small (editsOf (E .clients l .pending))
+  pub server-small : (l : ℕ) → All Small (editsOf (E .lines l .pending))
 
 -- the moment that a simulation has come to, and from which it may go on
-abbrev pub present : {n : ℕ} {items ranks : List ℕ} {from : Moment ranks} {s : State ours ranks} → Sim n items from s → Moment ranks
+abbrev pub present : {n : ℕ} {items : List Place} {ranks : List ℕ} {from : Moment ranks} {s : State ours ranks} → Sim n items from s → Moment ranks
 present {s = s} sim = record { ends = sim .E; history = s .recorded .history }
 
-pub from-here : {n : ℕ} {items ranks : List ℕ} {from : Moment ranks} {s : State ours ranks} (sim : Sim n items from s) → Sim n items (present sim) s
+pub from-here : {n : ℕ} {items : List Place} {ranks : List ℕ} {from : Moment ranks} {s : State ours ranks} (sim : Sim n items from s) → Sim n items (present sim) s
 from-here {s = s} sim =
     record {
       E = sim .E;
@@ -118,7 +126,7 @@ from-here {s = s} sim =
       client-heard = sim .client-heard;
       messages = sim .messages;
       written = sim .written;
-      passed = sim .passed;
+      reports = sim .reports;
       taken = sim .taken;
       served-lines = sim .served-lines;
       ci-is = sim .ci-is;
@@ -128,11 +136,11 @@ from-here {s = s} sim =
     }
 
 -- question 2 has found a ranking, and so the edits have the theory's laws
-pub ranked : {n : ℕ} {items ranks : List ℕ} {from : Moment ranks} {s : State ours ranks} → Sim n items from s → Ranking n ranks
+pub ranked : {n : ℕ} {items : List Place} {ranks : List ℕ} {from : Moment ranks} {s : State ours ranks} → Sim n items from s → Ranking n ranks
 ranked {n = n} {items = items} {ranks = ranks} sim =
     ranking-facts n ranks (server-facts (serverFrom n (length items) ranks (sim .E .doc) (sim .E .lines) (sim .si)) (sim .server-sound) .ranked)
 
-pub laws : {n : ℕ} {items ranks : List ℕ} {from : Moment ranks} {s : State ours ranks} → Sim n items from s → Laws (edits ranks)
+pub laws : {n : ℕ} {items : List Place} {ranks : List ℕ} {from : Moment ranks} {s : State ours ranks} → Sim n items from s → Laws (edits ranks)
 laws sim = edit-laws (ranked sim)
 
 -- ---- one line changed, the others as they were
@@ -149,90 +157,140 @@ at-other l v f j h = cond-ne l j v (f j) h
 
 -- ---- a line and the ends after a call, as the theory's
 
-kept-line-from : {by : Rule} (v : ends.End (editsBy by)) (i k : ℕ) (e : Edit) → lineKeeps k e (lineFrom v i) ≡ lineFrom (keeps e v) k
-kept-line-from v i k e = rw (add-one (v .made))
+kept-line-from : {by : Rule} (v : ends.End (editsBy by)) (i k : ℕ) (e : Named) → lineKeeps k (e .edit) (lineFrom v i) ≡ lineFrom (keeps e v) k
+kept-line-from v i k e = rw (add-one (v .made), map-append (λ d. d .edit) (v .pending) (e ∷ []))
 
-taken-line-from : {by : Rule} (v : ends.End (editsBy by)) (i k : ℕ) (x : EditMessage (editsBy by)) → lineTaken k (x .seen) (x .edit) (lineFrom v i) ≡ lineFrom (takes x v) k
-taken-line-from {by} v i k x = rw (add-one (v .taken), over-same by (x .edit) (drop (x .seen - v .acked) (v .pending)))
+acked-line-from : {by : Rule} (v : ends.End (editsBy by)) (i seen : ℕ) → lineAcked seen (lineFrom v i) ≡ lineFrom (acks seen v) i
+acked-line-from v i seen = rw (map-drop (λ e. e .edit) (seen - v .acked) (v .pending))
 
-pub edited-from : {by : Rule} (n l : ℕ) (ranks : List ℕ) (v : ends.End (editsBy by)) (items : List ℕ) (i : ℕ) (e : Edit) → edited (clientFrom n l ranks v items i) e ≡ clientFrom n l ranks (keeps e v) (applied e items) (i + insertsOf e)
-edited-from n l ranks v items i e = ap (with (clientFrom n l ranks v items i) (applied e items)) (kept-line-from v i (i + insertsOf e) e)
+taken-line-from : {by : Rule} (v : ends.End (editsBy by)) (i k : ℕ) (x : EditMessage (editsBy by)) → lineTaken k (x .seen) (x .edit .edit) (lineFrom v i) ≡ lineFrom (takes x v) k
+taken-line-from {by} v i k x = rw (add-one (v .taken), over-same by (x .edit) (x .seen - v .acked) (v .pending))
 
-pub taken-from : {by : Rule} (n l : ℕ) (ranks : List ℕ) (v : ends.End (editsBy by)) (items : List ℕ) (i : ℕ) (x : EditMessage (editsBy by))
-    → clientTaken (clientFrom n l ranks v items i) (x .seen) (x .edit) ≡ clientFrom n l ranks (takes x v) (applied (arrived x v) items) i
+-- the list once an edit has arrived
+pub arrived-list : {by : Rule} (v : ends.End (editsBy by)) (items : List Place) (x : EditMessage (editsBy by)) (c : Edit) → c ≡ arrived x v .edit
+    → appliedBy (x .edit .origin) c items ≡ appliedNamed (arrived x v) items
+arrived-list v items x c e = ap₂ (λ (o : Origin) (d : Edit). appliedBy o d items) (sym (past-origin _ (x .edit) (drop (x .seen - v .acked) (v .pending)))) e
+
+-- what its taking reports, of an end that has made so many edits, where the edit is applied in the form f
+pub report-from : {by : Rule} (v : ends.End (editsBy by)) (i : ℕ) (x : EditMessage (editsBy by)) (made : ℕ) (f : Named) → v .made ≡ made → f ≡ arrived x v
+    → lineReport (lineFrom v i) (x .seen) (x .edit .edit) ≡ record { passed = made - x .seen; arrived = positionAt (x .edit .edit); applied = positionAt (f .edit) }
+report-from v i x made f same applied =
+    ap₂ reportOf same (past-same _ (x .edit) (x .seen - v .acked) (v .pending) ∙ ap (λ (e : Named). e .edit) (sym applied))
+  where
+    reportOf : ℕ → Edit → Report
+    reportOf m e = record { passed = m - x .seen; arrived = positionAt (x .edit .edit); applied = positionAt e }
+
+-- an edit that client l makes: its origin is the line and the next number
+pub edited-from : {by : Rule} (n l : ℕ) (ranks : List ℕ) (v : ends.End (editsBy by)) (items : List Place) (i : ℕ) (e : Named) → e .origin ≡ record { line = l; number = suc (v .made) }
+    → edited (clientFrom n l ranks v items i) (e .edit) ≡ clientFrom n l ranks (keeps e v) (appliedNamed e items) (i + insertsOf (e .edit))
+edited-from n l ranks v items i e own =
+    let here : originOf (v .made + 1) ≡ e .origin = ap originOf (add-one (v .made)) ∙ sym own in
+    ap₂ (λ (o : Origin) (w : Line). with (clientFrom n l ranks v items i) (appliedBy o (e .edit) items) w) here (kept-line-from v i (i + insertsOf (e .edit)) e)
+  where
+    originOf : ℕ → Origin
+    originOf number = record { line = l; number = number }
+
+pub taken-from : {by : Rule} (n l : ℕ) (ranks : List ℕ) (v : ends.End (editsBy by)) (items : List Place) (i : ℕ) (x : EditMessage (editsBy by))
+    → clientTaken (clientFrom n l ranks v items i) (x .edit .origin) (x .seen) (x .edit .edit) ≡ clientFrom n l ranks (takes x v) (appliedNamed (arrived x v) items) i
 taken-from n l ranks v items i x =
-    ap₂ (λ (e : Edit) (w : Line). with (clientFrom n l ranks v items i) (applied e items) w) (past-same _ (x .edit) (drop (x .seen - v .acked) (v .pending)))
+    ap₂ (with (clientFrom n l ranks v items i)) (arrived-list v items x (carried (lineFrom v i) (x .seen) (x .edit .edit)) (past-same _ (x .edit) (x .seen - v .acked) (v .pending)))
     (taken-line-from v i i x)
 
-pub acked-from : {by : Rule} (n l : ℕ) (ranks : List ℕ) (v : ends.End (editsBy by)) (items : List ℕ) (i seen : ℕ) → clientAcked (clientFrom n l ranks v items i) seen ≡ clientFrom n l ranks (acks seen v) items i
-acked-from n l ranks v items i seen = refl
+pub acked-from : {by : Rule} (n l : ℕ) (ranks : List ℕ) (v : ends.End (editsBy by)) (items : List Place) (i seen : ℕ) → clientAcked (clientFrom n l ranks v items i) seen ≡ clientFrom n l ranks (acks seen v) items i
+acked-from n l ranks v items i seen = ap (with (clientFrom n l ranks v items i) items) (acked-line-from v i seen)
 
--- the line l of the server
-pub line-from : {by : Rule} (n initial : ℕ) (ranks items : List ℕ) (vs : ℕ → ends.End (editsBy by)) (is : ℕ → ℕ) (l : ℕ) → 1 ≤ l → l ≤ n
-    → lineOf (serverFrom n initial ranks items vs is) l ≡ lineFrom (vs l) (is l)
-line-from n initial ranks items vs is l a b =
-    let f : ℕ → Line = λ j. lineFrom (vs j) (is j) in
-    table-get f noLine 1 n (l - 1) (omega arith) ∙ ap f (omega arith)
+module _ {by : Rule} (n initial : ℕ) (ranks : List ℕ) (items : List Place) (vs : ℕ → ends.End (editsBy by)) (is : ℕ → ℕ) (l : ℕ) (lo : 1 ≤ l) (hi : l ≤ n) where
+  abbrev S : Server
+  S = serverFrom n initial ranks items vs is
 
-pub carried-from : {by : Rule} (n initial : ℕ) (ranks items : List ℕ) (vs : ℕ → ends.End (editsBy by)) (is : ℕ → ℕ) (l : ℕ) → 1 ≤ l → l ≤ n → (x : EditMessage (editsBy by))
-    → carried (lineOf (serverFrom n initial ranks items vs is) l) (x .seen) (x .edit) ≡ arrived x (vs l)
-carried-from n initial ranks items vs is l a b x =
-    ap (λ (v : Line). past (x .edit) (unacked v (x .seen))) (line-from n initial ranks items vs is l a b) ∙ past-same _ (x .edit) (drop (x .seen - vs l .acked) (vs l .pending))
+  -- the line l of the server
+  pub line-from : lineOf S l ≡ lineFrom (vs l) (is l)
+  line-from =
+      let f : ℕ → Line = λ j. lineFrom (vs j) (is j) in
+      table-get f noLine 1 n (l - 1) (omega arith) ∙ ap f (omega arith)
 
-pub server-taken-from : {by : Rule} (n initial : ℕ) (ranks items : List ℕ) (vs : ℕ → ends.End (editsBy by)) (is : ℕ → ℕ) (l : ℕ) → 1 ≤ l → l ≤ n → (x : EditMessage (editsBy by))
-    → serverTaken (serverFrom n initial ranks items vs is) l (x .seen) (x .edit)
-    ≡ serverFrom n initial ranks (applied (arrived x (vs l)) items) (at l (takes x (vs l)) (λ k. keeps (arrived x (vs l)) (vs k))) (at l (is l + insertsOf (x .edit)) is)
-server-taken-from n initial ranks items vs is l a b x =
-    let s = serverFrom n initial ranks items vs is in
-    let c = carried (lineOf s l) (x .seen) (x .edit) in
-    let t = arrived x (vs l) in
-    let same : c ≡ t = carried-from n initial ranks items vs is l a b x in
-    λ i. record {
-      n = n;
-      initial = initial;
-      ranks = ranks;
-      items = applied (same i) items;
-      lines = lines c same i;
-    }
-  where
-    taking : Line → Line
-    taking v = lineTaken (v .inserts + insertsOf (x .edit)) (x .seen) (x .edit) v
+  pub makers-from : makersOf S l ≡ makersIn (vs l .pending)
+  makers-from =
+      let f : ℕ → List Origin = λ j. makersIn (vs j .pending) in
+      table-get f [] 1 n (l - 1) (omega arith) ∙ ap f (omega arith)
 
-    keeping : Edit → Line → Line
-    keeping c v = lineKeeps (v .inserts) c v
+  pub carried-from : (x : EditMessage (editsBy by)) → carried (lineOf S l) (x .seen) (x .edit .edit) ≡ arrived x (vs l) .edit
+  carried-from x = ap (λ (v : Line). past (x .edit .edit) (unacked v (x .seen))) line-from ∙ past-same _ (x .edit) (x .seen - vs l .acked) (vs l .pending)
 
-    one : (j : ℕ) (c : Edit) → c ≡ arrived x (vs l) → (y : Bool) → eqb l j ≡ y
-        → cond y (taking (lineFrom (vs j) (is j))) (keeping c (lineFrom (vs j) (is j)))
-        ≡ lineFrom (cond y (takes x (vs l)) (keeps (arrived x (vs l)) (vs j))) (cond y (is l + insertsOf (x .edit)) (is j))
-    one j c q true e =
-        subst (λ (k : ℕ). taking (lineFrom (vs k) (is k)) ≡ lineFrom (takes x (vs l)) (is l + insertsOf (x .edit))) (eqb-true l j e)
-        (taken-line-from (vs l) (is l) (is l + insertsOf (x .edit)) x)
-    one j c q false e = kept-line-from (vs j) (is j) (is j) c ∙ ap (λ (d : Edit). lineFrom (keeps d (vs j)) (is j)) q
+  -- a table with line l treated by f and every other by g, where that gives the table of h
+  changed : {A : Type 0} (f g : A → A) (u h : ℕ → A) → ((j : ℕ) → cond (eqb l j) (f (u j)) (g (u j)) ≡ h j) → atPlace (l - 1) f g (table u 1 n) ≡ table h 1 n
+  changed f g u h one =
+      table-at f g u 1 n (l - 1)
+      ∙ ap (λ (m : ℕ). table (λ j. cond (eqb m j) (f (u j)) (g (u j))) 1 n) (omega arith)
+      ∙ table-cong (λ j. cond (eqb l j) (f (u j)) (g (u j))) h 1 n (λ j a b. one j)
 
-    lines : (c : Edit) → c ≡ arrived x (vs l)
-        → atPlace (l - 1) taking (keeping c) (table (λ j. lineFrom (vs j) (is j)) 1 n)
-        ≡ table (λ j. lineFrom (at l (takes x (vs l)) (λ k. keeps (arrived x (vs l)) (vs k)) j) (at l (is l + insertsOf (x .edit)) is j)) 1 n
-    lines c q =
-        let f : ℕ → Line = λ j. lineFrom (vs j) (is j) in
-        table-at taking (keeping c) f 1 n (l - 1)
-        ∙ ap (λ (m : ℕ). table (λ j. cond (eqb m j) (taking (f j)) (keeping c (f j))) 1 n) (omega arith)
-        ∙ table-cong (λ j. cond (eqb l j) (taking (f j)) (keeping c (f j)))
-        (λ j. lineFrom (at l (takes x (vs l)) (λ k. keeps (arrived x (vs l)) (vs k)) j) (at l (is l + insertsOf (x .edit)) is j)) 1 n
-        (λ j lo hi. one j c q (eqb l j) refl)
+  -- the origins that line l keeps once it has seen so many
+  dropped : (seen : ℕ) (os : List Origin) → os ≡ makersIn (vs l .pending) → unackedMakers S l seen os ≡ makersIn (drop (seen - vs l .acked) (vs l .pending))
+  dropped seen os e = ap₂ (λ (v : Line) (r : List Origin). drop (seen - v .acked) r) line-from e ∙ map-drop (λ d. d .origin) (seen - vs l .acked) (vs l .pending)
 
-pub server-acked-from : {by : Rule} (n initial : ℕ) (ranks items : List ℕ) (vs : ℕ → ends.End (editsBy by)) (is : ℕ → ℕ) (l : ℕ) → 1 ≤ l → l ≤ n → (seen : ℕ)
-    → serverAcked (serverFrom n initial ranks items vs is) l seen ≡ serverFrom n initial ranks items (at l (acks seen (vs l)) vs) is
-server-acked-from n initial ranks items vs is l a b seen = λ i. record { n = n; initial = initial; ranks = ranks; items = items; lines = lines i }
-  where
-    one : (j : ℕ) (y : Bool) → eqb l j ≡ y
-        → cond y (lineAcked seen (lineFrom (vs j) (is j))) (lineFrom (vs j) (is j)) ≡ lineFrom (cond y (acks seen (vs l)) (vs j)) (is j)
-    one j true e = subst (λ (k : ℕ). lineAcked seen (lineFrom (vs k) (is k)) ≡ lineFrom (acks seen (vs l)) (is k)) (eqb-true l j e) refl
-    one j false e = refl
+  module _ (x : EditMessage (editsBy by)) where
+    abbrev c : Edit
+    c = carried (lineOf S l) (x .seen) (x .edit .edit)
 
-    lines : atPlace (l - 1) (lineAcked seen) (λ v. v) (table (λ j. lineFrom (vs j) (is j)) 1 n)
-        ≡ table (λ j. lineFrom (at l (acks seen (vs l)) vs j) (is j)) 1 n
-    lines =
-        let f : ℕ → Line = λ j. lineFrom (vs j) (is j) in
-        table-at (lineAcked seen) (λ v. v) f 1 n (l - 1)
-        ∙ ap (λ (m : ℕ). table (λ j. cond (eqb m j) (lineAcked seen (f j)) (f j)) 1 n) (omega arith)
-        ∙ table-cong (λ j. cond (eqb l j) (lineAcked seen (f j)) (f j)) (λ j. lineFrom (at l (acks seen (vs l)) vs j) (is j)) 1 n (λ j lo hi. one j (eqb l j) refl)
+    abbrev a : Named
+    a = arrived x (vs l)
+
+    abbrev vs′ : ℕ → ends.End (editsBy by)
+    vs′ = at l (takes x (vs l)) (λ k. keeps a (vs k))
+
+    abbrev is′ : ℕ → ℕ
+    is′ = at l (is l + insertsOf (x .edit .edit)) is
+
+    abbrev taking : Line → Line
+    taking v = lineTaken (v .inserts + insertsOf (x .edit .edit)) (x .seen) (x .edit .edit) v
+
+    taken-line : (j : ℕ) (y : Bool) → eqb l j ≡ y
+        → cond y (taking (lineFrom (vs j) (is j))) (lineKeeps (is j) c (lineFrom (vs j) (is j)))
+        ≡ lineFrom (cond y (takes x (vs l)) (keeps a (vs j))) (cond y (is l + insertsOf (x .edit .edit)) (is j))
+    taken-line j true e =
+        subst (λ (k : ℕ). taking (lineFrom (vs k) (is k)) ≡ lineFrom (takes x (vs l)) (is l + insertsOf (x .edit .edit))) (eqb-true l j e)
+        (taken-line-from (vs l) (is l) (is l + insertsOf (x .edit .edit)) x)
+    taken-line j false e = ap (λ (d : Edit). lineKeeps (is j) d (lineFrom (vs j) (is j))) (carried-from x) ∙ kept-line-from (vs j) (is j) (is j) a
+
+    taken-makers : (j : ℕ) (y : Bool) → eqb l j ≡ y
+        → cond y (unackedMakers S l (x .seen) (makersIn (vs j .pending))) (makersIn (vs j .pending) ++ (x .edit .origin ∷ [])) ≡ makersIn (cond y (takes x (vs l)) (keeps a (vs j)) .pending)
+    taken-makers j true e =
+        dropped (x .seen) (makersIn (vs j .pending)) (ap (λ (k : ℕ). makersIn (vs k .pending)) (sym (eqb-true l j e)))
+        ∙ sym (over-origins by (x .edit) (drop (x .seen - vs l .acked) (vs l .pending)))
+    taken-makers j false e =
+        ap (λ (o : Origin). makersIn (vs j .pending) ++ (o ∷ [])) (sym (past-origin by (x .edit) (drop (x .seen - vs l .acked) (vs l .pending))))
+        ∙ sym (map-append (λ d. d .origin) (vs j .pending) (a ∷ []))
+
+    pub server-taken-from : serverTaken S l (x .edit .origin) (x .seen) (x .edit .edit) ≡ serverFrom n initial ranks (appliedNamed a items) vs′ is′
+    server-taken-from =
+        λ i. record {
+          n = n;
+          initial = initial;
+          ranks = ranks;
+          items = arrived-list (vs l) items x c (carried-from x) i;
+          lines = changed taking (λ v. lineKeeps (v .inserts) c v) (λ j. lineFrom (vs j) (is j)) (λ j. lineFrom (vs′ j) (is′ j)) (λ j. taken-line j (eqb l j) refl) i;
+          makers = changed (unackedMakers S l (x .seen)) (λ os. os ++ (x .edit .origin ∷ [])) (λ j. makersIn (vs j .pending)) (λ j. makersIn (vs′ j .pending)) (λ j. taken-makers j (eqb l j) refl) i;
+        }
+
+  module _ (seen : ℕ) where
+    abbrev ws : ℕ → ends.End (editsBy by)
+    ws = at l (acks seen (vs l)) vs
+
+    acked-line : (j : ℕ) (y : Bool) → eqb l j ≡ y → cond y (lineAcked seen (lineFrom (vs j) (is j))) (lineFrom (vs j) (is j)) ≡ lineFrom (cond y (acks seen (vs l)) (vs j)) (is j)
+    acked-line j true e = subst (λ (k : ℕ). lineAcked seen (lineFrom (vs k) (is k)) ≡ lineFrom (acks seen (vs l)) (is k)) (eqb-true l j e) (acked-line-from (vs l) (is l) seen)
+    acked-line j false e = refl
+
+    acked-makers : (j : ℕ) (y : Bool) → eqb l j ≡ y → cond y (unackedMakers S l seen (makersIn (vs j .pending))) (makersIn (vs j .pending)) ≡ makersIn (cond y (acks seen (vs l)) (vs j) .pending)
+    acked-makers j true e = dropped seen (makersIn (vs j .pending)) (ap (λ (k : ℕ). makersIn (vs k .pending)) (sym (eqb-true l j e)))
+    acked-makers j false e = refl
+
+    pub server-acked-from : serverAcked S l seen ≡ serverFrom n initial ranks items ws is
+    server-acked-from =
+        λ i. record {
+          n = n;
+          initial = initial;
+          ranks = ranks;
+          items = items;
+          lines = changed (lineAcked seen) (λ v. v) (λ j. lineFrom (vs j) (is j)) (λ j. lineFrom (ws j) (is j)) (λ j. acked-line j (eqb l j) refl) i;
+          makers = changed (unackedMakers S l seen) (λ os. os) (λ j. makersIn (vs j .pending)) (λ j. makersIn (ws j .pending)) (λ j. acked-makers j (eqb l j) refl) i;
+        }

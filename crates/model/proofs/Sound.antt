@@ -1,13 +1,15 @@
 -- Question 2 is kept by every call.
 use mathlib.Core.Path.{_≡_, refl, sym, subst}
-use mathlib.Core.Bool.{Bool, true, false, _&&_, _||_}
+use mathlib.Core.Bool.{Bool, true, false}
 use mathlib.Core.List.{List, [], _∷_}
-use Prim.Native.Nat.{ℕ, zero, suc, _+_, _-_, _≤_}
+use Prim.Native.Nat.{ℕ, zero, suc, _+_, _-_}
 use native.Mathlib.Omega.{arith}
 use lib.Dec.{leb, eqb}
 use lib.ListN.{length, replicate, length-replicate}
 use borrow.Author.Tests.{leb-true, ltb-true, eq-eqb, eqb-true}
-use Rattle.ot.specs.Edit.{Edit, Nothing, Delete, Insert, applied, fits}
+use Rattle.ot.specs.Edit.{Edit, Nothing, Delete, Insert, fits}
+use Rattle.list.specs.Places.{initialPlaces}
+use Rattle.list.proofs.Places.{initial-length, initial-numbered}
 use Rattle.wire.specs.declared.Header.{Header}
 use Rattle.wire.specs.declared.Message.{Message}
 use Rattle.wire.specs.declared.Message.the-variants as message
@@ -17,48 +19,50 @@ use Rattle.wire.specs.Message.{inRange, headerInRange}
 use Rattle.wire.specs.Bytes.{parsed}
 use Rattle.wire.proofs.Ranges.{header-bounds, insert-bounds, delete-bounds}
 use Rattle.wire.proofs.Codec.{codec}
-use Rattle.model.specs.Limits.{maxLines, maxInserts, maxEdits, maxPending, maxItems, maxInitial, maxOthers}
-use Rattle.model.specs.Questions.{ask, asks, between, Answer, answer}
+use Rattle.model.specs.Limits.{maxLines, maxInserts, maxPending, maxItems, maxInitial}
+use Rattle.model.specs.Questions.{ask, asks, between, Report, noReport, Answer, answer}
 use Rattle.model.specs.Cross.{priority, insertsOf}
 use Rattle.model.specs.Ranks.{rankOf}
-use Rattle.model.specs.Line.{Line, noLine, other}
-use Rattle.model.specs.Client.{Client, ownRank, noClient, soundClient, openClientQuestions, openClient, edited, editQuestions, editClient, clientTaken, clientAcked, clientEditQuestions, clientTakesEdit, clientAckQuestions, clientTakesAck, clientReads, takeClient}
-use Rattle.model.specs.Server.{Server, noServer, lineOf, total, soundServer, openServerQuestions, openServer, serverTaken, serverAcked, serverEditQuestions, serverTakesEdit, serverAckQuestions, serverTakesAck, serverReads, takeServer}
+use Rattle.model.specs.Line.{Line, noLine, other, lineReport}
+use Rattle.model.specs.Client.{Client, ownRank, noClient, soundClient, openClientQuestions, openClient, listThen, edited, editQuestions, editClient, clientTaken, clientAcked, clientEditQuestions, clientTakesEdit, clientAckQuestions, clientTakesAck, clientReads, takeClient}
+use Rattle.model.specs.Server.{Server, noServer, lineOf, total, otherMakers, ownOrigin, soundServer, openServerQuestions, openServer, serverTaken, serverAcked, serverEditQuestions, serverTakesEdit, serverAckQuestions, serverTakesAck, serverReads, takeServer}
 use Rattle.model.specs.Sound.{KeepsSound}
 pub use Rattle.model.proofs.Tests.{three}
-use Rattle.model.proofs.Tests.{and-left, and-right, hold, Yes, yes-all, answer-keeps, between-true}
+use Rattle.model.proofs.Tests.{four, and-left, and-right, hold, Yes, yes-all, answer-keeps, between-true}
 use Rattle.model.proofs.SoundLine.{no-line, asked}
 use Rattle.model.proofs.SoundClient.{client-facts, facts-client, edited-sound, taken-sound, acked-sound}
-use Rattle.model.proofs.SoundServer.{LinesFacts, server-facts, facts-server, inserts-one, lastQuestions, server-taken-sound, server-acked-sound}
+use Rattle.model.proofs.SoundServer.{LinesFacts, MakersFacts, server-facts, facts-server, inserts-one, lastQuestions, server-taken-sound, server-acked-sound}
 
 -- An answer with refusal 0 hands out the new end.
-pub accepted : {E : Type 0} (r : ℕ) (old new : E) (k : ℕ) → (answer r old new k) .refusal ≡ 0 → r ≡ 0
+pub accepted : {E : Type 0} (r : ℕ) (old new : E) (k : Report) → (answer r old new k) .refusal ≡ 0 → r ≡ 0
 unfolding answer
 accepted {E} r old new k e = go (eqb r 0) refl e
   where
-    go : (b : Bool) → eqb r 0 ≡ b → (mathlib.Core.Bool.cond {A = Answer E} b (record { refusal = 0; end = new; passed = k }) (record { refusal = r; end = old; passed = 0 })) .refusal ≡ 0 → r ≡ 0
+    go : (b : Bool) → eqb r 0 ≡ b → (mathlib.Core.Bool.cond {A = Answer E} b (record { refusal = 0; end = new; report = k }) (record { refusal = r; end = old; report = noReport })) .refusal ≡ 0 → r ≡ 0
     go true h e′ = eqb-true r 0 h
     go false h e′ = e′
 
-pub new-end : {E : Type 0} (r : ℕ) (old new : E) (k : ℕ) → r ≡ 0 → answer r old new k ≡ record { refusal = 0; end = new; passed = k }
+pub new-end : {E : Type 0} (r : ℕ) (old new : E) (k : Report) → r ≡ 0 → answer r old new k ≡ record { refusal = 0; end = new; report = k }
 unfolding answer
 new-end r old new k e = rw e
 
 pub opens-client : (n line : ℕ) (ranks items : List ℕ) → openClient n line ranks items .refusal ≡ 0 → soundClient (openClient n line ranks items .end) ≡ true
 unfolding openClient
 opens-client n line ranks items e =
-    let c : Client = record { n = n; line = line; ranks = ranks; items = items; own = noLine } in
+    let c : Client = record { n = n; line = line; ranks = ranks; items = initialPlaces items; own = noLine } in
     let r = asks (openClientQuestions n line ranks items) in
-    let z : r ≡ 0 = accepted r noClient c 0 e in
+    let z : r ≡ 0 = accepted r noClient c noReport e in
     let y = yes-all (openClientQuestions n line ranks items) (omega arith) z in
     let h = hold (between 1 maxLines n ∷ between 1 n line ∷ leb (length items) maxInitial ∷ []) (y .0) in
-    subst (λ (a : Answer Client). soundClient (a .end) ≡ true) (sym (new-end r noClient c 0 z))
+    let most = leb-true (length items) maxInitial (h .1 .1 .0) in
+    subst (λ (a : Answer Client). soundClient (a .end) ≡ true) (sym (new-end r noClient c noReport z))
     (facts-client c
     (record {
       lines = between-true 1 maxLines n (h .0);
       line = between-true 1 n line (h .1 .0);
       ranked = y .1 .0;
-      items = omega (arith, leb-true (length items) maxInitial (h .1 .1 .0));
+      items = omega (arith, most, initial-length items);
+      numbers = initial-numbered items most;
       taken = omega arith;
       own = no-line (eqb (ownRank c));
     }))
@@ -67,14 +71,14 @@ opens-client n line ranks items e =
 pub edits-sound : (c : Client) (e : Edit) → priority (eqb (ownRank c)) e ≡ true → soundClient c ≡ true → soundClient (editClient c e .end) ≡ true
 unfolding editClient
 edits-sound c e p s =
-    answer-keeps (λ d. soundClient d ≡ true) (asks (editQuestions c e)) c (edited c e) 0 s
+    answer-keeps (λ d. soundClient d ≡ true) (asks (editQuestions c e)) c (edited c e) noReport s
     (λ z.
     let y = yes-all (editQuestions c e) (omega arith) z in
     let q9 = y .1 .0 in
     facts-client (edited c e)
     (edited-sound c e (client-facts c s) p
-    (and-left (fits e (length (c .items))) (leb (length (applied e (c .items))) maxItems) q9)
-    (leb-true (length (applied e (c .items))) maxItems (and-right (fits e (length (c .items))) (leb (length (applied e (c .items))) maxItems) q9))
+    (and-left (fits e (length (c .items))) (leb (length (listThen c e)) maxItems) q9)
+    (leb-true (length (listThen c e)) maxItems (and-right (fits e (length (c .items))) (leb (length (listThen c e)) maxItems) q9))
     (omega (arith, leb-true (c .own .inserts + insertsOf e) _ (y .1 .1 .0)))
     (omega (arith, ltb-true (c .own .made) _ (y .1 .1 .1 .0)))
     (ltb-true (c .own .made - c .own .acked) maxPending (y .1 .1 .1 .1 .0))
@@ -83,17 +87,18 @@ edits-sound c e p s =
 pub client-takes-edit : (c : Client) (h : Header) (e : Edit) → headerInRange h ≡ true → soundClient c ≡ true → soundClient (clientTakesEdit c h e .end) ≡ true
 unfolding clientTakesEdit
 client-takes-edit c h e range s =
-    answer-keeps (λ d. soundClient d ≡ true) (asks (clientEditQuestions c h e)) c (clientTaken c (h .seen) e) _ s
+    answer-keeps (λ d. soundClient d ≡ true) (asks (clientEditQuestions c h e)) c (clientTaken c (h .origin) (h .seen) e) _ s
     (λ z.
     let y = yes-all (clientEditQuestions c h e) (omega arith) z in
     let q = asked (c .own) (c .items) h e [] (y .1 .1) in
-    facts-client (clientTaken c (h .seen) e)
-    (taken-sound c h e (client-facts c s) q (omega (arith, q .next, header-bounds h range .number-high))))
+    let bounds = header-bounds h range in
+    facts-client (clientTaken c (h .origin) (h .seen) e)
+    (taken-sound c h e (client-facts c s) q (omega (arith, q .next, bounds .number-high)) (bounds .made-high)))
 
 pub client-takes-ack : (c : Client) (l d seen : ℕ) → soundClient c ≡ true → soundClient (clientTakesAck c l d seen .end) ≡ true
 unfolding clientTakesAck
 client-takes-ack c l d seen s =
-    answer-keeps (λ x. soundClient x ≡ true) (asks (clientAckQuestions c l d seen)) c (clientAcked c seen) 0 s
+    answer-keeps (λ x. soundClient x ≡ true) (asks (clientAckQuestions c l d seen)) c (clientAcked c seen) noReport s
     (λ z.
     let y = yes-all (clientAckQuestions c l d seen) (omega arith) z in
     facts-client (clientAcked c seen)
@@ -102,7 +107,7 @@ client-takes-ack c l d seen s =
 client-reads : (c : Client) (m : Read) → ((x : Message) → m ≡ read.Message x → inRange x ≡ true) → soundClient c ≡ true → soundClient (clientReads c m .end) ≡ true
 unfolding inRange
 client-reads c read.Refused r s =
-    answer-keeps (λ d. soundClient d ≡ true) (asks (ask 2 (soundClient c) ∷ ask 3 false ∷ [])) c c 0 s (λ z. s)
+    answer-keeps (λ d. soundClient d ≡ true) (asks (ask 2 (soundClient c) ∷ ask 3 false ∷ [])) c c noReport s (λ z. s)
 client-reads c (read.Message (message.Insert h p x q)) r s =
     client-takes-edit c h (Insert p x q) (insert-bounds h p x q (r (message.Insert h p x q) refl) .header-in-range) s
 client-reads c (read.Message (message.Delete h p)) r s =
@@ -123,6 +128,11 @@ fresh-lines n ranks l (suc k) = (
   fresh-lines n ranks (suc l) k,
 )
 
+fresh-makers : (n l k : ℕ) → MakersFacts n l (replicate k noLine) (replicate k [])
+unfolding otherMakers
+fresh-makers n l zero = tt
+fresh-makers n l (suc k) = (record { count = refl; others = refl }, fresh-makers n (suc l) k)
+
 fresh-total : (f : Line → ℕ) → f noLine ≡ 0 → (k : ℕ) → total f (replicate k noLine) ≡ 0
 fresh-total f e zero = refl
 fresh-total f e (suc k) = omega (arith, e, fresh-total f e k)
@@ -130,58 +140,55 @@ fresh-total f e (suc k) = omega (arith, e, fresh-total f e k)
 pub opens-server : (n : ℕ) (ranks items : List ℕ) → openServer n ranks items .refusal ≡ 0 → soundServer (openServer n ranks items .end) ≡ true
 unfolding openServer
 opens-server n ranks items e =
-    let s : Server = record { n = n; initial = length items; ranks = ranks; items = items; lines = replicate n noLine } in
+    let s : Server = record { n = n; initial = length items; ranks = ranks; items = initialPlaces items; lines = replicate n noLine; makers = replicate n [] } in
     let r = asks (openServerQuestions n ranks items) in
-    let z : r ≡ 0 = accepted r noServer s 0 e in
+    let z : r ≡ 0 = accepted r noServer s noReport e in
     let y = yes-all (openServerQuestions n ranks items) (omega arith) z in
     let h = hold (between 1 maxLines n ∷ leb (length items) maxInitial ∷ []) (y .0) in
     let most = leb-true (length items) maxInitial (h .1 .0) in
-    subst (λ (a : Answer Server). soundServer (a .end) ≡ true) (sym (new-end r noServer s 0 z))
+    subst (λ (a : Answer Server). soundServer (a .end) ≡ true) (sym (new-end r noServer s noReport z))
     (facts-server s
     (record {
       n = between-true 1 maxLines n (h .0);
       initial = most;
       ranked = y .1 .0;
-      items = omega arith;
+      items = omega (arith, initial-length items);
+      numbers = initial-numbered items most;
       count = length-replicate n noLine;
       lines = subst (λ (k : ℕ). LinesFacts n ranks k 1 (replicate n noLine)) (sym (fresh-total (λ v. v .taken) refl n)) (fresh-lines n ranks 1 n);
-      inserted = omega arith;
+      makers = fresh-makers n 1 n;
+      inserted = omega (arith, initial-length items);
     }))
 
--- going up, a number is at most 400
-up-number : (h : Header) → headerInRange h ≡ true → h .direction ≡ 0 → h .number ≤ maxEdits
-up-number h range d =
-    let tests = and-right (between 1 8 (h .line)) (eqb (h .direction) 0 && (between 1 maxEdits (h .number) && leb (h .seen) maxOthers) || eqb (h .direction) 1 && (between 1 maxOthers (h .number) && leb (h .seen) maxEdits)) range in
-    go (eqb (h .direction) 0) (between 1 maxEdits (h .number) && leb (h .seen) maxOthers) (eqb (h .direction) 1) (between 1 maxOthers (h .number) && leb (h .seen) maxEdits) refl refl
-    (eq-eqb (h .direction) 0 d) tests
-  where
-    go : (a b x y : Bool) → (between 1 maxEdits (h .number) && leb (h .seen) maxOthers) ≡ b → eqb (h .direction) 1 ≡ x → a ≡ true → (a && b || x && y) ≡ true → h .number ≤ maxEdits
-    go true true x y eb ex ea t = between-true 1 maxEdits (h .number) (and-left (between 1 maxEdits (h .number)) (leb (h .seen) maxOthers) eb) .1
-    go true false true y eb ex ea t = absurd (omega (arith, d, eqb-true (h .direction) 1 ex))
-    go true false false y eb ex ea t = absurd (let w : _≡_ {A = ℕ} 0 1 = cc in omega arith)
-    go false b x y eb ex ea t = absurd (let w : _≡_ {A = ℕ} 0 1 = cc in omega arith)
+pub own-origin : (h : Header) → ownOrigin h ≡ true → (h .origin .line ≡ h .line) × (h .origin .number ≡ h .number)
+own-origin h e =
+    let line = eqb (h .origin .line) (h .line) in
+    let number = eqb (h .origin .number) (h .number) in
+    (eqb-true (h .origin .line) (h .line) (and-left line number e), eqb-true (h .origin .number) (h .number) (and-right line number e))
 
 pub server-takes-edit : (s : Server) (h : Header) (e : Edit) → headerInRange h ≡ true → soundServer s ≡ true → soundServer (serverTakesEdit s h e .end) ≡ true
 unfolding serverTakesEdit
 server-takes-edit s h e range t =
-    answer-keeps (λ d. soundServer d ≡ true) (asks (serverEditQuestions s h e)) s (serverTaken s (h .line) (h .seen) e) (lineOf s (h .line) .made - h .seen) t
+    answer-keeps (λ d. soundServer d ≡ true) (asks (serverEditQuestions s h e)) s (serverTaken s (h .line) (h .origin) (h .seen) e) (lineReport (lineOf s (h .line)) (h .seen) e) t
     (λ z.
     let y = yes-all (serverEditQuestions s h e) (omega arith) z in
     let v = lineOf s (h .line) in
-    let q4 = three (eqb (h .direction) 0) (between 1 (s .n) (h .line)) (priority (eqb (rankOf (s .ranks) (h .line))) e) (y .1 .0) in
+    let q4 = four (eqb (h .direction) 0) (between 1 (s .n) (h .line)) (priority (eqb (rankOf (s .ranks) (h .line))) e) (ownOrigin h) (y .1 .0) in
+    let own = own-origin h (q4 .3) in
+    let bounds = header-bounds h range in
     let lines = between-true 1 (s .n) (h .line) (q4 .1) in
     let q = asked v (s .items) h e (lastQuestions s h e) (y .1 .1) in
     let more : Yes (lastQuestions s h e) = y .1 .1 .1 .1 .1 .1 .1 in
-    facts-server (serverTaken s (h .line) (h .seen) e)
-    (server-taken-sound s h e (server-facts s t) (lines .0) (lines .1) (q4 .2) q
-    (omega (arith, q .next, up-number h range (eqb-true (h .direction) 0 (q4 .0))))
+    facts-server (serverTaken s (h .line) (h .origin) (h .seen) e)
+    (server-taken-sound s h e (server-facts s t) (lines .0) (lines .1) (q4 .2) (own .0) (bounds .made-low, bounds .made-high) q
+    (omega (arith, q .next, own .1, bounds .made-high))
     (leb-true (v .inserts + insertsOf e) maxInserts (more .0))
     (more .1 .0)))
 
 pub server-takes-ack : (s : Server) (l d seen : ℕ) → soundServer s ≡ true → soundServer (serverTakesAck s l d seen .end) ≡ true
 unfolding serverTakesAck
 server-takes-ack s l d seen t =
-    answer-keeps (λ x. soundServer x ≡ true) (asks (serverAckQuestions s l d seen)) s (serverAcked s l seen) 0 t
+    answer-keeps (λ x. soundServer x ≡ true) (asks (serverAckQuestions s l d seen)) s (serverAcked s l seen) noReport t
     (λ z.
     let y = yes-all (serverAckQuestions s l d seen) (omega arith) z in
     let lines = between-true 1 (s .n) l (and-right (eqb d 0) (between 1 (s .n) l) (y .1 .0)) in
@@ -191,7 +198,7 @@ server-takes-ack s l d seen t =
 server-reads : (s : Server) (m : Read) → ((x : Message) → m ≡ read.Message x → inRange x ≡ true) → soundServer s ≡ true → soundServer (serverReads s m .end) ≡ true
 unfolding inRange
 server-reads s read.Refused r t =
-    answer-keeps (λ d. soundServer d ≡ true) (asks (ask 2 (soundServer s) ∷ ask 3 false ∷ [])) s s 0 t (λ z. t)
+    answer-keeps (λ d. soundServer d ≡ true) (asks (ask 2 (soundServer s) ∷ ask 3 false ∷ [])) s s noReport t (λ z. t)
 server-reads s (read.Message (message.Insert h p x q)) r t =
     server-takes-edit s h (Insert p x q) (insert-bounds h p x q (r (message.Insert h p x q) refl) .header-in-range) t
 server-reads s (read.Message (message.Delete h p)) r t =

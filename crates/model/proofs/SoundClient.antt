@@ -6,12 +6,15 @@ use native.Mathlib.Omega.{arith}
 use lib.Dec.{eqb}
 use lib.ListN.{length}
 use borrow.Author.Tests.{leb-true, le-leb}
-use Rattle.ot.specs.Edit.{Edit, applied, fits}
+use Rattle.ot.specs.Edit.{Edit, fits}
+use Rattle.list.specs.Places.{placeOf, numbered}
+use Rattle.list.proofs.Places.{numbered-applied}
 use Rattle.wire.specs.declared.Header.{Header}
 use Rattle.model.specs.Limits.{maxLines, maxInserts, maxEdits, maxOthers, maxPending, maxItems}
 use Rattle.model.specs.Cross.{priority, insertsOf}
 use Rattle.model.specs.Ranks.{ranking}
-use Rattle.model.specs.Client.{Client, ownRank, clientTests, soundClient, edited, clientTaken, clientAcked}
+use Rattle.model.specs.Line.{carried}
+use Rattle.model.specs.Client.{Client, ownRank, clientTests, soundClient, originHere, listThen, edited, clientTaken, clientAcked}
 use Rattle.model.proofs.Tests.{hold, held, between-true, true-between}
 use Rattle.model.proofs.Cross.{fits-placed}
 use Rattle.model.proofs.SoundLine.{LineFacts, line-facts, facts-line, Asked, kept-line, taken-line, acked-line}
@@ -22,6 +25,7 @@ pub record ClientFacts (c : Client) : Type 0 where
   pub line : (1 ≤ c .line) × (c .line ≤ c .n)
   pub ranked : ranking (c .n) (c .ranks) ≡ true
   pub items : length (c .items) ≤ maxItems
+  pub numbers : numbered (c .items) ≡ true
   pub taken : c .own .taken ≤ maxOthers
   pub own : LineFacts (c .own .made) (eqb (ownRank c)) (c .own)
 
@@ -34,8 +38,9 @@ client-facts c s =
       line = between-true 1 (c .n) (c .line) (h .1 .0);
       ranked = h .1 .1 .0;
       items = leb-true (length (c .items)) maxItems (h .1 .1 .1 .0);
-      taken = leb-true (c .own .taken) maxOthers (h .1 .1 .1 .1 .0);
-      own = line-facts (c .own .made) (eqb (ownRank c)) (c .own) (h .1 .1 .1 .1 .1);
+      numbers = h .1 .1 .1 .1 .0;
+      taken = leb-true (c .own .taken) maxOthers (h .1 .1 .1 .1 .1 .0);
+      own = line-facts (c .own .made) (eqb (ownRank c)) (c .own) (h .1 .1 .1 .1 .1 .1);
     }
 
 pub facts-client : (c : Client) → ClientFacts c → soundClient c ≡ true
@@ -49,7 +54,7 @@ facts-client c f =
           f .ranked,
           (
             le-leb (length (c .items)) maxItems (f .items),
-            (le-leb (c .own .taken) maxOthers (f .taken), facts-line (c .own .made) (eqb (ownRank c)) (c .own) (f .own)),
+            (f .numbers, (le-leb (c .own .taken) maxOthers (f .taken), facts-line (c .own .made) (eqb (ownRank c)) (c .own) (f .own))),
           ),
         ),
       ),
@@ -57,28 +62,32 @@ facts-client c f =
 
 -- An edit of its own, where no question said no.
 pub edited-sound : (c : Client) (e : Edit) → ClientFacts c → priority (eqb (ownRank c)) e ≡ true
-    → fits e (length (c .items)) ≡ true → length (applied e (c .items)) ≤ maxItems → c .own .inserts + insertsOf e ≤ maxInserts → c .own .made < maxEdits
+    → fits e (length (c .items)) ≡ true → length (listThen c e) ≤ maxItems → c .own .inserts + insertsOf e ≤ maxInserts → c .own .made < maxEdits
     → c .own .made - c .own .acked < maxPending → insertsOf e ≤ 1 → ClientFacts (edited c e)
 edited-sound c e f p q9 q9′ q10 q11 q12 one =
+    let here = originHere c (c .own .made + 1) in
     record {
       lines = f .lines;
       line = f .line;
       ranked = f .ranked;
       items = omega (arith, q9′, f .items);
+      numbers = numbered-applied here e (c .items) (omega arith) (f .numbers);
       taken = f .taken;
       own =
           kept-line (c .own .made) (c .own .made + 1) (eqb (ownRank c)) (c .own .inserts + insertsOf e) e (c .own) (f .own)
-          (omega arith) q10 (omega (arith, f .own .inserts-edits)) q12 (fits-placed e (c .items) (f .items) q9 q9′) p;
+          (omega arith) q10 (omega (arith, f .own .inserts-edits)) q12 (fits-placed (placeOf here) e (c .items) (f .items) q9 q9′) p;
     }
 
 -- Another client's edit taken, where no question said no.
-pub taken-sound : (c : Client) (h : Header) (e : Edit) → ClientFacts c → Asked (c .own) (c .items) h e → c .own .taken < maxOthers → ClientFacts (clientTaken c (h .seen) e)
-taken-sound c h e f q t =
+pub taken-sound : (c : Client) (h : Header) (e : Edit) → ClientFacts c → Asked (c .own) (c .items) h e → c .own .taken < maxOthers → h .origin .number ≤ maxEdits
+    → ClientFacts (clientTaken c (h .origin) (h .seen) e)
+taken-sound c h e f q t m =
     record {
       lines = f .lines;
       line = f .line;
       ranked = f .ranked;
       items = q .size;
+      numbers = numbered-applied (h .origin) (carried (c .own) (h .seen) e) (c .items) (omega arith) (f .numbers);
       taken = omega arith;
       own =
           taken-line (c .own .made) (c .own .made) (eqb (ownRank c)) (c .own .inserts) (c .own) (c .items) h e (f .own) q
@@ -92,6 +101,7 @@ acked-sound c seen f q7 q8 =
       line = f .line;
       ranked = f .ranked;
       items = f .items;
+      numbers = f .numbers;
       taken = f .taken;
       own = acked-line (c .own .made) (eqb (ownRank c)) seen (c .own) (f .own) q7 q8;
     }

@@ -7,7 +7,8 @@ use native.Mathlib.Omega.{arith}
 use lib.Dec.{leb}
 use lib.ListN.{length, length-append, length-drop}
 use borrow.Author.Tests.{leb-true, le-leb, lt-ltb, eq-eqb, eqb-true}
-use Rattle.ot.specs.Edit.{Edit, applied, fits}
+use Rattle.ot.specs.Edit.{Edit, fits}
+use Rattle.list.specs.Places.{Place, appliedBy}
 use Rattle.wire.specs.declared.Header.{Header}
 use Rattle.model.specs.Limits.{maxInserts, maxEdits, maxPending, maxItems}
 use Rattle.model.specs.Questions.{Question}
@@ -70,29 +71,29 @@ no-line right =
     }
 
 -- What questions 5 to 9 have found of an edit that no question refused.
-pub record Asked (v : Line) (items : List ℕ) (h : Header) (e : Edit) : Type 0 where
+pub record Asked (v : Line) (items : List Place) (h : Header) (e : Edit) : Type 0 where
   pub next : h .number ≡ v .taken + 1
   pub low : v .acked ≤ h .seen
   pub high : h .seen ≤ v .made
   pub fit : fits (carried v (h .seen) e) (length items) ≡ true
   pub placed : allPlaced (over e (unacked v (h .seen))) ≡ true
-  pub size : length (applied (carried v (h .seen) e) items) ≤ maxItems
+  pub size : length (appliedBy (h .origin) (carried v (h .seen) e) items) ≤ maxItems
 
-pub asked : (v : Line) (items : List ℕ) (h : Header) (e : Edit) (more : List Question) → Yes (takeQuestions v items h e more) → Asked v items h e
+pub asked : (v : Line) (items : List Place) (h : Header) (e : Edit) (more : List Question) → Yes (takeQuestions v items h e more) → Asked v items h e
 asked v items h e more y =
     let q9 =
     three (fits (carried v (h .seen) e) (length items)) (allPlaced (over e (unacked v (h .seen))))
-    (leb (length (applied (carried v (h .seen) e) items)) maxItems) (y .1 .1 .1 .1 .0) in
+    (leb (length (appliedBy (h .origin) (carried v (h .seen) e) items)) maxItems) (y .1 .1 .1 .1 .0) in
     record {
       next = eqb-true (h .number) (v .taken + 1) (y .1 .0);
       low = omega (arith, leb-true _ (h .seen) (y .1 .1 .0));
       high = omega (arith, leb-true (h .seen) _ (y .1 .1 .1 .0));
       fit = q9 .0;
       placed = q9 .1;
-      size = leb-true (length (applied (carried v (h .seen) e) items)) maxItems (q9 .2);
+      size = leb-true (length (appliedBy (h .origin) (carried v (h .seen) e) items)) maxItems (q9 .2);
     }
 
-pub yes-asked : (v : Line) (items : List ℕ) (h : Header) (e : Edit) (more : List Question) → Asked v items h e → Yes more → Yes (takeQuestions v items h e more)
+pub yes-asked : (v : Line) (items : List Place) (h : Header) (e : Edit) (more : List Question) → Asked v items h e → Yes more → Yes (takeQuestions v items h e more)
 yes-asked v items h e more q rest = (
   lt-ltb (v .taken) (h .number) (omega (arith, q .next)),
   (
@@ -103,9 +104,9 @@ yes-asked v items h e more q rest = (
         le-leb (h .seen) (v .made) (q .high),
         (
           both (fits (carried v (h .seen) e) (length items) && allPlaced (over e (unacked v (h .seen))))
-              (leb (length (applied (carried v (h .seen) e) items)) maxItems)
+              (leb (length (appliedBy (h .origin) (carried v (h .seen) e) items)) maxItems)
               (both (fits (carried v (h .seen) e) (length items)) (allPlaced (over e (unacked v (h .seen)))) (q .fit) (q .placed))
-              (le-leb (length (applied (carried v (h .seen) e) items)) maxItems (q .size)),
+              (le-leb (length (appliedBy (h .origin) (carried v (h .seen) e) items)) maxItems (q .size)),
           rest,
         ),
       ),
@@ -129,7 +130,7 @@ kept-line k k′ right i e v f m q10 ik q12 p r =
     }
 
 -- An edit is taken, where questions 5 to 9 said yes.
-pub taken-line : (k k′ : ℕ) (right : ℕ → Bool) (i : ℕ) (v : Line) (items : List ℕ) (h : Header) (e : Edit) → LineFacts k right v → Asked v items h e
+pub taken-line : (k k′ : ℕ) (right : ℕ → Bool) (i : ℕ) (v : Line) (items : List Place) (h : Header) (e : Edit) → LineFacts k right v → Asked v items h e
     → k′ ≤ maxEdits → i ≤ maxInserts → i ≤ k′ → LineFacts k′ right (lineTaken i (h .seen) e v)
 taken-line k k′ right i v items h e f q m q10 ik =
     let seen = h .seen in

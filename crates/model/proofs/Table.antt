@@ -45,7 +45,7 @@ pub cond-ne : {A : Type 0} (i j : ℕ) (x y : A) → (i ≡ j → ⊥) → cond 
 cond-ne i j x y e = rw (ne-eqb i j e)
 
 -- one place treated by f and all others by g
-pub table-at : (f g : Line → Line) (h : ℕ → Line) (l k i : ℕ) → atPlace i f g (table h l k) ≡ table (λ j. cond (eqb (l + i) j) (f (h j)) (g (h j))) l k
+pub table-at : {A : Type 0} (f g : A → A) (h : ℕ → A) (l k i : ℕ) → atPlace i f g (table h l k) ≡ table (λ j. cond (eqb (l + i) j) (f (h j)) (g (h j))) l k
 unfolding atPlace
 table-at f g h l zero zero = refl
 table-at f g h l zero (suc i) = refl

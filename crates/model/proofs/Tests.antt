@@ -1,13 +1,14 @@
 -- Lists of tests and questions as facts, and back.
 use mathlib.Core.Path.{_≡_, refl, ap, sym, _∙_}
 use mathlib.Core.Bool.{Bool, true, false, _&&_, cond}
-use mathlib.Core.List.{List, [], _∷_}
-use Prim.Native.Nat.{ℕ, _≤_}
+use mathlib.Core.List.{List, [], _∷_, _++_}
+use Prim.Native.Nat.{ℕ, zero, suc, _≤_, _<_}
 use native.Mathlib.Omega.{arith}
 use lib.Dec.{leb, eqb}
+use lib.ListN.{length, getD, drop}
 use borrow.Author.Tests.{leb-true, le-leb, eqb-true}
 pub use Rattle.ot.proofs.Fits.{and-left, and-right}
-use Rattle.model.specs.Questions.{Question, ask, asks, every, between, Answer, answer}
+use Rattle.model.specs.Questions.{Question, ask, asks, every, between, Report, noReport, Answer, answer}
 
 -- two tests that say the same
 pub bool-ext : (a b : Bool) → (a ≡ true → b ≡ true) → (b ≡ true → a ≡ true) → a ≡ b
@@ -19,9 +20,32 @@ pub both : (s t : Bool) → s ≡ true → t ≡ true → (s && t) ≡ true
 both true t e f = f
 both false t e f = e
 
--- three tests in a row
+-- three tests in a row, and four
 pub three : (a b d : Bool) → (a && b && d) ≡ true → (a ≡ true) × (b ≡ true) × (d ≡ true)
 three a b d e = (and-left a b (and-left (a && b) d e), and-right a b (and-left (a && b) d e), and-right (a && b) d e)
+
+pub four : (a b d x : Bool) → (a && b && d && x) ≡ true → (a ≡ true) × (b ≡ true) × (d ≡ true) × (x ≡ true)
+four a b d x e =
+    let rest = three a b d (and-left (a && b && d) x e) in
+    (rest .0, rest .1, rest .2, and-right (a && b && d) x e)
+
+-- a list of which everything passes a test: appended to, dropped from, read
+module _ {A : Type 0} (test : A → Bool) (all : List A → Bool) (none-fails : all [] ≡ true) (next : (x : A) (xs : List A) → all (x ∷ xs) ≡ (test x && all xs)) where
+  pub all-append : (xs : List A) (x : A) → all xs ≡ true → test x ≡ true → all (xs ++ (x ∷ [])) ≡ true
+  all-append [] x a t = next x [] ∙ both (test x) (all []) t none-fails
+  all-append (y ∷ xs) x a t =
+      let b = sym (next y xs) ∙ a in
+      next y (xs ++ (x ∷ [])) ∙ both (test y) (all (xs ++ (x ∷ []))) (and-left (test y) (all xs) b) (all-append xs x (and-right (test y) (all xs) b) t)
+
+  pub all-drop : (k : ℕ) (xs : List A) → all xs ≡ true → all (drop k xs) ≡ true
+  all-drop zero xs a = a
+  all-drop (suc k) [] a = a
+  all-drop (suc k) (y ∷ xs) a = all-drop k xs (and-right (test y) (all xs) (sym (next y xs) ∙ a))
+
+  pub all-at : (xs : List A) (i : ℕ) (d : A) → i < length xs → all xs ≡ true → test (getD xs i d) ≡ true
+  all-at [] i d lt a = absurd (omega arith)
+  all-at (x ∷ xs) zero d lt a = and-left (test x) (all xs) (sym (next x xs) ∙ a)
+  all-at (x ∷ xs) (suc i) d lt a = all-at xs i d (omega arith) (and-right (test x) (all xs) (sym (next x xs) ∙ a))
 
 -- each test of a list holds
 abbrev pub Hold : List Bool → Type 0
@@ -78,11 +102,11 @@ pub never : {A : Type 0} → false ≡ true → A
 never e = absurd (let z : _≡_ {A = ℕ} 0 1 = cc in omega arith)
 
 -- What holds of the end as it came, and of the new end where nothing was refused, holds of the end that is answered.
-pub answer-keeps : {E : Type 0} (P : E → Type 0) (r : ℕ) (old new : E) (k : ℕ) → P old → (r ≡ 0 → P new) → P ((answer r old new k) .end)
+pub answer-keeps : {E : Type 0} (P : E → Type 0) (r : ℕ) (old new : E) (k : Report) → P old → (r ≡ 0 → P new) → P ((answer r old new k) .end)
 unfolding answer
 answer-keeps {E} P r old new k o n = go (eqb r 0) refl
   where
-    go : (b : Bool) → eqb r 0 ≡ b → P ((cond {A = Answer E} b (record { refusal = 0; end = new; passed = k }) (record { refusal = r; end = old; passed = 0 })) .end)
+    go : (b : Bool) → eqb r 0 ≡ b → P ((cond {A = Answer E} b (record { refusal = 0; end = new; report = k }) (record { refusal = r; end = old; report = noReport })) .end)
     go true e = n (eqb-true r 0 e)
     go false e = o
 

@@ -1,23 +1,27 @@
 -- The wrong sheets are refuted, each by a list of calls that antt runs.
-use mathlib.Core.Path.{_≡_, refl, sym, _∙_, subst}
-use mathlib.Core.Bool.{true}
-use mathlib.Core.List.{List, [], _∷_}
+use mathlib.Core.Path.{_≡_, refl, ap, sym, _∙_, subst}
+use mathlib.Core.Bool.{true, true≢false}
+use mathlib.Core.List.{List, [], _∷_, reverse}
 use Prim.Native.Nat.{ℕ, zero, suc, _+_, _≤_}
 use native.Mathlib.Omega.{arith}
 use lib.Dec.{ltb}
-use lib.ListN.{take}
+use lib.ListN.{take, getD}
 use borrow.Author.Tests.{ltb-true}
-use Rattle.model.specs.Questions.{Sent}
+use Rattle.list.specs.Places.{Place}
+use Rattle.model.specs.Questions.{Report, noReport, Answer, Sent}
+use Rattle.model.specs.Client.{Client}
+use Rattle.model.specs.Server.{Server}
 use Rattle.model.specs.Ranks.{ranking, lineRanks}
 use Rattle.model.specs.Log.{wireMessage, editMessage}
 use Rattle.model.specs.Sheet.{Sheet, Call, insert, delete, send, tell, receive, junk}
 use Rattle.model.specs.Run.{State, run, start}
 use Rattle.model.specs.Claim.{Delivered, Enough, Opened, Holds, Converges, Full}
+use Rattle.model.specs.Consequences.{OneOrder}
 use Rattle.model.specs.Marked.{lent}
-use Rattle.model.specs.Wrong.{leaving, repeating, firstOnly, refusing, miscounting, forgiving, listening, early, frozen, byLine, otherRanks, Refuted}
+use Rattle.model.specs.Wrong.{leaving, repeating, firstOnly, refusing, miscounting, forgiving, listening, early, frozen, byLine, otherRanks, bySender, byMessage, arrivedTwice, goneShown, showingAs, turning, mirroring, Refuted}
 use Rattle.model.proofs.Ranks.{line-ranking}
 use Rattle.model.proofs.Ranges.{short}
-use Rattle.model.proofs.Opens.{client-asks, server-asks}
+use Rattle.model.proofs.Opens.{client-asks, server-asks, client-opens, server-opens}
 use Rattle.model.proofs.Computing.{computing}
 
 -- A sheet that converges opens with up to eight clients, any ranking and an empty list.
@@ -29,12 +33,18 @@ opened S c n a b ranks r =
       clients = λ l lo hi. c .opens-client n l ranks [] (unfold computing in refl) ∙ client-asks n l ranks [] a b lo hi (omega arith) r;
     }
 
--- what it then claims of a list of calls at a sheet with one client, or with two; and with two where client 2 has rank 1
+-- what it then claims of a list of calls at a sheet with one client, with two, with three; and with two where client 2 has rank 1
+lined : (S : Sheet) → Converges S → (n : ℕ) → 1 ≤ n → n ≤ 8 → (calls : List Call) → Holds S n (run S n (start S n (lineRanks n) []) calls)
+lined S c n a b calls = c .holds n (lineRanks n) [] (opened S c n a b (lineRanks n) (line-ranking n)) calls
+
 one : (S : Sheet) → Converges S → (calls : List Call) → Holds S 1 (run S 1 (start S 1 (lineRanks 1) []) calls)
-one S c calls = c .holds 1 (lineRanks 1) [] (opened S c 1 (omega arith) (omega arith) (lineRanks 1) (line-ranking 1)) calls
+one S c = lined S c 1 (omega arith) (omega arith)
 
 two : (S : Sheet) → Converges S → (calls : List Call) → Holds S 2 (run S 2 (start S 2 (lineRanks 2) []) calls)
-two S c calls = c .holds 2 (lineRanks 2) [] (opened S c 2 (omega arith) (omega arith) (lineRanks 2) (line-ranking 2)) calls
+two S c = lined S c 2 (omega arith) (omega arith)
+
+three : (S : Sheet) → Converges S → (calls : List Call) → Holds S 3 (run S 3 (start S 3 (lineRanks 3) []) calls)
+three S c = lined S c 3 (omega arith) (omega arith)
 
 abbrev turned : List ℕ
 turned = 2 ∷ 1 ∷ []
@@ -45,11 +55,25 @@ two-turned S c calls = c .holds 2 turned [] (opened S c 2 (omega arith) (omega a
 nil-cons : {A : Type 0} {x : A} {xs : List A} → [] ≡ x ∷ xs → ⊥
 nil-cons e = let z : _≡_ {A = ℕ} 0 1 = cc in omega arith
 
-heads : {x y : ℕ} {xs ys : List ℕ} → x ∷ xs ≡ y ∷ ys → x ≡ y
+heads : {A : Type 0} {x y : A} {xs ys : List A} → x ∷ xs ≡ y ∷ ys → x ≡ y
 heads e = cc
 
-tails : {x y : ℕ} {xs ys : List ℕ} → x ∷ xs ≡ y ∷ ys → xs ≡ ys
+tails : {A : Type 0} {x y : A} {xs ys : List A} → x ∷ xs ≡ y ∷ ys → xs ≡ ys
 tails e = cc
+
+-- of two lists that are the same the first items, and their makers' lines and numbers
+items : {p q : Place} {l k : List Place} → p ∷ l ≡ q ∷ k → p .item ≡ q .item
+items e = ap (λ (p : Place). p .item) (heads e)
+
+makers : {p q : Place} {l k : List Place} → p ∷ l ≡ q ∷ k → p .origin .line ≡ q .origin .line
+makers e = ap (λ (p : Place). p .origin .line) (heads e)
+
+numbers : {p q : Place} {l k : List Place} → p ∷ l ≡ q ∷ k → p .origin .number ≡ q .origin .number
+numbers e = ap (λ (p : Place). p .origin .number) (heads e)
+
+-- of two lists of reports that are the same the position applied of each report
+applied-at : (i : ℕ) {ks js : List Report} → ks ≡ js → getD ks i noReport .applied ≡ getD js i noReport .applied
+applied-at i e = ap (λ (ks : List Report). getD ks i noReport .applied) e
 
 leaving-fails : Converges leaving → ⊥
 unfolding computing
@@ -66,7 +90,7 @@ crossed = insert 1 1 1 ∷ insert 1 1 2 ∷ insert 2 1 9 ∷ send 2 2 1 lent ∷
 first-only-fails : Converges firstOnly → ⊥
 unfolding crossed computing
 first-only-fails c =
-    let e = heads (tails (two firstOnly c crossed .lists 1 (omega arith))) in
+    let e = items (tails (two firstOnly c crossed .lists 1 (omega arith))) in
     nine-one e
   where
     nine-one : _≡_ {A = ℕ} 9 1 → ⊥
@@ -76,7 +100,7 @@ first-only-fails c =
 differ : (a b : ℕ) → ltb a b ≡ true → a ≡ b → ⊥
 differ a b l e = omega (arith, ltb-true a b l)
 
--- 14 bytes are enough for any message
+-- 17 bytes are enough for any message
 enough : (S : Sheet) (n : ℕ) {ranks : List ℕ} (s : State S ranks) (a l k : ℕ) → Enough S n s a l k lent
 unfolding computing
 enough S n s a l k = (refl, short (wireMessage (editMessage (s .recorded .history) a l k)))
@@ -89,7 +113,8 @@ refusing-fails c =
 
 miscounting-fails : Converges miscounting → ⊥
 unfolding computing
-miscounting-fails c = differ 0 1 refl (sym (heads (tails (one miscounting c (insert 1 1 7 ∷ send 1 1 1 lent ∷ receive 0 0 ∷ []) .passed))))
+miscounting-fails c =
+    differ 0 1 refl (sym (ap (λ (k : Report). k .passed) (heads (tails (one miscounting c (insert 1 1 7 ∷ send 1 1 1 lent ∷ receive 0 0 ∷ []) .reports)))))
 
 junk-taken-fails : Converges (forgiving 3) → ⊥
 unfolding computing
@@ -191,12 +216,70 @@ tied = insert 1 1 7 ∷ insert 2 1 8 ∷ send 2 2 1 lent ∷ receive 0 0 ∷ sen
 
 by-line-fails : Converges byLine → ⊥
 unfolding tied computing
-by-line-fails c = differ 7 8 refl (heads (two-turned byLine c tied .lists 1 (omega arith)))
+by-line-fails c = differ 7 8 refl (items (two-turned byLine c tied .lists 1 (omega arith)))
 
 -- The server turns client 1's insert down: there line 1 has rank 1.
 other-ranks-fails : Converges otherRanks → ⊥
 unfolding computing
 other-ranks-fails c = differ 0 4 refl (sym (two-turned otherRanks c (insert 1 1 7 ∷ send 1 1 1 lent ∷ []) .numbers (receive 0 0) refl))
+
+-- Client 1 takes client 2's insert.
+arrived : List Call
+arrived = insert 2 1 8 ∷ send 2 2 1 lent ∷ receive 0 0 ∷ send 0 1 1 lent ∷ receive 1 1 ∷ []
+
+by-sender-fails : Converges bySender → ⊥
+unfolding arrived computing
+by-sender-fails c = differ 1 2 refl (makers (two bySender c arrived .lists 1 (omega arith)))
+
+-- Client 3 takes client 2's insert and then client 1's: number 2 on its line, and the first that client 1 made. With two clients both numbers are the same.
+relayed : List Call
+relayed =
+    insert 2 1 8 ∷ send 2 2 1 lent ∷ receive 0 0 ∷ insert 1 1 7 ∷ send 1 1 1 lent ∷ receive 0 1
+    ∷ send 0 3 1 lent ∷ receive 3 2 ∷ send 0 3 2 lent ∷ receive 3 3 ∷ []
+
+by-message-fails : Converges byMessage → ⊥
+unfolding relayed computing
+by-message-fails c = differ 1 2 refl (sym (numbers (three byMessage c relayed .lists 3 (omega arith))))
+
+-- Clients 1 and 2 insert at one place: client 2's insert arrives at client 1 in position 1, and is applied in 2.
+arrived-twice-fails : Converges arrivedTwice → ⊥
+unfolding tied computing
+arrived-twice-fails c = differ 1 2 refl (applied-at 3 (two arrivedTwice c tied .reports))
+
+-- Clients 1 and 2 delete one item, and client 1 takes client 2's delete: it arrives in position 1, and is gone.
+deletedTwice : List Call
+deletedTwice =
+    insert 1 1 7 ∷ send 1 1 1 lent ∷ receive 0 0 ∷ send 0 2 1 lent ∷ receive 2 1 ∷ delete 1 1 ∷ delete 2 1
+    ∷ send 2 2 1 lent ∷ receive 0 2 ∷ send 0 1 1 lent ∷ receive 1 3 ∷ []
+
+gone-shown-fails : Converges goneShown → ⊥
+unfolding deletedTwice computing
+gone-shown-fails c = differ 0 1 refl (sym (applied-at 6 (two goneShown c deletedTwice .reports)))
+
+-- one client, whatever it shows
+showing-open : (usual : List Place → List Place) (inserted : List Place → List Place → List Place) → Opened (showingAs usual inserted) 1 (lineRanks 1) []
+showing-open usual inserted =
+    record {
+      numbers = unfold computing in refl;
+      server = ap (λ (a : Answer Server). a .refusal) (server-opens 1 (lineRanks 1) [] (omega arith) (omega arith) (omega arith) (line-ranking 1));
+      clients = λ l lo hi. ap (λ (a : Answer Client). a .refusal) (client-opens 1 l (lineRanks 1) [] (omega arith) (omega arith) lo hi (omega arith) (line-ranking 1));
+    }
+
+-- Client 1 inserts three steps, and shows them from the last to the first; it deletes the third, and shows the first before the second.
+turning-fails : OneOrder turning → ⊥
+unfolding computing
+turning-fails c =
+    true≢false
+    (c 1 (lineRanks 1) [] (showing-open (λ own. own) (λ before own. reverse own)) (insert 1 1 7 ∷ insert 1 2 8 ∷ insert 1 3 9 ∷ []) (delete 1 3 ∷ []) 1 1 (omega arith) (omega arith)
+    1 2 1 0 (record { here = omega arith; there = omega arith; origin = refl }) (record { here = omega arith; there = omega arith; origin = refl }))
+
+-- Client 1 inserts two steps, and the server takes them: the client shows the second first.
+mirroring-fails : OneOrder mirroring → ⊥
+unfolding computing
+mirroring-fails c =
+    true≢false
+    (c 1 (lineRanks 1) [] (showing-open reverse (λ before own. reverse own)) (insert 1 1 7 ∷ insert 1 2 8 ∷ send 1 1 1 lent ∷ receive 0 0 ∷ send 1 1 2 lent ∷ receive 0 1 ∷ []) [] 1 0 (omega arith) (omega arith)
+    0 1 1 0 (record { here = omega arith; there = omega arith; origin = refl }) (record { here = omega arith; there = omega arith; origin = refl }))
 
 pub refuted : Refuted
 refuted =
@@ -217,4 +300,10 @@ refuted =
       frozen-fails = frozen-fails;
       by-line-fails = by-line-fails;
       other-ranks-fails = other-ranks-fails;
+      by-sender-fails = by-sender-fails;
+      by-message-fails = by-message-fails;
+      arrived-twice-fails = arrived-twice-fails;
+      gone-shown-fails = gone-shown-fails;
+      turning-fails = turning-fails;
+      mirroring-fails = mirroring-fails;
     }

@@ -8,19 +8,20 @@ use Rattle.wire.specs.declared.Read.the-variants as read
 use Rattle.wire.specs.Bytes.{parsed}
 use Rattle.jupiter.specs.Form.{replay}
 use Rattle.jupiter.specs.History.{History, order, missing}
+use Rattle.jupiter.specs.Origins.{Once}
 use Rattle.model.specs.Limits.{maxPending}
-use Rattle.model.specs.Questions.{asks, Answer, Sent}
+use Rattle.model.specs.Questions.{asks, noReport, Answer, Sent}
 use Rattle.model.specs.Client.{openClientQuestions}
 use Rattle.model.specs.Server.{openServerQuestions}
-use Rattle.model.specs.Edits.{edits}
+use Rattle.model.specs.Edits.{nameOf, edits}
 use Rattle.model.specs.Sheet.{Sheet, Call}
 use Rattle.model.specs.Log.{madeAt, takenAt, editMessage, wireMessage, messageBytes}
 use Rattle.model.specs.Numbers.{number}
 use Rattle.model.specs.Run.{State, areItems, areBytes, callable, numberOf, run, start}
 
--- A refusal hands back the end as it came, and its count is 0; a refused sending changes no lent byte, and its length is 0.
+-- A refusal hands back the end as it came and reports nothing; a refused sending changes no lent byte, and its length is 0.
 abbrev pub Back : {E : Type 0} → E → Answer E → Type 0
-Back e a = (a .refusal ≡ 0 → ⊥) → (a .end ≡ e) × (a .passed ≡ 0)
+Back e a = (a .refusal ≡ 0 → ⊥) → (a .end ≡ e) × (a .report ≡ noReport)
 
 abbrev pub Unwritten : List ℕ → Sent → Type 0
 Unwritten lent r = (r .refusal ≡ 0 → ⊥) → (r .written ≡ 0) × (r .buffer ≡ lent)
@@ -72,6 +73,8 @@ module _ (S : Sheet) where
     pub record Holds : Type 0 where
       -- each end's list is the initial list with its edits applied, each in its form at what the end had applied
       pub lists : (a : ℕ) → a ≤ n → S .items (s .ends a) ≡ s .recorded .shown a
+      -- no list holds one origin twice
+      pub origins : (a : ℕ) → a ≤ n → Once (map (λ p. nameOf (p .origin)) (S .items (s .ends a)))
       -- each message written is the one that the definitions give, byte for byte
       pub messages : s .messages ≡ map messageBytes (s .recorded .messages)
       -- and is read back as what was written
@@ -79,8 +82,9 @@ module _ (S : Sheet) where
       -- Whatever is called next is answered with the number of the first question that says no. So bytes that no message has give 3, and a
       -- message that is not refused goes to that end and is the next one there.
       pub numbers : (c : Call) → callable n c ≡ true → numberOf S s c ≡ number n (s .recorded) c
-      -- each count of pending edits passed is made less seen
-      pub passed : s .passed ≡ s .recorded .passed
+      -- Each taking reports what the definitions give: as many pending edits passed as made less seen, the position of the form that arrived, and
+      -- that of the form applied.
+      pub reports : s .reports ≡ s .recorded .reports
       pub lines : (l : ℕ) → 1 ≤ l → l ≤ n → OnLine l
 
   -- what a call leaves alone, whatever end it is handed

@@ -4,7 +4,9 @@ use mathlib.Core.Bool.{Bool, false, _&&_}
 use mathlib.Core.List.{List, [], _∷_}
 use lib.Dec.{leb, ltb, eqb}
 use lib.ListN.{length}
-use Rattle.ot.specs.Edit.{Edit, Nothing, Delete, Insert, applied, fits}
+use Rattle.ot.specs.Edit.{Edit, Nothing, Delete, Insert, fits}
+use Rattle.list.specs.declared.Origin.{Origin}
+use Rattle.list.specs.Places.{Place, initialPlaces, appliedBy, numbered}
 use Rattle.wire.specs.declared.Header.{Header}
 use Rattle.wire.specs.declared.Message.{Message}
 use Rattle.wire.specs.declared.Message.the-variants as message
@@ -12,10 +14,10 @@ use Rattle.wire.specs.declared.Read.{Read}
 use Rattle.wire.specs.declared.Read.the-variants as read
 use Rattle.wire.specs.Bytes.{bytesOf, parsed}
 use Rattle.model.specs.Limits.{maxLines, maxInserts, maxEdits, maxOthers, maxItems, maxInitial}
-use Rattle.model.specs.Questions.{Question, ask, asks, every, between, Answer, answer, Sent, sent}
+use Rattle.model.specs.Questions.{Question, ask, asks, every, between, noReport, Answer, answer, Sent, sent}
 use Rattle.model.specs.Cross.{priority, insertsOf}
 use Rattle.model.specs.Ranks.{rankOf, ranking}
-use Rattle.model.specs.Line.{Line, noLine, other, lineTests, roomy, lineKeeps, lineMessage, sendQuestions, lineAcked, lineTaken, carried, seenQuestions, takeQuestions}
+use Rattle.model.specs.Line.{Line, noLine, other, lineTests, roomy, lineKeeps, lineMessage, sendQuestions, lineAcked, lineTaken, carried, lineReport, seenQuestions, takeQuestions}
 
 pub record Client : Type 0 where
   -- how many clients the sheet has, and which this one is
@@ -23,7 +25,7 @@ pub record Client : Type 0 where
   pub line : ℕ
   -- the ranks of lines 1 to n
   pub ranks : List ℕ
-  pub items : List ℕ
+  pub items : List Place
   -- what it keeps of its line
   pub own : Line
 
@@ -42,6 +44,7 @@ clientTests c =
     ∷ between 1 (c .n) (c .line)
     ∷ ranking (c .n) (c .ranks)
     ∷ leb (length (c .items)) maxItems
+    ∷ numbered (c .items)
     ∷ leb (c .own .taken) maxOthers
     ∷ lineTests (c .own .made) (eqb (ownRank c)) (c .own)
 
@@ -57,21 +60,29 @@ openClient n line ranks items =
     answer
     (asks (openClientQuestions n line ranks items))
     noClient
-    (record { n = n; line = line; ranks = ranks; items = items; own = noLine })
-    0
+    (record { n = n; line = line; ranks = ranks; items = initialPlaces items; own = noLine })
+    noReport
 
 -- the client with another list and line
-abbrev pub with : Client → List ℕ → Line → Client
+abbrev pub with : Client → List Place → Line → Client
 with c items v = record { n = c .n; line = c .line; ranks = c .ranks; items = items; own = v }
+
+-- the origin of its edit of a number
+abbrev pub originHere : Client → ℕ → Origin
+originHere c number = record { line = c .line; number = number }
+
+-- the list once the edit is made here
+abbrev pub listThen : Client → Edit → List Place
+listThen c e = appliedBy (originHere c (c .own .made + 1)) e (c .items)
 
 -- An edit made here: applied, counted and kept.
 abbrev pub edited : Client → Edit → Client
-edited c e = with c (applied e (c .items)) (lineKeeps (c .own .inserts + insertsOf e) e (c .own))
+edited c e = with c (listThen c e) (lineKeeps (c .own .inserts + insertsOf e) e (c .own))
 
 abbrev pub editQuestions : Client → Edit → List Question
 editQuestions c e =
     ask 2 (soundClient c)
-    ∷ ask 9 (fits e (length (c .items)) && leb (length (applied e (c .items))) maxItems)
+    ∷ ask 9 (fits e (length (c .items)) && leb (length (listThen c e)) maxItems)
     ∷ ask 10 (leb (c .own .inserts + insertsOf e) maxInserts)
     ∷ ask 11 (ltb (c .own .made) maxEdits)
     ∷ ask 12 (roomy (c .own))
@@ -83,7 +94,7 @@ editClient c e =
     (asks (editQuestions c e))
     c
     (edited c e)
-    0
+    noReport
 
 -- the item goes before the one at the position; its priority is the line's rank
 abbrev pub insertClient : Client → ℕ → ℕ → Answer Client
@@ -93,7 +104,7 @@ abbrev pub deleteClient : Client → ℕ → Answer Client
 deleteClient c p = editClient c (Delete p)
 
 abbrev pub clientMessage : Client → ℕ → Message
-clientMessage c number = lineMessage (c .line) 0 (c .own) number
+clientMessage c number = lineMessage (c .line) 0 (originHere c number) (c .own) number
 
 abbrev pub sendClientQuestions : Client → ℕ → ℕ → List ℕ → List Question
 sendClientQuestions c line number lent =
@@ -120,13 +131,14 @@ tellClient c line lent =
 abbrev pub clientAcked : Client → ℕ → Client
 clientAcked c seen = with c (c .items) (lineAcked seen (c .own))
 
-abbrev pub clientTaken : Client → ℕ → Edit → Client
-clientTaken c seen e = with c (applied (carried (c .own) seen e) (c .items)) (lineTaken (c .own .inserts) seen e (c .own))
+abbrev pub clientTaken : Client → Origin → ℕ → Edit → Client
+clientTaken c o seen e = with c (appliedBy o (carried (c .own) seen e) (c .items)) (lineTaken (c .own .inserts) seen e (c .own))
 
 abbrev pub clientEditQuestions : Client → Header → Edit → List Question
 clientEditQuestions c h e =
     ask 2 (soundClient c)
-    ∷ ask 4 (eqb (h .direction) 1 && eqb (h .line) (c .line) && priority (other (c .n) (ownRank c)) e)
+    ∷ ask 4
+    (eqb (h .direction) 1 && eqb (h .line) (c .line) && priority (other (c .n) (ownRank c)) e && other (c .n) (c .line) (h .origin .line))
     ∷ takeQuestions (c .own) (c .items) h e []
 
 unfoldable pub clientTakesEdit : Client → Header → Edit → Answer Client
@@ -134,8 +146,8 @@ clientTakesEdit c h e =
     answer
     (asks (clientEditQuestions c h e))
     c
-    (clientTaken c (h .seen) e)
-    (c .own .made - h .seen)
+    (clientTaken c (h .origin) (h .seen) e)
+    (lineReport (c .own) (h .seen) e)
 
 abbrev pub clientAckQuestions : Client → ℕ → ℕ → ℕ → List Question
 clientAckQuestions c line direction seen =
@@ -147,7 +159,7 @@ clientTakesAck c line direction seen =
     (asks (clientAckQuestions c line direction seen))
     c
     (clientAcked c seen)
-    0
+    noReport
 
 abbrev pub clientTakes : Client → Message → Answer Client
 clientTakes c (message.Insert h p x r) = clientTakesEdit c h (Insert p x r)
@@ -157,7 +169,7 @@ clientTakes c (message.Ack l d s) = clientTakesAck c l d s
 
 -- bytes that are no message: questions 2 and 3
 abbrev pub clientReads : Client → Read → Answer Client
-clientReads c read.Refused = answer (asks (ask 2 (soundClient c) ∷ ask 3 false ∷ [])) c c 0
+clientReads c read.Refused = answer (asks (ask 2 (soundClient c) ∷ ask 3 false ∷ [])) c c noReport
 clientReads c (read.Message m) = clientTakes c m
 
 unfoldable pub takeClient : Client → List ℕ → Answer Client

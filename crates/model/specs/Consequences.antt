@@ -11,6 +11,7 @@ use Rattle.model.specs.Ranks.{among}
 use Rattle.model.specs.Sheet.{Sheet, Call, receive}
 use Rattle.model.specs.Run.{State, areItems, callable, numberOf, run, start}
 use Rattle.model.specs.Claim.{Opened, Converges}
+use Rattle.model.specs.Order.{SameOrder}
 
 -- the edits that end a has applied
 abbrev pub appliedAt : {𝓐 : Algebra} → History 𝓐 → ℕ → List (Made 𝓐)
@@ -35,14 +36,21 @@ module _ (S : Sheet) where
         → SameSet (appliedAt (after S n ranks items calls .recorded .history) a) (appliedAt (run S n (after S n ranks items calls) more .recorded .history) b)
         → S .items (after S n ranks items calls .ends a) ≡ S .items (run S n (after S n ranks items calls) more .ends b)
 
+  -- Two steps never change places (02: N13): of any two lists shown, at any ends and any two moments of a list of calls, two steps that stand on
+  -- both stand in the same order on both. A moment is where a front part of the calls leads.
+  abbrev pub OneOrder : Type 0
+  OneOrder =
+      (n : ℕ) (ranks items : List ℕ) → Opened S n ranks items → (calls more : List Call) (a b : ℕ) → a ≤ n → b ≤ n
+      → SameOrder (S .items (after S n ranks items calls .ends a)) (S .items (run S n (after S n ranks items calls) more .ends b))
+
   -- Which refusals a message of a list of calls can meet: questions 2, 3 and 8 to 10 never say no to it.
   abbrev pub TakingRefusals : Type 0
   TakingRefusals =
       (n : ℕ) (ranks items : List ℕ) → Opened S n ranks items → (calls : List Call) (a i : ℕ) → a ≤ n
       → among (0 ∷ 4 ∷ 5 ∷ 6 ∷ 7 ∷ 12 ∷ []) (numberOf S (after S n ranks items calls) (receive a i)) ≡ true
 
-  -- No list of calls tells two sheets apart that converge: by what opening says, by lists, counts of edits, messages and counts of edits
-  -- passed, or by the number that the next call gets.
+  -- No list of calls tells two sheets apart that converge: by what opening says, by lists, counts of edits, messages and reports, or
+  -- by the number that the next call gets.
   pub record Agree (T : Sheet) : Type 0 where
     pub opens-server : (n : ℕ) (ranks items : List ℕ) → areItems items ≡ true → S .openServer n ranks items .refusal ≡ T .openServer n ranks items .refusal
     pub opens-client : (n l : ℕ) (ranks items : List ℕ) → areItems items ≡ true → S .openClient n l ranks items .refusal ≡ T .openClient n l ranks items .refusal
@@ -55,11 +63,12 @@ module _ (S : Sheet) where
         → (S .taken (after S n ranks items calls .ends l) l ≡ T .taken (after T n ranks items calls .ends l) l)
         × (S .taken (after S n ranks items calls .ends 0) l ≡ T .taken (after T n ranks items calls .ends 0) l)
     pub messages : (n : ℕ) (ranks items : List ℕ) → Opened S n ranks items → (calls : List Call) → after S n ranks items calls .messages ≡ after T n ranks items calls .messages
-    pub passed : (n : ℕ) (ranks items : List ℕ) → Opened S n ranks items → (calls : List Call) → after S n ranks items calls .passed ≡ after T n ranks items calls .passed
+    pub reports : (n : ℕ) (ranks items : List ℕ) → Opened S n ranks items → (calls : List Call) → after S n ranks items calls .reports ≡ after T n ranks items calls .reports
     pub numbers : (n : ℕ) (ranks items : List ℕ) → Opened S n ranks items → (calls : List Call) (c : Call) → callable n c ≡ true
         → numberOf S (after S n ranks items calls) c ≡ numberOf T (after T n ranks items calls) c
 
 pub record Consequences : Type 1 where
   pub consistent : (S : Sheet) → Converges S → Consistent S
+  pub order : (S : Sheet) → Converges S → OneOrder S
   pub refusals : (S : Sheet) → Converges S → TakingRefusals S
   pub agree : (S T : Sheet) → Converges S → Converges T → Agree S T

@@ -8,12 +8,14 @@ pub mod Server
 pub mod Edits
 pub mod Sheet
 pub mod SheetOf
+pub mod Moves
 pub mod Log
 pub mod Numbers
 pub mod Run
 pub mod Claim
 pub mod Ours
 pub mod Sound
-pub mod Wrong
+pub mod Order
 pub mod Consequences
+pub mod Wrong
 pub mod Marked

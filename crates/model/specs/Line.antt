@@ -4,13 +4,16 @@ use mathlib.Core.Bool.{Bool, _&&_, not}
 use mathlib.Core.List.{List, [], _∷_, _++_}
 use lib.Dec.{leb, ltb, eqb}
 use lib.ListN.{length, getD, drop}
-use Rattle.ot.specs.Edit.{Edit, Nothing, applied, fits}
+use Rattle.ot.specs.Form.{positionOf}
+use Rattle.ot.specs.Edit.{Edit, Nothing, formOf, fits}
+use Rattle.list.specs.declared.Origin.{Origin}
+use Rattle.list.specs.Places.{Place, appliedBy}
 use Rattle.wire.specs.declared.Header.{Header}
 use Rattle.wire.specs.declared.Message.{Message}
 use Rattle.wire.specs.Message.{messageOf}
 use Rattle.wire.specs.Bytes.{bytesOf}
 use Rattle.model.specs.Limits.{maxInserts, maxEdits, maxPending, maxItems}
-use Rattle.model.specs.Questions.{Question, ask, between}
+use Rattle.model.specs.Questions.{Question, ask, between, Report}
 use Rattle.model.specs.Cross.{past, over, allPlaced, priorities}
 
 pub record Line : Type 0 where
@@ -27,7 +30,7 @@ pub record Line : Type 0 where
 abbrev pub noLine : Line
 noLine = record { made = 0; taken = 0; acked = 0; inserts = 0; pending = [] }
 
--- another client's rank, of 1 to n
+-- another client's rank or line, of 1 to n
 abbrev pub other : ℕ → ℕ → ℕ → Bool
 other n own r = between 1 n r && not (eqb r own)
 
@@ -61,9 +64,11 @@ lineKeeps inserts e v =
 abbrev pub pendingAt : ℕ → List Edit → ℕ → Edit
 pendingAt acked pending number = getD pending (number - (acked + 1)) Nothing
 
-abbrev pub lineMessage : ℕ → ℕ → Line → ℕ → Message
-lineMessage line direction v number =
-    messageOf (record { line = line; direction = direction; number = number; seen = v .taken }) (pendingAt (v .acked) (v .pending) number)
+-- the message of that edit, whose origin stands beside the line
+abbrev pub lineMessage : ℕ → ℕ → Origin → Line → ℕ → Message
+lineMessage line direction origin v number =
+    messageOf (record { line = line; direction = direction; number = number; seen = v .taken; origin = origin })
+    (pendingAt (v .acked) (v .pending) number)
 
 abbrev pub sendQuestions : Line → ℕ → Message → List ℕ → List Question
 sendQuestions v number m lent =
@@ -88,12 +93,19 @@ lineTaken inserts seen e v =
 abbrev pub carried : Line → ℕ → Edit → Edit
 carried v seen e = past e (unacked v seen)
 
+-- the position of an edit, 0 for nothing
+abbrev pub positionAt : Edit → ℕ
+positionAt e = positionOf (formOf e)
+
+abbrev pub lineReport : Line → ℕ → Edit → Report
+lineReport v seen e = record { passed = v .made - seen; arrived = positionAt e; applied = positionAt (carried v seen e) }
+
 -- questions 7 and 8
 abbrev pub seenQuestions : Line → ℕ → List Question
 seenQuestions v seen = ask 7 (leb (v .acked) seen) ∷ ask 8 (leb seen (v .made)) ∷ []
 
 -- questions 5 to 9, and what else an end asks
-abbrev pub takeQuestions : Line → List ℕ → Header → Edit → List Question → List Question
+abbrev pub takeQuestions : Line → List Place → Header → Edit → List Question → List Question
 takeQuestions v items h e more =
     ask 5 (ltb (v .taken) (h .number))
     ∷ ask 6 (eqb (h .number) (v .taken + 1))
@@ -101,5 +113,5 @@ takeQuestions v items h e more =
     ∷ ask 8 (leb (h .seen) (v .made))
     ∷ ask 9
     (fits (carried v (h .seen) e) (length items) && allPlaced (over e (unacked v (h .seen)))
-    && leb (length (applied (carried v (h .seen) e) items)) maxItems)
+    && leb (length (appliedBy (h .origin) (carried v (h .seen) e) items)) maxItems)
     ∷ more

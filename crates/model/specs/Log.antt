@@ -7,7 +7,9 @@ use mathlib.Core.List.{List, [], _∷_, _++_}
 use lib.Dec.{eqb}
 use lib.ListN.{length, getD, getElem?}
 use Rattle.ot.specs.Edit as edit
-use Rattle.ot.specs.Edit.{Edit, applied}
+use Rattle.ot.specs.Edit.{Edit}
+use Rattle.list.specs.Places.{Place, initialPlaces}
+use Rattle.wire.specs.declared.Header.{Header}
 use Rattle.wire.specs.declared.Message as wire
 use Rattle.wire.specs.declared.Message.the-variants as message
 use Rattle.wire.specs.Message.{messageOf}
@@ -16,16 +18,22 @@ use Rattle.jupiter.specs.Algebra.{Algebra}
 use Rattle.jupiter.specs.Made.{Made, mine, others}
 use Rattle.jupiter.specs.Form.{form, inOrder}
 use Rattle.jupiter.specs.Point.{blank, ownForm, othForm}
+use Rattle.jupiter.specs.Ends.{EditMessage}
 use Rattle.jupiter.specs.Run.{Message, up, down, upAck, downAck}
 use Rattle.jupiter.specs.History.{History, noHistory, at, order, madeBy, missing, afterEdit, afterUp, afterDown, newEdit}
+use Rattle.model.specs.Questions.{Report, noReport}
 use Rattle.model.specs.Ranks.{rankOf}
-use Rattle.model.specs.Edits.{Rule, editsBy, edits}
+use Rattle.model.specs.Line.{positionAt}
+use Rattle.model.specs.Edits.{Named, Rule, editsBy, edits, appliedNamed}
 use Rattle.model.specs.Sheet.{Call, insert, delete, send, tell, receive, junk}
+
+abbrev pub headerOf : {by : Rule} → ℕ → ℕ → EditMessage (editsBy by) → Header
+headerOf l direction m = record { line = l; direction = direction; number = m .number; seen = m .seen; origin = m .edit .origin }
 
 -- a message of the theory as one with its fields; direction 0 goes up to the server, 1 down
 abbrev pub wireMessage : {by : Rule} → Message (editsBy by) → wire.Message
-wireMessage (up l m) = messageOf (record { line = l; direction = 0; number = m .number; seen = m .seen }) (m .edit)
-wireMessage (down l m) = messageOf (record { line = l; direction = 1; number = m .number; seen = m .seen }) (m .edit)
+wireMessage (up l m) = messageOf (headerOf l 0 m) (m .edit .edit)
+wireMessage (down l m) = messageOf (headerOf l 1 m) (m .edit .edit)
 wireMessage (upAck l seen) = message.Ack l 0 seen
 wireMessage (downAck l seen) = message.Ack l 1 seen
 
@@ -36,15 +44,15 @@ pub record Log (ranks : List ℕ) : Type 0 where
   -- which edits were made, served and applied
   pub history : History (edits ranks)
   -- the list of each end: the initial list with each edit applied in its form at what the end had applied (0: the server's)
-  pub shown : ℕ → List ℕ
+  pub shown : ℕ → List Place
   -- the last seen that end a took on line l, 0 before any
   pub heard : ℕ → ℕ → ℕ
-  -- the messages written, and the count of pending edits passed that each editing and taking owes
+  -- the messages written, and the report that each editing and taking owes
   pub messages : List (Message (edits ranks))
-  pub passed : List ℕ
+  pub reports : List Report
 
 abbrev pub noLog : {ranks : List ℕ} → List ℕ → Log ranks
-noLog initial = record { history = noHistory; shown = λ a. initial; heard = λ a l. 0; messages = []; passed = [] }
+noLog initial = record { history = noHistory; shown = λ a. initialPlaces initial; heard = λ a l. 0; messages = []; reports = [] }
 
 -- the edits that end a has applied, in the order of the definition
 unfoldable pub setOf : {𝓐 : Algebra} → History 𝓐 → ℕ → List (Made 𝓐)
@@ -75,12 +83,12 @@ ackMessage h zero l = downAck l (takenAt h zero l)
 ackMessage h (suc a) l = upAck (suc a) (takenAt h (suc a) (suc a))
 
 -- an end applies an edit in its form at what it has applied
-abbrev pub shows : {ranks : List ℕ} → Log ranks → ℕ → Made (edits ranks) → ℕ → List ℕ
-shows w a e = at a (applied (form e (setOf (w .history) a)) (w .shown a)) (w .shown)
+abbrev pub shows : {ranks : List ℕ} → Log ranks → ℕ → Made (edits ranks) → ℕ → List Place
+shows w a e = at a (appliedNamed (form e (setOf (w .history) a)) (w .shown a)) (w .shown)
 
 abbrev pub writes : {ranks : List ℕ} → Log ranks → Message (edits ranks) → Log ranks
 writes w m =
-    record { history = w .history; shown = w .shown; heard = w .heard; messages = w .messages ++ (m ∷ []); passed = w .passed }
+    record { history = w .history; shown = w .shown; heard = w .heard; messages = w .messages ++ (m ∷ []); reports = w .reports }
 
 -- end a took a message with this seen on line l
 abbrev pub hearing : {ranks : List ℕ} → Log ranks → ℕ → ℕ → ℕ → ℕ → ℕ → ℕ
@@ -89,49 +97,63 @@ hearing w a l seen = at a (at l seen (w .heard a)) (w .heard)
 -- an editing or taking that changes nothing, or only what was heard
 abbrev pub hears : {ranks : List ℕ} → Log ranks → (ℕ → ℕ → ℕ) → Log ranks
 hears w heard =
-    record { history = w .history; shown = w .shown; heard = heard; messages = w .messages; passed = w .passed ++ (0 ∷ []) }
+    record { history = w .history; shown = w .shown; heard = heard; messages = w .messages; reports = w .reports ++ (noReport ∷ []) }
+
+-- the next edit of client l, with its origin
+abbrev pub namedBy : {ranks : List ℕ} → Log ranks → ℕ → Edit → Named
+namedBy w l e = record { origin = record { line = l; number = suc (madeBy (w .history) l) }; edit = e }
 
 abbrev pub edited : {ranks : List ℕ} → Log ranks → ℕ → Edit → Log ranks
 edited w l e =
     record {
-      history = afterEdit l e (w .history);
-      shown = shows w l (newEdit (w .history) l e);
+      history = afterEdit l (namedBy w l e) (w .history);
+      shown = shows w l (newEdit (w .history) l (namedBy w l e));
       heard = w .heard;
       messages = w .messages;
-      passed = w .passed ++ (0 ∷ []);
+      reports = w .reports ++ (noReport ∷ []);
     }
 
 -- the first edit of a list, where there is one
 abbrev pub first : {𝓐 : Algebra} → List (Made 𝓐) → Made 𝓐
 first es = getD es 0 blank
 
+-- end a takes the message m, which carries the edit e, on line l: the edit arrives in the form that the message has, and is applied in its form
+-- at what the end has applied
+abbrev pub reported : {ranks : List ℕ} → Log ranks → ℕ → ℕ → EditMessage (edits ranks) → Made (edits ranks) → Report
+reported w a l m e =
+    record {
+      passed = madeAt (w .history) a l - m .seen;
+      arrived = positionAt (m .edit .edit);
+      applied = positionAt (form e (setOf (w .history) a) .edit);
+    }
+
 -- the server takes client l's next edit; client l takes its next one
-abbrev pub tookUp : {ranks : List ℕ} → Log ranks → ℕ → ℕ → Log ranks
-tookUp w l seen =
+abbrev pub tookUp : {ranks : List ℕ} → Log ranks → ℕ → EditMessage (edits ranks) → Log ranks
+tookUp w l m =
     record {
       history = afterUp l (w .history);
       shown = shows w 0 (first (w .history .untaken l));
-      heard = hearing w 0 l seen;
+      heard = hearing w 0 l (m .seen);
       messages = w .messages;
-      passed = w .passed ++ ((madeAt (w .history) 0 l - seen) ∷ []);
+      reports = w .reports ++ (reported w 0 l m (first (w .history .untaken l)) ∷ []);
     }
 
-abbrev pub tookDown : {ranks : List ℕ} → Log ranks → ℕ → ℕ → Log ranks
-tookDown w l seen =
+abbrev pub tookDown : {ranks : List ℕ} → Log ranks → ℕ → EditMessage (edits ranks) → Log ranks
+tookDown w l m =
     record {
       history = afterDown l (w .history);
       shown = shows w l (first (missing (w .history) l));
-      heard = hearing w l l seen;
+      heard = hearing w l l (m .seen);
       messages = w .messages;
-      passed = w .passed ++ ((madeAt (w .history) l l - seen) ∷ []);
+      reports = w .reports ++ (reported w l l m (first (missing (w .history) l)) ∷ []);
     }
 
 -- The message is known from the sending that wrote it. One that an end had no right to take (another line's, or going the other way)
 -- leaves the log as it is, whatever the end answered.
 unfoldable pub took : {ranks : List ℕ} → Log ranks → ℕ → Option (Message (edits ranks)) → Log ranks
 took w a none = hears w (w .heard)
-took w a (some (up l m)) = cond (eqb a 0) (tookUp w l (m .seen)) (hears w (w .heard))
-took w a (some (down l m)) = cond (eqb a l) (tookDown w l (m .seen)) (hears w (w .heard))
+took w a (some (up l m)) = cond (eqb a 0) (tookUp w l m) (hears w (w .heard))
+took w a (some (down l m)) = cond (eqb a l) (tookDown w l m) (hears w (w .heard))
 took w a (some (upAck l seen)) = cond (eqb a 0) (hears w (hearing w 0 l seen)) (hears w (w .heard))
 took w a (some (downAck l seen)) = cond (eqb a l) (hears w (hearing w l l seen)) (hears w (w .heard))
 
@@ -144,7 +166,7 @@ logged w (tell a l lent) = writes w (ackMessage (w .history) a l)
 logged w (receive a i) = took w a (getElem? (w .messages) i)
 logged w (junk a bytes) = hears w (w .heard)
 
--- a call that was refused: an editing or taking owes the count 0
+-- a call that was refused: an editing or taking reports nothing
 unfoldable pub refusedLog : {ranks : List ℕ} → Log ranks → Call → Log ranks
 refusedLog w (insert l p x) = hears w (w .heard)
 refusedLog w (delete l p) = hears w (w .heard)

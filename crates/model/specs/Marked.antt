@@ -5,6 +5,7 @@ use mathlib.Core.List.{List, [], _∷_, map}
 use lib.ListN.{replicate}
 use Rattle.ot.specs.Cases.{TransformCases}
 use Rattle.wire.specs.Cases as bytes
+use Rattle.list.specs.Places.{Place, placeOf}
 use Rattle.model.specs.Ranks.{lineRanks}
 use Rattle.model.specs.Client.{openClient}
 use Rattle.model.specs.Server.{openServer}
@@ -12,18 +13,22 @@ use Rattle.model.specs.Sheet.{Call, insert, delete, send, receive}
 use Rattle.model.specs.Run.{run, start}
 use Rattle.model.specs.Ours.{ours}
 
--- 14 bytes, enough for any message
+-- 17 bytes, enough for any message
 abbrev pub lent : List ℕ
-lent = replicate 14 0
+lent = replicate 17 0
+
+-- an item with its maker's line and number
+abbrev pub step : ℕ → ℕ → ℕ → Place
+step x line number = placeOf (record { line = line; number = number }) x
 
 -- the lists of these ends after these calls, at a sheet of n clients
-abbrev pub listsAfter : ℕ → List ℕ → List ℕ → List ℕ → List Call → List (List ℕ)
+abbrev pub listsAfter : ℕ → List ℕ → List ℕ → List ℕ → List Call → List (List Place)
 listsAfter n ranks items ends calls =
     let s = run ours n (start ours n ranks items) calls in
     map (λ a. ours .items (s .ends a)) ends
 
 -- of the server and of two clients, whose lines are their ranks
-abbrev pub twoAfter : List ℕ → List Call → List (List ℕ)
+abbrev pub twoAfter : List ℕ → List Call → List (List Place)
 twoAfter items calls = listsAfter 2 (lineRanks 2) items (0 ∷ 1 ∷ 2 ∷ []) calls
 
 -- P11: line by line, each `up` and `down` a sending and a taking
@@ -76,17 +81,17 @@ tie =
     ∷ receive 5 3
     ∷ []
 
-abbrev pub tieAfter : List ℕ → List (List ℕ)
+abbrev pub tieAfter : List ℕ → List (List Place)
 tieAfter ranks = listsAfter 5 ranks (10 ∷ []) (0 ∷ 1 ∷ 5 ∷ []) tie
 
 pub record MarkedCases : Type 0 where
   pub p1-p8 : TransformCases
   pub p9-p10 : bytes.Cases
-  pub p11-lists : twoAfter (10 ∷ 20 ∷ []) p11 ≡ (30 ∷ 10 ∷ []) ∷ (30 ∷ 10 ∷ []) ∷ (30 ∷ 10 ∷ []) ∷ []
-  pub p12-lists : twoAfter (10 ∷ 20 ∷ 30 ∷ []) p12 ≡ (40 ∷ 50 ∷ 20 ∷ 30 ∷ []) ∷ (40 ∷ 50 ∷ 20 ∷ 30 ∷ []) ∷ (40 ∷ 50 ∷ 20 ∷ 30 ∷ []) ∷ []
+  pub p11-lists : twoAfter (10 ∷ 20 ∷ []) p11 ≡ replicate 3 (step 30 1 1 ∷ step 10 0 1 ∷ [])
+  pub p12-lists : twoAfter (10 ∷ 20 ∷ 30 ∷ []) p12 ≡ replicate 3 (step 40 1 2 ∷ step 50 2 1 ∷ step 20 0 2 ∷ step 30 0 3 ∷ [])
   -- client 1 stays where lines are ranks, client 5 where it has rank 1
-  pub by-line : tieAfter (lineRanks 5) ≡ (30 ∷ 50 ∷ 10 ∷ []) ∷ (30 ∷ 50 ∷ 10 ∷ []) ∷ (30 ∷ 50 ∷ 10 ∷ []) ∷ []
-  pub lead-first : tieAfter (2 ∷ 3 ∷ 4 ∷ 5 ∷ 1 ∷ []) ≡ (50 ∷ 30 ∷ 10 ∷ []) ∷ (50 ∷ 30 ∷ 10 ∷ []) ∷ (50 ∷ 30 ∷ 10 ∷ []) ∷ []
+  pub by-line : tieAfter (lineRanks 5) ≡ replicate 3 (step 30 1 1 ∷ step 50 5 1 ∷ step 10 0 1 ∷ [])
+  pub lead-first : tieAfter (2 ∷ 3 ∷ 4 ∷ 5 ∷ 1 ∷ []) ≡ replicate 3 (step 50 5 1 ∷ step 30 1 1 ∷ step 10 0 1 ∷ [])
   -- two alike, one past n, one 0, too few, too many; and a ranking
   pub ranked : map (λ ranks. openServer 2 ranks [] .refusal) ((1 ∷ 1 ∷ []) ∷ (1 ∷ 3 ∷ []) ∷ (0 ∷ 1 ∷ []) ∷ (1 ∷ []) ∷ (2 ∷ 1 ∷ 3 ∷ []) ∷ (2 ∷ 1 ∷ []) ∷ [])
       ≡ 16 ∷ 16 ∷ 16 ∷ 16 ∷ 16 ∷ 0 ∷ []

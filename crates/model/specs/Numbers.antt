@@ -7,7 +7,7 @@ use mathlib.Core.List.{List, [], _∷_}
 use lib.Dec.{leb, ltb, eqb}
 use lib.ListN.{length, getElem?}
 use Rattle.ot.specs.Edit as edit
-use Rattle.ot.specs.Edit.{Edit, applied, fits}
+use Rattle.ot.specs.Edit.{Edit, fits}
 use Rattle.jupiter.specs.Made.{mine}
 use Rattle.jupiter.specs.Ends.{EditMessage}
 use Rattle.jupiter.specs.Run.{Message, up, down, upAck, downAck}
@@ -17,9 +17,9 @@ use Rattle.model.specs.Limits.{maxInserts, maxEdits, maxPending, maxItem
 use Rattle.model.specs.Questions.{Question, ask, asks, between}
 use Rattle.model.specs.Cross.{insertsOf}
 use Rattle.model.specs.Ranks.{rankOf}
-use Rattle.model.specs.Edits.{edits}
+use Rattle.model.specs.Edits.{edits, appliedNamed}
 use Rattle.model.specs.Sheet.{Call, insert, delete, send, tell, receive, junk}
-use Rattle.model.specs.Log.{Log, madeAt, takenAt, editMessage, messageBytes}
+use Rattle.model.specs.Log.{Log, namedBy, madeAt, takenAt, editMessage, messageBytes}
 
 -- Line l is end a's own: the server has lines 1 to n.
 abbrev pub owns : ℕ → ℕ → ℕ → Bool
@@ -41,7 +41,7 @@ pendingAt w a l = madeAt (w .history) a l - w .heard a l
 
 abbrev pub editing : {ranks : List ℕ} → Log ranks → ℕ → Edit → List Question
 editing w l e =
-    ask 9 (fits e (length (w .shown l)) && leb (length (applied e (w .shown l))) maxItems)
+    ask 9 (fits e (length (w .shown l)) && leb (length (appliedNamed (namedBy w l e) (w .shown l))) maxItems)
     ∷ ask 10 (leb (inserts (mine l (order (w .history) l)) + insertsOf e) maxInserts)
     ∷ ask 11 (ltb (madeAt (w .history) l l) maxEdits)
     ∷ ask 12 (ltb (pendingAt w l l) maxPending)

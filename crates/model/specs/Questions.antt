@@ -23,16 +23,25 @@ abbrev pub every : List Bool → Bool
 every [] = true
 every (b ∷ bs) = b && every bs
 
--- What a call that may change its end answers: the refusal's number or 0, the end, and how many pending edits an edit was
--- transformed past.
+-- What the taking of an edit reports: how many pending edits it was transformed past, and the positions (02: N1) in which it arrived and in
+-- which it was applied, 0 for nothing.
+pub record Report : Type 0 where
+  pub passed : ℕ
+  pub arrived : ℕ
+  pub applied : ℕ
+
+abbrev pub noReport : Report
+noReport = record { passed = 0; arrived = 0; applied = 0 }
+
+-- What a call that may change its end answers: the refusal's number or 0, the end, and the report of a taking.
 pub record Answer (E : Type 0) : Type 0 where
   pub refusal : ℕ
   pub end : E
-  pub passed : ℕ
+  pub report : Report
 
--- A refusal hands back the end as it came, and its count is 0.
-unfoldable pub answer : {E : Type 0} → ℕ → E → E → ℕ → Answer E
-answer r old new k = cond (eqb r 0) (record { refusal = 0; end = new; passed = k }) (record { refusal = r; end = old; passed = 0 })
+-- A refusal hands back the end as it came, and reports nothing.
+unfoldable pub answer : {E : Type 0} → ℕ → E → E → Report → Answer E
+answer r old new k = cond (eqb r 0) (record { refusal = 0; end = new; report = k }) (record { refusal = r; end = old; report = noReport })
 
 -- What a sending answers: the refusal's number or 0, the bytes written, and the lent buffer.
 pub record Sent : Type 0 where

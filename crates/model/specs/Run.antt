@@ -9,7 +9,7 @@ use Rattle.wire.specs.declared.Read.{Read}
 use Rattle.wire.specs.declared.Read.the-variants as read
 use Rattle.wire.specs.Bytes.{parsed}
 use Rattle.jupiter.specs.History.{at}
-use Rattle.model.specs.Questions.{Answer, Sent, between}
+use Rattle.model.specs.Questions.{Answer, Report, Sent, between}
 use Rattle.model.specs.Sheet.{Sheet, Call, insert, delete, send, tell, receive, junk}
 use Rattle.model.specs.Log.{Log, noLog, log}
 
@@ -38,11 +38,11 @@ callable n (receive a i) = leb a n
 callable n (junk a bytes) = leb a n && areBytes bytes && unreadable (parsed bytes)
 
 module _ (S : Sheet) where
-  -- the ends as the last call on each left them, the messages written, the counts answered, and the log of the definitions
+  -- the ends as the last call on each left them, the messages written, the reports answered, and the log of the definitions
   pub record State (ranks : List ℕ) : Type 0 where
     pub ends : ℕ → S .End
     pub messages : List (List ℕ)
-    pub passed : List ℕ
+    pub reports : List Report
     pub recorded : Log ranks
 
   -- a call that answers an end: that end is the new one, refused or not
@@ -51,7 +51,7 @@ module _ (S : Sheet) where
       record {
         ends = at a (r .end) (s .ends);
         messages = s .messages;
-        passed = s .passed ++ (r .passed ∷ []);
+        reports = s .reports ++ (r .report ∷ []);
         recorded = log (s .recorded) c (r .refusal);
       }
 
@@ -61,7 +61,7 @@ module _ (S : Sheet) where
       record {
         ends = s .ends;
         messages = cond (eqb (r .refusal) 0) (s .messages ++ (take (r .written) (r .buffer) ∷ [])) (s .messages);
-        passed = s .passed;
+        reports = s .reports;
         recorded = log (s .recorded) c (r .refusal);
       }
 
@@ -101,4 +101,4 @@ module _ (S : Sheet) where
   opened n ranks items (suc l) = S .openClient n (suc l) ranks items .end
 
   abbrev pub start : ℕ → (ranks : List ℕ) → List ℕ → State ranks
-  start n ranks items = record { ends = opened n ranks items; messages = []; passed = []; recorded = noLog items }
+  start n ranks items = record { ends = opened n ranks items; messages = []; reports = []; recorded = noLog items }

@@ -1,13 +1,14 @@
 -- A sheet: anything that has these calls. What is claimed of a sheet is stated for any of them, so that wrong ones can be tried.
 use Prim.Native.Nat.{ℕ}
 use mathlib.Core.List.{List}
+use Rattle.list.specs.Places.{Place}
 use Rattle.model.specs.Questions.{Answer, Sent}
 
 pub record Sheet : Type 1 where
   -- an end, the server's or a client's
   pub End : Type 0
-  -- its list, and for each line how many edits it made and took there
-  pub items : End → List ℕ
+  -- its list, each place with its origin, and for each line how many edits it made and took there
+  pub items : End → List Place
   pub made : End → ℕ → ℕ
   pub taken : End → ℕ → ℕ
   -- n, ranks, items; n, line, ranks, items

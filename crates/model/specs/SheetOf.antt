@@ -1,12 +1,13 @@
 -- A sheet from what its clients answer and what its server answers, whatever their ends are made of.
 use Prim.Native.Nat.{ℕ}
 use mathlib.Core.List.{List}
-use Rattle.model.specs.Questions.{Answer, Sent}
+use Rattle.list.specs.Places.{Place}
+use Rattle.model.specs.Questions.{noReport, Answer, Sent}
 use Rattle.model.specs.Sheet.{Sheet}
 
 pub record ClientCalls : Type 1 where
   pub Client : Type 0
-  pub items : Client → List ℕ
+  pub items : Client → List Place
   -- on its own line
   pub made : Client → ℕ
   pub taken : Client → ℕ
@@ -20,7 +21,7 @@ pub record ClientCalls : Type 1 where
 
 pub record ServerCalls : Type 1 where
   pub Server : Type 0
-  pub items : Server → List ℕ
+  pub items : Server → List Place
   pub made : Server → ℕ → ℕ
   pub taken : Server → ℕ → ℕ
   -- n, ranks, items
@@ -35,17 +36,17 @@ pub data End (C S : Type 0) : Type 0 where
 
 -- an answer about the one kind of end, as one about an end
 abbrev pub answerAs : {A B : Type 0} → (A → B) → Answer A → Answer B
-answerAs f a = record { refusal = a .refusal; end = f (a .end); passed = a .passed }
+answerAs f a = record { refusal = a .refusal; end = f (a .end); report = a .report }
 
 -- The server's end makes no edits: it is no sound client.
 abbrev pub refusedHere : {A : Type 0} → A → Answer A
-refusedHere e = record { refusal = 2; end = e; passed = 0 }
+refusedHere e = record { refusal = 2; end = e; report = noReport }
 
 module _ (c : ClientCalls) (v : ServerCalls) where
   abbrev Ends : Type 0
   Ends = End (c .Client) (v .Server)
 
-  abbrev items : Ends → List ℕ
+  abbrev items : Ends → List Place
   items (client e) = c .items e
   items (server e) = v .items e
 

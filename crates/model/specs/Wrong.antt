@@ -3,21 +3,24 @@ use Prim.Native.Nat.{ℕ, suc, _+_, _-_}
 use mathlib.Core.Bool.{not, _&&_, cond}
 use mathlib.Core.List.{List, [], _∷_, reverse}
 use lib.Dec.{ltb, eqb}
-use Rattle.ot.specs.Edit.{Edit, Nothing, Delete, Insert, applied, transformed}
+use Rattle.ot.specs.Edit.{Edit, Nothing, Delete, Insert, transformed}
+use Rattle.list.specs.declared.Origin.{Origin}
+use Rattle.list.specs.Places.{Place, appliedBy}
 use Rattle.wire.specs.declared.Header.{Header}
 use Rattle.wire.specs.declared.Message.the-variants as message
 use Rattle.wire.specs.declared.Read.{Read}
 use Rattle.wire.specs.declared.Read.the-variants as read
 use Rattle.wire.specs.Bytes.{parsed}
-use Rattle.model.specs.Questions.{asks, Answer, answer}
+use Rattle.model.specs.Questions.{asks, Report, noReport, Answer, answer}
 use Rattle.model.specs.Ranks.{lineRanks}
-use Rattle.model.specs.Line.{unacked}
-use Rattle.model.specs.Client.{Client, with, insertClient, clientAcked, clientTakesAck, clientEditQuestions, takeClient}
+use Rattle.model.specs.Line.{unacked, lineReport}
+use Rattle.model.specs.Client.{Client, with, insertClient, clientAcked, clientTaken, clientTakesAck, clientEditQuestions, clientReads, takeClient}
 use Rattle.model.specs.Server.{Server, lineOf, serverReads, takeServer}
 use Rattle.model.specs.Numbers.{allBut}
 use Rattle.model.specs.Sheet.{Sheet}
 use Rattle.model.specs.SheetOf.{ClientCalls, ServerCalls, sheetOf, answerAs}
 use Rattle.model.specs.Claim.{Converges}
+use Rattle.model.specs.Consequences.{OneOrder}
 use Rattle.model.specs.Ours.{clientCalls, serverCalls}
 
 -- ours, but a client inserts and takes in another way
@@ -62,38 +65,50 @@ takingAs client server = sheetOf (clientAs insertClient client) (serverAs server
 abbrev pub leaving : Sheet
 leaving = insertingAs (λ c p x. answerAs (showing (c .items)) (insertClient c p x))
   where
-    showing : List ℕ → Client → Client
+    showing : List Place → Client → Client
     showing l c = with c l (c .own)
 
--- An earlier list is shown again: after an insert a client shows the list that it showed before.
-pub record Repeating : Type 0 where
+-- A client with the list that it shows.
+pub record Showing : Type 0 where
   pub now : Client
-  pub shown : List ℕ
-
--- it shows its own list
-abbrev pub shows : Client → Repeating
-shows c = record { now = c; shown = c .items }
+  pub shown : List Place
 
 -- the end after an answer
-abbrev pub repeats : Repeating → (Client → Repeating) → Answer Client → Answer Repeating
-repeats e f a = record { refusal = a .refusal; end = cond (eqb (a .refusal) 0) (f (a .end)) e; passed = a .passed }
+abbrev pub showsAfter : Showing → (Client → Showing) → Answer Client → Answer Showing
+showsAfter e f a = record { refusal = a .refusal; end = cond (eqb (a .refusal) 0) (f (a .end)) e; report = a .report }
 
-abbrev pub repeating : Sheet
-repeating =
+-- What clients show is made of their own list; after an insert, of that and the list that was shown before.
+abbrev pub showingAs : (List Place → List Place) → (List Place → List Place → List Place) → Sheet
+showingAs usual inserted =
     sheetOf
     (record {
-      Client = Repeating;
+      Client = Showing;
       items = λ e. e .shown;
       made = λ e. e .now .own .made;
       taken = λ e. e .now .own .taken;
       opens = λ n l ranks items. answerAs shows (clientCalls .opens n l ranks items);
-      insert = λ e p x. repeats e (λ c. record { now = c; shown = e .shown }) (insertClient (e .now) p x);
-      delete = λ e p. repeats e shows (clientCalls .delete (e .now) p);
+      insert = λ e p x. showsAfter e (λ c. record { now = c; shown = inserted (e .shown) (c .items) }) (insertClient (e .now) p x);
+      delete = λ e p. showsAfter e shows (clientCalls .delete (e .now) p);
       send = λ e. clientCalls .send (e .now);
       tell = λ e. clientCalls .tell (e .now);
-      take = λ e bytes. repeats e shows (takeClient (e .now) bytes);
+      take = λ e bytes. showsAfter e shows (takeClient (e .now) bytes);
     })
     serverCalls
+  where
+    shows : Client → Showing
+    shows c = record { now = c; shown = usual (c .items) }
+
+-- An earlier list is shown again: after an insert a client shows the list that it showed before.
+abbrev pub repeating : Sheet
+repeating = showingAs (λ own. own) (λ before own. before)
+
+-- Two steps change places for a moment: after an insert a client shows its list turned round.
+abbrev pub turning : Sheet
+turning = showingAs (λ own. own) (λ before own. reverse own)
+
+-- Two steps stand the other way round at another end: clients always show their list turned round.
+abbrev pub mirroring : Sheet
+mirroring = showingAs reverse (λ before own. reverse own)
 
 -- ---- taking
 
@@ -109,7 +124,7 @@ overFirst e (p ∷ ps) = transformed p e ∷ ps
 abbrev pub takesFirst : Client → Header → Edit → Answer Client
 takesFirst c h e =
     answer (asks (clientEditQuestions c h e)) c
-    (with c (applied (pastFirst e (unacked (c .own) (h .seen))) (c .items))
+    (with c (appliedBy (h .origin) (pastFirst e (unacked (c .own) (h .seen))) (c .items))
     (record {
       made = c .own .made;
       taken = c .own .taken + 1;
@@ -117,10 +132,10 @@ takesFirst c h e =
       inserts = c .own .inserts;
       pending = overFirst e (unacked (c .own) (h .seen));
     }))
-    (c .own .made - h .seen)
+    (lineReport (c .own) (h .seen) e)
 
 abbrev pub readsFirst : Client → Read → Answer Client
-readsFirst c read.Refused = answer 3 c c 0
+readsFirst c read.Refused = answer 3 c c noReport
 readsFirst c (read.Message (message.Insert h p x r)) = takesFirst c h (Insert p x r)
 readsFirst c (read.Message (message.Delete h p)) = takesFirst c h (Delete p)
 readsFirst c (read.Message (message.Nothing h)) = takesFirst c h Nothing
@@ -131,14 +146,32 @@ firstOnly = takingAs (λ c bytes. readsFirst c (parsed bytes)) takeServer
 
 -- Every message is turned down.
 abbrev pub refusing : Sheet
-refusing = takingAs (λ c bytes. record { refusal = 4; end = c; passed = 0 }) (λ s bytes. record { refusal = 4; end = s; passed = 0 })
+refusing = takingAs (λ c bytes. record { refusal = 4; end = c; report = noReport }) (λ s bytes. record { refusal = 4; end = s; report = noReport })
 
 -- The count of pending edits passed is made up: one too many.
 abbrev pub miscounting : Sheet
 miscounting = takingAs (λ c bytes. one (takeClient c bytes)) (λ s bytes. one (takeServer s bytes))
   where
+    more : Report → Report
+    more k = record { passed = suc (k .passed); arrived = k .arrived; applied = k .applied }
+
     one : {A : Type 0} → Answer A → Answer A
-    one a = record { refusal = a .refusal; end = a .end; passed = cond (eqb (a .refusal) 0) (suc (a .passed)) 0 }
+    one a = record { refusal = a .refusal; end = a .end; report = cond (eqb (a .refusal) 0) (more (a .report)) noReport }
+
+-- Takings report another thing than they should.
+abbrev pub reportingAs : (Report → Report) → Sheet
+reportingAs f = takingAs (λ c bytes. another (takeClient c bytes)) (λ s bytes. another (takeServer s bytes))
+  where
+    another : {A : Type 0} → Answer A → Answer A
+    another a = record { refusal = a .refusal; end = a .end; report = f (a .report) }
+
+-- The position that arrived is reported twice.
+abbrev pub arrivedTwice : Sheet
+arrivedTwice = reportingAs (λ k. record { passed = k .passed; arrived = k .arrived; applied = k .arrived })
+
+-- An edit that is gone reports a position: the one in which it arrived.
+abbrev pub goneShown : Sheet
+goneShown = reportingAs (λ k. record { passed = k .passed; arrived = k .arrived; applied = cond (eqb (k .applied) 0) (k .arrived) (k .applied) })
 
 -- A taking that is refused with number r is answered 0 instead, and changes nothing. With 3 that is: bytes that no message has are taken; with
 -- 4 a message that goes elsewhere, with 5 a repeated one, with 6 one that comes too early, with 7 one whose seen is overtaken.
@@ -146,13 +179,13 @@ abbrev pub forgiving : ℕ → Sheet
 forgiving r = takingAs (λ c bytes. forgive (takeClient c bytes)) (λ s bytes. forgive (takeServer s bytes))
   where
     forgive : {A : Type 0} → Answer A → Answer A
-    forgive a = record { refusal = cond (eqb (a .refusal) r) 0 (a .refusal); end = a .end; passed = a .passed }
+    forgive a = record { refusal = cond (eqb (a .refusal) r) 0 (a .refusal); end = a .end; report = a .report }
 
 -- The seen of a repeated message is used to drop pending edits.
 abbrev pub usesSeen : Client → Answer Client → Read → Answer Client
-usesSeen c a (read.Message (message.Delete h p)) = cond (eqb (a .refusal) 5) (record { refusal = 5; end = clientAcked c (h .seen); passed = 0 }) a
-usesSeen c a (read.Message (message.Insert h p x r)) = cond (eqb (a .refusal) 5) (record { refusal = 5; end = clientAcked c (h .seen); passed = 0 }) a
-usesSeen c a (read.Message (message.Nothing h)) = cond (eqb (a .refusal) 5) (record { refusal = 5; end = clientAcked c (h .seen); passed = 0 }) a
+usesSeen c a (read.Message (message.Delete h p)) = cond (eqb (a .refusal) 5) (record { refusal = 5; end = clientAcked c (h .seen); report = noReport }) a
+usesSeen c a (read.Message (message.Insert h p x r)) = cond (eqb (a .refusal) 5) (record { refusal = 5; end = clientAcked c (h .seen); report = noReport }) a
+usesSeen c a (read.Message (message.Nothing h)) = cond (eqb (a .refusal) 5) (record { refusal = 5; end = clientAcked c (h .seen); report = noReport }) a
 usesSeen c a (read.Message (message.Ack l d s)) = a
 usesSeen c a read.Refused = a
 
@@ -165,7 +198,7 @@ listening = takingAs (λ c bytes. usesSeen c (takeClient c bytes) (parsed bytes)
 abbrev pub roomBelow : ℕ → Server → ℕ → Answer Server → Answer Server
 roomBelow room s line a =
     cond (eqb (a .refusal) 0 && not (allBut (λ j. ltb (lineOf s j .made - lineOf s j .acked) room) line (s .n)))
-    (record { refusal = 12; end = s; passed = 0 }) a
+    (record { refusal = 12; end = s; report = noReport }) a
 
 abbrev pub takesBelow : ℕ → Server → Read → Answer Server
 takesBelow room s (read.Message (message.Insert h p x r)) = roomBelow room s (h .line) (serverReads s (read.Message (message.Insert h p x r)))
@@ -181,7 +214,7 @@ early room = takingAs takeClient (λ s bytes. takesBelow room s (parsed bytes))
 
 -- Every insert is turned down.
 abbrev pub frozen : Sheet
-frozen = insertingAs (λ c p x. record { refusal = 9; end = c; passed = 0 })
+frozen = insertingAs (λ c p x. record { refusal = 9; end = c; report = noReport })
 
 -- ---- ranks
 
@@ -190,7 +223,7 @@ abbrev pub clientRanked : (Client → List ℕ) → Client → Client
 clientRanked ranks c = record { n = c .n; line = c .line; ranks = ranks c; items = c .items; own = c .own }
 
 abbrev pub serverRanked : (Server → List ℕ) → Server → Server
-serverRanked ranks s = record { n = s .n; initial = s .initial; ranks = ranks s; items = s .items; lines = s .lines }
+serverRanked ranks s = record { n = s .n; initial = s .initial; ranks = ranks s; items = s .items; lines = s .lines; makers = s .makers }
 
 abbrev pub rankingAs : (Client → List ℕ) → (Server → List ℕ) → Sheet
 rankingAs clientRanks serverRanks =
@@ -226,6 +259,30 @@ byLine = rankingAs (λ c. lineRanks (c .n)) (λ s. lineRanks (s .n))
 abbrev pub otherRanks : Sheet
 otherRanks = rankingAs (λ c. c .ranks) (λ s. reverse (s .ranks))
 
+-- ---- origins
+
+-- A client gives the steps that it takes another origin than the message says.
+abbrev pub takesAs : (Header → Origin) → Client → Header → Edit → Answer Client
+takesAs origin c h e = answer (asks (clientEditQuestions c h e)) c (clientTaken c (origin h) (h .seen) e) (lineReport (c .own) (h .seen) e)
+
+abbrev pub readsAs : (Header → Origin) → Client → Read → Answer Client
+readsAs origin c read.Refused = clientReads c read.Refused
+readsAs origin c (read.Message (message.Insert h p x r)) = takesAs origin c h (Insert p x r)
+readsAs origin c (read.Message (message.Delete h p)) = takesAs origin c h (Delete p)
+readsAs origin c (read.Message (message.Nothing h)) = takesAs origin c h Nothing
+readsAs origin c (read.Message (message.Ack l d s)) = clientTakesAck c l d s
+
+abbrev pub originAs : (Header → Origin) → Sheet
+originAs origin = takingAs (λ c bytes. readsAs origin c (parsed bytes)) takeServer
+
+-- The line that the message came on in place of the maker's.
+abbrev pub bySender : Sheet
+bySender = originAs (λ h. record { line = h .line; number = h .origin .number })
+
+-- The message's number in place of the maker's.
+abbrev pub byMessage : Sheet
+byMessage = originAs (λ h. record { line = h .origin .line; number = h .number })
+
 -- None of them has what is claimed.
 pub record Refuted : Type 0 where
   pub leaving-fails : Converges leaving → ⊥
@@ -245,3 +302,10 @@ pub record Refuted : Type 0 where
   pub frozen-fails : Converges frozen → ⊥
   pub by-line-fails : Converges byLine → ⊥
   pub other-ranks-fails : Converges otherRanks → ⊥
+  pub by-sender-fails : Converges bySender → ⊥
+  pub by-message-fails : Converges byMessage → ⊥
+  pub arrived-twice-fails : Converges arrivedTwice → ⊥
+  pub gone-shown-fails : Converges goneShown → ⊥
+  -- not what is said of the order of steps
+  pub turning-fails : OneOrder turning → ⊥
+  pub mirroring-fails : OneOrder mirroring → ⊥
