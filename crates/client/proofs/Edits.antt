@@ -8,10 +8,14 @@ use lib.Dec.{leb, ltb}
 use lib.ListN.{length, length-append}
 use borrow.Author.Tests.{eqb-false, ltb-true, leb-true, le-leb, lt-leb, lt-ltb, le-ltb}
 use Rattle.limits.specs.Limits.{maxInserts, maxEdits, maxPending, maxItems}
-use Rattle.ot.specs.Edit.{Edit, Insert, applied, fits}
-use Rattle.list.specs.Items.{Room, Edited}
+use Rattle.ot.specs.declared.Form.{Form}
+use Rattle.ot.specs.Edit.{Edit, Insert, edit, fits}
+use Rattle.list.specs.declared.Origin.{Origin}
+use Rattle.list.specs.Items.{Room}
+use Rattle.list.specs.Places.{appliedBy}
 use Rattle.model.specs.Cross.{insertsOf}
-use Rattle.model.specs.Questions.{Question, ask, asks, answer}
+use Rattle.model.specs.Questions.{Question, ask, asks, noReport, answer}
+use Rattle.line.specs.Taking as lines
 use Rattle.model.specs.Ranks.{rankOf}
 use Rattle.model.specs.Line as line
 use Rattle.model.specs.Client.{editClient}
@@ -24,13 +28,12 @@ use Rattle.line.specs.Keeping.{fitsList, withKept}
 use Rattle.line.proofs.Room.{fits-model, fits-room}
 use Rattle.client.specs.declared.Counts.{Counts}
 use Rattle.client.specs.declared.Client.{Client}
-use Rattle.client.specs.declared.Changed.{Changed}
-use Rattle.client.specs.View.{size, itemsIn, slotsIn, view, sound, Sound}
-use Rattle.client.specs.Answers.{refusedWith, answerOf, guarded, edited, inserted, editAsked}
-use Rattle.client.proofs.Words.{withSlots, withBoth}
+use Rattle.client.specs.View.{size, slotsIn, view, sound, Sound, Applied}
+use Rattle.client.specs.Answers.{refusedWith, answerOf, doneCounts, guarded, edited, inserted, editAsked}
+use Rattle.client.proofs.Words.{withSlots}
 use Rattle.client.proofs.Answers.{unsound, refused, done}
 use Rattle.client.proofs.Sound.{sound-rank}
-use Rattle.client.proofs.Written.{counted, facts, len-few, list-long, becomes}
+use Rattle.client.proofs.Written.{facts, len-few, kept-long, becomes}
 
 -- ---- questions 9 to 12 as the code asks them
 
@@ -62,23 +65,23 @@ module _ (k : Counts) (e : Edit) (b : Bool) (eb : b ≡ fitsList e (k .len)) whe
 
 -- ---- at a sound client they are the model's
 
--- the answer of an edit that is done
-abbrev pub editDone : Client → Line → ℕ → Changed
-editDone c own len = record { refusal = 0; passed = 0; counts = counted c own len }
-
 -- What questions 2 and 9 to 12 leave known of an edit that they let through: what its steps ask, and that they do what the model does.
-pub record Allowed (c : Client) (e : Edit) : Type 0 where
+pub record Allowed (c : Client) (f : Form) (x : ℕ) : Type 0 where
   pub kept : Kept (c .counts .own) (slotsIn (c .words))
   pub pending : c .counts .own .made - c .counts .own .acked < maxPending
-  pub room : Room e (c .counts .len) maxItems
-  pub inserts : c .counts .own .inserts + insertsOf e ≤ maxInserts
+  pub room : Room (edit f x) (c .counts .len) maxItems
+  pub inserts : c .counts .own .inserts + insertsOf (edit f x) ≤ maxInserts
   pub made : c .counts .own .made < maxEdits
-  pub list : (slots : List ℕ) → slots ≡ slotsOf (view c .own .pending ++ (e ∷ [])) → length (itemsIn (withSlots (c .words) slots)) ≡ maxItems
-  pub done : (own : Line) (i len : ℕ) (slots after : List ℕ) → slots ≡ slotsOf (view c .own .pending ++ (e ∷ [])) → i ≡ insertsOf e
-      → own ≡ withKept (c .counts .own) (c .counts .own .inserts + i) → Edited e (c .counts .len) (itemsIn (withSlots (c .words) slots)) after len
-      → answerOf (editDone c own len) (withBoth (c .words) slots after) ≡ edited c e
+  pub words : (slots : List ℕ) → slots ≡ slotsOf (view c .own .pending ++ (edit f x ∷ [])) → length (withSlots (c .words) slots) ≡ size
+  pub done : (own : Line) (i len : ℕ) (slots after : List ℕ) → slots ≡ slotsOf (view c .own .pending ++ (edit f x ∷ [])) → i ≡ insertsOf (edit f x)
+      → own ≡ withKept (c .counts .own) (c .counts .own .inserts + i)
+      → Applied f x (client.originHere (view c) (c .counts .own .made + 1)) (c .counts .len) (withSlots (c .words) slots) after len
+      → answerOf (doneCounts (c .counts) lines.noReport own len) after ≡ edited c (edit f x)
 
-module _ (c : Client) (s : Sound c) (e : Edit) where
+module _ (c : Client) (s : Sound c) (f : Form) (x : ℕ) where
+  abbrev e : Edit
+  e = edit f x
+
   -- 10 to 12, which the model asks in the same words
   abbrev later : List Question
   later =
@@ -87,20 +90,23 @@ module _ (c : Client) (s : Sound c) (e : Edit) where
       ∷ ask 12 (ltb (c .counts .own .made - c .counts .own .acked) maxPending)
       ∷ []
 
+  abbrev here : Origin
+  here = client.originHere (view c) (c .counts .own .made + 1)
+
   abbrev nine : Bool
-  nine = fits e (length (view c .items)) && leb (length (applied e (view c .items))) maxItems
+  nine = fits e (length (view c .items)) && leb (length (appliedBy here e (view c .items))) maxItems
 
   same-questions : asks (client.editQuestions (view c) e) ≡ asks (editAsked (c .counts) e)
   same-questions =
       ap (λ (b : Bool). asks (ask 2 b ∷ ask 9 nine ∷ later)) (s .model)
       ∙ ap (λ (b : Bool). asks (ask 9 b ∷ later))
-      (sym (fits-model e (view c .items) (facts c s .items)) ∙ ap (fitsList e) (s .listed))
+      (sym (fits-model here e (view c .items) (facts c s .items)) ∙ ap (fitsList e) (s .listed))
 
   edit-refused : (r : ℕ) → r ≡ asks (editAsked (c .counts) e) → (r ≡ 0 → ⊥) → refusedWith r c ≡ edited c e
   unfolding editClient
   edit-refused r er n =
-      refused c r 0 (client.edited (view c) e) (s .yes) n
-      ∙ ap (λ (k : ℕ). guarded c (answer k (view c) (client.edited (view c) e) 0)) (er ∙ sym same-questions)
+      refused c r noReport (client.edited (view c) e) (s .yes) n
+      ∙ ap (λ (k : ℕ). guarded c (answer k (view c) (client.edited (view c) e) noReport)) (er ∙ sym same-questions)
 
   module _ (z : asks (editAsked (c .counts) e) ≡ 0) where
     answered-yes : Yes (editAsked (c .counts) e)
@@ -109,12 +115,6 @@ module _ (c : Client) (s : Sound c) (e : Edit) where
 
     edit-room : Room e (c .counts .len) maxItems
     edit-room = fits-room e (c .counts .len) (len-few c s) (answered-yes .0)
-
-    edit-inserts : c .counts .own .inserts + insertsOf e ≤ maxInserts
-    edit-inserts = leb-true (c .counts .own .inserts + insertsOf e) maxInserts (answered-yes .1 .0)
-
-    edit-made : c .counts .own .made < maxEdits
-    edit-made = ltb-true (c .counts .own .made) maxEdits (answered-yes .1 .1 .0)
 
     edit-pending : c .counts .own .made - c .counts .own .acked < maxPending
     edit-pending = ltb-true (c .counts .own .made - c .counts .own .acked) maxPending (answered-yes .1 .1 .1 .0)
@@ -128,45 +128,46 @@ module _ (c : Client) (s : Sound c) (e : Edit) where
     kept-few = omega (arith, length-append (view c .own .pending) (e ∷ []), facts c s .own .count, edit-pending)
 
     edit-done : length (c .words) ≡ size → (own : Line) (i len : ℕ) (slots after : List ℕ) → slots ≡ slotsOf (kept .pending) → i ≡ insertsOf e
-        → own ≡ withKept (c .counts .own) (c .counts .own .inserts + i) → Edited e (c .counts .len) (itemsIn (withSlots (c .words) slots)) after len
-        → answerOf (editDone c own len) (withBoth (c .words) slots after) ≡ edited c e
+        → own ≡ withKept (c .counts .own) (c .counts .own .inserts + i) → Applied f x here (c .counts .len) (withSlots (c .words) slots) after len
+        → answerOf (doneCounts (c .counts) lines.noReport own len) after ≡ edited c e
     unfolding editClient
-    edit-done long own i len slots after es ei eo ed =
-        ap (λ (d : Client). record { refusal = 0; passed = 0; client = d })
-        (becomes c s long kept kept-few slots es e own len after edit-room
-        (eo ∙ ap (λ (j : ℕ). withKept (c .counts .own) (c .counts .own .inserts + j)) ei) ed)
-        ∙ done c (asks (client.editQuestions (view c) e)) 0 (client.edited (view c) e) (s .yes) (same-questions ∙ z)
+    edit-done long own i len slots after es ei eo a =
+        ap (λ (d : Client). record { refusal = 0; report = lines.noReport; client = d })
+        (becomes c s long kept kept-few slots es f x here edit-room own len lines.noReport after
+        (eo ∙ ap (λ (j : ℕ). withKept (c .counts .own) (c .counts .own .inserts + j)) ei) a)
+        ∙ done c (asks (client.editQuestions (view c) e)) noReport (client.edited (view c) e) (s .yes) (same-questions ∙ z)
 
-    edit-allowing : length (c .words) ≡ size → Allowed c e
+    edit-allowing : length (c .words) ≡ size → Allowed c f x
     edit-allowing long =
         record {
           kept = s .kept;
           pending = edit-pending;
           room = edit-room;
-          inserts = edit-inserts;
-          made = edit-made;
-          list = λ slots es. list-long c s long kept kept-few slots es;
+          inserts = leb-true (c .counts .own .inserts + insertsOf e) maxInserts (answered-yes .1 .0);
+          made = ltb-true (c .counts .own .made) maxEdits (answered-yes .1 .1 .0);
+          words = λ slots es. kept-long c s long kept kept-few slots es;
           done = edit-done long;
         }
 
 -- What the answer of questions 2 and 9 to 12 tells.
-module _ (c : Client) (e : Edit) (r : ℕ) (f : sound c ≡ true → Sound c) (er : r ≡ cond (sound c) (asks (editAsked (c .counts) e)) 2) where
-  answer-is : (b : Bool) → sound c ≡ b → r ≡ cond b (asks (editAsked (c .counts) e)) 2
-  answer-is b t = er ∙ ap (λ (x : Bool). cond x (asks (editAsked (c .counts) e)) 2) t
+module _ (c : Client) (f : Form) (x r : ℕ) (known : sound c ≡ true → Sound c)
+    (er : r ≡ cond (sound c) (asks (editAsked (c .counts) (edit f x))) 2) where
+  answer-is : (b : Bool) → sound c ≡ b → r ≡ cond b (asks (editAsked (c .counts) (edit f x))) 2
+  answer-is b t = er ∙ ap (λ (y : Bool). cond y (asks (editAsked (c .counts) (edit f x))) 2) t
 
-  pub edit-allowed : length (c .words) ≡ size → r ≡ 0 → Allowed c e
+  pub edit-allowed : length (c .words) ≡ size → r ≡ 0 → Allowed c f x
   edit-allowed long z = go (sound c) refl
     where
-      go : (b : Bool) → sound c ≡ b → Allowed c e
-      go true t = edit-allowing c (f t) e (sym (answer-is true t) ∙ z) long
+      go : (b : Bool) → sound c ≡ b → Allowed c f x
+      go true t = edit-allowing c (known t) f x (sym (answer-is true t) ∙ z) long
       go false t = absurd (eqb-false 2 0 refl (sym (answer-is false t) ∙ z))
 
-  pub edit-not-allowed : (r ≡ 0 → ⊥) → refusedWith r c ≡ edited c e
+  pub edit-not-allowed : (r ≡ 0 → ⊥) → refusedWith r c ≡ edited c (edit f x)
   edit-not-allowed n = go (sound c) refl
     where
-      go : (b : Bool) → sound c ≡ b → refusedWith r c ≡ edited c e
-      go true t = edit-refused c (f t) e r (answer-is true t) n
-      go false t = ap (λ (k : ℕ). refusedWith k c) (answer-is false t) ∙ unsound c (editClient (view c) e) t
+      go : (b : Bool) → sound c ≡ b → refusedWith r c ≡ edited c (edit f x)
+      go true t = edit-refused c (known t) f x r (answer-is true t) n
+      go false t = ap (λ (k : ℕ). refusedWith k c) (answer-is false t) ∙ unsound c (editClient (view c) (edit f x)) t
 
 -- ---- an insert
 

@@ -75,10 +75,10 @@ module _ (c : Client) (s : Sound c) (line number : ℕ) (lent : List ℕ) where
         (er ∙ sym (then-no (model.asks (numberAsked (c .counts .own) number)) (model.asks fit) (λ z. n (er ∙ z)))
         ∙ sym in-parts ∙ own-line c s line lineQuestions e)
 
-    pub sent-edit : r ≡ 0 → (m : Message) → m ≡ lineMessage line 0 (view c .own) number → finished m lent ≡ sentEdit c line number lent
+    pub sent-edit : r ≡ 0 → (m : Message) → m ≡ lineMessage line 0 (record { line = line; number = number }) (view c .own) number → finished m lent ≡ sentEdit c line number lent
     unfolding sendClient
     sent-edit z m em =
-        ap (λ (x : Message). finished x lent) (em ∙ ap (λ (l : ℕ). lineMessage l 0 (view c .own) number) e)
+        ap (λ (x : Message). finished x lent) (em ∙ ap (λ (l : ℕ). lineMessage l 0 (record { line = l; number = number }) (view c .own) number) e)
         ∙ ap (λ (q : ℕ). model.sent q bytes lent)
         (sym (then-yes (model.asks (numberAsked (c .counts .own) number)) (model.asks fit) (sym er ∙ z)) ∙ sym in-parts ∙ own-line c s line lineQuestions e)
         ∙ sound-sending c (sendClient (view c) line number lent) lent (s .yes)

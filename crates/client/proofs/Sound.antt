@@ -3,13 +3,16 @@ use Prim.Native.Nat.{ℕ, _-_, _≤_}
 use native.Mathlib.Omega.{arith}
 use mathlib.Core.Path.{_≡_, refl, ap, _∙_, sym}
 use mathlib.Core.Bool.{Bool, true, false, _&&_, and-true, and-assoc}
-use mathlib.Core.List.{List, [], _∷_, _++_}
+use mathlib.Core.List.{List, [], _∷_}
 use lib.Dec.{leb, eqb}
-use lib.ListN.{length, take, drop, length-take}
+use lib.ListN.{length, take, drop}
+use lib.Seq.{length-take-le}
 use borrow.Author.Tests.{leb-true, le-leb}
 use Rattle.limits.specs.Limits.{maxLines, maxOthers, maxItems}
 use Rattle.list.specs.Items.{stored, allZero}
+use Rattle.list.specs.Places.{itemsOf, originsOf}
 use Rattle.list.proofs.Items.{stored-of}
+use Rattle.list.proofs.Places.{places-length, places-items, places-origins, places-numbered}
 use Rattle.model.specs.Questions.{every, between}
 use Rattle.model.specs.Ranks.{rankOf, ranking}
 use Rattle.model.specs.Line.{lineTests}
@@ -23,8 +26,8 @@ use Rattle.line_sound.specs.Sound.{tidy, soundLine}
 use Rattle.line_sound.proofs.Words.{sound-kept}
 use Rattle.client.specs.declared.Counts.{Counts}
 use Rattle.client.specs.declared.Client.{Client}
-use Rattle.client.specs.View.{itemsIn, slotsIn, clientOf, view, store, soundTests, sound, Sound, Sizes}
-use Rattle.client.proofs.Words.{in-parts, items-long, slots-long}
+use Rattle.client.specs.View.{itemsIn, slotsIn, originsIn, clientOf, view, unusedZero, store, soundTests, sound, Sound, Sizes}
+use Rattle.client.proofs.Words.{items-long, slots-long, origins-long, parts-are}
 
 -- a line of the sheet has the same rank in its places as among the ranks of the sheet
 pub own-rank : (c : Client) → between 1 (c .counts .n) (c .counts .line) ≡ true → ownRank (view c) ≡ rankOf (c .counts .ranks) (c .counts .line)
@@ -46,6 +49,9 @@ module _ (c : Client) (z : Sizes (c .counts) (c .words)) where
   abbrev slots : List ℕ
   slots = slotsIn (c .words)
 
+  abbrev origins : List ℕ
+  origins = originsIn (c .words)
+
   abbrev rank : ℕ
   rank = rankOf (k .ranks) (k .line)
 
@@ -59,15 +65,37 @@ module _ (c : Client) (z : Sizes (c .counts) (c .words)) where
       ∷ leb (k .len) maxItems
       ∷ leb (k .own .taken) maxOthers
       ∷ ranks.soundRanks (k .n) (k .ranks)
-      ∷ allZero (drop (k .len) items)
+      ∷ unusedZero (k .len) (c .words)
       ∷ lineSound rank
       ∷ []
 
   abbrev tests : List Bool
   tests = between 1 maxLines (k .n) ∷ rest
 
-  listed : k .len ≤ maxItems → length (take (k .len) items) ≡ k .len
-  listed h = length-take (k .len) items ∙ omega (arith, items-long (c .words) (z .words))
+  -- the first len items and the first len origins are the places
+  module _ (few : k .len ≤ maxItems) where
+    items-taken : length (take (k .len) items) ≡ k .len
+    items-taken = length-take-le (k .len) items (omega (arith, items-long (c .words) (z .words)))
+
+    both-taken : length (take (k .len) items) ≡ length (take (k .len) origins)
+    both-taken = items-taken ∙ sym (length-take-le (k .len) origins (omega (arith, origins-long (c .words) (z .words))))
+
+    listed : length (view c .items) ≡ k .len
+    listed = places-length (take (k .len) items) (take (k .len) origins) both-taken ∙ items-taken
+
+    module _ (zero : unusedZero (k .len) (c .words) ≡ true) where
+      abbrev behind : List ℕ → Bool
+      behind l = allZero (drop (k .len) l)
+
+      items-stored : items ≡ stored (itemsOf (view c .items))
+      items-stored =
+          stored-of items (k .len) (items-long (c .words) (z .words)) few (and-left (behind items) (behind origins) zero)
+          ∙ ap stored (sym (places-items (take (k .len) items) (take (k .len) origins) both-taken))
+
+      origins-stored : origins ≡ stored (originsOf (view c .items))
+      origins-stored =
+          stored-of origins (k .len) (origins-long (c .words) (z .words)) few (and-right (behind items) (behind origins) zero)
+          ∙ ap stored (sym (places-origins (take (k .len) items) (take (k .len) origins) both-taken))
 
   -- the tests of the line, at a rank
   abbrev lineTested : ℕ → List Bool
@@ -96,8 +124,8 @@ module _ (c : Client) (z : Sizes (c .counts) (c .words)) where
           (
             sound-ranking (k .n) (k .ranks) right,
             (
-              le-leb (length (take (k .len) items)) maxItems (omega (arith, listed len)),
-              (t .1 .1 .1 .0, hold (lineTested (ownRank (view c))) (and-left (every (lineTested (ownRank (view c)))) tidied l)),
+              le-leb (length (view c .items)) maxItems (omega (arith, listed len)),
+              (places-numbered (take (k .len) items) (take (k .len) origins), (t .1 .1 .1 .0, hold (lineTested (ownRank (view c))) (and-left (every (lineTested (ownRank (view c)))) tidied l))),
             ),
           ),
         ),
@@ -126,14 +154,14 @@ module _ (c : Client) (z : Sizes (c .counts) (c .words)) where
       let m = hold (clientTests (view c)) (f .0) in
       ap lineSound (sym (own-rank c (m .1 .0)))
       ∙ line-tests (ownRank (view c))
-      ∙ both (every (lineTested (ownRank (view c)))) tidied (held (lineTested (ownRank (view c))) (m .1 .1 .1 .1 .1)) (f .1 .1 .1 .1 .0)
+      ∙ both (every (lineTested (ownRank (view c)))) tidied (held (lineTested (ownRank (view c))) (m .1 .1 .1 .1 .1 .1)) (f .1 .1 .1 .1 .0)
 
   sound-tested : sound c ≡ true → every tests ≡ true
   unfolding sound soundClient
   sound-tested h =
       let f = hold (soundTests c) h in
       let m = hold (clientTests (view c)) (f .0) in
-      held tests (m .0, (m .1 .0, (f .1 .0, (m .1 .1 .1 .1 .0, (sound-ranks h, (f .1 .1 .1 .0, (sound-line h, tt)))))))
+      held tests (m .0, (m .1 .0, (f .1 .0, (m .1 .1 .1 .1 .1 .0, (sound-ranks h, (f .1 .1 .1 .0, (sound-line h, tt)))))))
 
   -- What a sound client is, once its words and its ranks are as many as they should be.
   pub sound-facts : sound c ≡ true → Sound c
@@ -142,11 +170,11 @@ module _ (c : Client) (z : Sizes (c .counts) (c .words)) where
       let f = hold (soundTests c) h in
       let len : k .len ≤ maxItems = leb-true (k .len) maxItems (f .1 .0) in
       let lines = between-true 1 maxLines (k .n) (hold (clientTests (view c)) (f .0) .0) in
-      let stored-items : items ≡ stored (view c .items) = stored-of items (k .len) (items-long (c .words) (z .words)) len (f .1 .1 .1 .0) in
       let stored-ranks : k .ranks ≡ ranks.stored (view c .ranks) = sound-stored (k .n) (k .ranks) (sound-ranks h) (z .ranks) (lines .1) in
       let kept : Kept (k .own) slots = sound-kept (k .own .made) (eqb rank) (k .own) slots (slots-long (c .words) (z .words)) (sound-line h) in
-      let words : c .words ≡ stored (view c .items) ++ slotsOf (view c .own .pending) =
-      in-parts (c .words) (z .words) ∙ ap (λ (l : List ℕ). l ++ slots) stored-items ∙ ap (λ (l : List ℕ). stored (view c .items) ++ l) (kept .whole) in
+      let words : c .words ≡ store (view c) .words =
+      parts-are (c .words) (z .words) (stored (itemsOf (view c .items))) (slotsOf (view c .own .pending)) (stored (originsOf (view c .items)))
+      (items-stored len (f .1 .1 .1 .0)) (kept .whole) (origins-stored len (f .1 .1 .1 .0)) in
       let whole : c ≡ store (view c) =
       λ i. clientOf (record { own = k .own; len = sym (listed len) i; n = k .n; line = k .line; ranks = stored-ranks i }) (words i) in
       record { yes = h; model = f .0; whole = whole; listed = listed len; kept = kept }
@@ -163,13 +191,13 @@ module _ (c : Client) (z : Sizes (c .counts) (c .words)) where
   made right unused own = (((between 1 (k .n) (k .line) && (leb (k .len) maxItems && leb (k .own .taken) maxOthers)) && right) && unused) && own
 
   pub answers : between 1 maxLines (k .n) ≡ true → (right unused own : Bool) (r : ℕ) → right ≡ ranks.soundRanks (k .n) (k .ranks) → r ≡ rank
-      → unused ≡ allZero (drop (k .len) items) → own ≡ lineSound r → (made right unused own ≡ sound c) × (made right unused own ≡ true → Sound c)
+      → unused ≡ unusedZero (k .len) (c .words) → own ≡ lineSound r → (made right unused own ≡ sound c) × (made right unused own ≡ true → Sound c)
   answers h right unused own r er ek eu eo =
-      let joined : made (ranks.soundRanks (k .n) (k .ranks)) (allZero (drop (k .len) items)) (lineSound rank) ≡ every rest =
+      let joined : made (ranks.soundRanks (k .n) (k .ranks)) (unusedZero (k .len) (c .words)) (lineSound rank) ≡ every rest =
       simp (and-assoc, and-true) in
       let first : every rest ≡ every tests = ap (λ (b : Bool). b && every rest) (sym h) in
       let is : made right unused own ≡ sound c =
       ap (λ (b : Bool). made b unused own) er ∙ ap (λ (b : Bool). made (ranks.soundRanks (k .n) (k .ranks)) b own) eu
-      ∙ ap (made (ranks.soundRanks (k .n) (k .ranks)) (allZero (drop (k .len) items))) (eo ∙ ap lineSound ek)
+      ∙ ap (made (ranks.soundRanks (k .n) (k .ranks)) (unusedZero (k .len) (c .words))) (eo ∙ ap lineSound ek)
       ∙ joined ∙ first ∙ tested in
       (is, λ y. sound-facts (sym is ∙ y))

@@ -1,32 +1,32 @@
 -- A sound client of the model: the struct for it is sound, and means that client.
-use Prim.Native.Nat.{ℕ, zero, suc, _-_}
+use Prim.Native.Nat.{ℕ, zero, suc, _-_, _≤_}
 use native.Mathlib.Omega.{arith}
-use mathlib.Core.Path.{_≡_, refl, ap, _∙_}
+use mathlib.Core.Path.{_≡_, refl, ap, _∙_, sym}
 use mathlib.Core.Bool.{true}
 use mathlib.Core.List.{List}
 use lib.Dec.{eqb}
 use lib.ListN.{length, take, drop, replicate}
 use borrow.Author.Tests.{le-leb}
-use Rattle.limits.specs.Limits.{maxItems}
+use Rattle.limits.specs.Limits.{maxItems, maxPending}
 use Rattle.list.specs.Items.{stored, allZero}
-use Rattle.list.proofs.Pad.{pad-take, pad-drop, pad-length}
+use Rattle.list.specs.Places.{itemsOf, originsOf, placesOf}
+use Rattle.list.proofs.Pad.{pad-take, pad-drop}
+use Rattle.list.proofs.Places.{items-length, origins-length, places-of}
 use Rattle.model.specs.Questions.{every}
 use Rattle.model.specs.Line as line
 use Rattle.model.specs.Client as model
-use Rattle.model.proofs.Tests.{held, and-right}
+use Rattle.model.proofs.Tests.{held, both, and-right}
 use Rattle.model.proofs.SoundLine.{facts-line}
 use Rattle.model.proofs.SoundClient.{ClientFacts, client-facts}
 use Rattle.ranks.specs.Stored as ranks
 use Rattle.ranks.proofs.Laws.{ranking-facts, stored-length, stored-take, stored-sound, sound-zero}
-use Rattle.pending.specs.Slots as pending
 use Rattle.pending.specs.Slots.{slotsOf}
-use Rattle.pending.proofs.Slots.{slots-length}
 use Rattle.line.specs.Line.{lineOf, countsOf}
 use Rattle.line_sound.specs.Sound.{soundLine, tidy}
 use Rattle.line_sound.proofs.Stored as lines
 use Rattle.client.specs.declared.Client.{Client}
-use Rattle.client.specs.View.{size, itemsIn, slotsIn, view, store, soundTests, sound, Sizes}
-use Rattle.client.proofs.Words.{items-of, slots-of, both-long}
+use Rattle.client.specs.View.{size, itemsIn, slotsIn, originsIn, listIn, view, store, unusedZero, soundTests, sound, Sizes}
+use Rattle.client.proofs.Words.{stored-items, stored-slots, stored-origins, stored-long}
 use Rattle.client.proofs.Sound.{sound-facts}
 
 -- ---- unused places
@@ -43,17 +43,11 @@ module _ (m : model.Client) (s : model.soundClient m ≡ true) where
   abbrev words : List ℕ
   words = store m .words
 
-  items-long : length (stored (m .items)) ≡ maxItems
-  items-long = pad-length maxItems 0 (m .items) (f .items)
-
-  slots-long : length (slotsOf (m .own .pending)) ≡ pending.size
-  slots-long = slots-length (m .own .pending) (omega (arith, f .own .count, f .own .room))
-
-  items-are : itemsIn words ≡ stored (m .items)
-  items-are = items-of (stored (m .items)) (slotsOf (m .own .pending)) items-long slots-long
+  few : length (m .own .pending) ≤ maxPending
+  few = omega (arith, f .own .count, f .own .room)
 
   slots-are : slotsIn words ≡ slotsOf (m .own .pending)
-  slots-are = slots-of (stored (m .items)) (slotsOf (m .own .pending)) items-long slots-long
+  slots-are = stored-slots m (f .items) few
 
   -- its own rank fits a slot
   own-ranks : lines.Ranks (eqb (model.ownRank m))
@@ -76,7 +70,7 @@ module _ (m : model.Client) (s : model.soundClient m ≡ true) where
       (tidy (m .own .made - m .own .acked) (slotsOf (m .own .pending))) (lines.stored-sound (m .own .made) (eqb (model.ownRank m)) (m .own) own-ranks tests)
 
   pub words-long : length words ≡ size
-  words-long = both-long (stored (m .items)) (slotsOf (m .own .pending)) items-long slots-long
+  words-long = stored-long m (f .items) few
 
   pub stored-sizes : Sizes (store m .counts) words
   stored-sizes = record { words = words-long; ranks = stored-length (m .ranks) }
@@ -84,11 +78,22 @@ module _ (m : model.Client) (s : model.soundClient m ≡ true) where
   ranks-read : take (m .n) (ranks.stored (m .ranks)) ≡ m .ranks
   ranks-read = stored-take (m .n) (m .ranks) (f .lines .1) (f .ranked)
 
+  -- one of the two parts of the places: a number of each, and zeros behind them
+  module _ (l part : List ℕ) (e : part ≡ stored l) (n : length l ≡ length (m .items)) where
+    part-read : take (length (m .items)) part ≡ l
+    part-read = (λ i. take (sym n i) (e i)) ∙ pad-take maxItems 0 l
+
+    part-unused : allZero (drop (length (m .items)) part) ≡ true
+    part-unused = ap allZero ((λ i. drop (sym n i) (e i)) ∙ pad-drop maxItems 0 l (length l) (omega arith)) ∙ zeros (maxItems - length l)
+
   pub client-view : view (store m) ≡ m
   client-view = λ i. record { n = m .n; line = m .line; ranks = ranks-read i; items = read i; own = line-read i }
     where
-      read : take (length (m .items)) (itemsIn words) ≡ m .items
-      read = ap (take (length (m .items))) items-are ∙ pad-take maxItems 0 (m .items)
+      read : listIn (length (m .items)) words ≡ m .items
+      read =
+          (λ i. placesOf (part-read (itemsOf (m .items)) (itemsIn words) (stored-items m (f .items)) (items-length (m .items)) i)
+          (part-read (originsOf (m .items)) (originsIn words) (stored-origins m (f .items) few) (origins-length (m .items)) i))
+          ∙ places-of (m .items) (f .numbers)
 
   pub client-stored : sound (store m) ≡ true
   unfolding sound
@@ -101,10 +106,11 @@ module _ (m : model.Client) (s : model.soundClient m ≡ true) where
         ),
       )
     where
-      unused : allZero (drop (length (m .items)) (itemsIn words)) ≡ true
+      unused : unusedZero (length (m .items)) words ≡ true
       unused =
-          ap (λ (l : List ℕ). allZero (drop (length (m .items)) l)) items-are
-          ∙ ap allZero (pad-drop maxItems 0 (m .items) (length (m .items)) (omega arith)) ∙ zeros (maxItems - length (m .items))
+          both (allZero (drop (length (m .items)) (itemsIn words))) (allZero (drop (length (m .items)) (originsIn words)))
+          (part-unused (itemsOf (m .items)) (itemsIn words) (stored-items m (f .items)) (items-length (m .items)))
+          (part-unused (originsOf (m .items)) (originsIn words) (stored-origins m (f .items) few) (origins-length (m .items)))
 
 -- A client that question 2 finds sound is the struct for what it stands for, and that is sound.
 module _ (c : Client) (z : Sizes (c .counts) (c .words)) (s : sound c ≡ true) where

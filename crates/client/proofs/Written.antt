@@ -1,14 +1,17 @@
--- What a call that is not refused writes: the slots of the line as it then is, and the list after an edit. It is the struct for the
+-- What a call that is not refused writes: the slots of the line as it then is, and the places after an edit. It is the struct for the
 -- model's client with that line and that list.
 use Prim.Native.Nat.{ℕ, _≤_}
 use native.Mathlib.Omega.{arith}
 use mathlib.Core.Path.{_≡_, ap, _∙_}
-use mathlib.Core.List.{List, _++_}
+use mathlib.Core.List.{List}
 use lib.ListN.{length}
 use Rattle.limits.specs.Limits.{maxItems, maxPending}
-use Rattle.ot.specs.Edit.{Edit, applied}
-use Rattle.list.specs.Items.{stored, Room, Edited}
-use Rattle.list.proofs.Pad.{pad-length}
+use Rattle.ot.specs.declared.Form.{Form}
+use Rattle.ot.specs.Edit.{edit}
+use Rattle.list.specs.declared.Origin.{Origin}
+use Rattle.list.specs.Items.{stored, edited, Room, Edited}
+use Rattle.list.specs.Places.{Place, appliedBy, wordOf, itemsOf, originsOf}
+use Rattle.list.proofs.Parts.{Wrote}
 use Rattle.model.specs.Line as line
 use Rattle.model.specs.Client as client
 use Rattle.model.proofs.SoundClient.{ClientFacts, client-facts}
@@ -17,16 +20,32 @@ use Rattle.pending.specs.Slots as pending
 use Rattle.pending.specs.Slots.{slotsOf}
 use Rattle.pending.proofs.Slots.{slots-length}
 use Rattle.line.specs.declared.Line.{Line}
+use Rattle.line.specs.declared.taking.Report.{Report}
 use Rattle.line.specs.Line.{countsOf}
-use Rattle.line.proofs.Room.{room-stored, room-length}
-use Rattle.client.specs.declared.Counts.{Counts}
+use Rattle.line.proofs.Room.{room-items, room-origins, room-length}
 use Rattle.client.specs.declared.Client.{Client}
-use Rattle.client.specs.View.{size, itemsIn, clientOf, view, store, Sound}
-use Rattle.client.proofs.Words.{items-of, withSlots, withBoth, slots-written, items-stay, items-long, both-written}
+use Rattle.client.specs.View.{size, itemsIn, slotsIn, originsIn, origins as from, clientOf, view, store, Sound, Applied}
+use Rattle.client.specs.Answers.{doneCounts}
+use Rattle.client.proofs.Words.{items-long, origins-long, parts-are, stored-items, stored-origins, withSlots, withOrigins, withPlaces, slots-wrote, origins-wrote, places-long, places-items, places-slots, places-origins}
 
--- the numbers with another line and another length
-abbrev pub counted : Client → Line → ℕ → Counts
-counted c own len = record { own = own; len = len; n = c .counts .n; line = c .counts .line; ranks = c .counts .ranks }
+-- The two parts of the places, one after the other: the origins change as items would whose edit brings the origin.
+module _ (words : List ℕ) (long : length words ≡ size) (f : Form) (x n : ℕ) (o : Origin) (w : ℕ) (ew : w ≡ wordOf o) where
+  pub applied-both : (origins items : List ℕ) (r₁ r : ℕ) → length origins ≡ length (originsIn words)
+      → length items ≡ length (itemsIn (withOrigins words origins)) → Edited (edit f w) n (originsIn words) origins r₁
+      → Edited (edit f x) n (itemsIn (withOrigins words origins)) items r → Applied f x o n words (withPlaces words origins items) r
+  applied-both origins items r₁ r lo li eo ei =
+      let long-origins : length origins ≡ maxItems = lo ∙ origins-long words long in
+      let first : Wrote from maxItems origins words (withOrigins words origins) = origins-wrote words long origins long-origins in
+      let long-items : length items ≡ maxItems = li ∙ items-long (withOrigins words origins) (first .long ∙ long) in
+      record {
+        items =
+            places-items words long origins items long-origins long-items ∙ ei .items ∙ ap (edited (edit f x) n) (first .before 0 maxItems (omega arith));
+        slots = places-slots words long origins items long-origins long-items;
+        origins =
+            places-origins words long origins items long-origins long-items ∙ eo .items ∙ ap (λ (k : ℕ). edited (edit f k) n (originsIn words)) ew;
+        words = places-long words long origins items long-origins long-items;
+        len = ei .length;
+      }
 
 module _ (c : Client) (s : Sound c) where
   pub facts : ClientFacts (view c)
@@ -35,36 +54,43 @@ module _ (c : Client) (s : Sound c) where
   pub len-few : c .counts .len ≤ maxItems
   len-few = omega (arith, facts .items, s .listed)
 
-  pub items-stored : itemsIn (c .words) ≡ stored (view c .items)
-  items-stored =
-      ap (λ (d : Client). itemsIn (d .words)) (s .whole)
-      ∙ items-of (stored (view c .items)) (slotsOf (view c .own .pending)) (pad-length maxItems 0 (view c .items) (facts .items))
-      (slots-length (view c .own .pending) (omega (arith, facts .own .count, facts .own .room)))
+  pub pending-few : length (view c .own .pending) ≤ maxPending
+  pending-few = omega (arith, facts .own .count, facts .own .room)
+
+  items-stored : itemsIn (c .words) ≡ stored (itemsOf (view c .items))
+  items-stored = ap (λ (d : Client). itemsIn (d .words)) (s .whole) ∙ stored-items (view c) (facts .items)
+
+  origins-stored : originsIn (c .words) ≡ stored (originsOf (view c .items))
+  origins-stored = ap (λ (d : Client). originsIn (d .words)) (s .whole) ∙ stored-origins (view c) (facts .items) pending-few
 
 module _ (c : Client) (s : Sound c) (long : length (c .words) ≡ size) (v : line.Line) (few : length (v .pending) ≤ maxPending)
     (slots : List ℕ) (es : slots ≡ slotsOf (v .pending)) where
-  slots-long : length slots ≡ pending.size
-  slots-long = ap length es ∙ slots-length (v .pending) few
+  -- the slots are written: the places are as they were
+  abbrev kept : List ℕ
+  kept = withSlots (c .words) slots
 
-  -- the slots are written: the items are as they were
-  pub all-long : length (withSlots (c .words) slots) ≡ size
-  all-long = slots-written (c .words) long slots slots-long
+  wrote : Wrote maxItems pending.size slots (c .words) kept
+  wrote = slots-wrote (c .words) long slots (ap length es ∙ slots-length (v .pending) few)
 
-  pub list-long : length (itemsIn (withSlots (c .words) slots)) ≡ maxItems
-  list-long = items-long (withSlots (c .words) slots) all-long
+  pub kept-long : length kept ≡ size
+  kept-long = wrote .long ∙ long
 
-  pub becomes : (e : Edit) (own : Line) (len : ℕ) (after : List ℕ) → Room e (c .counts .len) maxItems → own ≡ countsOf v
-      → Edited e (c .counts .len) (itemsIn (withSlots (c .words) slots)) after len
-      → clientOf (counted c own len) (withBoth (c .words) slots after)
-      ≡ store (client.with (view c) (applied e (view c .items)) v)
-  becomes e own len after room eo ed =
-      let list : after ≡ stored (applied e (view c .items)) =
-      ed .items ∙ room-stored e (c .counts .len) (itemsIn (withSlots (c .words) slots)) (view c .items)
-      (items-stay (c .words) long slots slots-long ∙ items-stored c s) (s .listed) room in
-      let size′ : len ≡ length (applied e (view c .items)) = ed .length ∙ room-length e (c .counts .len) (view c .items) (s .listed) room in
-      let most : length (applied e (view c .items)) ≤ maxItems = omega (arith, room .after, ed .length, size′) in
-      let words : withBoth (c .words) slots after ≡ stored (applied e (view c .items)) ++ slotsOf (v .pending) =
-      both-written (c .words) long slots slots-long after (ap length list ∙ pad-length maxItems 0 (applied e (view c .items)) most)
-      ∙ ap (λ (l : List ℕ). l ++ slots) list ∙ ap (λ (l : List ℕ). stored (applied e (view c .items)) ++ l) es in
-      let places : c .counts .ranks ≡ ranks.stored (view c .ranks) = ap (λ (d : Client). d .counts .ranks) (s .whole) in
-      λ i. clientOf (record { own = eo i; len = size′ i; n = c .counts .n; line = c .counts .line; ranks = places i }) (words i)
+  module _ (f : Form) (x : ℕ) (o : Origin) (room : Room (edit f x) (c .counts .len) maxItems) where
+    abbrev list : List Place
+    list = appliedBy o (edit f x) (view c .items)
+
+    pub becomes : (own : Line) (len : ℕ) (report : Report) (after : List ℕ) → own ≡ countsOf v → Applied f x o (c .counts .len) kept after len
+        → clientOf (doneCounts (c .counts) report own len .counts) after ≡ store (client.with (view c) list v)
+    becomes own len report after eo a =
+        let n : ℕ = c .counts .len in
+        let items : itemsIn after ≡ stored (itemsOf list) =
+        a .items ∙ room-items o f x n (view c .items) (s .listed) room (itemsIn kept) (wrote .before 0 maxItems (omega arith) ∙ items-stored c s) in
+        let origins : originsIn after ≡ stored (originsOf list) =
+        a .origins
+        ∙ room-origins o f x n (view c .items) (s .listed) room (originsIn kept) (wrote .behind from maxItems (omega arith) ∙ origins-stored c s) in
+        let words : after ≡ store (client.with (view c) list v) .words =
+        parts-are after (a .words ∙ kept-long) (stored (itemsOf list)) (slotsOf (v .pending)) (stored (originsOf list)) items
+        (a .slots ∙ wrote .here ∙ es) origins in
+        let size′ : len ≡ length list = a .len ∙ room-length o f x n (view c .items) (s .listed) room in
+        let places : c .counts .ranks ≡ ranks.stored (view c .ranks) = ap (λ (d : Client). d .counts .ranks) (s .whole) in
+        λ i. clientOf (record { own = eo i; len = size′ i; n = c .counts .n; line = c .counts .line; ranks = places i }) (words i)

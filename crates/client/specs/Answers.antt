@@ -5,11 +5,15 @@ use mathlib.Core.List.{List, [], _∷_}
 use lib.Dec.{eqb, leb, ltb}
 use Rattle.limits.specs.Limits.{maxInserts, maxEdits, maxPending}
 use Rattle.ot.specs.Edit.{Edit}
-use Rattle.wire.specs.declared.Message.{Message}
 use Rattle.model.specs.Questions as model
 use Rattle.model.specs.Cross.{insertsOf}
+use Rattle.model.specs.Line.{noLine}
 use Rattle.model.specs.Client as client
+use Rattle.line.specs.declared.Line.{Line}
+use Rattle.line.specs.Line.{countsOf}
 use Rattle.line.specs.Keeping.{fitsList}
+use Rattle.line.specs.declared.taking.Report.{Report}
+use Rattle.line.specs.Taking.{noReport, reportIn}
 use Rattle.client.specs.declared.Counts.{Counts}
 use Rattle.client.specs.declared.Client.{Client}
 use Rattle.client.specs.declared.Answer.{Answer}
@@ -17,18 +21,28 @@ use Rattle.client.specs.declared.Changed.{Changed}
 use Rattle.client.specs.View.{clientOf, view, store, sound}
 
 abbrev pub refusedWith : ℕ → Client → Answer
-refusedWith r c = record { refusal = r; passed = 0; client = c }
+refusedWith r c = record { refusal = r; report = noReport; client = c }
 
 -- the answer of a call that was lent the words of a client, with what it left in them
 abbrev pub answerOf : Changed → List ℕ → Answer
-answerOf r words = record { refusal = r .refusal; passed = r .passed; client = clientOf (r .counts) words }
+answerOf r words = record { refusal = r .refusal; report = r .report; client = clientOf (r .counts) words }
 
 abbrev pub refusedCounts : ℕ → Counts → Changed
-refusedCounts r k = record { refusal = r; passed = 0; counts = k }
+refusedCounts r k = record { refusal = r; report = noReport; counts = k }
+
+-- a call that is done: the numbers with another line and another length
+abbrev pub doneCounts : Counts → Report → Line → ℕ → Changed
+doneCounts k report own len =
+    record { refusal = 0; report = report; counts = record { own = own; len = len; n = k .n; line = k .line; ranks = k .ranks } }
+
+-- an opening: nothing is made or taken
+abbrev pub freshCounts : ℕ → ℕ → ℕ → ℕ → List ℕ → Changed
+freshCounts r n line len ranks =
+    record { refusal = r; report = noReport; counts = record { own = countsOf noLine; len = len; n = n; line = line; ranks = ranks } }
 
 -- the model's answer in structs: on a refusal the end is the one that came
 abbrev pub given : Client → model.Answer client.Client → Answer
-given c a = record { refusal = a .refusal; passed = a .passed; client = cond (eqb (a .refusal) 0) (store (a .end)) c }
+given c a = record { refusal = a .refusal; report = reportIn (a .report); client = cond (eqb (a .refusal) 0) (store (a .end)) c }
 
 unfoldable pub guarded : Client → model.Answer client.Client → Answer
 guarded c a = cond (sound c) (given c a) (refusedWith 2 c)
@@ -58,10 +72,6 @@ editAsked k e =
 
 abbrev pub taken : Client → List ℕ → Answer
 taken c bytes = guarded c (client.takeClient (view c) bytes)
-
--- the same of a message that was read
-abbrev pub takenMessage : Client → Message → Answer
-takenMessage c m = guarded c (client.clientTakes (view c) m)
 
 -- A sending changes no end: the answer, and the lent buffer.
 unfoldable pub guardedSending : Client → model.Sent → List ℕ → model.Sent

@@ -10,21 +10,22 @@ use crate::Answer;
 use crate::Changed;
 use crate::Client;
 use crate::Counts;
+use line::taking::no_report;
+use list::Origin;
 use ot::Form;
 
 // Questions 9 to 12, of which 9 is the first.
 fn ask_counts(k: Counts, f: Form) -> u8
     ensures { λ r. ⌜ ((x : ℕ) → r ≡ asks (editAsked k (edit f x))) ⌝ }
 {
-    let v = k.own;
     if line::fits_list(f, k.len) {
-        if (Client::INSERTS as u32) < v.inserts as u32 + line::inserts_of(f) as u32 {
+        if (Client::INSERTS as u32) < k.own.inserts as u32 + line::inserts_of(f) as u32 {
             return 10;
         }
-        if Client::EDITS <= v.made {
+        if Client::EDITS <= k.own.made {
             return 11;
         }
-        if v.has_room() {
+        if k.own.has_room() {
             return 0;
         }
         return 12;
@@ -53,23 +54,14 @@ fn edit(k: Counts, words: &mut [u32], f: Form, x: u32) -> Changed
     if refusal != 0 {
         return crate::refused(refusal, k);
     }
-    let v = k.own;
-    line::keep(&mut words[Client::ITEMS..Client::WORDS], v, f, x);
-    let len = list::apply(&mut words[0..Client::ITEMS], k.len, f, x);
-    let own = v.kept(v.inserts + line::inserts_of(f));
-    let ranks = k.ranks;
-    let counts = Counts {
-        own,
-        len,
-        n: k.n,
+    line::keep(&mut words[Client::ITEMS..Client::ORIGINS], k.own, f, x);
+    let origin = Origin {
         line: k.line,
-        ranks,
+        number: k.own.made + 1,
     };
-    Changed {
-        refusal: 0,
-        passed: 0,
-        counts,
-    }
+    let len = crate::apply(words, k.len, f, x, origin);
+    let own = k.own.kept(k.own.inserts + line::inserts_of(f));
+    crate::done(k, no_report(), own, len)
 }
 
 // Inserts x before the item at position p. Its priority is the line's rank.
@@ -77,8 +69,7 @@ pub fn insert(k: Counts, words: &mut [u32], p: u16, x: u32) -> Changed
     requires { ⌜ Sizes k (now words) ⌝ }
     ensures { λ r. ⌜ answerOf r (now (words .exit)) ≡ inserted (clientOf k (now (words .entry))) p x ⌝ }
 {
-    let rank = ranks::of_line(&k.ranks, k.line);
-    edit(k, words, Form::Insert(p, rank), x)
+    edit(k, words, Form::Insert(p, crate::rank(k)), x)
 }
 
 pub fn delete(k: Counts, words: &mut [u32], p: u16) -> Changed
@@ -93,18 +84,16 @@ impl Client {
     pub fn insert(self, p: u16, x: u32) -> Answer
         ensures { λ r. ⌜ r ≡ inserted self p x ⌝ }
     {
-        let counts = self.counts;
         let mut words = self.words;
-        let a = insert(counts, &mut words, p, x);
+        let a = insert(self.counts, &mut words, p, x);
         crate::joined(a, words)
     }
 
     pub fn delete(self, p: u16) -> Answer
         ensures { λ r. ⌜ r ≡ deleted self p ⌝ }
     {
-        let counts = self.counts;
         let mut words = self.words;
-        let a = delete(counts, &mut words, p);
+        let a = delete(self.counts, &mut words, p);
         crate::joined(a, words)
     }
 }

@@ -3,10 +3,17 @@
 // take a client by value and hand it back, are thin: they lend its words.
 ghost use mathlib.Core.Path.{_≡_};
 ghost use mathlib.Core.Bool.{true};
-ghost use lib.ListN.{replicate};
-ghost use Rattle.client.specs.View.{size, clientOf, sound, Sound, Sizes};
-ghost use Rattle.client.specs.Answers.{opened, refusedCounts, answerOf};
+ghost use lib.ListN.{length, replicate};
+ghost use Rattle.ot.specs.Edit.{edit};
+ghost use Rattle.list.specs.Items.{capacity, Room};
+ghost use Rattle.model.specs.Ranks.{rankOf};
+ghost use Rattle.client.specs.View.{size, clientOf, unusedZero, sound, Sound, Sizes, Applied};
+ghost use Rattle.client.specs.Answers.{opened, refusedCounts, doneCounts, freshCounts, answerOf};
 use line::Line;
+use line::taking::Report;
+use line::taking::no_report;
+use list::Origin;
+use ot::Form;
 
 pub mod editing;
 pub mod sending;
@@ -27,22 +34,21 @@ pub struct Counts {
 // All state of a client. Unused places are zero.
 pub struct Client {
     pub counts: Counts,
-    // the items, of which the first len are the list; then the words of its line, the pending edits
+    // the items, of which the first len are the list; then the words of its line, the pending edits; then the items' origins
     pub words: [u32; Client::WORDS],
 }
 
-// What a call on lent words answers: 0 or the number of the question that said no, how many pending edits the edit was transformed
-// past, and the numbers.
+// What a call on lent words answers: 0 or the number of the question that said no, what a taking reports, and the numbers.
 pub struct Changed {
     pub refusal: u8,
-    pub passed: u16,
+    pub report: Report,
     pub counts: Counts,
 }
 
 // What a method answers: the same, with the client.
 pub struct Answer {
     pub refusal: u8,
-    pub passed: u16,
+    pub report: Report,
     pub client: Client,
 }
 
@@ -52,8 +58,27 @@ fn refused(refusal: u8, k: Counts) -> Changed
 {
     Changed {
         refusal,
-        passed: 0,
+        report: no_report(),
         counts: k,
+    }
+}
+
+// A call that is done: the numbers with another line and another length.
+fn done(k: Counts, report: Report, own: Line, len: u16) -> Changed
+    ensures { λ r. ⌜ r ≡ doneCounts k report own len ⌝ }
+{
+    let ranks = k.ranks;
+    let counts = Counts {
+        own,
+        len,
+        n: k.n,
+        line: k.line,
+        ranks,
+    };
+    Changed {
+        refusal: 0,
+        report,
+        counts,
     }
 }
 
@@ -62,12 +87,30 @@ fn joined(a: Changed, words: [u32; Client::WORDS]) -> Answer
     ensures { λ r. ⌜ r ≡ answerOf a words ⌝ }
 {
     let counts = a.counts;
+    let report = a.report;
     let client = Client { counts, words };
     Answer {
         refusal: a.refusal,
-        passed: a.passed,
+        report,
         client,
     }
+}
+
+// The rank of the client's own line.
+fn rank(k: Counts) -> u8
+    ensures { λ r. ⌜ r ≡ rankOf (k .ranks) (k .line) ⌝ }
+{
+    ranks::of_line(&k.ranks, k.line)
+}
+
+// Are the places behind the list zero, of the items and of the origins?
+fn unused_zero(words: &[u32], len: usize) -> bool
+    requires { ⌜ length (now words) ≡ size ⌝ }
+    ensures { λ r. ⌜ r ≡ unusedZero len (now (words .entry)) ⌝ }
+{
+    let items = list::zero_from(&words[0..Client::ITEMS], len);
+    let origins = list::zero_from(&words[Client::ORIGINS..Client::WORDS], len);
+    items & origins
 }
 
 // Question 2. Every test is made whatever the others find.
@@ -76,24 +119,31 @@ fn is_sound(k: Counts, words: &[u32]) -> bool
     ensures answer { λ r. ⌜ r ≡ sound (clientOf k (now (words .entry))) ⌝ }
     ensures facts { λ r. ⌜ (r ≡ true → Sound (clientOf k (now (words .entry)))) ⌝ }
 {
-    let v = k.own;
     if (1 <= k.n) & (k.n <= Client::LINES) {
         let own = (1 <= k.line) & (k.line <= k.n);
-        let counts = (k.len as usize <= Client::ITEMS) & (v.taken <= Client::OTHERS);
+        let counts = (k.len as usize <= Client::ITEMS) & (k.own.taken <= Client::OTHERS);
         let right = ranks::is_sound(k.n, &k.ranks);
-        let rank = ranks::of_line(&k.ranks, k.line);
-        let unused = list::zero_from(&words[0..Client::ITEMS], k.len as usize);
-        let slots = &words[Client::ITEMS..Client::WORDS];
-        let line = line_sound::is_sound(v.made, v, slots, k.n, rank, true);
+        let unused = unused_zero(words, k.len as usize);
+        let slots = &words[Client::ITEMS..Client::ORIGINS];
+        let line = line_sound::is_sound(k.own.made, k.own, slots, k.n, rank(k), true);
         return own & counts & right & unused & line;
     }
     false
 }
 
-// Questions 1 and 16, and the client in words that are zero. Refused, they stay zero, and so are the numbers.
-pub fn open_lent(n: u8, line: u8, ranks: &[u8], items: &[u32], words: &mut [u32]) -> Changed
-    requires { ⌜ now words ≡ replicate size 0 ⌝ }
-    ensures { λ r. ⌜ answerOf r (now (words .exit)) ≡ opened n line (now (ranks .entry)) (now (items .entry)) ⌝ }
+// Applies the edit of form f, item x and that origin to the list of len places, and gives its new length.
+fn apply(words: &mut [u32], len: u16, f: Form, x: u32, origin: Origin) -> u16
+    requires { ⌜ (length (now words) ≡ size) × Room (edit f x) len capacity ⌝ }
+    ensures { λ r. ⌜ Applied f x origin len (now (words .entry)) (now (words .exit)) r ⌝ }
+{
+    let word = list::word_of(origin);
+    list::apply(&mut words[Client::ORIGINS..Client::WORDS], len, f, word);
+    list::apply(&mut words[0..Client::ITEMS], len, f, x)
+}
+
+// The answer of an opening: the numbers of a client that has made and taken nothing.
+fn fresh(refusal: u8, n: u8, line: u8, len: u16, ranks: [u8; ranks::PLACES]) -> Changed
+    ensures { λ r. ⌜ r ≡ freshCounts refusal n line len ranks ⌝ }
 {
     let own = Line {
         made: 0,
@@ -101,39 +151,39 @@ pub fn open_lent(n: u8, line: u8, ranks: &[u8], items: &[u32], words: &mut [u32]
         acked: 0,
         inserts: 0,
     };
-    let zeros = [0u8; ranks::PLACES];
-    let none = Counts {
+    let counts = Counts {
         own,
-        len: 0,
-        n: 0,
-        line: 0,
-        ranks: zeros,
+        len,
+        n,
+        line,
+        ranks,
     };
+    Changed {
+        refusal,
+        report: no_report(),
+        counts,
+    }
+}
+
+// Questions 1 and 16, and the client in words that are zero. Refused, they stay zero, and so are the numbers.
+pub fn open_lent(n: u8, line: u8, ranks: &[u8], items: &[u32], words: &mut [u32]) -> Changed
+    requires { ⌜ now words ≡ replicate size 0 ⌝ }
+    ensures { λ r. ⌜ answerOf r (now (words .exit)) ≡ opened n line (now (ranks .entry)) (now (items .entry)) ⌝ }
+{
     let lines = (1 <= n) & (n <= Client::LINES);
     let mine = (1 <= line) & (line <= n);
     let sizes = lines & mine & (items.len() <= Client::INITIAL);
     let ranked = ranks::is_ranking(n, ranks);
     if sizes & ranked {
+        list::initial_origins(items.len(), &mut words[Client::ORIGINS..Client::WORDS]);
         list::initial(items, &mut words[0..Client::ITEMS]);
-        let len = items.len() as u16;
-        let stored = ranks::store(ranks);
-        let counts = Counts {
-            own,
-            len,
-            n,
-            line,
-            ranks: stored,
-        };
-        return Changed {
-            refusal: 0,
-            passed: 0,
-            counts,
-        };
+        return fresh(0, n, line, items.len() as u16, ranks::store(ranks));
     }
+    let zeros = [0u8; ranks::PLACES];
     if sizes {
-        return refused(16, none);
+        return fresh(16, 0, 0, 0, zeros);
     }
-    refused(1, none)
+    fresh(1, 0, 0, 0, zeros)
 }
 
 impl Client {
@@ -152,8 +202,10 @@ impl Client {
 
     pub const INITIAL: usize = limits::INITIAL;
 
-    // The words of a client.
-    pub const WORDS: usize = 640;
+    // Where the origins of the items begin, and the words of a client.
+    pub const ORIGINS: usize = 640;
+
+    pub const WORDS: usize = 1152;
 
     // A client of line `line` of n, with the ranks of all lines and the initial list. Refused, it is all zeros.
     pub fn open(n: u8, line: u8, ranks: &[u8], items: &[u32]) -> Answer

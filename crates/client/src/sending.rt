@@ -10,6 +10,7 @@ use line::sending::ask_number;
 use line::sending::finish;
 use line::sending::message;
 use line::sending::refused;
+use list::Origin;
 use wire::Message;
 
 // Writes the message of the pending edit of that number, unless a question says no.
@@ -21,13 +22,13 @@ pub fn send(k: Counts, words: &[u32], line: u8, number: u16, out: &mut [u8]) -> 
         if line != k.line {
             return refused(4);
         }
-        let v = k.own;
-        let refusal = ask_number(v, number);
+        let refusal = ask_number(k.own, number);
         if refusal != 0 {
             return refused(refusal);
         }
-        let m = message(line, 0, v, &words[Client::ITEMS..Client::WORDS], number);
-        return finish(m, out);
+        let origin = Origin { line, number };
+        let slots = &words[Client::ITEMS..Client::ORIGINS];
+        return finish(message(line, 0, origin, k.own, slots, number), out);
     }
     refused(2)
 }
@@ -41,8 +42,7 @@ pub fn tell(k: Counts, words: &[u32], line: u8, out: &mut [u8]) -> Sent
         if line != k.line {
             return refused(4);
         }
-        let v = k.own;
-        return finish(Message::Ack(line, 0, v.taken), out);
+        return finish(Message::Ack(line, 0, k.own.taken), out);
     }
     refused(2)
 }
@@ -52,15 +52,13 @@ impl Client {
     pub fn send(self, line: u8, number: u16, out: &mut [u8]) -> Sent
         ensures { λ r. ⌜ answered r (now (out .exit)) ≡ sentEdit self line number (now (out .entry)) ⌝ }
     {
-        let counts = self.counts;
-        send(counts, &self.words, line, number, out)
+        send(self.counts, &self.words, line, number, out)
     }
 
     // Writes an acknowledgement of all edits taken into the lent buffer.
     pub fn tell(self, line: u8, out: &mut [u8]) -> Sent
         ensures { λ r. ⌜ answered r (now (out .exit)) ≡ sentAck self line (now (out .entry)) ⌝ }
     {
-        let counts = self.counts;
-        tell(counts, &self.words, line, out)
+        tell(self.counts, &self.words, line, out)
     }
 }

@@ -1,10 +1,11 @@
 // Taking: a message from the server, an edit of another client or an acknowledgement.
 ghost use mathlib.Core.Path.{_≡_};
-ghost use mathlib.Core.Bool.{true};
-ghost use Rattle.wire.specs.Message.{inRange};
+ghost use Prim.Native.Nat.{_≤_};
+ghost use Rattle.limits.specs.Limits.{maxItems};
+ghost use Rattle.ot.specs.Form.{positionOf};
 ghost use Rattle.client.specs.View.{clientOf, Sound, Sizes};
-ghost use Rattle.client.specs.Answers.{taken, takenMessage, answerOf};
-ghost use Rattle.client.specs.Taking.{fromOther, downTo};
+ghost use Rattle.client.specs.Answers.{taken, answerOf};
+ghost use Rattle.client.specs.Taking.{fromOther, madeElsewhere, downTo, arrived};
 use crate::Answer;
 use crate::Changed;
 use crate::Client;
@@ -14,7 +15,6 @@ use line::taking::accept;
 use line::taking::decide;
 use line::taking::split;
 use ot::Form;
-use wire::Message;
 use wire::Read;
 
 // Is an insert's priority another rank of 1 to n?
@@ -28,48 +28,58 @@ fn from_other(n: u8, rank: u8, f: Form) -> bool
     }
 }
 
+// Was an edit made by another client of 1 to n? An acknowledgement has no maker.
+fn made_elsewhere(n: u8, line: u8, carries: bool, maker: u8) -> bool
+    ensures { λ r. ⌜ r ≡ madeElsewhere n line carries maker ⌝ }
+{
+    !carries | ((1 <= maker) & (maker <= n) & !(maker == line))
+}
+
 // Question 4.
 fn comes_down(k: Counts, a: Arrival) -> bool
     ensures { λ r. ⌜ r ≡ downTo k a ⌝ }
 {
     let f = a.form;
-    let rank = ranks::of_line(&k.ranks, k.line);
-    (a.direction == 1) & (a.line == k.line) & from_other(k.n, rank, f)
+    let right = (a.direction == 1) & (a.line == k.line);
+    let ranked = from_other(k.n, crate::rank(k), f);
+    let made = made_elsewhere(k.n, k.line, a.carries, a.origin.line);
+    right & ranked & made
 }
 
-// Takes a message that was read, at a client that question 2 found sound: the decision, then what an accepted message changes.
-fn take_message(k: Counts, words: &mut [u32], m: Message) -> Changed
-    requires { ⌜ (inRange m ≡ true) × (Sizes k (now words) × Sound (clientOf k (now words))) ⌝ }
-    ensures { λ r. ⌜ answerOf r (now (words .exit)) ≡ takenMessage (clientOf k (now (words .entry))) m ⌝ }
+// Questions 4 to 9 at a client that question 2 found sound: the decision, then what it changes.
+fn take_arrival(k: Counts, words: &mut [u32], a: Arrival) -> Changed
+    requires { ⌜ (positionOf (a .form) ≤ maxItems) × (Sizes k (now words) × Sound (clientOf k (now words))) ⌝ }
+    ensures { λ r. ⌜ answerOf r (now (words .exit)) ≡ arrived (clientOf k (now (words .entry))) a ⌝ }
 {
-    let a = split(m);
     if comes_down(k, a) {
-        let v = k.own;
         let mut later = [0u32; Client::PENDING];
-        let slots = &words[Client::ITEMS..Client::WORDS];
-        let d = decide(v, slots, k.len, v.inserts, a, &mut later);
+        let slots = &words[Client::ITEMS..Client::ORIGINS];
+        let d = decide(k.own, slots, k.len, k.own.inserts, a, &mut later);
         if d.refusal != 0 {
             return crate::refused(d.refusal, k);
         }
         let f = d.form;
-        accept(&mut words[Client::ITEMS..Client::WORDS], v, a.seen, &later);
-        let len = list::apply(&mut words[0..Client::ITEMS], k.len, f, a.item);
-        let own = d.line;
-        let ranks = k.ranks;
-        let counts = Counts {
-            own,
-            len,
-            n: k.n,
-            line: k.line,
-            ranks,
-        };
-        return Changed {
-            refusal: 0,
-            passed: d.passed,
-            counts,
-        };
+        accept(
+            &mut words[Client::ITEMS..Client::ORIGINS],
+            k.own,
+            a.seen,
+            &later,
+        );
+        let len = crate::apply(words, k.len, f, a.item, a.origin);
+        return crate::done(k, d.report, d.line, len);
     }
     crate::refused(4, k)
+}
+
+// Questions 3 to 9 at a client that question 2 found sound.
+fn take_sound(k: Counts, words: &mut [u32], bytes: &[u8]) -> Changed
+    requires { ⌜ Sizes k (now words) × Sound (clientOf k (now words)) ⌝ }
+    ensures { λ r. ⌜ answerOf r (now (words .exit)) ≡ taken (clientOf k (now (words .entry))) (now (bytes .entry)) ⌝ }
+{
+    let Read::Message(m) = wire_read::parse(bytes) else {
+        return crate::refused(3, k);
+    };
+    take_arrival(k, words, split(m))
 }
 
 // Takes one message, in place.
@@ -78,10 +88,7 @@ pub fn take(k: Counts, words: &mut [u32], bytes: &[u8]) -> Changed
     ensures { λ r. ⌜ answerOf r (now (words .exit)) ≡ taken (clientOf k (now (words .entry))) (now (bytes .entry)) ⌝ }
 {
     if crate::is_sound(k, words) {
-        let Read::Message(m) = wire_read::parse(bytes) else {
-            return crate::refused(3, k);
-        };
-        return take_message(k, words, m);
+        return take_sound(k, words, bytes);
     }
     crate::refused(2, k)
 }
@@ -91,9 +98,8 @@ impl Client {
     pub fn take(self, bytes: &[u8]) -> Answer
         ensures { λ r. ⌜ r ≡ taken self (now (bytes .entry)) ⌝ }
     {
-        let counts = self.counts;
         let mut words = self.words;
-        let a = take(counts, &mut words, bytes);
+        let a = take(self.counts, &mut words, bytes);
         crate::joined(a, words)
     }
 }

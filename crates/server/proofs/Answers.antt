@@ -5,6 +5,7 @@ use mathlib.Core.Bool.{true, false}
 use borrow.Author.Tests.{ne-eqb}
 use Rattle.model.specs.Questions as question
 use Rattle.model.specs.Server as model
+use Rattle.line.specs.Taking.{reportIn}
 use Rattle.server.specs.declared.Server.{Server}
 use Rattle.server.specs.View.{view, store, sound}
 use Rattle.server.specs.Answers.{refusedWith, guarded}
@@ -14,11 +15,11 @@ module _ (s : Server) where
   unfolding guarded
   unsound a h = rw h
 
-  pub refused : (r k : ℕ) (new : model.Server) → sound s ≡ true → (r ≡ 0 → ⊥) → refusedWith r s ≡ guarded s (question.answer r (view s) new k)
+  pub refused : (r : ℕ) (k : question.Report) (new : model.Server) → sound s ≡ true → (r ≡ 0 → ⊥) → refusedWith r s ≡ guarded s (question.answer r (view s) new k)
   unfolding guarded question.answer
   refused r k new h n = rw h (simp (ne-eqb r 0 n))
 
-  pub done : (r k : ℕ) (new : model.Server) → sound s ≡ true → r ≡ 0
-      → record { refusal = 0; passed = k; server = store new } ≡ guarded s (question.answer r (view s) new k)
+  pub done : (r : ℕ) (k : question.Report) (new : model.Server) → sound s ≡ true → r ≡ 0
+      → record { refusal = 0; report = reportIn k; server = store new } ≡ guarded s (question.answer r (view s) new k)
   unfolding guarded question.answer
   done r k new h e = rw (h, e)

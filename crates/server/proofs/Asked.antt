@@ -3,32 +3,34 @@ use Prim.Native.Nat.{ℕ, zero, suc, _+_, _-_, _≤_, _<_}
 use native.Mathlib.Nat.{zero-add}
 use native.Mathlib.Omega.{arith}
 use mathlib.Core.Path.{_≡_, refl, ap, sym, _∙_}
-use mathlib.Core.Bool.{Bool, true, false, _&&_, _||_}
-use mathlib.Core.List.{List, map}
+use mathlib.Core.Bool.{Bool, true, false, _&&_, _||_, not, cond}
+use mathlib.Core.List.{List, [], _∷_, map}
 use lib.Dec.{ltb, eqb}
 use lib.ListN.{take}
-use borrow.Author.Tests.{le-leb, lt-leb, ltb-true, eq-eqb, ne-eqb}
+use borrow.Author.Tests.{le-leb, lt-leb, ltb-true, eqb-true, eq-eqb, ne-eqb}
 use Rattle.limits.specs.Limits.{maxInserts, maxPending}
-use Rattle.model.specs.Questions.{asks, every, between}
+use Rattle.model.specs.Questions.{ask, asks, every, between}
 use Rattle.model.specs.Ranks.{rankOf}
 use Rattle.model.specs.Line as line
 use Rattle.model.specs.Server as model
-use Rattle.model.proofs.Tests.{and-left, and-right, between-true}
+use Rattle.model.proofs.Tests.{and-left, and-right, between-true, never}
 use Rattle.ranks.proofs.Laws.{take-rank}
 use Rattle.pending.specs.Slots.{allFrom}
 use Rattle.line_sound.proofs.All.{all-each}
 use Rattle.line.specs.declared.taking.Arrival.{Arrival}
+use Rattle.line.specs.Keeping.{thenAsked}
 use Rattle.server.specs.declared.Counts.{Counts}
 use Rattle.server.specs.View.{countsAt, linesFrom}
-use Rattle.server.specs.Taking.{isOwn, upTo, roomyAt, lastAsked}
+use Rattle.server.specs.Taking.{isOwn, madeHere, upTo, roomyAt, lastAsked, placeOf, insertsThen, lastRefusal}
 
 -- ---- question 4
 
 pub up-line : (k : Counts) (a : Arrival) → upTo k a ≡ true → (1 ≤ a .line) × (a .line ≤ k .n)
 up-line k a u =
-    between-true 1 (k .n) (a .line)
-    (and-right (eqb (a .direction) 0) (between 1 (k .n) (a .line))
-    (and-left (eqb (a .direction) 0 && between 1 (k .n) (a .line)) (isOwn (rankOf (k .ranks) (a .line)) (a .form)) u))
+    let up : Bool = eqb (a .direction) 0 in
+    let used : Bool = between 1 (k .n) (a .line) in
+    let own : Bool = isOwn (rankOf (k .ranks) (a .line)) (a .form) in
+    between-true 1 (k .n) (a .line) (and-right up used (and-left (up && used) own (and-left (up && used && own) (madeHere a) u)))
 
 -- a line in use has the rank that is stored for it
 pub own-rank : (k : Counts) (l : ℕ) → between 1 (k .n) l ≡ true → rankOf (take (k .n) (k .ranks)) l ≡ rankOf (k .ranks) l
@@ -36,15 +38,42 @@ own-rank k l t = let b = between-true 1 (k .n) l t in take-rank (k .n) (k .ranks
 
 -- ---- questions 10 and 12, by the ways that they end
 
-module _ (k : Counts) (at inserts : ℕ) where
-  pub last-none : inserts ≤ maxInserts → allFrom (roomyAt k at) 0 (k .n) ≡ true → 0 ≡ asks (lastAsked k at inserts)
-  last-none h t = rw (le-leb inserts maxInserts h, t)
+module _ (k : Counts) (a : Arrival) (first : ℕ) where
+  -- there is a refusal, or no edit
+  abbrev stands : Bool → Bool → Bool
+  stands z carries = not z || not carries
 
-  pub last-12 : inserts ≤ maxInserts → allFrom (roomyAt k at) 0 (k .n) ≡ false → 12 ≡ asks (lastAsked k at inserts)
-  last-12 h f = rw (le-leb inserts maxInserts h, f)
+  pub last-stands : (not (eqb first 0) || not (a .carries)) ≡ true → first ≡ thenAsked first (lastRefusal k a)
+  last-stands t = go (eqb first 0) (a .carries) refl t
+    where
+      go : (z b : Bool) → eqb first 0 ≡ z → stands z b ≡ true → first ≡ cond z (cond b (asks (lastAsked k (placeOf a) (insertsThen k a))) 0) first
+      go true true e t = never t
+      go true false e t = eqb-true first 0 e
+      go false b e t = refl
 
-  pub last-10 : maxInserts < inserts → 10 ≡ asks (lastAsked k at inserts)
-  last-10 h = rw (lt-leb inserts maxInserts h)
+  module _ (f : (not (eqb first 0) || not (a .carries)) ≡ false) (n : ℕ) (en : n ≡ insertsThen k a) where
+    asked-last : (r : ℕ) → r ≡ asks (lastAsked k (placeOf a) n) → r ≡ thenAsked first (lastRefusal k a)
+    asked-last r e = e ∙ ap (λ (j : ℕ). asks (lastAsked k (placeOf a) j)) en ∙ go (eqb first 0) (a .carries) f
+      where
+        go : (z b : Bool) → stands z b ≡ false
+            → asks (lastAsked k (placeOf a) (insertsThen k a)) ≡ cond z (cond b (asks (lastAsked k (placeOf a) (insertsThen k a))) 0) first
+        go true true g = refl
+        go true false g = never (sym g)
+        go false true g = never (sym g)
+        go false false g = never (sym g)
+
+    pub last-10 : maxInserts < n → 10 ≡ thenAsked first (lastRefusal k a)
+    last-10 h = asked-last 10 (sym (ap (λ (b : Bool). asks (ask 10 b ∷ ask 12 (allFrom (roomyAt k (placeOf a)) 0 (k .n)) ∷ [])) (lt-leb n maxInserts h)))
+
+    module _ (h : n ≤ maxInserts) where
+      by-room : (b : Bool) → allFrom (roomyAt k (placeOf a)) 0 (k .n) ≡ b → asks (ask 10 true ∷ ask 12 b ∷ []) ≡ asks (lastAsked k (placeOf a) n)
+      by-room b e = λ i. asks (ask 10 (sym (le-leb n maxInserts h) i) ∷ ask 12 (sym e i) ∷ [])
+
+      pub last-12 : allFrom (roomyAt k (placeOf a)) 0 (k .n) ≡ false → 12 ≡ thenAsked first (lastRefusal k a)
+      last-12 e = asked-last 12 (by-room false e)
+
+      pub last-none : allFrom (roomyAt k (placeOf a)) 0 (k .n) ≡ true → 0 ≡ thenAsked first (lastRefusal k a)
+      last-none e = asked-last 0 (by-room true e)
 
 -- ---- question 12: every line but one
 

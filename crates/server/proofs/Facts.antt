@@ -3,18 +3,18 @@ use Prim.Native.Nat.{ℕ, _+_, _-_, _≤_, _<_}
 use native.Mathlib.Omega.{arith}
 use mathlib.Core.Path.{_≡_, ap, sym, _∙_, subst}
 use mathlib.Core.Bool.{true}
-use mathlib.Core.List.{List}
+use mathlib.Core.List.{List, []}
 use lib.ListN.{length, getD}
 use Rattle.limits.specs.Limits.{maxLines, maxItems}
 use Rattle.model.specs.Questions.{between}
 use Rattle.model.specs.Line as line
 use Rattle.model.specs.Server as model
 use Rattle.model.proofs.Tests.{between-true}
-use Rattle.model.proofs.SoundServer.{ServerLine, ServerFacts, server-facts, takenSum, line-fact, made-most}
+use Rattle.model.proofs.SoundServer.{ServerLine, LineMakers, ServerFacts, server-facts, takenSum, line-fact, makers-fact, makers-count, made-most}
 use Rattle.server.specs.declared.Counts.{Counts}
 use Rattle.server.specs.declared.Server.{Server}
-use Rattle.server.specs.View.{countsAt, lineAt, serverOf, view, Sound, Sizes}
-use Rattle.server.proofs.Lines.{line-used}
+use Rattle.server.specs.View.{countsAt, lineAt, makersOf, serverOf, view, Sound, Sizes}
+use Rattle.server.proofs.Lines.{line-used, makers-used}
 use Rattle.server.proofs.Rows.{Holds}
 use Rattle.server.proofs.Stored.{store-sizes, holds}
 
@@ -38,6 +38,9 @@ module _ (k : Counts) (words : List ℕ) (h : Sound (serverOf k words)) where
   pub lines-count : length (view (serverOf k words) .lines) ≡ k .n
   lines-count = facts .count ∙ sym (own-holds .n)
 
+  pub makers-many : length (view (serverOf k words) .makers) ≡ k .n
+  makers-many = makers-count (m .n) 1 (m .lines) (m .makers) (facts .makers) ∙ lines-count
+
   pub len-few : k .len ≤ maxItems
   len-few = omega (arith, h .listed, facts .items)
 
@@ -48,6 +51,10 @@ module _ (k : Counts) (words : List ℕ) (h : Sound (serverOf k words)) where
     unfolding view
     at-view = line-used k words (k .n) i lt
 
+    pub makers-view : getD (view (serverOf k words) .makers) i [] ≡ makersOf k words i
+    unfolding view
+    makers-view = makers-used k words (k .n) i lt
+
     line-is : model.lineOf m (i + 1) ≡ lineAt k words i
     line-is =
         let e : i + 1 - 1 ≡ i = omega arith in
@@ -57,6 +64,18 @@ module _ (k : Counts) (words : List ℕ) (h : Sound (serverOf k words)) where
     at-facts =
         subst (λ (n : ℕ). ServerLine n (m .ranks) (takenSum (m .lines)) (i + 1) (lineAt k words i)) (sym (own-holds .n))
         (subst (ServerLine (m .n) (m .ranks) (takenSum (m .lines)) (i + 1)) line-is (line-fact m facts (i + 1) (omega arith) (omega (arith, own-holds .n))))
+
+    makers-is : model.makersOf m (i + 1) ≡ makersOf k words i
+    makers-is =
+        let e : i + 1 - 1 ≡ i = omega arith in
+        ap (λ (j : ℕ). getD (m .makers) j []) e ∙ makers-view
+
+    -- there are as many origins as pending edits, all of edits of other clients
+    pub at-makers : LineMakers (k .n) (i + 1) (lineAt k words i) (makersOf k words i)
+    at-makers =
+        subst (λ (n : ℕ). LineMakers n (i + 1) (lineAt k words i) (makersOf k words i)) (sym (own-holds .n))
+        (subst (λ (v : line.Line). LineMakers (m .n) (i + 1) v (makersOf k words i)) line-is
+        (subst (LineMakers (m .n) (i + 1) (model.lineOf m (i + 1))) makers-is (makers-fact m facts (i + 1) (omega arith) (omega (arith, own-holds .n)))))
 
     pub made-few : countsAt k i .made ≤ 2800
     made-few = omega (arith, made-most m facts (i + 1) (omega arith) (omega (arith, own-holds .n)), ap (λ (v : line.Line). v .made) line-is)
@@ -70,3 +89,6 @@ module _ (k : Counts) (words : List ℕ) (h : Sound (serverOf k words)) where
 
     pub line-of : model.lineOf (view (serverOf k words)) l ≡ lineAt k words (l - 1)
     line-of = at-view (l - 1) place-used
+
+    pub makers-of : model.makersOf (view (serverOf k words)) l ≡ makersOf k words (l - 1)
+    makers-of = makers-view (l - 1) place-used

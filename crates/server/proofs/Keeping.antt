@@ -3,27 +3,21 @@ use Prim.Native.Nat.{ℕ, _+_, _-_, _≤_, _<_}
 use native.Mathlib.Omega.{arith}
 use mathlib.Core.Path.{_≡_, refl, ap, sym, _∙_, subst}
 use mathlib.Core.Bool.{Bool, true, false, _&&_, not, cond}
-use mathlib.Core.List.{List, [], _∷_, _++_}
+use mathlib.Core.List.{List}
 use lib.Dec.{ltb, eqb}
-use lib.ListN.{length, set, length-append, length-set}
+use lib.ListN.{length, set, length-set}
 use lib.Seq.{getD-set-same, getD-set-other}
 use borrow.Author.Tests.{eqb-true, eqb-false, eq-eqb, ne-eqb, ltb-true, lt-ltb, le-ltb}
-use Rattle.limits.specs.Limits.{maxLines, maxPending}
+use Rattle.limits.specs.Limits.{maxLines}
 use Rattle.ot.specs.Edit.{Edit}
 use Rattle.model.specs.Line as line
 use Rattle.model.proofs.Tests.{bool-ext}
-use Rattle.pending.specs.Slots as pending
-use Rattle.pending.specs.Slots.{slotsOf}
-use Rattle.pending.proofs.Slots.{slots-length}
 use Rattle.line.specs.declared.Line.{Line}
-use Rattle.line.specs.Line.{countsOf, pendingIn, Kept}
+use Rattle.line.specs.Line.{countsOf, Kept}
 use Rattle.line.specs.Keeping.{withKept}
-use Rattle.line.proofs.Staying.{pending-length}
 use Rattle.server.specs.declared.Counts.{Counts}
-use Rattle.server.specs.View.{size, slotsAt, countsAt, Sizes}
-use Rattle.server.specs.Taking.{keeps, KeptBy}
-use Rattle.server.proofs.Loops.{lentAt, lent-slots}
-use Rattle.server.proofs.Written.{LineWrote, putLine, line-wrote}
+use Rattle.server.specs.View.{size, itemsIn, originsIn, slotsAt, makersAt, countsAt, Sizes, Parts, SlotsWrote, MakersWrote}
+use Rattle.server.specs.Taking.{keeps, slotsKept, makersKept, KeptBy}
 
 -- ---- which lines keep it
 
@@ -58,29 +52,37 @@ keeps-still at i j n =
 
 -- ---- the loop
 
--- by which a count and the words of a line are known
+-- by which the counts, the words and the origins of a line are known
 abbrev pub countsThen : Bool → Line → Line
 countsThen b v = cond b (withKept v (v .inserts)) v
 
 abbrev pub slotsThen : Bool → Edit → Line → List ℕ → List ℕ
-slotsThen b e v words = cond b (slotsOf (pendingIn v words ++ (e ∷ []))) words
+slotsThen b e v words = cond b (slotsKept e v words) words
 
-module _ (at : ℕ) (e : Edit) (k : Counts) (before : List ℕ) where
-  pub kept-none : KeptBy 0 at e k before k before
-  kept-none =
+abbrev pub makersThen : Bool → ℕ → Line → List ℕ → List ℕ
+makersThen b word v words = cond b (makersKept word v words) words
+
+module _ (at : ℕ) (e : Edit) (word : ℕ) (k : Counts) (before : List ℕ) where
+  pub kept-none : length before ≡ size → KeptBy 0 at e word k before k before
+  kept-none long =
       record {
         n = refl;
         initial = refl;
         len = refl;
         ranks = refl;
         lines = refl;
-        size = refl;
-        items = refl;
         counts = λ i h. ap (λ (b : Bool). countsThen b (countsAt k i)) (sym (keeps-past 0 at i (omega arith)));
-        slots = λ i h. ap (λ (b : Bool). slotsThen b e (countsAt k i) (slotsAt i before)) (sym (keeps-past 0 at i (omega arith)));
+        words =
+            record {
+              items = refl;
+              origins = refl;
+              slots = λ i h. ap (λ (b : Bool). slotsThen b e (countsAt k i) (slotsAt i before)) (sym (keeps-past 0 at i (omega arith)));
+              makers = λ i h. ap (λ (b : Bool). makersThen b word (countsAt k i) (makersAt i before)) (sym (keeps-past 0 at i (omega arith)));
+              long = long;
+            };
       }
 
-  module _ (i : ℕ) (r : Counts) (after : List ℕ) (s : KeptBy i at e k before r after) where
+  module _ (i : ℕ) (r : Counts) (after : List ℕ) (s : KeptBy i at e word k before r after) where
     same-keeps : (j : ℕ) → i ≡ at → keeps i at j ≡ keeps (i + 1) at j
     same-keeps j o = go (eqb j i) refl
       where
@@ -91,7 +93,7 @@ module _ (at : ℕ) (e : Edit) (k : Counts) (before : List ℕ) where
         go false f = keeps-still at i j (eqb-false j i f)
 
     -- the line that the edit came on
-    pub kept-skip : i ≡ at → KeptBy (i + 1) at e k before r after
+    pub kept-skip : i ≡ at → KeptBy (i + 1) at e word k before r after
     kept-skip o =
         record {
           n = s .n;
@@ -99,37 +101,33 @@ module _ (at : ℕ) (e : Edit) (k : Counts) (before : List ℕ) where
           len = s .len;
           ranks = s .ranks;
           lines = s .lines;
-          size = s .size;
-          items = s .items;
           counts = λ j h. s .counts j h ∙ ap (λ (b : Bool). countsThen b (countsAt k j)) (same-keeps j o);
-          slots = λ j h. s .slots j h ∙ ap (λ (b : Bool). slotsThen b e (countsAt k j) (slotsAt j before)) (same-keeps j o);
+          words =
+              record {
+                items = s .words .items;
+                origins = s .words .origins;
+                slots = λ j h. s .words .slots j h ∙ ap (λ (b : Bool). slotsThen b e (countsAt k j) (slotsAt j before)) (same-keeps j o);
+                makers = λ j h. s .words .makers j h ∙ ap (λ (b : Bool). makersThen b word (countsAt k j) (makersAt j before)) (same-keeps j o);
+                long = s .words .long;
+              };
         }
 
     module _ (n : i ≡ at → ⊥) (lt : i < maxLines) where
       abbrev v : Line
       v = countsAt k i
 
-      -- its words are still as they came
+      -- its words and origins are still as they came
       untouched : slotsAt i after ≡ slotsAt i before
-      untouched = s .slots i lt ∙ ap (λ (b : Bool). slotsThen b e v (slotsAt i before)) (keeps-past i at i (omega arith))
+      untouched = s .words .slots i lt ∙ ap (λ (b : Bool). slotsThen b e v (slotsAt i before)) (keeps-past i at i (omega arith))
 
-      pub kept-lent : Kept v (slotsAt i before) → Kept v (lentAt i after)
-      kept-lent h = subst (Kept v) (sym (lent-slots i after ∙ untouched)) h
+      unnamed : makersAt i after ≡ makersAt i before
+      unnamed = s .words .makers i lt ∙ ap (λ (b : Bool). makersThen b word v (makersAt i before)) (keeps-past i at i (omega arith))
 
-      module _ (z : Sizes k before) (kept : Kept v (slotsAt i before)) (room : v .made - v .acked < maxPending) (x : List ℕ)
-          (ex : x ≡ slotsOf (pendingIn v (lentAt i after) ++ (e ∷ []))) (w : Line) (ew : w ≡ withKept v (v .inserts)) where
-        new : x ≡ slotsOf (pendingIn v (slotsAt i before) ++ (e ∷ []))
-        new = ex ∙ ap (λ (ws : List ℕ). slotsOf (pendingIn v ws ++ (e ∷ []))) (lent-slots i after ∙ untouched)
+      pub kept-still : Kept v (slotsAt i before) → Kept v (slotsAt i after)
+      kept-still h = subst (Kept v) (sym untouched) h
 
-        new-long : length x ≡ pending.size
-        new-long =
-            ap length new
-            ∙ slots-length (pendingIn v (slotsAt i before) ++ (e ∷ []))
-            (omega (arith, length-append (pendingIn v (slotsAt i before)) (e ∷ []), pending-length v (slotsAt i before) kept))
-
-        wrote : LineWrote i x after (putLine i after x)
-        wrote = line-wrote i x after lt (s .size ∙ z .words) new-long
-
+      module _ (lines : length (k .lines) ≡ maxLines) (middle then : List ℕ) (wrote : SlotsWrote i (slotsKept e v (slotsAt i after)) after middle)
+          (named : MakersWrote i (makersKept word v (makersAt i middle)) middle then) (w : Line) (ew : w ≡ withKept v (v .inserts)) where
         abbrev next : Counts
         next = record { n = r .n; initial = r .initial; len = r .len; ranks = r .ranks; lines = set (r .lines) i w }
 
@@ -139,26 +137,30 @@ module _ (at : ℕ) (e : Edit) (k : Counts) (before : List ℕ) where
             go : (b : Bool) → eqb j i ≡ b → countsAt next j ≡ countsThen (keeps (i + 1) at j) (countsAt k j)
             go true t =
                 subst (λ (y : ℕ). countsAt next y ≡ countsThen (keeps (i + 1) at y) (countsAt k y)) (sym (eqb-true j i t))
-                (getD-set-same (r .lines) i w (countsOf line.noLine) (omega (arith, s .lines, z .lines)) ∙ ew
+                (getD-set-same (r .lines) i w (countsOf line.noLine) (omega (arith, s .lines, lines)) ∙ ew
                 ∙ ap (λ (b : Bool). countsThen b v) (sym (keeps-next at i n)))
             go false f =
                 let o = eqb-false j i f in
                 getD-set-other (r .lines) i j w (countsOf line.noLine) o ∙ s .counts j h
                 ∙ ap (λ (b : Bool). countsThen b (countsAt k j)) (keeps-still at i j o)
 
-        slots-then : (j : ℕ) → j < maxLines → slotsAt j (putLine i after x) ≡ slotsThen (keeps (i + 1) at j) e (countsAt k j) (slotsAt j before)
-        slots-then j h = go (eqb j i) refl
+        -- a part of each line, of which that of line i was written
+        block : (part : ℕ → List ℕ → List ℕ) (x : List ℕ) (then : Bool → ℕ → List ℕ) (last : List ℕ)
+            → ((j : ℕ) → j < maxLines → part j last ≡ cond (eqb j i) x (part j after))
+            → ((j : ℕ) → j < maxLines → part j after ≡ then (keeps i at j) j) → x ≡ then true i
+            → (j : ℕ) → j < maxLines → part j last ≡ then (keeps (i + 1) at j) j
+        block part x then′ last wr was new j h = go (eqb j i) refl
           where
-            go : (b : Bool) → eqb j i ≡ b → slotsAt j (putLine i after x) ≡ slotsThen (keeps (i + 1) at j) e (countsAt k j) (slotsAt j before)
+            go : (b : Bool) → eqb j i ≡ b → part j last ≡ then′ (keeps (i + 1) at j) j
             go true t =
-                subst (λ (y : ℕ). slotsAt y (putLine i after x) ≡ slotsThen (keeps (i + 1) at y) e (countsAt k y) (slotsAt y before)) (sym (eqb-true j i t))
-                (wrote .here ∙ new ∙ ap (λ (b : Bool). slotsThen b e v (slotsAt i before)) (sym (keeps-next at i n)))
+                wr j h ∙ ap (λ (b : Bool). cond b x (part j after)) t ∙ new ∙ ap (λ (y : ℕ). then′ true y) (sym (eqb-true j i t))
+                ∙ ap (λ (b : Bool). then′ b j) (sym (ap (λ (y : ℕ). keeps (i + 1) at y) (eqb-true j i t) ∙ keeps-next at i n))
             go false f =
-                let o = eqb-false j i f in
-                wrote .others j o ∙ s .slots j h ∙ ap (λ (b : Bool). slotsThen b e (countsAt k j) (slotsAt j before)) (keeps-still at i j o)
+                wr j h ∙ ap (λ (b : Bool). cond b x (part j after)) f ∙ was j h
+                ∙ ap (λ (b : Bool). then′ b j) (keeps-still at i j (eqb-false j i f))
 
         -- another line
-        pub kept-turn : KeptBy (i + 1) at e k before (record { n = r .n; initial = r .initial; len = r .len; ranks = r .ranks; lines = set (r .lines) i w }) (putLine i after x)
+        pub kept-turn : KeptBy (i + 1) at e word k before (record { n = r .n; initial = r .initial; len = r .len; ranks = r .ranks; lines = set (r .lines) i w }) then
         kept-turn =
             record {
               n = s .n;
@@ -166,21 +168,27 @@ module _ (at : ℕ) (e : Edit) (k : Counts) (before : List ℕ) where
               len = s .len;
               ranks = s .ranks;
               lines = length-set (r .lines) i w ∙ s .lines;
-              size = wrote .long ∙ s .size;
-              items = wrote .items ∙ s .items;
               counts = counts-then;
-              slots = slots-then;
+              words =
+                  record {
+                    items = named .items ∙ wrote .items ∙ s .words .items;
+                    origins = named .origins ∙ wrote .origins ∙ s .words .origins;
+                    slots =
+                        block slotsAt (slotsKept e v (slotsAt i after)) (λ b j. slotsThen b e (countsAt k j) (slotsAt j before)) then
+                        (λ j h. named .slots j h ∙ wrote .slots j h) (s .words .slots) (ap (slotsKept e v) untouched);
+                    makers =
+                        block makersAt (makersKept word v (makersAt i middle)) (λ b j. makersThen b word (countsAt k j) (makersAt j before)) then
+                        (λ j h. named .makers j h ∙ ap (cond (eqb j i) (makersKept word v (makersAt i middle))) (wrote .makers j h)) (s .words .makers)
+                        (ap (makersKept word v) (wrote .makers i lt ∙ unnamed));
+                    long = named .long;
+                  };
             }
 
 -- ---- an edit is kept by the n lines in use, an acknowledgement by none
 
-module _ (n at : ℕ) (e : Edit) (k r q : Counts) (before after then : List ℕ) (b : Bool) (er : q ≡ r) (ew : then ≡ after) where
-  pub edit-kept : b ≡ true → KeptBy n at e k before r after → KeptBy (cond b n 0) at e k before q then
-  edit-kept t s =
-      subst (λ (c : Bool). KeptBy (cond c n 0) at e k before q then) (sym t)
-      (subst (λ (c : Counts). KeptBy n at e k before c then) (sym er) (subst (KeptBy n at e k before r) (sym ew) s))
+module _ (n at : ℕ) (e : Edit) (word : ℕ) (k r : Counts) (before after : List ℕ) (b : Bool) where
+  pub edit-kept : b ≡ true → KeptBy n at e word k before r after → KeptBy (cond b n 0) at e word k before r after
+  edit-kept t s = subst (λ (c : Bool). KeptBy (cond c n 0) at e word k before r after) (sym t) s
 
-  pub none-kept : b ≡ false → r ≡ k → after ≡ before → KeptBy (cond b n 0) at e k before q then
-  none-kept f ek eb =
-      subst (λ (c : Bool). KeptBy (cond c n 0) at e k before q then) (sym f)
-      (subst (λ (c : Counts). KeptBy 0 at e k before c then) (sym (er ∙ ek)) (subst (KeptBy 0 at e k before k) (sym (ew ∙ eb)) (kept-none at e k before)))
+  pub none-kept : b ≡ false → KeptBy 0 at e word k before r after → KeptBy (cond b n 0) at e word k before r after
+  none-kept f s = subst (λ (c : Bool). KeptBy (cond c n 0) at e word k before r after) (sym f) s

@@ -6,11 +6,11 @@ pub mod Whole
 pub mod Stored
 pub mod Facts
 pub mod Opening
-pub mod Answers
 pub mod Sends
+pub mod Answers
 pub mod Asked
 pub mod Deciding
+pub mod Takes
 pub mod Written
 pub mod Keeping
-pub mod Takes
 pub mod Accepts

@@ -1,4 +1,4 @@
--- The lines in use of a struct: how many there are, each of them, and a number of each added up.
+-- The lines in use of a struct and the origins of their pending edits: how many there are, each of them, and a number of each line added up.
 use Prim.Native.Nat.{ℕ, zero, suc, _+_, _-_, _*_, _≤_, _<_}
 use native.Mathlib.Numerals.{add-one}
 use native.Mathlib.Nat.{zero-add}
@@ -10,7 +10,7 @@ use Rattle.model.specs.Line as line
 use Rattle.model.specs.Server as model
 use Rattle.line.specs.declared.Line.{Line}
 use Rattle.server.specs.declared.Counts.{Counts}
-use Rattle.server.specs.View.{countsAt, lineAt, linesFrom}
+use Rattle.server.specs.View.{countsAt, lineAt, linesFrom, makersOf, makersFrom}
 use Rattle.server.specs.Totals.{totalOf}
 
 module _ (k : Counts) (words : List ℕ) where
@@ -34,6 +34,29 @@ module _ (k : Counts) (words : List ℕ) where
 
   pub line-unused : (count j : ℕ) → count ≤ j → getD (linesFrom k words 0 count) j line.noLine ≡ line.noLine
   line-unused count j h = List·getD-eq-default (linesFrom k words 0 count) line.noLine (omega (arith, lines-length 0 count))
+
+  -- ---- the origins
+
+  pub makers-length : (i count : ℕ) → length (makersFrom k words i count) ≡ count
+  unfolding makersFrom
+  makers-length i zero = refl
+  makers-length i (suc count) = ap suc (makers-length (suc i) count)
+
+  makers-at : (i count j : ℕ) → j < count → getD (makersFrom k words i count) j [] ≡ makersOf k words (i + j)
+  unfolding makersFrom
+  makers-at i zero j h = absurd (omega arith)
+  makers-at i (suc count) zero h =
+      let e : i ≡ i + 0 = omega arith in
+      ap (makersOf k words) e
+  makers-at i (suc count) (suc j) h =
+      let e : suc i + j ≡ i + suc j = omega arith in
+      makers-at (suc i) count j (omega arith) ∙ ap (makersOf k words) e
+
+  pub makers-used : (count j : ℕ) → j < count → getD (makersFrom k words 0 count) j [] ≡ makersOf k words j
+  makers-used count j h = makers-at 0 count j h ∙ ap (makersOf k words) (zero-add j)
+
+  pub makers-unused : (count j : ℕ) → count ≤ j → getD (makersFrom k words 0 count) j [] ≡ []
+  makers-unused count j h = List·getD-eq-default (makersFrom k words 0 count) [] (omega (arith, makers-length 0 count))
 
 -- ---- a number of each line, added up
 

@@ -4,16 +4,18 @@ use native.Mathlib.Nat.{zero-add}
 use native.Mathlib.Numerals.{add-one}
 use native.Mathlib.Omega.{arith}
 use mathlib.Core.Path.{_≡_, refl, ap, sym, _∙_, subst}
-use mathlib.Core.Bool.{Bool, true, false, _&&_, and-true, and-assoc}
+use mathlib.Core.Bool.{Bool, true, false, _&&_, cond, and-true, and-assoc}
 use mathlib.Core.List.{List, [], _∷_}
 use lib.Dec.{leb, ltb, eqb}
-use lib.ListN.{length, getD, take, drop, length-take}
+use lib.ListN.{length, getD, take, drop, length-map}
 use lib.Seq.{length-take-le}
-use borrow.Author.Tests.{leb-true, le-leb, eq-eqb, eqb-true, ltb-true, ltb-false}
-use Rattle.limits.specs.Limits.{maxLines, maxItems}
-use Rattle.list.specs.Items.{allZero}
+use borrow.Author.Tests.{leb-true, le-leb, eq-eqb, eqb-true, ltb-true, ltb-false, lt-ltb, le-ltb}
+use Rattle.limits.specs.Limits.{maxLines, maxItems, maxPending}
+use Rattle.list.specs.Items.{stored, allZero}
+use Rattle.list.specs.declared.Origin.{Origin}
+use Rattle.list.specs.Places.{Place, itemsOf, originsOf, originAt}
 use Rattle.list.proofs.Items.{stored-of}
-use Rattle.list.proofs.Parts.{part-length}
+use Rattle.list.proofs.Places.{places-length, places-items, places-origins, places-numbered}
 use Rattle.model.specs.Questions.{every}
 use Rattle.model.specs.Ranks.{rankOf, ranking}
 use Rattle.model.specs.Line as line
@@ -23,18 +25,19 @@ use Rattle.model.proofs.SoundServer.{takenSum}
 use Rattle.ranks.specs.Stored.{soundRanks}
 use Rattle.ranks.proofs.Laws.{take-rank, sound-ranking, sound-zero, sound-stored}
 use Rattle.pending.specs.Slots.{allFrom}
-use Rattle.line.specs.Line.{Kept}
+use Rattle.line.specs.Line.{countsOf, Kept}
 use Rattle.line_sound.specs.Sound.{soundLine, emptyLine}
-use Rattle.line_sound.proofs.All.{all-each, all-same}
+use Rattle.line_sound.proofs.All.{all-each, all-same, all-both, all-parted}
+use Rattle.line_sound.proofs.Makers.{makers-are, makers-whole}
 use Rattle.line_sound.proofs.Words.{sound-kept, empty-kept}
 use Rattle.line_sound.proofs.Stored.{empty-counts, empty-words}
 use Rattle.server.specs.declared.Counts.{Counts}
 use Rattle.server.specs.declared.Server.{Server}
-use Rattle.server.specs.View.{itemsIn, slotsAt, countsAt, lineAt, linesFrom, serverOf, view, tidyAt, emptyAt, soundTests, sound, Sound, Sizes}
-use Rattle.server.specs.Totals.{totalOf, soundAt}
-use Rattle.server.proofs.Lines.{lines-length, line-used, line-unused, total-words, total-most}
-use Rattle.server.proofs.Loops.{slots-long}
-use Rattle.server.proofs.Rows.{Row, Holds, store-is}
+use Rattle.server.specs.View.{size, itemsIn, originsIn, slotsAt, makersAt, countsAt, lineAt, linesFrom, makersOf, makersFrom, listIn, serverOf, view, tidyAt, emptyAt, bareAt, soundTests, sound, Sound, Sizes}
+use Rattle.server.specs.Totals.{totalOf, inLimits, listTidy, soundAt, makersSoundAt, lineSoundAt}
+use Rattle.server.proofs.Lines.{lines-length, line-used, line-unused, makers-length, makers-used, makers-unused, total-words, total-most}
+use Rattle.server.proofs.Loops.{items-long, origins-long, slots-long, makers-long}
+use Rattle.server.proofs.Rows.{slotsFor, makersFor, Row, Holds, store-is}
 
 -- ---- tests of places
 
@@ -46,19 +49,6 @@ pub each-last : (test : ℕ → Bool) (n m : ℕ) → allFrom test n (m - n) ≡
 each-last test n m a i h k =
     let e : i ≡ n + (i - n) = omega arith in
     ap test e ∙ all-each test n (m - n) a (i - n) (omega arith)
-
-four : (a b c d : Bool) → ((a && b) && (c && d)) ≡ ((a && c) && (b && d))
-four true b true d = refl
-four true true false d = refl
-four true false false d = refl
-four false b c d = refl
-
-all-both : (s t : ℕ → Bool) (from count : ℕ) → allFrom (λ i. s i && t i) from count ≡ (allFrom s from count && allFrom t from count)
-unfolding allFrom
-all-both s t from zero = refl
-all-both s t from (suc count) =
-    ap (λ (b : Bool). (s from && t from) && b) (all-both s t (suc from) count)
-    ∙ four (s from) (t from) (allFrom s (suc from) count) (allFrom t (suc from) count)
 
 -- ---- one line, and all lines in use
 
@@ -126,6 +116,59 @@ module _ (k : Counts) (words : List ℕ) where
       ∙ all-both (modelAt taken-all) (tidyAt k words) 0 (k .n)
       ∙ ap (λ (b : Bool). b && allFrom (tidyAt k words) 0 (k .n)) (model-lines taken-all 0 (k .n))
 
+  -- ---- the origins of the pending edits of all lines in use
+
+  -- the model's question of those of the line at place i
+  abbrev modelMakers : ℕ → Bool
+  modelMakers i =
+      eqb (length (makersOf k words i)) (countsAt k i .made - countsAt k i .acked) && model.otherMakers (k .n) (i + 1) (makersOf k words i)
+
+  model-makers : (i count : ℕ) → allFrom modelMakers i count ≡ model.soundMakers (k .n) (suc i) (linesFrom k words i count) (makersFrom k words i count)
+  unfolding allFrom linesFrom makersFrom model.soundMakers
+  model-makers i zero = refl
+  model-makers i (suc count) =
+      let counted : Bool = eqb (length (makersOf k words i)) (countsAt k i .made - countsAt k i .acked) in
+      and-assoc counted (model.otherMakers (k .n) (i + 1) (makersOf k words i)) (allFrom modelMakers (suc i) count)
+      ∙ ap (λ (l : ℕ). counted && (model.otherMakers (k .n) l (makersOf k words i) && allFrom modelMakers (suc i) count)) (add-one i)
+      ∙ ap (λ (b : Bool). counted && (model.otherMakers (k .n) (suc i) (makersOf k words i) && b)) (model-makers (suc i) count)
+
+  module _ (long : length words ≡ size) (few : k .n ≤ maxLines) (right : allFrom (soundAt k taken-all words) 0 (k .n) ≡ true) where
+    kept-used : (i : ℕ) → i < k .n → Kept (countsAt k i) (slotsAt i words)
+    kept-used i h =
+        let v = countsAt k i in
+        let others = line.other (k .n) (rankOf (k .ranks) (i + 1)) in
+        sound-kept (v .taken) others v (slotsAt i words) (slots-long words long i (omega arith))
+        (and-right (eqb (v .made + v .taken) taken-all) (soundLine (v .taken) others v (slotsAt i words)) (each-first (soundAt k taken-all words) (k .n) right i h))
+
+    makers-one : (i : ℕ) → i < k .n → makersSoundAt k words i ≡ (modelMakers i && bareAt k words i)
+    makers-one i h =
+        let c = countsAt k i .made - countsAt k i .acked in
+        let most : c ≤ maxPending = kept-used i h .few in
+        let whole : length (makersAt i words) ≡ maxPending = makers-long words long i (omega arith) in
+        let count : length (makersOf k words i) ≡ c =
+        length-map (take c (makersAt i words)) originAt ∙ length-take-le c (makersAt i words) (omega (arith, whole)) in
+        makers-are (k .n) (i + 1) c (makersAt i words) (omega (arith, whole))
+        ∙ ap (λ (b : Bool). (b && model.otherMakers (k .n) (i + 1) (makersOf k words i)) && bareAt k words i)
+        (sym (eq-eqb (length (makersOf k words i)) c count))
+
+    -- the code's test of them is the model's, and that the words behind them are zero
+    makers-parts : allFrom (makersSoundAt k words) 0 (k .n)
+        ≡ (model.soundMakers (k .n) 1 used (makersFrom k words 0 (k .n)) && allFrom (bareAt k words) 0 (k .n))
+    makers-parts =
+        all-same (makersSoundAt k words) (λ i. modelMakers i && bareAt k words i) 0 (k .n) (λ i h. makers-one (0 + i) (omega arith))
+        ∙ all-both modelMakers (bareAt k words) 0 (k .n)
+        ∙ ap (λ (b : Bool). b && allFrom (bareAt k words) 0 (k .n)) (model-makers 0 (k .n))
+
+  -- all eight lines as the code tests them, in use or not
+  lines-code : (taken : ℕ) → k .n ≤ maxLines → allFrom (lineSoundAt k taken words) 0 maxLines
+      ≡ ((allFrom (soundAt k taken words) 0 (k .n) && allFrom (makersSoundAt k words) 0 (k .n)) && allFrom (emptyAt k words) (k .n) (maxLines - k .n))
+  lines-code taken few =
+      all-parted (lineSoundAt k taken words) (λ i. soundAt k taken words i && makersSoundAt k words i) (emptyAt k words) (k .n) maxLines few
+      (λ i h. ap (λ (b : Bool). cond b (soundAt k taken words i && makersSoundAt k words i) (emptyAt k words i)) (lt-ltb i (k .n) h))
+      (λ i h lt. ap (λ (b : Bool). cond b (soundAt k taken words i && makersSoundAt k words i) (emptyAt k words i)) (le-ltb i (k .n) h))
+      ∙ ap (λ (b : Bool). b && allFrom (emptyAt k words) (k .n) (maxLines - k .n))
+      (all-both (soundAt k taken words) (makersSoundAt k words) 0 (k .n))
+
 -- ---- the tests of the code
 
 abbrev pub codeTests : Counts → List ℕ → List Bool
@@ -137,14 +180,18 @@ codeTests k words =
     ∷ soundRanks (k .n) (k .ranks)
     ∷ leb (k .len) (k .initial + totalOf (λ v. v .inserts) k)
     ∷ allZero (drop (k .len) (itemsIn words))
+    ∷ allZero (drop (k .len) (originsIn words))
     ∷ allFrom (soundAt k (totalOf (λ v. v .taken) k) words) 0 (k .n)
+    ∷ allFrom (makersSoundAt k words) 0 (k .n)
     ∷ allFrom (emptyAt k words) (k .n) (maxLines - k .n)
     ∷ []
 
-pub limits-few : (n initial len : ℕ) → (((leb 1 n && leb n 8) && leb initial 128) && leb len 512) ≡ true → n ≤ 8
-limits-few n initial len t =
-    leb-true n 8
-    (and-right (leb 1 n) (leb n 8) (and-left (leb 1 n && leb n 8) (leb initial 128) (and-left ((leb 1 n && leb n 8) && leb initial 128) (leb len 512) t)))
+pub limits-few : (k : Counts) → inLimits k ≡ true → k .n ≤ maxLines
+limits-few k t =
+    let lines : Bool = leb 1 (k .n) && leb (k .n) maxLines in
+    leb-true (k .n) maxLines
+    (and-right (leb 1 (k .n)) (leb (k .n) maxLines)
+    (and-left lines (leb (k .initial) 128) (and-left (lines && leb (k .initial) 128) (leb (k .len) maxItems) t)))
 
 module _ (k : Counts) (words : List ℕ) (z : Sizes k words) where
   abbrev s : Server
@@ -153,38 +200,66 @@ module _ (k : Counts) (words : List ℕ) (z : Sizes k words) where
   abbrev items : List ℕ
   items = take (k .len) (itemsIn words)
 
-  long : length (itemsIn words) ≡ maxItems
-  long = part-length 0 maxItems words (omega (arith, z .words))
+  abbrev origins : List ℕ
+  origins = take (k .len) (originsIn words)
 
-  items-short : length items ≤ maxItems
-  items-short = simp length-take (omega (arith, long))
+  abbrev places : List Place
+  places = listIn (k .len) words
 
-  items-length : k .len ≤ maxItems → length items ≡ k .len
-  items-length h = length-take-le (k .len) (itemsIn words) (omega (arith, long))
+  -- the first len items and the first len origins are the places
+  module _ (h : k .len ≤ maxItems) where
+    items-taken : length items ≡ k .len
+    items-taken = length-take-le (k .len) (itemsIn words) (omega (arith, items-long words (z .words)))
+
+    both-taken : length items ≡ length origins
+    both-taken = items-taken ∙ sym (length-take-le (k .len) (originsIn words) (omega (arith, origins-long words (z .words))))
+
+    items-length : length places ≡ k .len
+    items-length = places-length items origins both-taken ∙ items-taken
+
+    items-stored : allZero (drop (k .len) (itemsIn words)) ≡ true → itemsIn words ≡ stored (itemsOf places)
+    items-stored t = stored-of (itemsIn words) (k .len) (items-long words (z .words)) h t ∙ ap stored (sym (places-items items origins both-taken))
+
+    origins-stored : allZero (drop (k .len) (originsIn words)) ≡ true → originsIn words ≡ stored (originsOf places)
+    origins-stored t = stored-of (originsIn words) (k .len) (origins-long words (z .words)) h t ∙ ap stored (sym (places-origins items origins both-taken))
+
+  abbrev oss : List (List Origin)
+  oss = makersFrom k words 0 (k .n)
 
   code-sound : every (codeTests k words) ≡ true → sound (serverOf k words) ≡ true
   unfolding sound model.soundServer view
   code-sound e =
       let h = hold (codeTests k words) e in
-      let len : k .len ≤ maxItems = leb-true (k .len) 512 (h .1 .1 .1 .0) in
-      let most : k .len ≤ k .initial + totalOf (λ v. v .inserts) k = leb-true (k .len) (k .initial + totalOf (λ v. v .inserts) k) (h .1 .1 .1 .1 .1 .0) in
+      let limits = h .1 .1 .1 in
+      let lists = limits .1 .1 .1 in
+      let lines = lists .1 .1 in
+      let len : k .len ≤ maxItems = leb-true (k .len) 512 (limits .0) in
+      let few : k .n ≤ maxLines = leb-true (k .n) 8 (h .1 .0) in
+      let most : k .len ≤ k .initial + totalOf (λ v. v .inserts) k = leb-true (k .len) (k .initial + totalOf (λ v. v .inserts) k) (limits .1 .1 .0) in
       let vs = used k words in
-      let lines = sym (lines-parts k words) ∙ h .1 .1 .1 .1 .1 .1 .1 .0 in
-      let model-yes = and-left (model.soundLines (k .n) (ranksIn k) (taken-all k words) 1 vs) (allFrom (tidyAt k words) 0 (k .n)) lines in
+      let each = sym (lines-parts k words) ∙ lines .0 in
+      let makers = sym (makers-parts k words (z .words) few (lines .0)) ∙ lines .1 .0 in
+      let model-yes = and-left (model.soundLines (k .n) (ranksIn k) (taken-all k words) 1 vs) (allFrom (tidyAt k words) 0 (k .n)) each in
       held (soundTests s) (
         held (model.serverTests (view s)) (
           both (leb 1 (k .n)) (leb (k .n) 8) (h .0) (h .1 .0),
           (
             h .1 .1 .0,
             (
-              sound-ranking (k .n) (k .ranks) (h .1 .1 .1 .1 .0),
+              sound-ranking (k .n) (k .ranks) (limits .1 .0),
               (
-                le-leb (length items) maxItems items-short,
+                le-leb (length places) maxItems (omega (arith, items-length len)),
                 (
-                  eq-eqb (length vs) (k .n) (lines-length k words 0 (k .n)),
+                  places-numbered items origins,
                   (
-                    subst (λ (t : ℕ). model.soundLines (k .n) (ranksIn k) t 1 vs ≡ true) (sym (taken-total k words)) model-yes,
-                    (le-leb (length items) (k .initial + model.total (λ v. v .inserts) vs) (omega (arith, items-length len, inserts-total k words)), tt),
+                    eq-eqb (length vs) (k .n) (lines-length k words 0 (k .n)),
+                    (
+                      subst (λ (t : ℕ). model.soundLines (k .n) (ranksIn k) t 1 vs ≡ true) (sym (taken-total k words)) model-yes,
+                      (
+                        and-left (model.soundMakers (k .n) 1 vs oss) (allFrom (bareAt k words) 0 (k .n)) makers,
+                        (le-leb (length places) (k .initial + model.total (λ v. v .inserts) vs) (omega (arith, items-length len, inserts-total k words)), tt),
+                      ),
+                    ),
                   ),
                 ),
               ),
@@ -192,12 +267,18 @@ module _ (k : Counts) (words : List ℕ) (z : Sizes k words) where
           ),
         ),
         (
-          h .1 .1 .1 .0,
+          limits .0,
           (
-            sound-zero (k .n) (k .ranks) (h .1 .1 .1 .1 .0),
+            sound-zero (k .n) (k .ranks) (limits .1 .0),
             (
-              h .1 .1 .1 .1 .1 .1 .0,
-              (and-right (model.soundLines (k .n) (ranksIn k) (taken-all k words) 1 vs) (allFrom (tidyAt k words) 0 (k .n)) lines, (h .1 .1 .1 .1 .1 .1 .1 .1 .0, tt)),
+              lists .0,
+              (
+                lists .1 .0,
+                (
+                  and-right (model.soundLines (k .n) (ranksIn k) (taken-all k words) 1 vs) (allFrom (tidyAt k words) 0 (k .n)) each,
+                  (and-right (model.soundMakers (k .n) 1 vs oss) (allFrom (bareAt k words) 0 (k .n)) makers, (lines .1 .1 .0, tt)),
+                ),
+              ),
             ),
           ),
         ),
@@ -208,10 +289,18 @@ module _ (k : Counts) (words : List ℕ) (z : Sizes k words) where
   sound-code e =
       let t = hold (soundTests s) e in
       let m = hold (model.serverTests (view s)) (t .0) in
+      let lists = t .1 .1 .1 in
+      let slots = lists .1 .1 in
+      let modeled = m .1 .1 .1 .1 .1 .1 in
       let len : k .len ≤ maxItems = leb-true (k .len) 512 (t .1 .0) in
+      let few : k .n ≤ maxLines = leb-true (k .n) 8 (and-right (leb 1 (k .n)) (leb (k .n) 8) (m .0)) in
       let vs = used k words in
-      let most : length items ≤ k .initial + model.total (λ v. v .inserts) vs =
-      leb-true (length items) (k .initial + model.total (λ v. v .inserts) vs) (m .1 .1 .1 .1 .1 .1 .0) in
+      let most : length places ≤ k .initial + model.total (λ v. v .inserts) vs =
+      leb-true (length places) (k .initial + model.total (λ v. v .inserts) vs) (modeled .1 .1 .0) in
+      let right : allFrom (soundAt k (totalOf (λ v. v .taken) k) words) 0 (k .n) ≡ true =
+      lines-parts k words
+      ∙ both (model.soundLines (k .n) (ranksIn k) (taken-all k words) 1 vs) (allFrom (tidyAt k words) 0 (k .n))
+      (subst (λ (n : ℕ). model.soundLines (k .n) (ranksIn k) n 1 vs ≡ true) (taken-total k words) (modeled .0)) (slots .0) in
       held (codeTests k words) (
         and-left (leb 1 (k .n)) (leb (k .n) 8) (m .0),
         (
@@ -225,12 +314,17 @@ module _ (k : Counts) (words : List ℕ) (z : Sizes k words) where
                 (
                   le-leb (k .len) (k .initial + totalOf (λ v. v .inserts) k) (omega (arith, items-length len, inserts-total k words)),
                   (
-                    t .1 .1 .1 .0,
+                    lists .0,
                     (
-                      lines-parts k words
-                          ∙ both (model.soundLines (k .n) (ranksIn k) (taken-all k words) 1 vs) (allFrom (tidyAt k words) 0 (k .n))
-                          (subst (λ (n : ℕ). model.soundLines (k .n) (ranksIn k) n 1 vs ≡ true) (taken-total k words) (m .1 .1 .1 .1 .1 .0)) (t .1 .1 .1 .1 .0),
-                      (t .1 .1 .1 .1 .1 .0, tt),
+                      lists .1 .0,
+                      (
+                        right,
+                        (
+                          makers-parts k words (z .words) few right
+                              ∙ both (model.soundMakers (k .n) 1 vs oss) (allFrom (bareAt k words) 0 (k .n)) (modeled .1 .0) (slots .1 .0),
+                          (slots .1 .1 .0, tt),
+                        ),
+                      ),
                     ),
                   ),
                 ),
@@ -244,102 +338,121 @@ module _ (k : Counts) (words : List ℕ) (z : Sizes k words) where
   code-is = bool-ext (every (codeTests k words)) (sound (serverOf k words)) code-sound sound-code
 
   -- as the code joins them
-  abbrev limits : Bool
-  limits = ((leb 1 (k .n) && leb (k .n) 8) && leb (k .initial) 128) && leb (k .len) 512
-
-  abbrev rest : Bool
+  abbrev rest : List Bool
   rest =
-      every
-      (soundRanks (k .n) (k .ranks)
+      soundRanks (k .n) (k .ranks)
       ∷ leb (k .len) (k .initial + totalOf (λ v. v .inserts) k)
       ∷ allZero (drop (k .len) (itemsIn words))
+      ∷ allZero (drop (k .len) (originsIn words))
       ∷ allFrom (soundAt k (totalOf (λ v. v .taken) k) words) 0 (k .n)
+      ∷ allFrom (makersSoundAt k words) 0 (k .n)
       ∷ allFrom (emptyAt k words) (k .n) (maxLines - k .n)
-      ∷ [])
+      ∷ []
 
-  in-parts : (b : Bool) → limits ≡ b → (b && rest) ≡ sound (serverOf k words)
+  in-parts : (b : Bool) → inLimits k ≡ b → (b && every rest) ≡ sound (serverOf k words)
   in-parts b t =
-      ap (λ (x : Bool). x && rest) (sym t) ∙ group (leb 1 (k .n)) (leb (k .n) 8) (leb (k .initial) 128) (leb (k .len) 512) rest ∙ code-is
+      ap (λ (x : Bool). x && every rest) (sym t) ∙ group (leb 1 (k .n)) (leb (k .n) 8) (leb (k .initial) 128) (leb (k .len) 512) (every rest) ∙ code-is
     where
       group : (a b c d e : Bool) → ((((a && b) && c) && d) && e) ≡ (a && (b && (c && (d && e))))
       group a b c d e = simp and-assoc
 
-  pub sound-no : limits ≡ false → false ≡ sound (serverOf k words)
+  pub sound-no : inLimits k ≡ false → false ≡ sound (serverOf k words)
   sound-no t = in-parts false t
 
   -- the tests of the code, one after the other
-  pub sound-yes : (most taken : ℕ) (ranked zero′ used′ unused : Bool) → limits ≡ true → most ≡ totalOf (λ v. v .inserts) k
-      → taken ≡ totalOf (λ v. v .taken) k → ranked ≡ soundRanks (k .n) (k .ranks)
-      → zero′ ≡ allZero (drop (k .len) (itemsIn words)) → used′ ≡ allFrom (soundAt k taken words) 0 (k .n)
-      → unused ≡ allFrom (emptyAt k words) (k .n) (maxLines - k .n)
-      → ((((ranked && leb (k .len) (k .initial + most)) && zero′) && used′) && unused) ≡ sound (serverOf k words)
-  sound-yes most taken ranked zero′ used′ unused t m n r z′ u e =
+  pub sound-yes : (most taken : ℕ) (ranked tidied lined : Bool) → inLimits k ≡ true → most ≡ totalOf (λ v. v .inserts) k
+      → taken ≡ totalOf (λ v. v .taken) k → ranked ≡ soundRanks (k .n) (k .ranks) → tidied ≡ listTidy (k .len) words
+      → lined ≡ allFrom (lineSoundAt k taken words) 0 maxLines
+      → (((ranked && leb (k .len) (k .initial + most)) && tidied) && lined) ≡ sound (serverOf k words)
+  sound-yes most taken ranked tidied lined t m n r z′ u =
       let right = soundRanks (k .n) (k .ranks) in
       let all = totalOf (λ v. v .inserts) k in
-      let items-zero = allZero (drop (k .len) (itemsIn words)) in
-      let lines = allFrom (soundAt k (totalOf (λ v. v .taken) k) words) 0 (k .n) in
-      group ranked (leb (k .len) (k .initial + most)) zero′ used′ unused
-      ∙ ap (λ (b : Bool). every (b ∷ leb (k .len) (k .initial + most) ∷ zero′ ∷ used′ ∷ unused ∷ [])) r
-      ∙ ap (λ (j : ℕ). every (right ∷ leb (k .len) (k .initial + j) ∷ zero′ ∷ used′ ∷ unused ∷ [])) m
-      ∙ ap (λ (b : Bool). every (right ∷ leb (k .len) (k .initial + all) ∷ b ∷ used′ ∷ unused ∷ [])) z′
-      ∙ ap (λ (b : Bool). every (right ∷ leb (k .len) (k .initial + all) ∷ items-zero ∷ b ∷ unused ∷ [])) (u ∙ ap (λ (j : ℕ). allFrom (soundAt k j words) 0 (k .n)) n)
-      ∙ ap (λ (b : Bool). every (right ∷ leb (k .len) (k .initial + all) ∷ items-zero ∷ lines ∷ b ∷ [])) e
+      let sum = totalOf (λ v. v .taken) k in
+      let lines : lined ≡ ((allFrom (soundAt k sum words) 0 (k .n) && allFrom (makersSoundAt k words) 0 (k .n)) && allFrom (emptyAt k words) (k .n) (maxLines - k .n)) =
+      u ∙ ap (λ (j : ℕ). allFrom (lineSoundAt k j words) 0 maxLines) n ∙ lines-code k words sum (limits-few k t) in
+      ap (λ (b : Bool). ((b && leb (k .len) (k .initial + most)) && tidied) && lined) r
+      ∙ ap (λ (j : ℕ). ((right && leb (k .len) (k .initial + j)) && tidied) && lined) m
+      ∙ ap (λ (b : Bool). ((right && leb (k .len) (k .initial + all)) && b) && lined) z′
+      ∙ ap (λ (b : Bool). ((right && leb (k .len) (k .initial + all)) && listTidy (k .len) words) && b) lines
+      ∙ group right (leb (k .len) (k .initial + all)) (allZero (drop (k .len) (itemsIn words))) (allZero (drop (k .len) (originsIn words)))
+      (allFrom (soundAt k sum words) 0 (k .n)) (allFrom (makersSoundAt k words) 0 (k .n)) (allFrom (emptyAt k words) (k .n) (maxLines - k .n))
       ∙ in-parts true t
     where
-      group : (a b c d e : Bool) → ((((a && b) && c) && d) && e) ≡ every (a ∷ b ∷ c ∷ d ∷ e ∷ [])
-      group a b c d e = simp (and-assoc, and-true)
+      group : (a b c d e f g : Bool) → (((a && b) && (c && d)) && ((e && f) && g)) ≡ every (a ∷ b ∷ c ∷ d ∷ e ∷ f ∷ g ∷ [])
+      group a b c d e f g = simp (and-assoc, and-true)
 
   -- ---- a struct that passes
 
   module _ (e : sound (serverOf k words) ≡ true) where
-    used-line : (i : ℕ) → i < k .n → soundLine (countsAt k i .taken) (line.other (k .n) (rankOf (k .ranks) (i + 1))) (countsAt k i) (slotsAt i words) ≡ true
-    used-line i h =
-        let t = hold (codeTests k words) (sound-code e) in
-        and-right (eqb (countsAt k i .made + countsAt k i .taken) (totalOf (λ v. v .taken) k))
-        (soundLine (countsAt k i .taken) (line.other (k .n) (rankOf (k .ranks) (i + 1))) (countsAt k i) (slotsAt i words))
-        (each-first (soundAt k (totalOf (λ v. v .taken) k) words) (k .n) (t .1 .1 .1 .1 .1 .1 .1 .0) i h)
+    tests : every (codeTests k words) ≡ true
+    tests = sound-code e
 
-    empty-at : (i : ℕ) → k .n ≤ i → i < maxLines → emptyLine (countsAt k i) (slotsAt i words) ≡ true
-    empty-at i h lt =
-        let t = hold (codeTests k words) (sound-code e) in
-        each-last (emptyAt k words) (k .n) maxLines (t .1 .1 .1 .1 .1 .1 .1 .1 .0) i h lt
+    few : k .n ≤ maxLines
+    few = leb-true (k .n) 8 (hold (codeTests k words) tests .1 .0)
+
+    lines-right : allFrom (soundAt k (totalOf (λ v. v .taken) k) words) 0 (k .n) ≡ true
+    lines-right = hold (codeTests k words) tests .1 .1 .1 .1 .1 .1 .1 .1 .0
+
+    bare-at : (i : ℕ) → i < k .n → bareAt k words i ≡ true
+    unfolding sound
+    bare-at i h = each-first (bareAt k words) (k .n) (hold (soundTests s) e .1 .1 .1 .1 .1 .1 .0) i h
+
+    -- a line that is not in use: its counts and words, and its origins
+    module _ (i : ℕ) (h : k .n ≤ i) (lt : i < maxLines) where
+      both-empty : emptyAt k words i ≡ true
+      unfolding sound
+      both-empty = each-last (emptyAt k words) (k .n) maxLines (hold (soundTests s) e .1 .1 .1 .1 .1 .1 .1 .0) i h lt
+
+      empty-at : emptyLine (countsAt k i) (slotsAt i words) ≡ true
+      empty-at = and-left (emptyLine (countsAt k i) (slotsAt i words)) (allZero (makersAt i words)) both-empty
+
+      zero-at : allZero (makersAt i words) ≡ true
+      zero-at = and-right (emptyLine (countsAt k i) (slotsAt i words)) (allZero (makersAt i words)) both-empty
 
     kept : (i : ℕ) → i < maxLines → Kept (countsAt k i) (slotsAt i words)
     kept i lt = go (ltb i (k .n)) refl
       where
         go : (b : Bool) → ltb i (k .n) ≡ b → Kept (countsAt k i) (slotsAt i words)
-        go true t =
-            sound-kept (countsAt k i .taken) (line.other (k .n) (rankOf (k .ranks) (i + 1))) (countsAt k i) (slotsAt i words) (slots-long i words (z .words) lt)
-            (used-line i (ltb-true i (k .n) t))
-        go false f = empty-kept (countsAt k i) (slotsAt i words) (slots-long i words (z .words) lt) (empty-at i (ltb-false i (k .n) f) lt)
+        go true t = kept-used k words (z .words) few lines-right i (ltb-true i (k .n) t)
+        go false f = empty-kept (countsAt k i) (slotsAt i words) (slots-long words (z .words) i lt) (empty-at i (ltb-false i (k .n) f) lt)
 
-    row : (i : ℕ) → i < maxLines → Row k words i (getD (used k words) i line.noLine)
+    row : (i : ℕ) → i < maxLines → Row k words i (getD (used k words) i line.noLine) (getD oss i [])
     row i lt = go (ltb i (k .n)) refl
       where
-        go : (b : Bool) → ltb i (k .n) ≡ b → Row k words i (getD (used k words) i line.noLine)
+        go : (b : Bool) → ltb i (k .n) ≡ b → Row k words i (getD (used k words) i line.noLine) (getD oss i [])
         go true t =
-            subst (λ (v : line.Line). Row k words i v) (sym (line-used k words (k .n) i (ltb-true i (k .n) t)))
-            (record { counts = refl; slots = kept i lt .whole })
+            let h = ltb-true i (k .n) t in
+            let v = sym (line-used k words (k .n) i h) in
+            record {
+              counts = ap countsOf v;
+              slots = kept i lt .whole ∙ ap slotsFor v;
+              makers =
+                  makers-whole (countsAt k i .made - countsAt k i .acked) (makersAt i words) (makers-long words (z .words) i lt) (kept i lt .few) (bare-at i h)
+                  ∙ ap makersFor (sym (makers-used k words (k .n) i h));
+            }
         go false f =
             let n = ltb-false i (k .n) f in
-            subst (λ (v : line.Line). Row k words i v) (sym (line-unused k words (k .n) i n))
-            (record {
-              counts = empty-counts (countsAt k i) (slotsAt i words) (empty-at i n lt);
-              slots = empty-words (countsAt k i) (slotsAt i words) (slots-long i words (z .words) lt) (empty-at i n lt);
-            })
+            let v = sym (line-unused k words (k .n) i n) in
+            record {
+              counts = empty-counts (countsAt k i) (slotsAt i words) (empty-at i n lt) ∙ ap countsOf v;
+              slots = empty-words (countsAt k i) (slotsAt i words) (slots-long words (z .words) i lt) (empty-at i n lt) ∙ ap slotsFor v;
+              makers =
+                  makers-whole 0 (makersAt i words) (makers-long words (z .words) i lt) (omega arith) (zero-at i n lt)
+                  ∙ ap makersFor (sym (makers-unused k words (k .n) i n));
+            }
 
     pub struct-holds : Holds k words (view (serverOf k words))
     unfolding sound view
     struct-holds =
         let t = hold (soundTests s) e in
         let len : k .len ≤ maxItems = leb-true (k .len) 512 (t .1 .0) in
-        let c = hold (codeTests k words) (sound-code e) in
         record {
           n = refl;
           initial = refl;
           len = sym (items-length len);
-          ranks = sound-stored (k .n) (k .ranks) (c .1 .1 .1 .1 .0) (z .ranks) (leb-true (k .n) 8 (c .1 .0));
-          items = stored-of (itemsIn words) (k .len) long len (t .1 .1 .1 .0);
+          ranks = sound-stored (k .n) (k .ranks) (hold (codeTests k words) tests .1 .1 .1 .1 .0) (z .ranks) few;
+          items = items-stored len (t .1 .1 .1 .0);
+          origins = origins-stored len (t .1 .1 .1 .1 .0);
           rows = row;
         }
 
@@ -347,11 +460,11 @@ module _ (k : Counts) (words : List ℕ) (z : Sizes k words) where
     unfolding sound view
     struct-whole =
         let t = hold (soundTests s) e in
-        let few : k .n ≤ 8 = leb-true (k .n) 8 (hold (codeTests k words) (sound-code e) .1 .0) in
         record {
           yes = e;
           model = t .0;
-          whole = store-is (view s) (omega (arith, lines-length k words 0 (k .n))) k words z struct-holds;
+          whole =
+              store-is (view s) (omega (arith, lines-length k words 0 (k .n), few)) (omega (arith, makers-length k words 0 (k .n), few)) k words z struct-holds;
           listed = items-length (leb-true (k .len) 512 (t .1 .0));
           kept = kept;
         }

@@ -6,6 +6,7 @@ use lib.Dec.{eqb}
 use Rattle.wire.specs.declared.Message.{Message}
 use Rattle.model.specs.Questions as model
 use Rattle.model.specs.Server as server
+use Rattle.line.specs.Taking.{noReport, reportIn}
 use Rattle.server.specs.declared.Counts.{Counts}
 use Rattle.server.specs.declared.Server.{Server}
 use Rattle.server.specs.declared.Answer.{Answer}
@@ -13,18 +14,18 @@ use Rattle.server.specs.declared.Changed.{Changed}
 use Rattle.server.specs.View.{serverOf, view, store, sound}
 
 abbrev pub refusedWith : ℕ → Server → Answer
-refusedWith r s = record { refusal = r; passed = 0; server = s }
+refusedWith r s = record { refusal = r; report = noReport; server = s }
 
 -- the answer of a call that was lent the words of the server, with what it left in them
 abbrev pub answerOf : Changed → List ℕ → Answer
-answerOf r words = record { refusal = r .refusal; passed = r .passed; server = serverOf (r .counts) words }
+answerOf r words = record { refusal = r .refusal; report = r .report; server = serverOf (r .counts) words }
 
 abbrev pub refusedCounts : ℕ → Counts → Changed
-refusedCounts r k = record { refusal = r; passed = 0; counts = k }
+refusedCounts r k = record { refusal = r; report = noReport; counts = k }
 
 -- the model's answer in structs: on a refusal the end is the one that came
 abbrev pub given : Server → model.Answer server.Server → Answer
-given s a = record { refusal = a .refusal; passed = a .passed; server = cond (eqb (a .refusal) 0) (store (a .end)) s }
+given s a = record { refusal = a .refusal; report = reportIn (a .report); server = cond (eqb (a .refusal) 0) (store (a .end)) s }
 
 unfoldable pub guarded : Server → model.Answer server.Server → Answer
 guarded s a = cond (sound s) (given s a) (refusedWith 2 s)

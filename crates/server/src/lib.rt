@@ -6,14 +6,24 @@ pub mod taking;
 
 ghost use mathlib.Core.Path.{_≡_};
 ghost use mathlib.Core.Bool.{true};
-ghost use Prim.Native.Nat.{_-_, _≤_};
-ghost use lib.ListN.{replicate};
-ghost use Rattle.limits.specs.Limits.{maxLines};
+ghost use Prim.Native.Nat.{_-_, _≤_, _<_};
+ghost use lib.ListN.{length, replicate};
+ghost use Rattle.limits.specs.Limits.{maxLines, maxPending, maxInitial};
+ghost use Rattle.ot.specs.Edit.{edit};
+ghost use Rattle.list.specs.Items.{capacity, Room};
+ghost use Rattle.model.specs.Ranks.{rankOf};
+ghost use Rattle.ranks.specs.Stored.{soundRanks};
 ghost use Rattle.pending.specs.Slots.{allFrom};
-ghost use Rattle.server.specs.View.{size, serverOf, emptyAt, sound, Sound, Sizes};
+ghost use Rattle.line.specs.Line.{Kept};
+ghost use Rattle.server.specs.View.{size, slotsAt, makersAt, countsAt, serverOf, emptyAt, sound, Sound, Sizes, Applied};
 ghost use Rattle.server.specs.Answers.{opened, refusedCounts, answerOf};
-ghost use Rattle.server.specs.Totals.{soundAt, Totaled};
+ghost use Rattle.server.specs.Opening.{openAsked, freshCounts, OpenWords};
+ghost use Rattle.server.specs.Totals.{inLimits, listTidy, soundAt, makersSoundAt, lineSoundAt, Totaled};
 use line::Line;
+use line::taking::Report;
+use line::taking::no_report;
+use list::Origin;
+use ot::Form;
 
 // The numbers of the server.
 pub struct Counts {
@@ -31,22 +41,22 @@ pub struct Counts {
 // All state of the server. Unused places are zero.
 pub struct Server {
     pub counts: Counts,
-    // the items, of which the first len are the list; then the words of each line, its pending edits
+    // the items, of which the first len are the list; then the words of each line, its pending edits; then the items' origins, and of each line
+    // the origins of its pending edits
     pub words: [u32; Server::WORDS],
 }
 
-// What a call on lent words answers: 0 or the number of the question that said no, how many pending edits an edit was transformed past,
-// and the numbers.
+// What a call on lent words answers: 0 or the number of the question that said no, what a taking reports, and the numbers.
 pub struct Changed {
     pub refusal: u8,
-    pub passed: u16,
+    pub report: Report,
     pub counts: Counts,
 }
 
 // What a method answers: the same, with the server.
 pub struct Answer {
     pub refusal: u8,
-    pub passed: u16,
+    pub report: Report,
     pub server: Server,
 }
 
@@ -62,7 +72,7 @@ fn refused(refusal: u8, k: Counts) -> Changed
 {
     Changed {
         refusal,
-        passed: 0,
+        report: no_report(),
         counts: k,
     }
 }
@@ -72,12 +82,48 @@ fn joined(a: Changed, words: [u32; Server::WORDS]) -> Answer
     ensures { λ r. ⌜ r ≡ answerOf a words ⌝ }
 {
     let counts = a.counts;
+    let report = a.report;
     let server = Server { counts, words };
     Answer {
         refusal: a.refusal,
-        passed: a.passed,
+        report,
         server,
     }
+}
+
+// ---- one line
+
+// The counts of the line at a place, counted from 0, and its rank.
+fn line_at(k: Counts, at: usize) -> Line
+    requires { ⌜ at < maxLines ⌝ }
+    ensures { λ r. ⌜ r ≡ countsAt k at ⌝ }
+{
+    k.lines[at]
+}
+
+fn rank_of(k: Counts, line: u8) -> u8
+    ensures { λ r. ⌜ r ≡ rankOf (k .ranks) line ⌝ }
+{
+    ranks::of_line(&k.ranks, line)
+}
+
+// The words of its pending edits, and the origins of these.
+fn slots_at(words: &[u32], at: usize) -> &[u32]
+    requires { ⌜ (length (now words) ≡ size) × (at < maxLines) ⌝ }
+    ensures { λ r. ⌜ now r ≡ slotsAt at (now (words .entry)) ⌝ }
+{
+    let from = Server::ITEMS + pending::WORDS * at;
+    let to = from + pending::WORDS;
+    &words[from..to]
+}
+
+fn makers_at(words: &[u32], at: usize) -> &[u32]
+    requires { ⌜ (length (now words) ≡ size) × (at < maxLines) ⌝ }
+    ensures { λ r. ⌜ now r ≡ makersAt at (now (words .entry)) ⌝ }
+{
+    let from = Server::MAKERS + Server::PENDING * at;
+    let to = from + Server::PENDING;
+    &words[from..to]
 }
 
 // ---- question 2
@@ -90,46 +136,95 @@ fn add_up(k: Counts) -> Totals
     let mut taken = 0u32;
     let mut inserts = 0u32;
     for i in 0..n {
-        let v = k.lines[i];
+        let v = line_at(k, i);
         taken += v.taken as u32;
         inserts += v.inserts as u32;
     }
     Totals { taken, inserts }
 }
 
-// The lines in use, which are the first n, where all of them took so many edits.
-fn used_sound(k: Counts, words: &[u32], taken: u32) -> bool
+// A line in use by its counts and pending edits, where all lines took so many edits.
+fn pending_sound(k: Counts, words: &[u32], at: usize, taken: u32) -> bool
+    requires { ⌜ ((at < k .n) × (k .n ≤ maxLines)) × Sizes k (now words) ⌝ }
+    ensures answer { λ r. ⌜ r ≡ soundAt k taken (now (words .entry)) at ⌝ }
+    ensures facts { λ r. ⌜ (r ≡ true → Kept (countsAt k at) (slotsAt at (now (words .entry)))) ⌝ }
+{
+    let v = line_at(k, at);
+    let rank = rank_of(k, at as u8 + 1);
+    let others = v.made as u32 + v.taken as u32 == taken;
+    others & line_sound::is_sound(v.taken, v, slots_at(words, at), k.n, rank, false)
+}
+
+// The origins of its pending edits.
+fn makers_sound(k: Counts, words: &[u32], at: usize) -> bool
+    requires { ⌜ ((at < k .n) × (k .n ≤ maxLines)) × (Sizes k (now words) × (countsAt k at .made - countsAt k at .acked ≤ maxPending)) ⌝ }
+    ensures { λ r. ⌜ r ≡ makersSoundAt k (now (words .entry)) at ⌝ }
+{
+    let v = line_at(k, at);
+    line_sound::makers_sound(
+        makers_at(words, at),
+        v.pending() as usize,
+        k.n,
+        at as u8 + 1,
+    )
+}
+
+// A line that is not in use.
+fn unused_empty(k: Counts, words: &[u32], at: usize) -> bool
+    requires { ⌜ (at < maxLines) × Sizes k (now words) ⌝ }
+    ensures { λ r. ⌜ r ≡ emptyAt k (now (words .entry)) at ⌝ }
+{
+    line_sound::is_empty(line_at(k, at), slots_at(words, at))
+        & list::zero_from(makers_at(words, at), 0)
+}
+
+fn is_line_sound(k: Counts, words: &[u32], at: usize, taken: u32) -> bool
+    requires { ⌜ (at < maxLines) × ((k .n ≤ maxLines) × Sizes k (now words)) ⌝ }
+    ensures { λ r. ⌜ r ≡ lineSoundAt k taken (now (words .entry)) at ⌝ }
+{
+    if at < k.n as usize {
+        if pending_sound(k, words, at, taken) {
+            return makers_sound(k, words, at);
+        }
+        return false;
+    }
+    unused_empty(k, words, at)
+}
+
+// All lines, where those in use took so many edits together.
+fn lines_sound(k: Counts, words: &[u32], taken: u32) -> bool
     requires { ⌜ (k .n ≤ maxLines) × Sizes k (now words) ⌝ }
-    ensures { λ r. ⌜ r ≡ allFrom (soundAt k taken (now (words .entry))) 0 (k .n) ⌝ }
+    ensures { λ r. ⌜ r ≡ allFrom (lineSoundAt k taken (now (words .entry))) 0 maxLines ⌝ }
 {
     let mut well = true;
-    let mut line = 0;
-    while line < k.n {
-        let v = k.lines[line as usize];
-        let from = Server::ITEMS + pending::WORDS * line as usize;
-        let to = from + pending::WORDS;
-        line += 1;
-        let rank = ranks::of_line(&k.ranks, line);
-        let others = v.made as u32 + v.taken as u32 == taken;
-        well = well & others & line_sound::is_sound(v.taken, v, &words[from..to], k.n, rank, false);
+    for i in 0..Server::LINES {
+        well = well & is_line_sound(k, words, i, taken);
     }
     well
 }
 
-// The other lines.
-fn unused_empty(k: Counts, words: &[u32]) -> bool
-    requires { ⌜ (k .n ≤ maxLines) × Sizes k (now words) ⌝ }
-    ensures { λ r. ⌜ r ≡ allFrom (emptyAt k (now (words .entry))) (k .n) (maxLines - k .n) ⌝ }
+// Behind the list all places are zero, items and origins.
+fn list_sound(len: u16, words: &[u32]) -> bool
+    requires { ⌜ length (now words) ≡ size ⌝ }
+    ensures { λ r. ⌜ r ≡ listTidy len (now (words .entry)) ⌝ }
 {
-    let mut well = true;
-    let n = k.n as usize;
-    for i in n..Server::LINES {
-        let v = k.lines[i];
-        let from = Server::ITEMS + pending::WORDS * i;
-        let to = from + pending::WORDS;
-        well = well & line_sound::is_empty(v, &words[from..to]);
-    }
-    well
+    let items = list::zero_from(&words[0..Server::ITEMS], len as usize);
+    items & list::zero_from(&words[Server::ORIGINS..Server::MAKERS], len as usize)
+}
+
+fn ranks_sound(k: Counts) -> bool
+    requires { ⌜ (k .n ≤ maxLines) × (length (k .ranks) ≡ maxLines) ⌝ }
+    ensures { λ r. ⌜ r ≡ soundRanks (k .n) (k .ranks) ⌝ }
+{
+    ranks::is_sound(k.n, &k.ranks)
+}
+
+// The numbers on which the other tests rest.
+fn in_limits(k: Counts) -> bool
+    ensures { λ r. ⌜ r ≡ inLimits k ⌝ }
+{
+    let lines = (1 <= k.n) & (k.n as usize <= Server::LINES);
+    lines & (k.initial as usize <= Server::INITIAL) & (k.len as usize <= Server::ITEMS)
 }
 
 // Every test is made whatever the others find.
@@ -138,23 +233,45 @@ fn is_sound(k: Counts, words: &[u32]) -> bool
     ensures answer { λ r. ⌜ r ≡ sound (serverOf k (now (words .entry))) ⌝ }
     ensures facts { λ r. ⌜ (r ≡ true → Sound (serverOf k (now (words .entry)))) ⌝ }
 {
-    let lines = (1 <= k.n) & (k.n as usize <= Server::LINES);
-    if lines & (k.initial as usize <= Server::INITIAL) & (k.len as usize <= Server::ITEMS) {
+    if in_limits(k) {
         let all = add_up(k);
-        let right = ranks::is_sound(k.n, &k.ranks);
+        let right = ranks_sound(k);
         let few = k.len as u32 <= k.initial as u32 + all.inserts;
-        let unused = list::zero_from(&words[0..Server::ITEMS], k.len as usize);
-        return right & few & unused & used_sound(k, words, all.taken) & unused_empty(k, words);
+        return right & few & list_sound(k.len, words) & lines_sound(k, words, all.taken);
     }
     false
 }
 
+// ---- the list
+
+// Applies the edit of form f, item x and that origin to the list of len places, and gives its new length.
+fn apply(words: &mut [u32], len: u16, f: Form, x: u32, origin: Origin) -> u16
+    requires { ⌜ (length (now words) ≡ size) × Room (edit f x) len capacity ⌝ }
+    ensures { λ r. ⌜ Applied f x origin len (now (words .entry)) (now (words .exit)) r ⌝ }
+{
+    let word = list::word_of(origin);
+    list::apply(&mut words[Server::ORIGINS..Server::MAKERS], len, f, word);
+    list::apply(&mut words[0..Server::ITEMS], len, f, x)
+}
+
 // ---- opening
 
-// Questions 1 and 16, and the server in words that are zero. Refused, they stay zero, and so are the numbers.
-pub fn open_lent(n: u8, ranks: &[u8], items: &[u32], words: &mut [u32]) -> Changed
-    requires { ⌜ now words ≡ replicate size 0 ⌝ }
-    ensures { λ r. ⌜ answerOf r (now (words .exit)) ≡ opened n (now (ranks .entry)) (now (items .entry)) ⌝ }
+// Questions 1 and 16.
+fn ask_open(n: u8, ranks: &[u8], items: usize) -> u8
+    ensures { λ r. ⌜ r ≡ openAsked n (now (ranks .entry)) items ⌝ }
+{
+    if (1 <= n) & (n as usize <= Server::LINES) & (items <= Server::INITIAL) {
+        if ranks::is_ranking(n, ranks) {
+            return 0;
+        }
+        return 16;
+    }
+    1
+}
+
+// The numbers of a server over whose lines nothing has come.
+fn fresh(n: u8, ranks: [u8; ranks::PLACES], len: u16) -> Counts
+    ensures { λ r. ⌜ r ≡ freshCounts n ranks len ⌝ }
 {
     let none = Line {
         made: 0,
@@ -163,36 +280,40 @@ pub fn open_lent(n: u8, ranks: &[u8], items: &[u32], words: &mut [u32]) -> Chang
         inserts: 0,
     };
     let lines = [none; Server::LINES];
-    let zeros = [0u8; ranks::PLACES];
-    let empty = Counts {
-        n: 0,
-        initial: 0,
-        len: 0,
-        ranks: zeros,
+    Counts {
+        n,
+        initial: len,
+        len,
+        ranks,
         lines,
-    };
-    let right = (1 <= n) & (n as usize <= Server::LINES);
-    if right & (items.len() <= Server::INITIAL) {
-        if ranks::is_ranking(n, ranks) {
-            list::initial(items, &mut words[0..Server::ITEMS]);
-            let len = items.len() as u16;
-            let stored = ranks::store(ranks);
-            let counts = Counts {
-                n,
-                initial: len,
-                len,
-                ranks: stored,
-                lines,
-            };
-            return Changed {
-                refusal: 0,
-                passed: 0,
-                counts,
-            };
-        }
-        return refused(16, empty);
     }
-    refused(1, empty)
+}
+
+// The initial list, with its origins, in words that are zero.
+fn open_list(items: &[u32], words: &mut [u32])
+    requires { ⌜ (length (now items) ≤ maxInitial) × (now words ≡ replicate size 0) ⌝ }
+    ensures { λ _. ⌜ OpenWords (now (items .entry)) (now (words .exit)) ⌝ }
+{
+    list::initial(items, &mut words[0..Server::ITEMS]);
+    list::initial_origins(items.len(), &mut words[Server::ORIGINS..Server::MAKERS]);
+}
+
+// Opens the server in words that are zero. Refused, they stay zero, and so are the numbers.
+pub fn open_lent(n: u8, ranks: &[u8], items: &[u32], words: &mut [u32]) -> Changed
+    requires { ⌜ now words ≡ replicate size 0 ⌝ }
+    ensures { λ r. ⌜ answerOf r (now (words .exit)) ≡ opened n (now (ranks .entry)) (now (items .entry)) ⌝ }
+{
+    let refusal = ask_open(n, ranks, items.len());
+    if refusal != 0 {
+        return refused(refusal, fresh(0, [0u8; ranks::PLACES], 0));
+    }
+    open_list(items, words);
+    let counts = fresh(n, ranks::store(ranks), items.len() as u16);
+    Changed {
+        refusal: 0,
+        report: no_report(),
+        counts,
+    }
 }
 
 impl Server {
@@ -209,8 +330,12 @@ impl Server {
 
     pub const INITIAL: usize = limits::INITIAL;
 
-    // The words of the server.
-    pub const WORDS: usize = 1536;
+    // Where the origins of the items begin, and those of pending edits; and the words of the server.
+    pub const ORIGINS: usize = 1536;
+
+    pub const MAKERS: usize = 2048;
+
+    pub const WORDS: usize = 2560;
 
     // A server of n lines, with the initial list. Refused, it is all zeros.
     pub fn open(n: u8, ranks: &[u8], items: &[u32]) -> Answer

@@ -1,8 +1,11 @@
 // Sending, which changes no end: a pending edit of a line in its present form, or an acknowledgement of what was taken there.
 ghost use mathlib.Core.Path.{_≡_};
+ghost use Rattle.model.specs.Questions.{asks};
+ghost use Rattle.model.specs.Server.{serverMessage};
 ghost use Rattle.line.specs.Sending.{answered};
-ghost use Rattle.server.specs.View.{serverOf, Sizes};
+ghost use Rattle.server.specs.View.{serverOf, view, Sound, Sizes};
 ghost use Rattle.server.specs.Answers.{sentEdit, sentAck};
+ghost use Rattle.server.specs.Sending.{lineAsked, sendAsked, OnLine, Sendable};
 use crate::Counts;
 use crate::Server;
 use line::sending::Sent;
@@ -12,27 +15,57 @@ use line::sending::message;
 use line::sending::refused;
 use wire::Message;
 
+// Questions 2 and 4.
+fn ask_line(k: Counts, words: &[u32], line: u8) -> u8
+    requires { ⌜ Sizes k (now words) ⌝ }
+    ensures answer { λ r. ⌜ r ≡ asks (lineAsked (serverOf k (now (words .entry))) line) ⌝ }
+    ensures facts { λ r. ⌜ (r ≡ 0 → Sound (serverOf k (now (words .entry))) × OnLine k line) ⌝ }
+{
+    if crate::is_sound(k, words) {
+        if (1 <= line) & (line <= k.n) {
+            return 0;
+        }
+        return 4;
+    }
+    2
+}
+
+// Questions 2, 4 and 13.
+fn ask_send(k: Counts, words: &[u32], line: u8, number: u16) -> u8
+    requires { ⌜ Sizes k (now words) ⌝ }
+    ensures answer { λ r. ⌜ r ≡ sendAsked (serverOf k (now (words .entry))) line number ⌝ }
+    ensures facts { λ r. ⌜ (r ≡ 0 → Sendable k (now (words .entry)) line number) ⌝ }
+{
+    let refusal = ask_line(k, words, line);
+    if refusal != 0 {
+        return refusal;
+    }
+    let v = crate::line_at(k, (line - 1) as usize);
+    ask_number(v, number)
+}
+
+// The message of a pending edit, with the origin that is kept beside it.
+fn message_of(k: Counts, words: &[u32], line: u8, number: u16) -> Message
+    requires { ⌜ Sendable k (now words) line number ⌝ }
+    ensures { λ r. ⌜ r ≡ serverMessage (view (serverOf k (now (words .entry)))) line number ⌝ }
+{
+    let at = (line - 1) as usize;
+    let v = crate::line_at(k, at);
+    let makers = crate::makers_at(words, at);
+    let origin = list::origin_at(makers[(number - 1 - v.acked) as usize]);
+    message(line, 1, origin, v, crate::slots_at(words, at), number)
+}
+
 // Writes the message of the pending edit of that number, unless a question says no.
 pub fn send(k: Counts, words: &[u32], line: u8, number: u16, out: &mut [u8]) -> Sent
     requires { ⌜ Sizes k (now words) ⌝ }
     ensures { λ r. ⌜ answered r (now (out .exit)) ≡ sentEdit (serverOf k (now (words .entry))) line number (now (out .entry)) ⌝ }
 {
-    if crate::is_sound(k, words) {
-        if (line < 1) | (k.n < line) {
-            return refused(4);
-        }
-        let at = (line - 1) as usize;
-        let v = k.lines[at];
-        let refusal = ask_number(v, number);
-        if refusal != 0 {
-            return refused(refusal);
-        }
-        let from = Server::ITEMS + pending::WORDS * at;
-        let to = from + pending::WORDS;
-        let m = message(line, 1, v, &words[from..to], number);
-        return finish(m, out);
+    let refusal = ask_send(k, words, line, number);
+    if refusal != 0 {
+        return refused(refusal);
     }
-    refused(2)
+    finish(message_of(k, words, line, number), out)
 }
 
 // Writes an acknowledgement of the edits taken on a line, unless a question says no.
@@ -40,15 +73,12 @@ pub fn tell(k: Counts, words: &[u32], line: u8, out: &mut [u8]) -> Sent
     requires { ⌜ Sizes k (now words) ⌝ }
     ensures { λ r. ⌜ answered r (now (out .exit)) ≡ sentAck (serverOf k (now (words .entry))) line (now (out .entry)) ⌝ }
 {
-    if crate::is_sound(k, words) {
-        if (line < 1) | (k.n < line) {
-            return refused(4);
-        }
-        let at = (line - 1) as usize;
-        let v = k.lines[at];
-        return finish(Message::Ack(line, 1, v.taken), out);
+    let refusal = ask_line(k, words, line);
+    if refusal != 0 {
+        return refused(refusal);
     }
-    refused(2)
+    let v = crate::line_at(k, (line - 1) as usize);
+    finish(Message::Ack(line, 1, v.taken), out)
 }
 
 impl Server {

@@ -9,49 +9,37 @@ use borrow.Author.Needs.{needs}
 use Rattle.client.proofs.is_sound.Statement.{statement}
 use Rattle.client.proofs.is_sound.Tie as tie
 
-abbrev start : tie.After-v → tie.Start
-start c = c .before .before
+abbrev start : tie.After-shared-slice-known → tie.Start
+start c = c .before
 
-abbrev end : tie.After-v → Client
+abbrev end : tie.After-shared-slice-known → Client
 end c = clientOf (start c .args .t1) (start c .args .words .now)
 
--- ---- 1 to 8 lines: the ranks, the own rank, the unused items, the line
+-- ---- 1 to 8 lines: the ranks, the unused places, the own rank, the line
 
 abbrev lines : tie.After-is-sound → tie.Then1
-lines c = c .before .before .before .before .before
+lines c = c .before .before .before .before
 
-abbrev ranked : tie.After-of-line → tie.After-is-sound
-ranked c = c .before .before .before .before
+abbrev ranked : tie.After-unused-zero → tie.After-is-sound
+ranked c = c .before
 
-abbrev owned : tie.After-zero-from → tie.After-of-line
-owned c = c .before .before
+abbrev unused : tie.After-rank → tie.After-unused-zero
+unused c = c .before .before .before
 
 cast-counts : tie.Need-cast-counts
 cast-counts c = search needs
 
 is-sound-requires : tie.Need-is-sound-requires
 is-sound-requires c κs =
-    let t = c .before .before .before .before in
+    let t = c .before .before .before in
     let s = start (t .before) in
     (omega (arith, between-true 1 maxLines (s .args .t1 .n) (t .if1 .taken)), s .pre .ranks)
 
-of-line-requires : tie.Need-of-line-requires
-of-line-requires c κs = search needs
+cast-unused-zero : tie.Need-cast-unused-zero
+cast-unused-zero c = search needs
 
-sub-zero-from : tie.Need-sub-zero-from
-sub-zero-from c = search needs
-
-part-zero-from-start : tie.Need-part-zero-from-start
-part-zero-from-start c = search needs
-
-part-zero-from-end : tie.Need-part-zero-from-end
-part-zero-from-end c = search needs
-
-cast-zero-from : tie.Need-cast-zero-from
-cast-zero-from c = search needs
-
-zero-from-requires : tie.Need-zero-from-requires
-zero-from-requires c κs = search needs
+unused-zero-requires : tie.Need-unused-zero-requires
+unused-zero-requires c κs = start (lines c .before) .pre .words
 
 sub-slots : tie.Need-sub-slots
 sub-slots c = search needs
@@ -62,18 +50,21 @@ part-slots-start c = search needs
 part-slots-end : tie.Need-part-slots-end
 part-slots-end c = search needs
 
+rank-requires : tie.Need-rank-requires
+rank-requires c κs = search needs
+
 is-sound-requires-2 : tie.Need-is-sound-requires-2
 is-sound-requires-2 c κs = search needs
 
 returns : tie.Need-returns
 returns c =
-    let z = c .before .before in
-    let o = owned z in
-    let r = ranked o in
+    let o = c .before in
+    let z = unused o in
+    let r = ranked z in
     let t = lines r in
     answers (end (t .before)) (start (t .before) .pre) (t .if1 .taken)
-    (r .is-sound .result) (z .zero-from .result) (c .is-sound2 .result) (o .of-line .result)
-    (r .is-sound .ensures) (o .of-line .ensures) (z .zero-from .ensures) (c .is-sound2 .ensures .0)
+    (r .is-sound .result) (z .unused-zero .result) (c .is-sound2 .result) (o .rank .result)
+    (r .is-sound .ensures) (o .rank .ensures) (z .unused-zero .ensures) (c .is-sound2 .ensures .0)
 
 -- ---- no lines, or too many
 
@@ -86,15 +77,12 @@ is-sound-spec =
     (tie.spec
     cast-counts
     is-sound-requires
-    of-line-requires
-    sub-zero-from
-    part-zero-from-start
-    part-zero-from-end
-    cast-zero-from
-    zero-from-requires
+    cast-unused-zero
+    unused-zero-requires
     sub-slots
     part-slots-start
     part-slots-end
+    rank-requires
     is-sound-requires-2
     returns
     returns-2)

@@ -1,7 +1,6 @@
 use borrow.Author.Needs.{needs}
 use native.Mathlib.Omega.{arith}
 use Prim.Native.Nat.{_-_}
-use mathlib.Core.Path.{refl}
 use Rattle.server.specs.declared.Counts.{Counts}
 use Rattle.server.proofs.Lines.{Adding, adding-start, adding-turn, adding-end}
 use Rattle.server.proofs.add_up.Statement.{statement}
@@ -15,34 +14,34 @@ abbrev μ-loop : tie.MeasureT-loop
 
 -- the numbers, and the turn at which a line is read
 abbrev counts : tie.At-loop Inv-loop μ-loop → Counts
-counts l = l .before .args .t1
+counts l = l .before .before .args .k
 
-abbrev turn : tie.After-struct-known Inv-loop μ-loop → tie.At-loop Inv-loop μ-loop
-turn c = c .before .before .before
+abbrev read : tie.After-struct-known2 Inv-loop μ-loop → tie.After-line-at Inv-loop μ-loop
+read c = c .before
+
+abbrev turn : tie.After-struct-known2 Inv-loop μ-loop → tie.At-loop Inv-loop μ-loop
+turn c = read c .before .before
 
 cast-n : tie.Need-cast-n Inv-loop μ-loop
 cast-n c = search needs
 
 loop-holds : tie.Need-loop-holds Inv-loop μ-loop
-loop-holds c = adding-start (c .args .t1)
+loop-holds c = adding-start (c .before .args .k)
 
-mul-v : tie.Need-mul-v Inv-loop μ-loop
-mul-v c = omega (arith, c .before .before .pre, c .before .loop .inv .all)
-
-element-copy-out-v : tie.Need-element-copy-out-v Inv-loop μ-loop
-element-copy-out-v c = omega (arith, c .before .before .pre, c .before .loop .inv .all)
+line-at-requires : tie.Need-line-at-requires Inv-loop μ-loop
+line-at-requires c κs = let l = c .before in omega (arith, l .before .before .pre, l .loop .inv .all, c .loop-test)
 
 cast-taken : tie.Need-cast-taken Inv-loop μ-loop
 cast-taken c = search needs
 
 add-taken : tie.Need-add-taken Inv-loop μ-loop
-add-taken c = let l = turn c in omega (arith, l .before .pre, l .loop .inv, c .struct-known .given)
+add-taken c = let l = turn c in omega (arith, l .before .before .pre, l .loop .inv, c .struct-known2 .given)
 
 cast-inserts : tie.Need-cast-inserts Inv-loop μ-loop
 cast-inserts c = search needs
 
 add-inserts : tie.Need-add-inserts Inv-loop μ-loop
-add-inserts c = let l = turn (c .before) in omega (arith, l .before .pre, l .loop .inv, c .struct-known2 .given)
+add-inserts c = let l = turn (c .before) in omega (arith, l .before .before .pre, l .loop .inv, c .struct-known3 .given)
 
 add-i : tie.Need-add-i Inv-loop μ-loop
 add-i c = omega arith
@@ -52,15 +51,17 @@ loop-less c = omega arith
 
 loop-again : tie.Need-loop-again Inv-loop μ-loop
 loop-again c =
-    let l = turn (c .before) in
-    adding-turn (counts l) (counts l .n) (l .loop .i) (l .loop .taken) (l .loop .inserts) _ (omega (arith, c .before .before .before .loop-test)) refl
-    (omega (arith, c .before .struct-known .given)) (omega (arith, c .struct-known2 .given)) (l .loop .inv)
+    let known = c .before in
+    let l = turn known in
+    let v = read known .line-at in
+    adding-turn (counts l) (counts l .n) (l .loop .i) (l .loop .taken) (l .loop .inserts) (v .result) (omega (arith, read known .before .loop-test)) (v .ensures)
+    (omega (arith, known .struct-known2 .given)) (omega (arith, c .struct-known3 .given)) (l .loop .inv)
 
 returns : tie.Need-returns Inv-loop μ-loop
 returns c =
     let l = c .before in
     let sums = adding-end (counts l) (counts l .n) (l .loop .i) (l .loop .taken) (l .loop .inserts) (c .loop-test .left) (l .loop .inv) in
-    record { taken = sums .0; inserts = sums .1; few = (omega (arith, l .loop .inv, l .before .pre), omega (arith, l .loop .inv, l .before .pre)) }
+    record { taken = sums .0; inserts = sums .1; few = (omega (arith, l .loop .inv, l .before .before .pre), omega (arith, l .loop .inv, l .before .before .pre)) }
 
 pub add-up-spec : {M : Type 1} → statement M
 add-up-spec =
@@ -70,8 +71,7 @@ add-up-spec =
     μ-loop
     cast-n
     loop-holds
-    mul-v
-    element-copy-out-v
+    line-at-requires
     cast-taken
     add-taken
     cast-inserts

@@ -1,98 +1,94 @@
-use borrow.Author.Needs.{needs}
+-- `open_lent` meets its contract: a question said no and the words are zero, or both said yes and they hold the list (proofs/Opening.antt).
 use native.Mathlib.Omega.{arith}
-use Prim.Native.Nat.{ℕ, _≤_}
-use mathlib.Core.Path.{ap, _∙_}
-use lib.ListN.{length, length-replicate}
+use Prim.Native.Nat.{_≤_}
+use mathlib.Core.Path.{ap, sym, _∙_}
+use lib.ListN.{length}
 use denote.Ref.{now}
-use Rattle.limits.specs.Limits.{maxItems}
-use Rattle.server.specs.View.{size}
-use Rattle.server.proofs.Opening.{lent-zeros, open-short, open-done, open-unranked, open-refused}
+use Rattle.line.specs.declared.taking.Report.{Report}
+use Rattle.server.specs.Answers.{answerOf}
+use Rattle.server.proofs.Opening.{asked-short, open-done, open-refused}
+use borrow.Author.Needs.{needs}
 use Rattle.server.proofs.open_lent.Statement.{statement}
 use Rattle.server.proofs.open_lent.Tie as tie
 
--- the call, where question 1 said yes; and question 16; and where the items were written
-abbrev start : tie.Then1 → tie.Start
+-- the questions were asked; both said yes; and the list was written
+abbrev start : tie.After-ask-open → tie.Start
 start c = c .before .before .before .before
 
-abbrev asked : tie.Then2 → tie.Then1
-asked c = c .before .before
+abbrev asked : tie.Else1 → tie.After-ask-open
+asked c = c .before
 
-abbrev yes : tie.After-slice-known2 → tie.Then2
-yes c = c .before .before .before .before
+abbrev written : tie.After-store → tie.After-open-list
+written c = c .before .before .before
 
-short : (c : tie.Then1) → length (now (start c .args .items)) ≤ 128
+abbrev yes : tie.After-open-list → tie.Else1
+yes c = c .before .before
+
+short : (c : tie.Else1) → length (now (start (asked c) .args .items)) ≤ 128
 short c =
-    let s = start c in
-    open-short (s .args .n) (now (s .args .ranks)) (now (s .args .items)) (now (s .args .words)) (s .pre) (c .if1 .taken)
+    let q = asked c in
+    let a = start q .args in
+    asked-short (a .n) (now (a .ranks)) (length (now (a .items))) (sym (q .ask-open .ensures) ∙ c .if1 .left)
 
-is-ranking-requires : tie.Need-is-ranking-requires
-is-ranking-requires c κs = search needs
+ask-open-requires : tie.Need-ask-open-requires
+ask-open-requires c κs = search needs
 
-sub-initial : tie.Need-sub-initial
-sub-initial c = search needs
-
-part-initial-start : tie.Need-part-initial-start
-part-initial-start c = search needs
-
-part-initial-end : tie.Need-part-initial-end
-part-initial-end c = omega (arith, ap length (start (asked c) .pre) ∙ length-replicate {A = ℕ} size 0)
-
-initial-requires : tie.Need-initial-requires
-initial-requires c κs = let s = start (asked (c .before)) in lent-zeros maxItems size (now (s .args .words)) (s .pre) (omega arith)
-
-cast-len : tie.Need-cast-len
-cast-len c = omega (arith, short (asked (yes c)))
-
-store-requires : tie.Need-store-requires
-store-requires c κs = search needs
-
-same-length : tie.Need-same-length
-same-length c = search needs
-
-returns : tie.Need-returns
-returns c =
-    let w = c .before in
-    let y = yes w in
-    let t = asked y in
-    let s = start t in
-    open-done (s .args .n) (now (s .args .ranks)) (now (s .args .items)) (now (s .args .words)) (s .pre) _ (c .store .result) (y .before .is-ranking .result)
-    (t .if1 .taken) (y .before .is-ranking .ensures) (y .if2 .taken) (w .before .before .initial .ensures) (c .store .ensures)
+fresh-requires : tie.Need-fresh-requires
+fresh-requires c κs = search needs
 
 refused-requires : tie.Need-refused-requires
 refused-requires c κs = search needs
 
+returns : tie.Need-returns
+returns c =
+    let f = c .before in
+    let q = f .before .before in
+    let s = start q in
+    open-refused (s .args .n) (now (s .args .ranks)) (now (s .args .items)) (now (s .args .words)) (s .pre) (q .ask-open .result) (f .fresh .result) (c .refused .result)
+    (q .ask-open .ensures) (f .before .if1 .taken) (f .fresh .ensures) (c .refused .ensures)
+
+open-list-requires : tie.Need-open-list-requires
+open-list-requires c κs = let e = c .before in (short e, start (asked e) .pre)
+
+store-requires : tie.Need-store-requires
+store-requires c κs = search needs
+
+cast-fresh : tie.Need-cast-fresh
+cast-fresh c = omega (arith, short (yes (written c)))
+
+fresh-requires-2 : tie.Need-fresh-requires-2
+fresh-requires-2 c κs = search needs
+
+no-report-requires : tie.Need-no-report-requires
+no-report-requires c κs = search needs
+
+same-length : tie.Need-same-length
+same-length c = search needs
+
 returns-2 : tie.Need-returns-2
 returns-2 c =
-    let e = c .before in
-    let q = e .before in
-    let t = q .before in
-    let s = start t in
-    open-unranked (s .args .n) (now (s .args .ranks)) (now (s .args .items)) (now (s .args .words)) (s .pre) (c .refused .result) (q .is-ranking .result)
-    (t .if1 .taken) (q .is-ranking .ensures) (e .if2 .left) (c .refused .ensures)
-
-refused-requires-2 : tie.Need-refused-requires-2
-refused-requires-2 c κs = search needs
-
-returns-3 : tie.Need-returns-3
-returns-3 c =
-    let e = c .before in
-    let s = e .before .before .before .before in
-    open-refused (s .args .n) (now (s .args .ranks)) (now (s .args .items)) (now (s .args .words)) (s .pre) (c .refused2 .result) (e .if1 .left) (c .refused2 .ensures)
+    let n = c .before in
+    let p = n .before in
+    let w = written p in
+    let e = yes w in
+    let q = asked e in
+    let s = start q in
+    ap (λ (k : Report). answerOf (record { refusal = 0; report = k; counts = n .fresh2 .result }) (w .open-list .last .1 .0)) (c .no-report .ensures)
+    ∙ open-done (s .args .n) (now (s .args .ranks)) (now (s .args .items)) (q .ask-open .result) (p .store .result) (w .open-list .last .1 .0) (n .fresh2 .result)
+    (q .ask-open .ensures) (e .if1 .left) (w .open-list .ensures) (p .store .ensures) (n .fresh2 .ensures)
 
 pub open-lent-spec : {M : Type 1} → statement M
 open-lent-spec =
     tie.close
     (tie.spec
-    is-ranking-requires
-    sub-initial
-    part-initial-start
-    part-initial-end
-    initial-requires
-    cast-len
-    store-requires
-    same-length
-    returns
+    ask-open-requires
+    fresh-requires
     refused-requires
-    returns-2
-    refused-requires-2
-    returns-3)
+    returns
+    open-list-requires
+    store-requires
+    cast-fresh
+    fresh-requires-2
+    no-report-requires
+    same-length
+    returns-2)

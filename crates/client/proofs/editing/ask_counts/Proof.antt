@@ -12,7 +12,7 @@ use Rattle.client.proofs.editing.ask_counts.Statement.{statement}
 use Rattle.client.proofs.editing.ask_counts.Tie as tie
 
 abbrev start : tie.After-fits-list → tie.Start
-start c = c .before .before
+start c = c .before
 
 -- question 9 said yes, then question 10, then question 11
 abbrev nine : tie.After-inserts-of → tie.Then1

@@ -3,12 +3,11 @@ use native.Mathlib.Omega.{arith}
 use mathlib.Core.Path.{ap, _∙_}
 use mathlib.Core.List.{List}
 use Prim.Native.Nat.{ℕ}
-use Rattle.ot.specs.Edit as ot
-use Rattle.ot.specs.Edit.{Edit}
+use Rattle.line.specs.declared.taking.Report.{Report}
 use Rattle.client.specs.declared.Client.{Client}
 use Rattle.client.specs.declared.Changed.{Changed}
 use Rattle.client.specs.View.{clientOf}
-use Rattle.client.specs.Answers.{answerOf}
+use Rattle.client.specs.Answers.{answerOf, doneCounts}
 use Rattle.client.proofs.Edits.{Allowed, edit-allowed, edit-not-allowed}
 use borrow.Author.Needs.{needs}
 use Rattle.client.proofs.editing.edit.Statement.{statement}
@@ -20,32 +19,33 @@ start c = c .before .before .before
 abbrev end : tie.After-ask → Client
 end c = clientOf (start c .args .k) (start c .args .words .now)
 
-abbrev made : tie.After-ask → Edit
-made c = ot.edit (start c .args .f) (start c .args .x)
-
 -- ---- nothing was refused
 
 abbrev asked : tie.Else1 → tie.After-ask
 asked c = c .before
 
-allowed : (c : tie.Else1) → Allowed (end (asked c)) (made (asked c))
+allowed : (c : tie.Else1) → let a = start (asked c) .args in Allowed (end (asked c)) (a .f) (a .x)
 allowed c =
     let a = asked c in
-    edit-allowed (end a) (made a) (a .ask .result) (a .ask .ensures .1) (a .ask .ensures .0 (start a .args .x)) (start a .pre .0 .words) (c .if1 .left)
+    let s = start a in
+    edit-allowed (end a) (s .args .f) (s .args .x) (a .ask .result) (a .ask .ensures .1) (a .ask .ensures .0 (s .args .x)) (s .pre .0 .words) (c .if1 .left)
 
 -- ---- the edit is kept, then applied
 
 abbrev yes : tie.After-keep → tie.Else1
-yes c = c .before .before .before
+yes c = c .before .before
 
 abbrev slots : tie.After-keep → List ℕ
 slots c = c .keep .last .0
 
-abbrev keeping : tie.After-apply-arg → tie.After-keep
+abbrev keeping : tie.After-struct-known → tie.After-keep
 keeping c = c .before .before .before
 
-abbrev applying : tie.After-struct-known → tie.After-apply
-applying c = c .before .before .before .before
+abbrev applying : tie.After-inserts-of → tie.After-apply
+applying c = c .before .before .before
+
+abbrev kept : tie.After-apply → tie.After-keep
+kept c = keeping (c .before .before)
 
 ask-requires : tie.Need-ask-requires
 ask-requires c κs = search needs
@@ -59,8 +59,9 @@ same-length c = search needs
 returns : tie.Need-returns
 returns c =
     let a = c .before .before in
-    ap (λ (q : Changed). answerOf q (start a .args .words .now)) (c .refused .ensures)
-    ∙ edit-not-allowed (end a) (made a) (a .ask .result) (a .ask .ensures .1) (a .ask .ensures .0 (start a .args .x)) (c .before .if1 .taken)
+    let s = start a in
+    ap (λ (q : Changed). answerOf q (s .args .words .now)) (c .refused .ensures)
+    ∙ edit-not-allowed (end a) (s .args .f) (s .args .x) (a .ask .result) (a .ask .ensures .1) (a .ask .ensures .0 (s .args .x)) (c .before .if1 .taken)
 
 sub-keep : tie.Need-sub-keep
 sub-keep c = search needs
@@ -73,45 +74,50 @@ part-keep-end c = search needs
 
 keep-requires : tie.Need-keep-requires
 keep-requires c κs =
-    let e = c .before .before in
+    let e = c .before in
     ((allowed e .kept, allowed e .pending), start (asked e) .pre .1)
 
-sub-apply : tie.Need-sub-apply
-sub-apply c = search needs
-
-part-apply-start : tie.Need-part-apply-start
-part-apply-start c = search needs
-
-part-apply-end : tie.Need-part-apply-end
-part-apply-end c = search needs
+add-kept : tie.Need-add-kept
+add-kept c = omega (arith, allowed (yes (keeping c)) .made)
 
 apply-requires : tie.Need-apply-requires
 apply-requires c κs =
-    let k = keeping c in
-    (allowed (yes k) .list (slots k) (k .keep .ensures), allowed (yes k) .room)
+    let k = keeping (c .before) in
+    (allowed (yes k) .words (slots k) (k .keep .ensures), allowed (yes k) .room)
 
 inserts-of-requires : tie.Need-inserts-of-requires
 inserts-of-requires c κs = search needs
 
-add-kept : tie.Need-add-kept
-add-kept c =
-    let e = yes (keeping (applying c .before)) in
+add-kept-2 : tie.Need-add-kept-2
+add-kept-2 c =
+    let e = yes (kept (applying (c .before))) in
     omega (arith, allowed e .inserts, c .before .inserts-of .ensures (start (asked e) .args .x))
 
 kept-requires : tie.Need-kept-requires
-kept-requires c κs = omega (arith, allowed (yes (keeping (applying c .before))) .made)
+kept-requires c κs = omega (arith, allowed (yes (kept (applying (c .before)))) .made)
+
+no-report-requires : tie.Need-no-report-requires
+no-report-requires c κs = search needs
+
+done-requires : tie.Need-done-requires
+done-requires c κs = search needs
 
 same-length-2 : tie.Need-same-length-2
-same-length-2 c = search needs
+same-length-2 c =
+    let p = applying (c .before .before .before .before) in
+    search (needs, p .apply .last, kept p .keep .last)
 
 returns-2 : tie.Need-returns-2
 returns-2 c =
-    let a = c .before in
-    let n = a .before .before in
-    let p = applying (a .before) in
-    let k = keeping (p .before) in
-    allowed (yes k) .done (a .kept .result) (n .inserts-of .result) (p .apply .result) (slots k) (p .apply .last .0) (k .keep .ensures)
-    (n .inserts-of .ensures (start (asked (yes k)) .args .x)) (a .kept .ensures) (p .apply .ensures)
+    let n = c .before in
+    let v = n .before in
+    let i = v .before .before in
+    let p = applying i in
+    let k = kept p in
+    ap (λ (q : Changed). answerOf q (p .apply .last .0))
+    (c .done .ensures ∙ ap (λ (q : Report). doneCounts (start (asked (yes k)) .args .k) q (v .kept .result) (p .apply .result)) (n .no-report .ensures))
+    ∙ allowed (yes k) .done (v .kept .result) (i .inserts-of .result) (p .apply .result) (slots k) (p .apply .last .0) (k .keep .ensures)
+    (i .inserts-of .ensures (start (asked (yes k)) .args .x)) (v .kept .ensures) (p .apply .ensures)
 
 pub edit-spec : {M : Type 1} → statement M
 edit-spec =
@@ -125,12 +131,12 @@ edit-spec =
     part-keep-start
     part-keep-end
     keep-requires
-    sub-apply
-    part-apply-start
-    part-apply-end
+    add-kept
     apply-requires
     inserts-of-requires
-    add-kept
+    add-kept-2
     kept-requires
+    no-report-requires
+    done-requires
     same-length-2
     returns-2)

@@ -33,7 +33,7 @@ sound c = first c .is-sound .ensures .1 (c .if1 .taken)
 -- ---- and question 4
 
 abbrev own : tie.After-ask-number → tie.Else2
-own c = c .before .before
+own c = c .before
 
 abbrev yes : tie.Else2 → tie.Then1
 yes c = c .before .before
@@ -74,14 +74,14 @@ returns-2 c =
     ∙ send-number (end a) (sound (yes o)) (start a .args .line) (start a .args .number) (lent a) (o .if2 .left)
     (n .ask-number .result) (n .ask-number .ensures) (c .before .if3 .taken)
 
-sub-message : tie.Need-sub-message
-sub-message c = search needs
+sub-slots : tie.Need-sub-slots
+sub-slots c = search needs
 
-part-message-start : tie.Need-part-message-start
-part-message-start c = search needs
+part-slots-start : tie.Need-part-slots-start
+part-slots-start c = search needs
 
-part-message-end : tie.Need-part-message-end
-part-message-end c = search needs
+part-slots-end : tie.Need-part-slots-end
+part-slots-end c = search needs
 
 message-requires : tie.Need-message-requires
 message-requires c κs =
@@ -126,9 +126,9 @@ send-spec =
     ask-number-requires
     refused-requires-2
     returns-2
-    sub-message
-    part-message-start
-    part-message-end
+    sub-slots
+    part-slots-start
+    part-slots-end
     message-requires
     finish-requires
     same-length

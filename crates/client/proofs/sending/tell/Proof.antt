@@ -35,7 +35,7 @@ abbrev yes : tie.Else2 → tie.Then1
 yes c = c .before .before
 
 abbrev own : tie.After-finish → tie.Else2
-own c = c .before .before .before
+own c = c .before .before
 
 is-sound-requires : tie.Need-is-sound-requires
 is-sound-requires c κs = search needs

@@ -1,57 +1,47 @@
-use borrow.Author.Needs.{needs}
+-- `sending::tell` meets its contract: question 2 or 4 said no, or the acknowledgement is written (proofs/Sends.antt).
 use native.Mathlib.Omega.{arith}
-use mathlib.Core.Path.{_≡_}
-use mathlib.Core.Bool.{true}
 use denote.Ref.{now}
-use Rattle.model.specs.Questions.{between}
 use Rattle.server.specs.View.{serverOf, Sound}
-use Rattle.server.proofs.Facts.{lines-few, line-low, place-used}
-use Rattle.server.proofs.Sends.{off-lines, on-line, unsound-sends, tell-elsewhere, tell-done}
+use Rattle.server.specs.Sending.{OnLine}
+use Rattle.server.proofs.Facts.{lines-few}
+use Rattle.server.proofs.Sends.{tell-refused, tell-done}
+use borrow.Author.Needs.{needs}
 use Rattle.server.proofs.sending.tell.Statement.{statement}
 use Rattle.server.proofs.sending.tell.Tie as tie
 
--- question 2 said yes, and so did question 4
-abbrev start : tie.Then1 → tie.Start
-start c = c .before .before .before .before
+-- questions 2 and 4 were asked; both said yes
+abbrev start : tie.After-ask-line → tie.Start
+start c = c .before .before .before
 
-abbrev well : tie.Else2 → tie.Then1
-well c = c .before
+abbrev asked : tie.Else1 → tie.After-ask-line
+asked c = c .before
 
-kept : (c : tie.Then1) → Sound (serverOf (start c .args .t1) (now (start c .args .words)))
-kept c = c .before .is-sound .ensures .1 (c .if1 .taken)
+known : (c : tie.Else1) → Sound (serverOf (start (asked c) .args .k) (now (start (asked c) .args .words))) × OnLine (start (asked c) .args .k) (start (asked c) .args .line)
+known c = asked c .ask-line .ensures .1 (c .if1 .left)
 
-here : (c : tie.Else2) → between 1 (start (well c) .args .t1 .n) (start (well c) .args .line) ≡ true
-here c = let s = start (well c) in on-line (s .args .t1 .n) (s .args .line) (c .if2 .left)
-
-is-sound-requires : tie.Need-is-sound-requires
-is-sound-requires c κs = search needs
+ask-line-requires : tie.Need-ask-line-requires
+ask-line-requires c κs = search needs
 
 refused-requires : tie.Need-refused-requires
 refused-requires c κs = search needs
 
 returns : tie.Need-returns
 returns c =
-    let t = c .before .before in
-    let s = start t in
-    tell-elsewhere (s .args .t1) (now (s .args .words)) (kept t) (s .args .line) (now (s .args .out)) (c .refused .result)
-    (off-lines (s .args .t1 .n) (s .args .line) (c .before .if2 .taken)) (c .refused .ensures)
+    let q = c .before .before in
+    let a = start q .args in
+    tell-refused (a .k) (now (a .words)) (a .line) (now (a .out)) (c .refused .result) (q .ask-line .result) (q .ask-line .ensures .0) (c .before .if1 .taken) (c .refused .ensures)
 
-sub-at : tie.Need-sub-at
-sub-at c =
-    let t = well c in
-    line-low (start t .args .t1) (now (start t .args .words)) (kept t) (start t .args .line) (here c)
+sub-line-at : tie.Need-sub-line-at
+sub-line-at c = known c .1 .0
 
-cast-at : tie.Need-cast-at
-cast-at c = search needs
+cast-line-at : tie.Need-cast-line-at
+cast-line-at c = search needs
 
-mul-v : tie.Need-mul-v
-mul-v c = search needs
-
-element-copy-out-v : tie.Need-element-copy-out-v
-element-copy-out-v c =
-    let t = well c in
-    let s = start t in
-    omega (arith, place-used (s .args .t1) (now (s .args .words)) (kept t) (s .args .line) (here c), lines-few (s .args .t1) (now (s .args .words)) (kept t))
+line-at-requires : tie.Need-line-at-requires
+line-at-requires c κs =
+    let a = start (asked c) .args in
+    let h = known c in
+    omega (arith, h .1 .0, h .1 .1, lines-few (a .k) (now (a .words)) (h .0))
 
 finish-requires : tie.Need-finish-requires
 finish-requires c κs = search needs
@@ -62,33 +52,23 @@ same-length c = search needs
 returns-2 : tie.Need-returns-2
 returns-2 c =
     let f = c .before .before in
-    let e = f .before .before .before in
-    let t = well e in
-    let s = start t in
-    tell-done (s .args .t1) (now (s .args .words)) (kept t) (s .args .line) (now (s .args .out)) (f .finish .result) _ (here e) (f .finish .ensures)
-
-refused-requires-2 : tie.Need-refused-requires-2
-refused-requires-2 c κs = search needs
-
-returns-3 : tie.Need-returns-3
-returns-3 c =
-    let q = c .before .before in
-    let s = q .before .before .before in
-    unsound-sends (s .args .t1) (now (s .args .words)) _ (now (s .args .out)) (q .is-sound .result) (c .refused2 .result) (q .is-sound .ensures .0) (c .before .if1 .left) (c .refused2 .ensures)
+    let v = f .before .before in
+    let e = v .before in
+    let q = asked e in
+    let a = start q .args in
+    tell-done (a .k) (now (a .words)) (a .line) (now (a .out)) (f .finish .result) _ (q .ask-line .result) (v .line-at .result) (q .ask-line .ensures .0) (e .if1 .left)
+    (v .line-at .ensures) (f .finish .ensures)
 
 pub tell-spec : {M : Type 1} → statement M
 tell-spec =
     tie.close
     (tie.spec
-    is-sound-requires
+    ask-line-requires
     refused-requires
     returns
-    sub-at
-    cast-at
-    mul-v
-    element-copy-out-v
+    sub-line-at
+    cast-line-at
+    line-at-requires
     finish-requires
     same-length
-    returns-2
-    refused-requires-2
-    returns-3)
+    returns-2)

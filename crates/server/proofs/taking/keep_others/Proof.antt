@@ -1,51 +1,32 @@
-use borrow.Author.Needs.{needs}
-use native.Mathlib.Omega.{arith}
+-- `server::taking::keep_others`: a turn for each line in use; the laws are in proofs/Keeping.antt.
 use Prim.Native.Nat.{ℕ, _-_, _≤_, _<_}
-use mathlib.Core.Path.{_≡_, subst}
-use denote.Ref.{now}
+use native.Mathlib.Omega.{arith}
+use mathlib.Core.Path.{_≡_, ap, sym, _∙_, subst}
+use borrow.Author.Needs.{needs}
 use Rattle.limits.specs.Limits.{maxPending}
 use Rattle.ot.specs.Edit.{edit}
-use Rattle.server.specs.View.{countsAt}
-use Rattle.server.specs.Taking.{KeptBy}
-use Rattle.server.proofs.Facts.{lines-few, made-few}
+use Rattle.line.specs.declared.Line.{Line}
+use Rattle.line.specs.Line.{Kept}
+use Rattle.line.specs.Keeping.{withKept}
+use Rattle.server.specs.View.{slotsAt, makersAt, SlotsWrote, MakersWrote}
+use Rattle.server.specs.Taking.{slotsKept, makersKept, KeptBy}
+use Rattle.server.proofs.Facts.{sizes, lines-few, made-few}
 use Rattle.server.proofs.Asked.{roomy-each}
-use Rattle.server.proofs.Keeping.{kept-none, kept-skip, kept-lent, kept-turn}
+use Rattle.server.proofs.Keeping.{kept-none, kept-skip, kept-still, kept-turn}
 use Rattle.server.proofs.taking.keep_others.Statement.{statement}
 use Rattle.server.proofs.taking.keep_others.Tie as tie
 
--- the first i lines, but the one left out, have the edit
 abbrev Inv-loop : tie.InvT-loop
-Inv-loop words₀ at f x k counts₀ n i₀ words counts i = (i ≤ n) × KeptBy i at (edit f x) k words₀ counts words
+Inv-loop k words₀ at f x word counts₀ n i₀ words counts i = (i ≤ n) × KeptBy i at (edit f x) word k words₀ counts words
 
 abbrev μ-loop : tie.MeasureT-loop
-μ-loop words₀ at f x k counts₀ n i₀ words counts i = n - i
-
--- the call; the turn at which a line is looked at; and the one at which it keeps the edit
-abbrev start : tie.At-loop Inv-loop μ-loop → tie.Start Inv-loop μ-loop
-start l = l .before .before
-
-abbrev turn : tie.Else1 Inv-loop μ-loop → tie.At-loop Inv-loop μ-loop
-turn c = c .before .before
-
-abbrev other : tie.After-keep-arg Inv-loop μ-loop → tie.Else1 Inv-loop μ-loop
-other c = c .before .before
-
-inside : (c : tie.Else1 Inv-loop μ-loop) → turn c .loop .i < 8
-inside c =
-    let s = start (turn c) in
-    omega (arith, c .before .loop-test, lines-few (s .args .t1) (now (s .args .words)) (s .pre .1 .1 .0))
-
-room : (c : tie.Else1 Inv-loop μ-loop) → countsAt (start (turn c) .args .t1) (turn c .loop .i) .made - countsAt (start (turn c) .args .t1) (turn c .loop .i) .acked < maxPending
-room c =
-    let l = turn c in
-    let s = start l in
-    roomy-each (s .args .t1) (s .args .at) (s .pre .1 .0) (l .loop .i) (omega (arith, c .before .loop-test)) (c .if1 .left)
+μ-loop k words₀ at f x word counts₀ n i₀ words counts i = n - i
 
 cast-n : tie.Need-cast-n Inv-loop μ-loop
 cast-n c = search needs
 
 loop-holds : tie.Need-loop-holds Inv-loop μ-loop
-loop-holds c = let s = c .before in (omega arith, kept-none (s .args .at) (edit (s .args .f) (s .args .x)) (s .args .t1) (now (s .args .words)))
+loop-holds c = (omega arith, kept-none (c .before .before .args .at) (edit (c .before .before .args .f) (c .before .before .args .x)) (c .before .before .args .word) (c .before .before .args .k) (c .before .before .args .words .now) (sizes (c .before .before .args .k) (c .before .before .args .words .now) (c .before .before .pre .0 .0) .words))
 
 add-i : tie.Need-add-i Inv-loop μ-loop
 add-i c = omega arith
@@ -54,63 +35,35 @@ loop-less : tie.Need-loop-less Inv-loop μ-loop
 loop-less c = omega arith
 
 loop-again : tie.Need-loop-again Inv-loop μ-loop
-loop-again c =
-    let l = c .before .before in
-    let s = start l in
-    (omega arith, kept-skip (s .args .at) (edit (s .args .f) (s .args .x)) (s .args .t1) (now (s .args .words)) (l .loop .i) (l .loop .counts) (l .loop .words) (l .loop .inv .1) (c .if1 .taken))
+loop-again c = (omega arith, kept-skip (c .before .before .before .before .before .args .at) (edit (c .before .before .before .before .before .args .f) (c .before .before .before .before .before .args .x)) (c .before .before .before .before .before .args .word) (c .before .before .before .before .before .args .k) (c .before .before .before .before .before .args .words .now) (c .before .before .loop .i) (c .before .before .loop .counts) (c .before .before .loop .words) (c .before .before .loop .inv .1) (c .if1 .taken))
 
-mul-v : tie.Need-mul-v Inv-loop μ-loop
-mul-v c = omega arith
+line-at-requires : tie.Need-line-at-requires Inv-loop μ-loop
+line-at-requires c κs = omega (arith, c .before .loop-test, lines-few (c .before .before .before .before .before .args .k) (c .before .before .before .before .before .args .words .now) (c .before .before .before .before .before .pre .0 .0))
 
-element-copy-out-v : tie.Need-element-copy-out-v Inv-loop μ-loop
-element-copy-out-v c = inside c
+keep-at-requires : tie.Need-keep-at-requires Inv-loop μ-loop
+keep-at-requires c κs = let k = c .before .before .before .before .before .before .before .args .k in
+    let i = c .before .before .before .before .loop .i in
+    let h = c .before .before .before .before .before .before .before .pre .0 .0 in
+    let lt : i < 8 = omega (arith, c .before .before .before .loop-test, lines-few k (c .before .before .before .before .before .before .before .args .words .now) h) in
+    let same = c .before .line-at .ensures in
+    let kept = kept-still (c .before .before .before .before .before .before .before .args .at) (edit (c .before .before .before .before .before .before .before .args .f) (c .before .before .before .before .before .before .before .args .x)) (c .before .before .before .before .before .before .before .args .word) k (c .before .before .before .before .before .before .before .args .words .now) i (c .before .before .before .before .loop .counts) (c .before .before .before .before .loop .words) (c .before .before .before .before .loop .inv .1) (c .before .before .if1 .left) lt (h .kept i lt) in
+    let room = roomy-each k (c .before .before .before .before .before .before .before .args .at) (c .before .before .before .before .before .before .before .pre .1 .0) i (omega (arith, c .before .before .before .loop-test)) (c .before .before .if1 .left) in
+    ((c .before .before .before .before .loop .inv .1 .words .long, lt), ((subst (λ (u : Line). Kept u (slotsAt i (c .before .before .before .before .loop .words))) (sym same) kept, subst (λ (u : Line). u .made - u .acked < maxPending) (sym same) room), c .before .before .before .before .before .before .before .pre .1 .1))
 
-mul-from : tie.Need-mul-from Inv-loop μ-loop
-mul-from c = omega arith
-
-add-from : tie.Need-add-from Inv-loop μ-loop
-add-from c = omega arith
-
-add-to : tie.Need-add-to Inv-loop μ-loop
-add-to c = omega arith
-
-mul-keep : tie.Need-mul-keep Inv-loop μ-loop
-mul-keep c = omega arith
-
-sub-keep : tie.Need-sub-keep Inv-loop μ-loop
-sub-keep c = omega arith
-
-part-keep-start : tie.Need-part-keep-start Inv-loop μ-loop
-part-keep-start c = omega arith
-
-part-keep-end : tie.Need-part-keep-end Inv-loop μ-loop
-part-keep-end c = omega (arith, inside (c .before), turn (c .before) .loop .inv .1 .size, start (turn (c .before)) .pre .0 .0 .words)
-
-keep-requires : tie.Need-keep-requires Inv-loop μ-loop
-keep-requires c κs =
-    let e = other c in
-    let l = turn e in
-    let s = start l in (
-      (
-        kept-lent (s .args .at) (edit (s .args .f) (s .args .x)) (s .args .t1) (now (s .args .words)) (l .loop .i) (l .loop .counts) (l .loop .words) (l .loop .inv .1)
-            (e .if1 .left) (inside e) (s .pre .1 .1 .0 .kept (l .loop .i) (inside e)),
-        room e,
-      ),
-      s .pre .1 .1 .1,
-    )
+name-at-requires : tie.Need-name-at-requires Inv-loop μ-loop
+name-at-requires c κs = let k = c .before .before .before .before .before .before .before .before .before .before .before .args .k in
+    let i = c .before .before .before .before .before .before .before .before .loop .i in
+    let room = roomy-each k (c .before .before .before .before .before .before .before .before .before .before .before .args .at) (c .before .before .before .before .before .before .before .before .before .before .before .pre .1 .0) i (omega (arith, c .before .before .before .before .before .before .before .loop-test)) (c .before .before .before .before .before .before .if1 .left) in
+    ((c .before .before .before .keep-at .ensures .long, omega (arith, c .before .before .before .before .before .before .before .loop-test, lines-few k (c .before .before .before .before .before .before .before .before .before .before .before .args .words .now) (c .before .before .before .before .before .before .before .before .before .before .before .pre .0 .0))), subst (λ (u : Line). u .made - u .acked < maxPending) (sym (c .before .before .before .before .before .line-at .ensures)) room)
 
 kept-requires : tie.Need-kept-requires Inv-loop μ-loop
-kept-requires c κs =
-    let e = other (c .before .before .before) in
-    let l = turn e in
-    let s = start l in
-    omega (arith, made-few (s .args .t1) (now (s .args .words)) (s .pre .1 .1 .0) (l .loop .i) (omega (arith, e .before .loop-test)))
+kept-requires c κs = omega (arith, made-few (c .before .before .before .before .before .before .before .before .before .before .before .before .before .before .args .k) (c .before .before .before .before .before .before .before .before .before .before .before .before .before .before .args .words .now) (c .before .before .before .before .before .before .before .before .before .before .before .before .before .before .pre .0 .0) (c .before .before .before .before .before .before .before .before .before .before .before .loop .i) (omega (arith, c .before .before .before .before .before .before .before .before .before .before .loop-test)), ap (λ (u : Line). u .made) (c .before .before .before .before .before .before .before .before .line-at .ensures))
 
-mul-t22 : tie.Need-mul-t22 Inv-loop μ-loop
-mul-t22 c = omega arith
+mul-t18 : tie.Need-mul-t18 Inv-loop μ-loop
+mul-t18 c = omega arith
 
 element-set-from-counts : tie.Need-element-set-from-counts Inv-loop μ-loop
-element-set-from-counts c = inside (other (c .before .before .before .before))
+element-set-from-counts c = omega (arith, c .before .before .before .before .before .before .before .before .before .before .before .loop-test, lines-few (c .before .before .before .before .before .before .before .before .before .before .before .before .before .before .before .args .k) (c .before .before .before .before .before .before .before .before .before .before .before .before .before .before .before .args .words .now) (c .before .before .before .before .before .before .before .before .before .before .before .before .before .before .before .pre .0 .0))
 
 add-i-2 : tie.Need-add-i-2 Inv-loop μ-loop
 add-i-2 c = omega arith
@@ -119,25 +72,24 @@ loop-less-2 : tie.Need-loop-less-2 Inv-loop μ-loop
 loop-less-2 c = omega arith
 
 loop-again-2 : tie.Need-loop-again-2 Inv-loop μ-loop
-loop-again-2 c =
-    let kept = c .before .before .before in
-    let e = other (kept .before) in
-    let l = turn e in
-    let s = start l in (
+loop-again-2 c = let k = c .before .before .before .before .before .before .before .before .before .before .before .before .before .before .before .args .k in
+    let i = c .before .before .before .before .before .before .before .before .before .before .before .before .loop .i in
+    let h = c .before .before .before .before .before .before .before .before .before .before .before .before .before .before .before .pre .0 .0 in
+    let lt : i < 8 = omega (arith, c .before .before .before .before .before .before .before .before .before .before .before .loop-test, lines-few k (c .before .before .before .before .before .before .before .before .before .before .before .before .before .before .before .args .words .now) h) in
+    let same = c .before .before .before .before .before .before .before .before .before .line-at .ensures in
+    let wrote = subst (λ (u : Line). SlotsWrote i (slotsKept (edit (c .before .before .before .before .before .before .before .before .before .before .before .before .before .before .before .args .f) (c .before .before .before .before .before .before .before .before .before .before .before .before .before .before .before .args .x)) u (slotsAt i (c .before .before .before .before .before .before .before .before .before .before .before .before .loop .words))) (c .before .before .before .before .before .before .before .before .before .before .before .before .loop .words) (c .before .before .before .before .before .before .before .keep-at .last .0)) same (c .before .before .before .before .before .before .before .keep-at .ensures) in
+    let named = subst (λ (u : Line). MakersWrote i (makersKept (c .before .before .before .before .before .before .before .before .before .before .before .before .before .before .before .args .word) u (makersAt i (c .before .before .before .before .before .before .before .keep-at .last .0))) (c .before .before .before .before .before .before .before .keep-at .last .0) (c .before .before .before .name-at .last .0)) same (c .before .before .before .name-at .ensures) in (
       omega arith,
-      kept-turn (s .args .at) (edit (s .args .f) (s .args .x)) (s .args .t1) (now (s .args .words)) (l .loop .i) (l .loop .counts) (l .loop .words) (l .loop .inv .1)
-          (e .if1 .left) (inside e) (s .pre .0 .0) (s .pre .1 .1 .0 .kept (l .loop .i) (inside e)) (room e) _ (kept .keep .ensures) (c .kept .result) (c .kept .ensures),
+      kept-turn (c .before .before .before .before .before .before .before .before .before .before .before .before .before .before .before .args .at) (edit (c .before .before .before .before .before .before .before .before .before .before .before .before .before .before .before .args .f) (c .before .before .before .before .before .before .before .before .before .before .before .before .before .before .before .args .x)) (c .before .before .before .before .before .before .before .before .before .before .before .before .before .before .before .args .word) k (c .before .before .before .before .before .before .before .before .before .before .before .before .before .before .before .args .words .now) i (c .before .before .before .before .before .before .before .before .before .before .before .before .loop .counts) (c .before .before .before .before .before .before .before .before .before .before .before .before .loop .words) (c .before .before .before .before .before .before .before .before .before .before .before .before .loop .inv .1) (c .before .before .before .before .before .before .before .before .before .before .if1 .left) lt
+          (sizes k (c .before .before .before .before .before .before .before .before .before .before .before .before .before .before .before .args .words .now) h .lines) (c .before .before .before .before .before .before .before .keep-at .last .0) (c .before .before .before .name-at .last .0) wrote named (c .kept .result) (c .kept .ensures ∙ ap (λ (u : Line). withKept u (u .inserts)) same),
     )
 
 same-length : tie.Need-same-length Inv-loop μ-loop
-same-length c = omega arith
+same-length c = omega (arith, c .before .loop .inv .1 .words .long, sizes (c .before .before .before .before .args .k) (c .before .before .before .before .args .words .now) (c .before .before .before .before .pre .0 .0) .words)
 
 returns : tie.Need-returns Inv-loop μ-loop
-returns c =
-    let l = c .before in
-    let s = start l in
-    let all : l .loop .i ≡ s .args .t1 .n = omega (arith, c .loop-test, l .loop .inv .0) in
-    subst (λ (n : ℕ). KeptBy n (s .args .at) (edit (s .args .f) (s .args .x)) (s .args .t1) (now (s .args .words)) (l .loop .counts) (l .loop .words)) all (l .loop .inv .1)
+returns c = let all : c .before .loop .i ≡ c .before .before .before .before .args .k .n = omega (arith, c .loop-test, c .before .loop .inv .0) in
+    subst (λ (n : ℕ). KeptBy n (c .before .before .before .before .args .at) (edit (c .before .before .before .before .args .f) (c .before .before .before .before .args .x)) (c .before .before .before .before .args .word) (c .before .before .before .before .args .k) (c .before .before .before .before .args .words .now) (c .before .loop .counts) (c .before .loop .words)) all (c .before .loop .inv .1)
 
 pub keep-others-spec : {M : Type 1} → statement M
 keep-others-spec =
@@ -150,18 +102,11 @@ keep-others-spec =
     add-i
     loop-less
     loop-again
-    mul-v
-    element-copy-out-v
-    mul-from
-    add-from
-    add-to
-    mul-keep
-    sub-keep
-    part-keep-start
-    part-keep-end
-    keep-requires
+    line-at-requires
+    keep-at-requires
+    name-at-requires
     kept-requires
-    mul-t22
+    mul-t18
     element-set-from-counts
     add-i-2
     loop-less-2

@@ -1,23 +1,17 @@
--- `take_message` meets its contract: refused by question 4, refused by the decision, or accepted and applied (proofs/Takes.antt).
+-- `take_arrival` meets its contract: refused by question 4, refused by the decision, or accepted and applied (proofs/Takes.antt).
 use native.Mathlib.Omega.{arith}
-use mathlib.Core.Path.{_≡_, refl, ap, sym, _∙_, subst}
-use mathlib.Core.Bool.{true}
+use mathlib.Core.Path.{refl, ap, sym, _∙_}
 use mathlib.Core.List.{List}
-use Prim.Native.Nat.{ℕ, _≤_}
-use Rattle.limits.specs.Limits.{maxItems}
-use Rattle.ot.specs.Form.{positionOf}
-use Rattle.line.specs.declared.taking.Arrival.{Arrival}
-use Rattle.line.proofs.Decisions.{arrival-position}
+use Prim.Native.Nat.{ℕ}
 use Rattle.client.specs.declared.Client.{Client}
 use Rattle.client.specs.declared.Changed.{Changed}
 use Rattle.client.specs.View.{clientOf, Sound}
 use Rattle.client.specs.Answers.{answerOf}
-use Rattle.client.specs.Taking.{downTo}
 use Rattle.client.proofs.Written.{facts}
 use Rattle.client.proofs.Takes.{Accepted, not-down, refuses, accepts}
 use borrow.Author.Needs.{needs}
-use Rattle.client.proofs.taking.take_message.Statement.{statement}
-use Rattle.client.proofs.taking.take_message.Tie as tie
+use Rattle.client.proofs.taking.take_arrival.Statement.{statement}
+use Rattle.client.proofs.taking.take_arrival.Tie as tie
 
 abbrev end : tie.Start → Client
 end s = clientOf (s .args .k) (s .args .words .now)
@@ -25,24 +19,18 @@ end s = clientOf (s .args .k) (s .args .words .now)
 sound : (s : tie.Start) → Sound (end s)
 sound s = s .pre .1 .1
 
--- ---- the message in parts, and question 4
+-- ---- question 4
 
 abbrev start : tie.After-comes-down → tie.Start
-start c = c .before .before .before
-
-abbrev arrival : tie.After-comes-down → Arrival
-arrival c = c .before .split .result
+start c = c .before .before
 
 abbrev asked : tie.Then1 → tie.After-comes-down
 asked c = c .before
 
-down : (c : tie.Then1) → downTo (start (asked c) .args .k) (arrival (asked c)) ≡ true
-down c = sym (asked c .comes-down .ensures) ∙ c .if1 .taken
-
 -- ---- the decision
 
 abbrev yes : tie.After-decide → tie.Then1
-yes c = c .before .before .before .before .before
+yes c = c .before .before .before .before
 
 abbrev later : tie.After-decide → List ℕ
 later c = c .decide .last .1 .1 .1 .1 .1 .0
@@ -54,26 +42,21 @@ decided c = c .before .before
 
 accepted : (c : tie.Else2)
     → let d = decided c in
-    let a = asked (yes d) in
-    Accepted (end (start a)) (start a .args .m) (arrival a) (d .decide .result) (later d)
+    let s = start (asked (yes d)) in
+    Accepted (end s) (s .args .a) (d .decide .result) (later d)
 accepted c =
     let d = decided c in
     let t = yes d in
     let a = asked t in
     let s = start a in
-    accepts (end s) (sound s) (s .args .m) (arrival a) (a .before .split .ensures) (down t) (d .decide .result) (later d) (d .decide .ensures) (c .if2 .left) (s .pre .1 .0 .words)
+    accepts (end s) (sound s) (s .args .a) (a .comes-down .result) (a .comes-down .ensures) (t .if1 .taken) (d .decide .result) (later d)
+    (d .decide .ensures) (c .if2 .left) (s .pre .1 .0 .words)
 
 abbrev passed : tie.After-later2 → tie.Else2
 passed c = c .before .before
 
 abbrev accepting : tie.After-apply-arg → tie.After-accept
 accepting c = c .before .before .before
-
-abbrev applying : tie.After-own → tie.After-apply
-applying c = c .before .before .before
-
-split-requires : tie.Need-split-requires
-split-requires c κs = search needs
 
 comes-down-requires : tie.Need-comes-down-requires
 comes-down-requires c κs = search needs
@@ -89,14 +72,8 @@ part-slots-end c = search needs
 
 decide-requires : tie.Need-decide-requires
 decide-requires c κs =
-    let a = asked (c .before .before .before .before) in
-    let s = start a in (
-      (
-        subst (λ (x : Arrival). positionOf (x .form) ≤ maxItems) (sym (a .before .split .ensures)) (arrival-position (s .args .m) (s .pre .0)),
-        omega (arith, facts (end s) (sound s) .taken),
-      ),
-      (sound s .kept, refl),
-    )
+    let s = start (asked (c .before .before .before)) in
+    ((s .pre .0, omega (arith, facts (end s) (sound s) .taken)), (sound s .kept, refl))
 
 refused-requires : tie.Need-refused-requires
 refused-requires c κs = search needs
@@ -111,7 +88,8 @@ returns c =
     let a = asked t in
     let s = start a in
     ap (λ (q : Changed). answerOf q (s .args .words .now)) (c .refused .ensures)
-    ∙ refuses (end s) (sound s) (s .args .m) (arrival a) (a .before .split .ensures) (down t) (d .decide .result) (later d) (d .decide .ensures) (c .before .if2 .taken)
+    ∙ refuses (end s) (sound s) (s .args .a) (a .comes-down .result) (a .comes-down .ensures) (t .if1 .taken) (d .decide .result) (later d)
+    (d .decide .ensures) (c .before .if2 .taken)
 
 sub-accept : tie.Need-sub-accept
 sub-accept c = search needs
@@ -131,31 +109,24 @@ accept-requires c κs =
     let k = sound (start (asked (yes (decided e)))) .kept in
     (((omega (arith, accepted e .seen, k .acked), omega (arith, accepted e .seen, k .acked)), accepted e .places), k)
 
-sub-apply : tie.Need-sub-apply
-sub-apply c = search needs
-
-part-apply-start : tie.Need-part-apply-start
-part-apply-start c = search needs
-
-part-apply-end : tie.Need-part-apply-end
-part-apply-end c =
-    let p = c .before .before in
-    omega (arith, accepted (passed (p .before)) .words (p .accept .last .0) (p .accept .ensures))
-
 apply-requires : tie.Need-apply-requires
 apply-requires c κs =
     let p = accepting c in
     let e = passed (p .before) in
-    (accepted e .list (p .accept .last .0) (p .accept .ensures), accepted e .room)
+    (accepted e .words (p .accept .last .0) (p .accept .ensures), accepted e .room)
+
+done-requires : tie.Need-done-requires
+done-requires c κs = search needs
 
 same-length-2 : tie.Need-same-length-2
 same-length-2 c = search needs
 
 returns-2 : tie.Need-returns-2
 returns-2 c =
-    let l = applying (c .before) in
+    let l = c .before .before .before in
     let p = accepting (l .before) in
-    accepted (passed (p .before)) .done (l .apply .result) (p .accept .last .0) (l .apply .last .0) (p .accept .ensures) (l .apply .ensures)
+    ap (λ (q : Changed). answerOf q (l .apply .last .0)) (c .done .ensures)
+    ∙ accepted (passed (p .before)) .done (l .apply .result) (p .accept .last .0) (l .apply .last .0) (p .accept .ensures) (l .apply .ensures)
 
 refused-requires-2 : tie.Need-refused-requires-2
 refused-requires-2 c κs = search needs
@@ -165,13 +136,12 @@ returns-3 c =
     let a = c .before .before in
     let s = start a in
     ap (λ (q : Changed). answerOf q (s .args .words .now)) (c .refused2 .ensures)
-    ∙ not-down (end s) (sound s) (s .args .m) (arrival a) (a .before .split .ensures) (sym (a .comes-down .ensures) ∙ c .before .if1 .left)
+    ∙ not-down (end s) (sound s) (s .args .a) (a .comes-down .result) (a .comes-down .ensures) (c .before .if1 .left)
 
-pub take-message-spec : {M : Type 1} → statement M
-take-message-spec =
+pub take-arrival-spec : {M : Type 1} → statement M
+take-arrival-spec =
     tie.close
     (tie.spec
-    split-requires
     comes-down-requires
     sub-slots
     part-slots-start
@@ -185,10 +155,8 @@ take-message-spec =
     part-accept-end
     slice-aggregate-accept
     accept-requires
-    sub-apply
-    part-apply-start
-    part-apply-end
     apply-requires
+    done-requires
     same-length-2
     returns-2
     refused-requires-2
