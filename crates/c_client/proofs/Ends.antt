@@ -51,9 +51,9 @@ module _ (c : Client) (rest : List ℕ) (z : Sizes (c .counts) (c .words)) where
 
 record Parts (ws : List ℕ) (k : Counts) : Type 0 where
   first : firstIn k ≡ take 3 ws
-  behind : lineWords (k .own) ++ part numbers client.size ws ≡ take 644 (drop 5 ws)
+  behind : lineWords (k .own) ++ part numbers client.size ws ≡ take 1156 (drop 5 ws)
 
-parts : (ranks ws : List ℕ) → 649 ≤ length ws → Parts ws (countsOf ranks ws)
+parts : (ranks ws : List ℕ) → 1161 ≤ length ws → Parts ws (countsOf ranks ws)
 parts ranks [] h = absurd (omega arith)
 parts ranks (a ∷ []) h = absurd (omega arith)
 parts ranks (a ∷ b ∷ []) h = absurd (omega arith)
@@ -68,8 +68,8 @@ parts ranks (a ∷ b ∷ c ∷ d ∷ e ∷ f ∷ g ∷ i ∷ j ∷ ws) h = recor
 pub end-written-back : (bytes : List ℕ) → size ≤ length bytes → Bytes bytes → bytesIn (endIn bytes) ++ drop size bytes ≡ bytes
 unfolding bytesIn endIn
 end-written-back bytes h b =
-    let p = parts (ranksIn bytes) (wordsOf bytes) (words-many lowFirst 649 bytes h) in
-    ranked-again 644 size (firstIn (countsIn bytes)) (restIn (clientIn (ranksIn bytes) (wordsOf bytes))) bytes refl h b (p .first) (p .behind)
+    let p = parts (ranksIn bytes) (wordsOf bytes) (words-many lowFirst 1161 bytes h) in
+    ranked-again 1156 size (firstIn (countsIn bytes)) (restIn (clientIn (ranksIn bytes) (wordsOf bytes))) bytes refl h b (p .first) (p .behind)
 
 pub round-trips : RoundTrips
 round-trips = record { read-back = end-read-back; written-back = end-written-back }

@@ -10,7 +10,7 @@ use Rattle.c_client.specs.Layout.{size, bytesIn, endIn}
 
 -- the answer of a call that may change its end
 unfoldable pub answered : Answer → List ℕ → Called
-answered a bytes = changing size (a .refusal) (a .passed) (bytesIn (a .client)) bytes
+answered a bytes = changing size (a .refusal) (a .report) (bytesIn (a .client)) bytes
 
 unfoldable pub openedIn : List ℕ → ℕ → ℕ → List ℕ → List ℕ → Called
 openedIn bytes n line ranks items = opening size bytes items (answered (opened n line ranks (itemsOf items)) bytes)

@@ -12,9 +12,9 @@ use Rattle.c_layout.specs.Words.{wordsOf, Bytes}
 use Rattle.c_layout.specs.Numbers.{lineAt, lineWords}
 use Rattle.c_layout.specs.Ranks.{ranksIn, ranked}
 
--- the bytes of a client: 649 words
+-- the bytes of a client: 1,161 words
 abbrev pub size : ℕ
-size = 2596
+size = 4644
 
 -- how many words are its numbers, the ranks among them
 abbrev pub numbers : ℕ

@@ -1,5 +1,5 @@
 // A client's calls over its lent bytes: question 18, the end read into words of its own, the call on these, and unless it was refused the
-// end written back. An answer is one number, the refusal and the count or length beside it.
+// end written back. An answer is one number: the refusal, the count or length beside it, and of a taking its positions.
 mod layout;
 
 ghost use mathlib.Core.Path.{_≡_};
@@ -11,6 +11,7 @@ ghost use Rattle.c_layout.specs.Words.{itemsOf};
 ghost use Rattle.c_client.specs.Layout.{size};
 ghost use Rattle.c_client.specs.Calls.{returned, answered, openedIn, insertedIn, deletedIn, takenIn, sentIn, acknowledgedIn};
 use c_layout::answer;
+use c_layout::report;
 use client::Changed;
 use client::Client;
 
@@ -22,12 +23,13 @@ fn finish(end: &mut [u8], a: Changed, words: &[u32]) -> u64
     requires { ⌜ (size ≤ length (now end)) × (length (now words) ≡ client.size) ⌝ }
     ensures { λ r. ⌜ returned r (now (end .exit)) ≡ answered (answerOf a (now (words .entry))) (now (end .entry)) ⌝ }
 {
+    let k = a.report;
     if a.refusal != 0 {
-        return answer(a.refusal, a.passed);
+        return report(a.refusal, k);
     }
-    let k = a.counts;
-    layout::write(end, k, words);
-    answer(0, a.passed)
+    let counts = a.counts;
+    layout::write(end, counts, words);
+    report(0, k)
 }
 
 // The opened client, from items as bytes. The list is room for these.

@@ -1,7 +1,7 @@
 -- The ways in which a call over lent bytes ends, and an answer taken apart.
 use Prim.Native.Nat.{ℕ, _/_, _%_, _≤_, _<_}
 use native.Mathlib.Omega.{arith}
-use mathlib.Core.Path.{_≡_, refl, ap, ap₂, sym, _∙_}
+use mathlib.Core.Path.{_≡_, refl, ap, ap₂, sym, _∙_, subst}
 use mathlib.Core.Bool.{Bool, true, false, cond}
 use mathlib.Core.List.{List, _++_}
 use lib.Dec.{eqb}
@@ -10,15 +10,23 @@ use borrow.Author.Tests.{le-ltb, lt-ltb, ne-eqb, eq-eqb}
 use Rattle.wire.specs.declared.Message.{Message}
 use Rattle.wire.specs.declared.Message.the-variants.{Insert, Delete, Nothing, Ack}
 use Rattle.wire.specs.Bytes.{bytesOf}
-use Rattle.model.specs.Questions.{Sent, sent}
+use Rattle.model.specs.Questions.{Answer, Sent, sent}
 use Rattle.line.specs.declared.sending.Sent as line
+use Rattle.line.specs.declared.taking.Report.{Report}
 use Rattle.line.specs.Sending.{answered}
 use Rattle.c_layout.specs.Words.{highFirst, itemsOf}
-use Rattle.c_layout.specs.Called.{Called, packed, called, returned, laidOut, changing, opening, sending, Unpacks}
+use Rattle.c_layout.specs.Called.{Called, packed, packedReport, called, returned, laidOut, changing, opening, sending, Unpacks}
 use Rattle.c_layout.proofs.Words.{words-length}
 
 pub unpacks : Unpacks
-unpacks refusal count h k = (omega arith, omega arith)
+unpacks =
+    record {
+      sent = λ refusal count h h₂. (omega arith, omega arith);
+      refusal = λ refusal k h. omega arith;
+      count = λ refusal k h h₂. omega arith;
+      arrived = λ refusal k h h₂ h₃. omega arith;
+      applied = λ refusal k h h₂ h₃ h₄. omega arith;
+    }
 
 -- ---- question 18
 
@@ -33,11 +41,12 @@ module _ (size : ℕ) (end out : List ℕ) (rest : Called) where
 
 -- ---- a call that may change its end
 
-module _ (size refusal count : ℕ) (new end : List ℕ) where
-  pub changed-no : (r : ℕ) → (refusal ≡ 0 → ⊥) → r ≡ packed refusal count → returned r end ≡ changing size refusal count new end
+module _ (size refusal : ℕ) (report : Report) (new end : List ℕ) where
+  pub changed-no : (r : ℕ) → (refusal ≡ 0 → ⊥) → r ≡ packedReport refusal report → returned r end ≡ changing size refusal report new end
   changed-no r n e = ap (λ (k : ℕ). returned k end) e ∙ rw (ne-eqb refusal 0 n)
 
-  pub changed-done : (r : ℕ) (after : List ℕ) → refusal ≡ 0 → r ≡ packed 0 count → after ≡ new ++ drop size end → returned r after ≡ changing size refusal count new end
+  pub changed-done : (r : ℕ) (after : List ℕ) → refusal ≡ 0 → r ≡ packedReport 0 report → after ≡ new ++ drop size end
+      → returned r after ≡ changing size refusal report new end
   changed-done r after z e ea = ap₂ returned e ea ∙ rw z
 
 -- ---- opening
@@ -58,11 +67,11 @@ module _ (size : ℕ) (end items : List ℕ) (rest : Called) (long : size ≤ le
 
 -- ---- sending
 
-pub sending-is : (s : line.Sent) (m : Sent) (r : ℕ) (after : List ℕ) → answered s after ≡ m → r ≡ packed (s .refusal) (s .written) → returned r after ≡ sending m
+sending-is : (s : line.Sent) (m : Sent) (r : ℕ) (after : List ℕ) → answered s after ≡ m → r ≡ packed (s .refusal) (s .written) → returned r after ≡ sending m
 sending-is s m r after e er = ap (λ (n : ℕ). returned n after) er ∙ ap sending e
 
--- a message has at most 14 bytes, so its length fits the answer
-message-few : (m : Message) → length (bytesOf m) ≤ 14
+-- a message has at most 17 bytes, so its length fits the answer
+message-few : (m : Message) → length (bytesOf m) ≤ 17
 unfolding bytesOf
 message-few (Insert h p x r) = omega arith
 message-few (Delete h p) = omega arith
@@ -70,9 +79,9 @@ message-few (Nothing h) = omega arith
 message-few (Ack l d s) = omega arith
 
 abbrev pub Few : Sent → Type 0
-Few s = s .written ≤ 14
+Few s = s .written ≤ 17
 
-pub few-either : (b : Bool) (x y : Sent) → Few x → Few y → Few (cond b x y)
+few-either : (b : Bool) (x y : Sent) → Few x → Few y → Few (cond b x y)
 few-either true x y p q = p
 few-either false x y p q = q
 
@@ -94,6 +103,49 @@ module _ {E : Type 0} (sound : E → Bool) (answers : E → Called) (refused : C
       go false true p q = ap answers (right q)
       go false false p q = unsound s p ∙ sym (unsound t q)
 
-  pub call-is : (size : ℕ) (end out : List ℕ) (s t : E) (k : Called) → size ≤ length end → (sound s ≡ true → s ≡ t) → (sound t ≡ true → s ≡ t)
-      → k ≡ answers s → k ≡ laidOut size end out (answers t)
-  call-is size end out s t k long left right e = e ∙ alike s t left right ∙ laid size end out (answers t) long
+abbrev unsent : List ℕ → Sent
+unsent out = record { refusal = 2; written = 0; buffer = out }
+
+-- An end in lent bytes, whichever of the two ends: its calls ask question 2, and then answer what the model does. It is read with its numbers
+-- capped, and so is the end that the bytes are if question 2 says yes to either.
+pub record Guarded (E A M : Type 0) : Type 0 where
+  pub size : ℕ
+  pub sound : E → Bool
+  pub view : E → M
+  -- the end that bytes are, and that end as it is read
+  pub endIn : List ℕ → E
+  pub asRead : E → E
+  pub read-sound : (end : List ℕ) → sound (asRead (endIn end)) ≡ true → asRead (endIn end) ≡ endIn end
+  pub sound-read : (end : List ℕ) → sound (endIn end) ≡ true → asRead (endIn end) ≡ endIn end
+  -- what a call answers, by the model's answer
+  pub guarded : E → Answer M → A
+  pub answered : A → List ℕ → Called
+  pub sends : E → Sent → List ℕ → Sent
+  pub unsound : (e : E) (a : Answer M) (end : List ℕ) → sound e ≡ false → answered (guarded e a) end ≡ called 2 0 end
+  pub sends-is : (e : E) (m : Sent) (out : List ℕ) → sends e m out ≡ cond (sound e) m (unsent out)
+
+module _ {E A M : Type 0} (k : Guarded E A M) where
+  -- the length of a message fits the answer
+  pub sent-fits : (e : E) (m : Sent) (out : List ℕ) (s : line.Sent) (after : List ℕ) → Few m → answered s after ≡ k .sends e m out → s .written ≤ 17
+  sent-fits e m out s after h is = subst Few (sym (is ∙ k .sends-is e m out)) (few-either (k .sound e) m (unsent out) h (omega arith))
+
+  module _ (end : List ℕ) (long : k .size ≤ length end) (e : E) (is : e ≡ k .asRead (k .endIn end)) where
+    -- the end as it was read gives the same answer
+    same-answer : (answers : E → Called) (out : List ℕ) → ((c : E) → k .sound c ≡ false → answers c ≡ called 2 0 out)
+        → answers e ≡ laidOut (k .size) end out (answers (k .endIn end))
+    same-answer answers out unsound =
+        ap answers is ∙ alike (k .sound) answers (called 2 0 out) unsound (k .asRead (k .endIn end)) (k .endIn end) (k .read-sound end) (k .sound-read end)
+        ∙ laid (k .size) end out (answers (k .endIn end)) long
+
+    pub call-answered : (f : M → Answer M) (a : A) (r : ℕ) (after : List ℕ) → a ≡ k .guarded e (f (k .view e)) → returned r after ≡ k .answered a end
+        → returned r after ≡ laidOut (k .size) end end (k .answered (k .guarded (k .endIn end) (f (k .view (k .endIn end)))) end)
+    call-answered f a r after ea er =
+        er ∙ ap (λ (b : A). k .answered b end) ea
+        ∙ same-answer (λ c. k .answered (k .guarded c (f (k .view c))) end) end (λ c. k .unsound c (f (k .view c)) end)
+
+    pub call-sent : (out : List ℕ) (f : M → Sent) (s : line.Sent) (r : ℕ) (after : List ℕ) → answered s after ≡ k .sends e (f (k .view e)) out
+        → r ≡ packed (s .refusal) (s .written) → returned r after ≡ laidOut (k .size) end out (sending (k .sends (k .endIn end) (f (k .view (k .endIn end))) out))
+    call-sent out f s r after es er =
+        sending-is s (k .sends e (f (k .view e)) out) r after es er
+        ∙ same-answer (λ c. sending (k .sends c (f (k .view c)) out)) out
+        (λ c no′. ap sending (k .sends-is c (f (k .view c)) out ∙ ap (λ (b : Bool). cond b (f (k .view c)) (unsent out)) no′))

@@ -6,6 +6,7 @@ use mathlib.Core.List.{List, _++_}
 use lib.Dec.{eqb, ltb}
 use lib.ListN.{length, drop}
 use Rattle.model.specs.Questions.{Sent}
+use Rattle.line.specs.declared.taking.Report.{Report}
 
 pub record Called : Type 0 where
   pub answer : ℕ
@@ -15,6 +16,10 @@ pub record Called : Type 0 where
 -- the refusal in bits 0 to 7, a count or a length in bits 8 to 23
 abbrev pub packed : ℕ → ℕ → ℕ
 packed refusal count = refusal + 256 * count
+
+-- and of a taking the positions in which the edit arrived and was applied, in bits 24 to 39 and 40 to 55
+abbrev pub packedReport : ℕ → Report → ℕ
+packedReport refusal k = packed refusal (k .passed) + 16777216 * k .arrived + 1099511627776 * k .applied
 
 abbrev pub called : ℕ → ℕ → List ℕ → Called
 called refusal count bytes = record { answer = packed refusal count; bytes = bytes }
@@ -28,8 +33,9 @@ unfoldable pub laidOut : ℕ → List ℕ → List ℕ → Called → Called
 laidOut size end bytes rest = cond (ltb (length end) size) (called 18 0 bytes) rest
 
 -- A call that may change its end. A refusal leaves every byte. Else the new end stands in the first bytes, and those past the layout stay.
-abbrev pub changing : ℕ → ℕ → ℕ → List ℕ → List ℕ → Called
-changing size refusal count new bytes = called refusal count (cond (eqb refusal 0) (new ++ drop size bytes) bytes)
+abbrev pub changing : ℕ → ℕ → Report → List ℕ → List ℕ → Called
+changing size refusal report new bytes =
+    record { answer = packedReport refusal report; bytes = cond (eqb refusal 0) (new ++ drop size bytes) bytes }
 
 -- Opening items are four bytes each. A cut one gives 1.
 abbrev pub opening : ℕ → List ℕ → List ℕ → Called → Called
@@ -40,5 +46,23 @@ abbrev pub sending : Sent → Called
 sending s = called (s .refusal) (s .written) (s .buffer)
 
 -- an answer taken apart
-abbrev pub Unpacks : Type 0
-Unpacks = (refusal count : ℕ) → refusal < 256 → count < 65536 → (packed refusal count % 256 ≡ refusal) × (packed refusal count / 256 % 65536 ≡ count)
+abbrev pub refusalOf : ℕ → ℕ
+refusalOf answer = answer % 256
+
+abbrev pub countOf : ℕ → ℕ
+countOf answer = answer / 256 % 65536
+
+abbrev pub arrivedOf : ℕ → ℕ
+arrivedOf answer = answer / 16777216 % 65536
+
+abbrev pub appliedOf : ℕ → ℕ
+appliedOf answer = answer / 1099511627776 % 65536
+
+-- what was packed is taken out again
+pub record Unpacks : Type 0 where
+  pub sent : (refusal count : ℕ) → refusal < 256 → count < 65536 → (refusalOf (packed refusal count) ≡ refusal) × (countOf (packed refusal count) ≡ count)
+  pub refusal : (refusal : ℕ) (k : Report) → refusal < 256 → refusalOf (packedReport refusal k) ≡ refusal
+  pub count : (refusal : ℕ) (k : Report) → refusal < 256 → k .passed < 65536 → countOf (packedReport refusal k) ≡ k .passed
+  pub arrived : (refusal : ℕ) (k : Report) → refusal < 256 → k .passed < 65536 → k .arrived < 65536 → arrivedOf (packedReport refusal k) ≡ k .arrived
+  pub applied : (refusal : ℕ) (k : Report) → refusal < 256 → k .passed < 65536 → k .arrived < 65536 → k .applied < 65536
+      → appliedOf (packedReport refusal k) ≡ k .applied

@@ -7,7 +7,8 @@ ghost use Prim.Native.Nat.{_+_, _*_, _≤_};
 ghost use lib.ListN.{length};
 ghost use Rattle.list.specs.Parts.{part};
 ghost use Rattle.c_layout.specs.Words.{lowFirst, highFirst, wordAt, wordsOf, itemsOf, bytesOf, putAt};
-ghost use Rattle.c_layout.specs.Called.{packed};
+ghost use Rattle.c_layout.specs.Called.{packed, packedReport};
+use line::taking::Report;
 
 fn low_first(a: u8, b: u8, c: u8, d: u8) -> u32
     ensures { λ r. ⌜ r ≡ lowFirst a b c d ⌝ }
@@ -95,4 +96,11 @@ pub fn answer(refusal: u8, count: u16) -> u64
     ensures { λ r. ⌜ r ≡ packed refusal count ⌝ }
 {
     refusal as u64 + 256 * count as u64
+}
+
+// Of a taking, the positions in which the edit arrived and was applied stand above them.
+pub fn report(refusal: u8, k: Report) -> u64
+    ensures { λ r. ⌜ r ≡ packedReport refusal k ⌝ }
+{
+    answer(refusal, k.passed) + 16777216 * k.arrived as u64 + 1099511627776 * k.applied as u64
 }

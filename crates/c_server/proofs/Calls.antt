@@ -1,11 +1,11 @@
 -- What a call over lent bytes answers, by the call on the server that was read from them.
 use Prim.Native.Nat.{ℕ, _/_, _%_, _≤_, _<_}
 use native.Mathlib.Omega.{arith}
-use mathlib.Core.Path.{_≡_, refl, ap, sym, _∙_, subst}
-use mathlib.Core.Bool.{Bool, true, false, _&&_}
-use mathlib.Core.List.{List, [], _∷_, _++_}
+use mathlib.Core.Path.{_≡_, refl, ap, sym, _∙_}
+use mathlib.Core.Bool.{Bool, true, false, _&&_, cond}
+use mathlib.Core.List.{List, [], _∷_}
 use lib.Dec.{leb}
-use lib.ListN.{length, drop}
+use lib.ListN.{length}
 use borrow.Author.Tests.{lt-leb}
 use Rattle.limits.specs.Limits.{maxLines, maxInitial}
 use Rattle.wire.specs.declared.Message.the-variants.{Ack}
@@ -17,86 +17,58 @@ use Rattle.line.specs.Sending as sent
 use Rattle.server.specs.declared.Server.{Server}
 use Rattle.server.specs.declared.Answer.{Answer}
 use Rattle.server.specs.declared.Changed.{Changed}
-use Rattle.server.specs.View.{serverOf, view, sound}
+use Rattle.server.specs.View.{view, sound}
 use Rattle.server.specs.Answers.{answerOf, guarded, guardedSending, opened, sentEdit, sentAck}
 use Rattle.c_layout.specs.Words.{wordsOf, itemsOf}
-use Rattle.c_layout.specs.Called.{Called, packed, called, laidOut, sending}
-use Rattle.c_layout.proofs.Called.{changed-no, changed-done, items-count, open-cut, open-whole, sending-is, Few, few-either, sent-few, call-is}
+use Rattle.c_layout.specs.Called.{Called, packed, called}
+use Rattle.c_layout.proofs.Called.{items-count, open-cut, open-whole, sent-few, Guarded, sent-fits}
 use Rattle.c_layout.proofs.Counts.{lines-length}
-use Rattle.c_server.specs.Layout.{size, bytesIn, endIn}
+use Rattle.c_server.specs.Layout.{size, endIn}
 use Rattle.c_server.specs.Reading.{cappedEnd}
 use Rattle.c_server.specs.Calls.{returned, answered, openedIn}
 use Rattle.c_server.proofs.Capped.{sound-same, sound-capped}
 
-eight : (end : List ℕ) → length (endIn end .counts .lines) ≡ maxLines
+pub eight : (end : List ℕ) → length (endIn end .counts .lines) ≡ maxLines
 unfolding endIn
 eight end = lines-length (wordsOf end) _ maxLines
 
--- ---- a call that may change its end
+pub unsound : (s : Server) (a : model.Answer server.Server) (end : List ℕ) → sound s ≡ false → answered (guarded s a) end ≡ called 2 0 end
+unfolding guarded answered
+unsound s a end no′ = rw no′
 
-module _ (a : Changed) (words end : List ℕ) where
-  pub finish-no : (r : ℕ) → (a .refusal ≡ 0 → ⊥) → r ≡ packed (a .refusal) (a .passed) → returned r end ≡ answered (answerOf a words) end
-  unfolding answered
-  finish-no = changed-no size (a .refusal) (a .passed) (bytesIn (serverOf (a .counts) words)) end
-
-  pub finish-done : (r : ℕ) (after : List ℕ) → a .refusal ≡ 0 → r ≡ packed 0 (a .passed) → after ≡ bytesIn (serverOf (a .counts) words) ++ drop size end
-      → returned r after ≡ answered (answerOf a words) end
-  unfolding answered
-  finish-done = changed-done size (a .refusal) (a .passed) (bytesIn (serverOf (a .counts) words)) end
-
-module _ (end : List ℕ) (f : server.Server → model.Answer server.Server) where
-  abbrev answers : Server → Called
-  answers c = answered (guarded c (f (view c))) end
-
-  unsound : (c : Server) → sound c ≡ false → answers c ≡ called 2 0 end
-  unfolding guarded answered
-  unsound c s = rw s
-
-  -- the server as it was read gives the same answer
-  pub call-answered : (c : Server) (a : Answer) (r : ℕ) (after : List ℕ) → size ≤ length end → c ≡ cappedEnd (endIn end) → a ≡ guarded c (f (view c))
-      → returned r after ≡ answered a end → returned r after ≡ laidOut size end end (answered (guarded (endIn end) (f (view (endIn end)))) end)
-  call-answered c a r after long is ea er =
-      call-is sound answers (called 2 0 end) unsound size end end (cappedEnd (endIn end)) (endIn end) (returned r after) long
-      (sound-capped (endIn end) (eight end)) (sound-same (endIn end) (eight end))
-      (er ∙ ap (λ (b : Answer). answered b end) ea ∙ ap answers is)
-
--- ---- a sending
-
-module _ (out : List ℕ) (f : server.Server → model.Sent) where
-  abbrev sends : Server → Called
-  sends c = sending (guardedSending c (f (view c)) out)
-
-  unsound-sending : (c : Server) → sound c ≡ false → sends c ≡ called 2 0 out
-  unfolding guardedSending
-  unsound-sending c s = rw s
-
-  pub call-sent : (end : List ℕ) (c : Server) (s : Sent) (r : ℕ) (after : List ℕ) → size ≤ length end → c ≡ cappedEnd (endIn end)
-      → sent.answered s after ≡ guardedSending c (f (view c)) out → r ≡ packed (s .refusal) (s .written)
-      → returned r after ≡ laidOut size end out (sending (guardedSending (endIn end) (f (view (endIn end))) out))
-  call-sent end c s r after long is es er =
-      call-is sound sends (called 2 0 out) unsound-sending size end out (cappedEnd (endIn end)) (endIn end) (returned r after) long
-      (sound-capped (endIn end) (eight end)) (sound-same (endIn end) (eight end))
-      (sending-is s (guardedSending c (f (view c)) out) r after es er ∙ ap sends is)
-
-guarded-few : (c : Server) (s : model.Sent) (out : List ℕ) → Few s → Few (guardedSending c s out)
+pub sends-is : (s : Server) (m : model.Sent) (out : List ℕ) → guardedSending s m out ≡ cond (sound s) m (record { refusal = 2; written = 0; buffer = out })
 unfolding guardedSending
-guarded-few c s out h = few-either (sound c) s (record { refusal = 2; written = 0; buffer = out }) h (omega arith)
+sends-is s m out = refl
 
--- the length of a message fits the answer
+abbrev pub servers : Guarded Server Answer server.Server
+servers =
+    record {
+      size = size;
+      sound = sound;
+      view = view;
+      endIn = endIn;
+      asRead = cappedEnd;
+      read-sound = λ end. sound-capped (endIn end) (eight end);
+      sound-read = λ end. sound-same (endIn end) (eight end);
+      guarded = guarded;
+      answered = answered;
+      sends = guardedSending;
+      unsound = unsound;
+      sends-is = sends-is;
+    }
+
 module _ (c : Server) (line : ℕ) (out : List ℕ) (s : Sent) (after : List ℕ) where
-  pub edit-fits : (number : ℕ) → sent.answered s after ≡ sentEdit c line number out → s .written ≤ 14
+  pub edit-fits : (number : ℕ) → sent.answered s after ≡ sentEdit c line number out → s .written ≤ 17
   unfolding server.sendServer
-  edit-fits number e =
-      subst Few (sym e)
-      (guarded-few c (server.sendServer (view c) line number out) out
-      (sent-few (model.asks (server.sendServerQuestions (view c) line number out)) (server.serverMessage (view c) line number) out))
+  edit-fits number =
+      sent-fits servers c (server.sendServer (view c) line number out) out s after
+      (sent-few (model.asks (server.sendServerQuestions (view c) line number out)) (server.serverMessage (view c) line number) out)
 
-  pub ack-fits : sent.answered s after ≡ sentAck c line out → s .written ≤ 14
+  pub ack-fits : sent.answered s after ≡ sentAck c line out → s .written ≤ 17
   unfolding server.tellServer
-  ack-fits e =
-      subst Few (sym e)
-      (guarded-few c (server.tellServer (view c) line out) out
-      (sent-few (model.asks (server.tellServerQuestions (view c) line out)) (Ack line 1 (server.lineOf (view c) line .taken)) out))
+  ack-fits =
+      sent-fits servers c (server.tellServer (view c) line out) out s after
+      (sent-few (model.asks (server.tellServerQuestions (view c) line out)) (Ack line 1 (server.lineOf (view c) line .taken)) out)
 
 -- ---- opening
 

@@ -8,15 +8,17 @@ use lib.Dec.{ltb}
 use lib.ListN.{length, getD}
 use borrow.Author.Tests.{leb-true, ltb-true, ltb-false}
 use Rattle.limits.specs.Limits.{maxLines, maxItems}
+use Rattle.list.specs.Items.{allZero}
 use Rattle.model.specs.Line as line
 use Rattle.model.specs.Server as model
-use Rattle.model.proofs.Tests.{hold}
+use Rattle.model.proofs.Tests.{hold, and-left}
 use Rattle.model.proofs.SoundServer.{ServerFacts, server-facts, line-fact, made-most}
 use Rattle.line.specs.declared.Line.{Line}
 use Rattle.line.specs.Line.{countsOf}
+use Rattle.line_sound.specs.Sound.{emptyLine}
 use Rattle.line_sound.proofs.Stored.{empty-counts}
 use Rattle.server.specs.declared.Server.{Server}
-use Rattle.server.specs.View.{slotsAt, countsAt, lineAt, serverOf, view, emptyAt, sound, soundTests}
+use Rattle.server.specs.View.{slotsAt, makersAt, countsAt, lineAt, serverOf, view, emptyAt, sound, soundTests}
 use Rattle.server.proofs.Lines.{line-used}
 use Rattle.server.proofs.Whole.{each-last}
 use Rattle.c_layout.specs.Numbers.{capped, cappedLine}
@@ -52,8 +54,10 @@ module _ (s : Server) (yes′ : sound s ≡ true) where
   small-unused : (i : ℕ) → s .counts .n ≤ i → i < maxLines → Small (countsAt (s .counts) i)
   unfolding sound
   small-unused i l h =
-      let empty = each-last (emptyAt (s .counts) (s .words)) (s .counts .n) maxLines (hold (soundTests s) yes′ .1 .1 .1 .1 .1 .0) i l h in
-      subst Small (sym (empty-counts (countsAt (s .counts) i) (slotsAt i (s .words)) empty))
+      let all-empty = hold (soundTests s) yes′ .1 .1 .1 .1 .1 .1 .1 .0 in
+      let empty = each-last (emptyAt (s .counts) (s .words)) (s .counts .n) maxLines all-empty i l h in
+      let unmade = and-left (emptyLine (countsAt (s .counts) i) (slotsAt i (s .words))) (allZero (makersAt i (s .words))) empty in
+      subst Small (sym (empty-counts (countsAt (s .counts) i) (slotsAt i (s .words)) unmade))
       (record { made = omega arith; taken = omega arith; acked = omega arith; inserts = omega arith })
 
   bounds : Bounds s

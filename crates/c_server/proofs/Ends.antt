@@ -81,9 +81,9 @@ module _ (s : Server) (rest : List ℕ) (z : Sizes (s .counts) (s .words)) where
 
 record Parts (ws : List ℕ) (k : Counts) : Type 0 where
   first : firstIn k ≡ take 3 ws
-  behind : linesWords (k .lines) ++ part numbers server.size ws ≡ take 1568 (drop 5 ws)
+  behind : linesWords (k .lines) ++ part numbers server.size ws ≡ take 2592 (drop 5 ws)
 
-parts : (ranks ws : List ℕ) → 1573 ≤ length ws → Parts ws (countsOf ranks ws)
+parts : (ranks ws : List ℕ) → 2597 ≤ length ws → Parts ws (countsOf ranks ws)
 parts ranks [] h = absurd (omega arith)
 parts ranks (a ∷ []) h = absurd (omega arith)
 parts ranks (a ∷ b ∷ []) h = absurd (omega arith)
@@ -101,8 +101,8 @@ parts ranks (a ∷ b ∷ c ∷ d ∷ e ∷ ws) h =
 pub end-written-back : (bytes : List ℕ) → size ≤ length bytes → Bytes bytes → bytesIn (endIn bytes) ++ drop size bytes ≡ bytes
 unfolding bytesIn endIn
 end-written-back bytes h b =
-    let p = parts (ranksIn bytes) (wordsOf bytes) (words-many lowFirst 1573 bytes h) in
-    ranked-again 1568 size (firstIn (countsIn bytes)) (restIn (serverIn (ranksIn bytes) (wordsOf bytes))) bytes refl h b (p .first) (p .behind)
+    let p = parts (ranksIn bytes) (wordsOf bytes) (words-many lowFirst 2597 bytes h) in
+    ranked-again 2592 size (firstIn (countsIn bytes)) (restIn (serverIn (ranksIn bytes) (wordsOf bytes))) bytes refl h b (p .first) (p .behind)
 
 pub round-trips : RoundTrips
 round-trips = record { read-back = end-read-back; written-back = end-written-back }

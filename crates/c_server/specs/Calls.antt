@@ -10,7 +10,7 @@ use Rattle.c_server.specs.Layout.{size, bytesIn, endIn}
 
 -- the answer of a call that may change its end
 unfoldable pub answered : Answer → List ℕ → Called
-answered a bytes = changing size (a .refusal) (a .passed) (bytesIn (a .server)) bytes
+answered a bytes = changing size (a .refusal) (a .report) (bytesIn (a .server)) bytes
 
 unfoldable pub openedIn : List ℕ → ℕ → List ℕ → List ℕ → Called
 openedIn bytes n ranks items = opening size bytes items (answered (opened n ranks (itemsOf items)) bytes)

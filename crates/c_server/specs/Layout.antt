@@ -13,9 +13,9 @@ use Rattle.c_layout.specs.Words.{wordsOf, Bytes}
 use Rattle.c_layout.specs.Numbers.{linesAt, linesWords}
 use Rattle.c_layout.specs.Ranks.{ranksIn, ranked}
 
--- the bytes of the server: 1,573 words
+-- the bytes of the server: 2,597 words
 abbrev pub size : ℕ
-size = 6292
+size = 10388
 
 -- how many words are its numbers, the ranks among them
 abbrev pub numbers : ℕ

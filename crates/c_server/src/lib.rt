@@ -1,5 +1,5 @@
 // The server's calls over its lent bytes: question 18, the end read into words of its own, the call on these, and unless it was refused the
-// end written back. An answer is one number, the refusal and the count or length beside it. Words and numbers are read by two calls: the
+// end written back. An answer is one number: the refusal, the count or length beside it, and of a taking its positions. Words and numbers are read by two calls: the
 // first is short enough to be inlined, and becomes a copy of memory.
 mod layout;
 
@@ -13,6 +13,7 @@ ghost use Rattle.c_server.specs.Layout.{size};
 ghost use Rattle.c_server.specs.Calls.{returned, answered, openedIn, takenIn, sentIn, acknowledgedIn};
 use c_layout::answer;
 use c_layout::get;
+use c_layout::report;
 use server::Changed;
 use server::Server;
 
@@ -24,12 +25,13 @@ fn finish(end: &mut [u8], a: Changed, words: &[u32]) -> u64
     requires { ⌜ (size ≤ length (now end)) × (length (now words) ≡ server.size) ⌝ }
     ensures { λ r. ⌜ returned r (now (end .exit)) ≡ answered (answerOf a (now (words .entry))) (now (end .entry)) ⌝ }
 {
+    let k = a.report;
     if a.refusal != 0 {
-        return answer(a.refusal, a.passed);
+        return report(a.refusal, k);
     }
-    let k = a.counts;
-    layout::write(end, k, words);
-    answer(0, a.passed)
+    let counts = a.counts;
+    layout::write(end, counts, words);
+    report(0, k)
 }
 
 // The opened server, from items as bytes. The list is room for these.

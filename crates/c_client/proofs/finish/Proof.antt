@@ -1,43 +1,50 @@
 use denote.Ref.{now}
-use Rattle.c_client.proofs.Calls.{finish-no, finish-done}
+use Rattle.client.specs.View.{clientOf}
+use Rattle.c_layout.proofs.Called.{changed-no, changed-done}
+use Rattle.c_client.specs.Layout.{size, bytesIn}
+use Rattle.c_client.specs.Calls.{answered}
 use borrow.Author.Needs.{needs}
 use Rattle.c_client.proofs.finish.Statement.{statement}
 use Rattle.c_client.proofs.finish.Tie as tie
 
-abbrev written : tie.After-answer2 → tie.After-write
+abbrev written : tie.After-report2 → tie.After-write
 written c = c .before .before .before
 
 abbrev right : tie.After-write → tie.Else1
 right c = c .before .before .before
 
 abbrev start : tie.Else1 → tie.Start
-start c = c .before .before .before .before
+start c = c .before .before .before .before .before
 
-answer-requires : tie.Need-answer-requires
-answer-requires c κs = search needs
+report-requires : tie.Need-report-requires
+report-requires c κs = search needs
 
 returns : tie.Need-returns
+unfolding answered
 returns c =
-    let a = c .before .before .before .before .before .args in
-    finish-no (a .a) (now (a .words)) (now (a .end)) (c .answer .result) (c .before .if1 .taken) (c .answer .ensures)
+    let a = c .before .before .before .before .before .before .args in
+    let new = bytesIn (clientOf (a .a .counts) (now (a .words))) in
+    changed-no size (a .a .refusal) (a .a .report) new (now (a .end)) (c .report .result) (c .before .if1 .taken) (c .report .ensures)
 
 write-requires : tie.Need-write-requires
 write-requires c κs = search needs
 
-answer-requires-2 : tie.Need-answer-requires-2
-answer-requires-2 c κs = search needs
+report-requires-2 : tie.Need-report-requires-2
+report-requires-2 c κs = search needs
 
 same-length : tie.Need-same-length
 same-length c = search needs
 
 returns-2 : tie.Need-returns-2
+unfolding answered
 returns-2 c =
     let w = written c in
     let r = right w in
     let a = start r .args in
-    finish-done (a .a) (now (a .words)) (now (a .end)) (c .answer2 .result) (w .write .last .0) (r .if1 .left) (c .answer2 .ensures) (w .write .ensures)
+    let new = bytesIn (clientOf (a .a .counts) (now (a .words))) in
+    changed-done size (a .a .refusal) (a .a .report) new (now (a .end)) (c .report2 .result) (w .write .last .0) (r .if1 .left) (c .report2 .ensures) (w .write .ensures)
 
 pub finish-spec : {M : Type 1} → statement M
 finish-spec =
     tie.close
-    (tie.spec answer-requires returns write-requires answer-requires-2 same-length returns-2)
+    (tie.spec report-requires returns write-requires report-requires-2 same-length returns-2)

@@ -3,10 +3,10 @@ use denote.Ref.{now}
 use Rattle.model.specs.Client.{insertClient}
 use Rattle.client.specs.View.{clientOf}
 use Rattle.client.specs.Answers.{answerOf}
-use Rattle.c_layout.proofs.Called.{too-short}
+use Rattle.c_layout.proofs.Called.{too-short, call-answered}
 use Rattle.c_client.specs.Layout.{size}
 use Rattle.c_client.specs.Calls.{insertedIn}
-use Rattle.c_client.proofs.Calls.{call-answered}
+use Rattle.c_client.proofs.Calls.{clients}
 use borrow.Author.Needs.{needs}
 use Rattle.c_client.proofs.insert.Statement.{statement}
 use Rattle.c_client.proofs.insert.Tie as tie
@@ -61,9 +61,8 @@ returns-2 c =
     let r = got d in
     let l = long r in
     let a = start l .args in
-    call-answered (now (a .end)) (λ m. insertClient m (a .position) (a .item)) (clientOf (r .read .result) (r .read .last .1 .0))
-    (answerOf (d .insert .result) (d .insert .last .1 .0)) (f .finish .result) (f .finish .last .0) (omega (arith, l .if1 .left)) (r .read .ensures)
-    (d .insert .ensures) (f .finish .ensures)
+    call-answered clients (now (a .end)) (omega (arith, l .if1 .left)) (clientOf (r .read .result) (r .read .last .1 .0)) (r .read .ensures)
+    (λ m. insertClient m (a .position) (a .item)) (answerOf (d .insert .result) (d .insert .last .1 .0)) (f .finish .result) (f .finish .last .0) (d .insert .ensures) (f .finish .ensures)
 
 pub insert-spec : {M : Type 1} → statement M
 insert-spec =

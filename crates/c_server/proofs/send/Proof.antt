@@ -3,11 +3,11 @@ use native.Mathlib.Omega.{arith}
 use denote.Ref.{now}
 use Rattle.model.specs.Server.{sendServer}
 use Rattle.server.specs.View.{serverOf}
-use Rattle.c_layout.proofs.Called.{too-short}
+use Rattle.c_layout.proofs.Called.{too-short, call-sent}
 use Rattle.c_server.specs.Layout.{size}
 use Rattle.c_server.specs.Calls.{sentIn}
 use Rattle.c_server.proofs.Ends.{end-read}
-use Rattle.c_server.proofs.Calls.{call-sent, edit-fits}
+use Rattle.c_server.proofs.Calls.{servers, edit-fits}
 use borrow.Author.Needs.{needs}
 use Rattle.c_server.proofs.send.Statement.{statement}
 use Rattle.c_server.proofs.send.Tie as tie
@@ -70,8 +70,8 @@ returns-2 c =
     let g = got k in
     let l = long g in
     let a = start l .args in
-    call-sent (now (a .out)) (λ m. sendServer m (a .line) (a .number) (now (a .out))) (now (a .end)) (serverOf (k .counts .result) (g .get .last .1 .1 .0)) (d .send .result)
-    (c .answer2 .result) (d .send .last .1 .1 .1 .1 .0) (omega (arith, l .if1 .left)) (end-read (now (a .end)) (g .get .last .1 .1 .0) (k .counts .result) (g .get .ensures) (k .counts .ensures)) (d .send .ensures) (c .answer2 .ensures)
+    call-sent servers (now (a .end)) (omega (arith, l .if1 .left)) (serverOf (k .counts .result) (g .get .last .1 .1 .0)) (end-read (now (a .end)) (g .get .last .1 .1 .0) (k .counts .result) (g .get .ensures) (k .counts .ensures))
+    (now (a .out)) (λ m. sendServer m (a .line) (a .number) (now (a .out))) (d .send .result) (c .answer2 .result) (d .send .last .1 .1 .1 .1 .0) (d .send .ensures) (c .answer2 .ensures)
 
 pub send-spec : {M : Type 1} → statement M
 send-spec =

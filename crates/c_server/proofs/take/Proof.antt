@@ -4,11 +4,11 @@ use denote.Ref.{now}
 use Rattle.model.specs.Server.{takeServer}
 use Rattle.server.specs.View.{serverOf}
 use Rattle.server.specs.Answers.{answerOf}
-use Rattle.c_layout.proofs.Called.{too-short}
+use Rattle.c_layout.proofs.Called.{too-short, call-answered}
 use Rattle.c_server.specs.Layout.{size}
 use Rattle.c_server.specs.Calls.{takenIn}
 use Rattle.c_server.proofs.Ends.{end-read}
-use Rattle.c_server.proofs.Calls.{call-answered}
+use Rattle.c_server.proofs.Calls.{servers}
 use borrow.Author.Needs.{needs}
 use Rattle.c_server.proofs.take.Statement.{statement}
 use Rattle.c_server.proofs.take.Tie as tie
@@ -70,9 +70,8 @@ returns-2 c =
     let g = got k in
     let l = long g in
     let a = start l .args in
-    call-answered (now (a .end)) (λ m. takeServer m (now (a .message))) (serverOf (k .counts .result) (g .get .last .1 .1 .0))
-    (answerOf (d .take .result) (d .take .last .1 .0)) (f .finish .result) (f .finish .last .0) (omega (arith, l .if1 .left)) (end-read (now (a .end)) (g .get .last .1 .1 .0) (k .counts .result) (g .get .ensures) (k .counts .ensures))
-    (d .take .ensures) (f .finish .ensures)
+    call-answered servers (now (a .end)) (omega (arith, l .if1 .left)) (serverOf (k .counts .result) (g .get .last .1 .1 .0)) (end-read (now (a .end)) (g .get .last .1 .1 .0) (k .counts .result) (g .get .ensures) (k .counts .ensures))
+    (λ m. takeServer m (now (a .message))) (answerOf (d .take .result) (d .take .last .1 .0)) (f .finish .result) (f .finish .last .0) (d .take .ensures) (f .finish .ensures)
 
 pub take-spec : {M : Type 1} → statement M
 take-spec =
