@@ -1,11 +1,10 @@
 -- The structs follow the model call by call, so that the claim holds of them.
 use mathlib.Core.Path.{_≡_, refl, ap, _∙_}
 use mathlib.Core.Bool.{Bool, true, false, cond}
-use mathlib.Core.List.{List}
 use Prim.Native.Nat.{ℕ, _-_}
 use lib.ListN.{List·getD-map}
 use Rattle.list.proofs.Pad.{pad-getD}
-use Rattle.model.specs.Questions.{Answer, Sent}
+use Rattle.model.specs.Questions.{Answer}
 use Rattle.model.specs.Line.{noLine}
 use Rattle.model.specs.Client as model
 use Rattle.model.specs.Server as models
@@ -24,11 +23,13 @@ use Rattle.server.specs.declared.Server.{Server}
 use Rattle.server.specs.View as serverView
 use Rattle.server.specs.Answers as server
 use Rattle.server.proofs.Stored as serverStored
+use Rattle.c_client.proofs.Calls as clientLent
+use Rattle.c_server.proofs.Calls as serverLent
 use Rattle.convergence.specs.Built.{clientAnswer, serverAnswer, clientCalls, serverCalls, built, Claimed, BuiltCarried}
 use Rattle.convergence.proofs.Ranks.{ranks-bytes}
 use Rattle.convergence.proofs.Carry.{carries}
 use Rattle.convergence.proofs.Pairs.{ClientFollows, ServerFollows, Both, follows}
-use Rattle.convergence.proofs.Stored.{Stored, Stands, given, unsound, unsent, alike, sending-alike, opened-stands, answer-back, sending-alone}
+use Rattle.convergence.proofs.Stored.{Stored, Stands, given, unsound, alike, sending-alike, opened-stands, answer-back, sending-alone}
 
 -- ---- the client's calls
 
@@ -44,10 +45,6 @@ client-answer c a = go (clientView.sound c)
     go true = refl
     go false = refl
 
-pub client-sending : (c : Client) (a : Sent) (lent : List ℕ) → client.guardedSending c a lent ≡ cond (clientView.sound c) a (unsent lent)
-unfolding client.guardedSending
-client-sending c a lent = refl
-
 abbrev pub clients : Stored Client model.Client
 clients =
     record {
@@ -61,7 +58,7 @@ clients =
       store-sound = clientStored.client-stored;
       sound-view = client-sound;
       answer-is = client-answer;
-      sending-is = client-sending;
+      sending-is = clientLent.sends-is;
     }
 
 pub struct-client-alone : ClientAlone clientCalls
@@ -105,10 +102,6 @@ server-answer s a = go (serverView.sound s)
     go true = refl
     go false = refl
 
-pub server-sending : (s : Server) (a : Sent) (lent : List ℕ) → server.guardedSending s a lent ≡ cond (serverView.sound s) a (unsent lent)
-unfolding server.guardedSending
-server-sending s a lent = refl
-
 abbrev pub servers : Stored Server models.Server
 servers =
     record {
@@ -122,7 +115,7 @@ servers =
       store-sound = serverStored.store-sound;
       sound-view = server-sound;
       answer-is = server-answer;
-      sending-is = server-sending;
+      sending-is = serverLent.sends-is;
     }
 
 pub struct-server-alone : ServerAlone serverCalls
@@ -169,6 +162,7 @@ carried =
       claimed = claimed;
       ranks = ranks-bytes built claimed;
       consistent = consequences .consistent built claimed;
+      order = consequences .order built claimed;
       refusals = consequences .refusals built claimed;
       agree = consequences .agree built ours.ours claimed model-converges.converges;
     }

@@ -2,17 +2,19 @@
 use mathlib.Core.Path.{_≡_, refl, ap, ap₂, sym, _∙_, subst}
 use mathlib.Core.Bool.{Bool, true, false, _&&_, cond}
 use mathlib.Core.Option.{Option, none, some}
-use mathlib.Core.List.{List, [], _∷_, _++_}
+use mathlib.Core.List.{List, [], _∷_, _++_, map}
 use Prim.Native.Nat.{ℕ, zero, suc, _≤_}
 use native.Mathlib.Omega.{arith}
 use lib.Dec.{eqb, leb, ltb}
 use lib.ListN.{take, getElem?}
 use borrow.Author.Tests.{leb-true}
+use Rattle.list.specs.Places.{Place}
 use Rattle.wire.specs.Bytes.{parsed}
 use Rattle.jupiter.specs.Form.{replay}
 use Rattle.jupiter.specs.History.{History, order, missing}
-use Rattle.model.specs.Questions.{Answer, Sent, between}
-use Rattle.model.specs.Edits.{edits}
+use Rattle.jupiter.specs.Origins.{Once}
+use Rattle.model.specs.Questions.{Report, Answer, Sent, between}
+use Rattle.model.specs.Edits.{nameOf, edits}
 use Rattle.model.specs.Sheet.{Sheet, Call, insert, delete, send, tell, receive, junk}
 use Rattle.model.specs.Log.{Log, log}
 use Rattle.model.specs.Run.{State, areBytes, unreadable, callable, answered, written, handed, call, handedNumber, numberOf, run, opened, start}
@@ -22,7 +24,7 @@ use Rattle.model.proofs.Sound.{three}
 
 pub record Alike {A B : Type 0} (R : A → B → Type 0) (a : Answer A) (b : Answer B) : Type 0 where
   pub refusal : a .refusal ≡ b .refusal
-  pub passed : a .passed ≡ b .passed
+  pub report : a .report ≡ b .report
   pub ends : R (a .end) (b .end)
 
 module _ (S T : Sheet) (R : S .End → T .End → Type 0) where
@@ -45,7 +47,7 @@ module _ (S T : Sheet) (R : S .End → T .End → Type 0) where
     pub record Same (s : State S ranks) (t : State T ranks) : Type 0 where
       pub ends : (a : ℕ) → a ≤ n → R (s .ends a) (t .ends a)
       pub messages : s .messages ≡ t .messages
-      pub passed : s .passed ≡ t .passed
+      pub reports : s .reports ≡ t .reports
       pub recorded : s .recorded ≡ t .recorded
 
     same-answered : (s : State S ranks) (t : State T ranks) → Same s t → (a : ℕ) (c : Call) (x : Answer (S .End)) (y : Answer (T .End)) → Alike R x y → Same (answered S s a c x) (answered T t a c y)
@@ -53,7 +55,7 @@ module _ (S T : Sheet) (R : S .End → T .End → Type 0) where
         record {
           ends = λ j h. go j h (eqb a j);
           messages = m .messages;
-          passed = ap₂ (λ (ks : List ℕ) (i : ℕ). ks ++ (i ∷ [])) (m .passed) (k .passed);
+          reports = ap₂ (λ (ks : List Report) (i : Report). ks ++ (i ∷ [])) (m .reports) (k .report);
           recorded = ap₂ (λ (w : Log ranks) (r : ℕ). log w c r) (m .recorded) (k .refusal);
         }
       where
@@ -66,7 +68,7 @@ module _ (S T : Sheet) (R : S .End → T .End → Type 0) where
         record {
           ends = m .ends;
           messages = ap₂ (λ (ms : List (List ℕ)) (r : Sent). cond (eqb (r .refusal) 0) (ms ++ (take (r .written) (r .buffer) ∷ [])) ms) (m .messages) e;
-          passed = m .passed;
+          reports = m .reports;
           recorded = ap₂ (λ (w : Log ranks) (r : Sent). log w c (r .refusal)) (m .recorded) e;
         }
 
@@ -140,7 +142,7 @@ module _ (S T : Sheet) (R : S .End → T .End → Type 0) where
 
     module _ (ends : ℕ → S .End) (t : State T ranks) (related : (a : ℕ) → a ≤ n → R (ends a) (t .ends a)) where
       abbrev beside : State S ranks
-      beside = record { ends = ends; messages = t .messages; passed = t .passed; recorded = t .recorded }
+      beside = record { ends = ends; messages = t .messages; reports = t .reports; recorded = t .recorded }
 
       holds-line : (l : ℕ) → 1 ≤ l → l ≤ n → OnLine T n t l → OnLine S n beside l
       holds-line l lo hi o =
@@ -174,21 +176,22 @@ module _ (S T : Sheet) (R : S .End → T .End → Type 0) where
       holds-beside o =
           record {
             lists = λ a h. f .items (ends a) (t .ends a) (related a h) ∙ o .lists a h;
+            origins = λ a h. subst (λ (l : List Place). Once (map (λ p. nameOf (p .origin)) l)) (sym (f .items (ends a) (t .ends a) (related a h))) (o .origins a h);
             messages = o .messages;
             read-back = o .read-back;
-            numbers = λ c ok. same-number beside t (record { ends = related; messages = refl; passed = refl; recorded = refl }) c ok ∙ o .numbers c ok;
-            passed = o .passed;
+            numbers = λ c ok. same-number beside t (record { ends = related; messages = refl; reports = refl; recorded = refl }) c ok ∙ o .numbers c ok;
+            reports = o .reports;
             lines = λ l lo hi. holds-line l lo hi (o .lines l lo hi);
           }
 
     holds-same : (s : State S ranks) (t : State T ranks) → Same s t → Holds T n t → Holds S n s
     holds-same s t m o =
         let path : beside (s .ends) t (m .ends) ≡ s =
-        λ i. record { ends = s .ends; messages = sym (m .messages) i; passed = sym (m .passed) i; recorded = sym (m .recorded) i } in
+        λ i. record { ends = s .ends; messages = sym (m .messages) i; reports = sym (m .reports) i; recorded = sym (m .recorded) i } in
         subst (Holds S n) path (holds-beside (s .ends) t (m .ends) o)
 
     starts : (items : List ℕ) → Opened T n ranks items → Same (start S n ranks items) (start T n ranks items)
-    starts items o = record { ends = go; messages = refl; passed = refl; recorded = refl }
+    starts items o = record { ends = go; messages = refl; reports = refl; recorded = refl }
       where
         go : (l : ℕ) → l ≤ n → R (opened S n ranks items l) (opened T n ranks items l)
         go zero h = f .server-opens n ranks items (o .server)

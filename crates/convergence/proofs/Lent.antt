@@ -186,6 +186,7 @@ lent-carried cs ss h k =
       claimed = holds;
       ranks = ranks-bytes (lent cs ss) holds;
       consistent = consequences .consistent (lent cs ss) holds;
+      order = consequences .order (lent cs ss) holds;
       refusals = consequences .refusals (lent cs ss) holds;
       agree = consequences .agree (lent cs ss) built holds claimed;
     }

@@ -2,6 +2,7 @@
 use mathlib.Core.Path.{_≡_, refl}
 use mathlib.Core.List.{List}
 use Prim.Native.Nat.{ℕ}
+use Rattle.model.specs.Questions.{noReport}
 use Rattle.model.specs.SheetOf.{ClientCalls, ServerCalls, End, client, server, answerAs, sheetOf}
 use Rattle.model.proofs.Alone.{ClientAlone, ServerAlone, both-alone}
 use Rattle.convergence.proofs.Carry.{Alike, Follows}
@@ -70,10 +71,10 @@ module _ (c d : ClientCalls) (v w : ServerCalls) (P : c .Client → d .Client �
       }
     where
       asClient : (x : _) (y : _) → Alike P x y → Alike Both (answerAs client x) (answerAs client y)
-      asClient x y k = record { refusal = k .refusal; passed = k .passed; ends = k .ends }
+      asClient x y k = record { refusal = k .refusal; report = k .report; ends = k .ends }
 
       asServer : (x : _) (y : _) → Alike Q x y → Alike Both (answerAs server x) (answerAs server y)
-      asServer x y k = record { refusal = k .refusal; passed = k .passed; ends = k .ends }
+      asServer x y k = record { refusal = k .refusal; report = k .report; ends = k .ends }
 
-      unmade : (a : v .Server) (b : w .Server) → Q a b → Alike Both (record { refusal = 2; end = server a; passed = 0 }) (record { refusal = 2; end = server b; passed = 0 })
-      unmade a b r = record { refusal = refl; passed = refl; ends = r }
+      unmade : (a : v .Server) (b : w .Server) → Q a b → Alike Both (record { refusal = 2; end = server a; report = noReport }) (record { refusal = 2; end = server b; report = noReport })
+      unmade a b r = record { refusal = refl; report = refl; ends = r }

@@ -1,34 +1,42 @@
--- What every answer of the structs has: its refusal and its count fit the number that an exported call answers, and a new end has its
+-- What every answer of the structs has: its refusal and its report fit the number that an exported call answers, and a new end has its
 -- lengths.
-use Prim.Native.Nat.{ℕ, _-_, _<_}
+use Prim.Native.Nat.{ℕ, _+_, _≤_, _<_}
 use native.Mathlib.Omega.{arith}
-use mathlib.Core.Path.{_≡_, sym, subst}
-use mathlib.Core.Bool.{Bool, true, false, cond}
+use mathlib.Core.Path.{_≡_, refl, sym, subst}
+use mathlib.Core.Bool.{Bool, true, false, _&&_, cond}
 use mathlib.Core.List.{List, [], _∷_}
-use lib.Dec.{eqb}
+use lib.Dec.{eqb, leb}
+use lib.ListN.{length}
 use borrow.Author.Tests.{eq-eqb, leb-true}
-use Rattle.ot.specs.Edit.{Edit, Nothing, Delete, Insert}
+use Rattle.ot.specs.Form.{positionOf}
+use Rattle.ot.specs.Edit.{Edit, Nothing, Delete, Insert, fits}
+use Rattle.list.specs.Places.{initialPlaces}
 use Rattle.wire.specs.declared.Header.{Header}
 use Rattle.wire.specs.declared.Message.{Message}
 use Rattle.wire.specs.declared.Message.the-variants as message
 use Rattle.wire.specs.declared.Read.{Read}
 use Rattle.wire.specs.declared.Read.the-variants as read
+use Rattle.wire.specs.Message.{inRange}
 use Rattle.wire.specs.Bytes.{bytesOf, parsed}
+use Rattle.wire.proofs.Codec.{codec}
 use Rattle.model.specs.Cross.{priority}
-use Rattle.model.specs.Questions.{Question, ask, asks, between, Answer, answer, Sent, sent}
+use Rattle.model.specs.Questions.{Question, ask, asks, between, Report, noReport, Answer, answer, Sent, sent}
 use Rattle.model.specs.Ranks.{rankOf}
-use Rattle.model.specs.Line.{noLine}
+use Rattle.model.specs.Line.{noLine, carried, positionAt, lineReport}
 use Rattle.model.specs.Claim.{Back}
 use Rattle.model.specs.Client as model
 use Rattle.model.specs.Server as models
-use Rattle.model.proofs.Tests.{yes-all, between-true, three}
+use Rattle.model.proofs.Tests.{and-right, yes-all, between-true, four}
 use Rattle.model.proofs.Outcome as outcomes
 use Rattle.model.proofs.Outcome.{Outcome, outcome, Posted, posted}
+use Rattle.model.proofs.Sound.{three}
 use Rattle.model.proofs.SoundClient.{client-facts}
 use Rattle.model.proofs.SoundServer.{server-facts, line-fact}
+use Rattle.line.specs.Taking.{arrivalOf}
+use Rattle.line.proofs.Decisions.{arrival-position}
 use Rattle.c_layout.proofs.Called.{sent-few}
 use Rattle.convergence.proofs.Stored.{Stored, Alone, given, answer-either, sending-either, answer-back, sending-alone}
-use Rattle.convergence.proofs.Unpack.{Form, Little, Fits, Changing, Sending}
+use Rattle.convergence.proofs.Unpack.{Form, Narrow, Little, Fits, Changing, Sending}
 
 -- ---- questions have small numbers
 
@@ -45,14 +53,17 @@ asks-small (q ∷ qs) h = go (q .yes) (asks-small qs (h .1))
     go false k = h .0
 
 abbrev pub Small : {E : Type 0} → Answer E → Type 0
-Small a = (a .refusal < 256) × (a .passed < 65536)
+Small a = (a .refusal < 256) × Narrow (a .report)
 
--- an answer whose count is small where nothing was refused
-answer-small : {E : Type 0} (qs : List Question) (old new : E) (k : ℕ) → Numbers qs → (asks qs ≡ 0 → k < 65536) → Small (answer (asks qs) old new k)
+nothing-narrow : Narrow noReport
+nothing-narrow = record { passed = omega arith; arrived = omega arith; applied = omega arith }
+
+-- an answer whose report is narrow where nothing was refused
+answer-small : {E : Type 0} (qs : List Question) (old new : E) (k : Report) → Numbers qs → (asks qs ≡ 0 → Narrow k) → Small (answer (asks qs) old new k)
 answer-small {E} qs old new k h few = go (answer (asks qs) old new k) (outcome (asks qs) old new k)
   where
     go : (a : Answer E) → Outcome (asks qs) old new k a → Small a
-    go a (outcomes.Outcome.no d) = (asks-small qs h, omega arith)
+    go a (outcomes.Outcome.no d) = (asks-small qs h, nothing-narrow)
     go a (outcomes.Outcome.yes e) = (omega arith, few e)
 
 sent-little : (qs : List Question) (m : Message) (lent : List ℕ) → Numbers qs → Little (sent (asks qs) (bytesOf m) lent)
@@ -63,38 +74,58 @@ sent-little qs m lent h =
     go a (outcomes.Posted.no d) = asks-small qs h
     go a (outcomes.Posted.yes e) = omega arith
 
+-- ---- an edit's positions
+
+-- where it arrived, of a message that was read
+arrived-low : (m : Message) → inRange m ≡ true → positionOf (arrivalOf m .form) < 65536
+arrived-low m t = omega (arith, arrival-position m t)
+
+-- where it is applied, on a list that it fits
+applied-low : (e : Edit) (n : ℕ) → n < 65535 → fits e n ≡ true → positionAt e < 65536
+unfolding fits
+applied-low Nothing n h t = omega arith
+applied-low (Delete p) n h t = omega (arith, leb-true p n (and-right (leb 1 p) (leb p n) t))
+applied-low (Insert p x r) n h t = omega (arith, leb-true p (n + 1) (and-right (leb 1 p) (leb p (n + 1)) t))
+
+-- question 9 said yes
+taken-low : (e : Edit) (n : ℕ) (placed short : Bool) → n ≤ 512 → (fits e n && placed && short) ≡ true → positionAt e < 65536
+taken-low e n placed short few t = applied-low e n (omega arith) (three (fits e n) placed short t .0)
+
 -- ---- the client's answers
 
 pub edit-small : (m : model.Client) (e : Edit) → Small (model.editClient m e)
 unfolding model.editClient
-edit-small m e = answer-small (model.editQuestions m e) m (model.edited m e) 0 (omega arith) (λ z. omega arith)
+edit-small m e = answer-small (model.editQuestions m e) m (model.edited m e) noReport (omega arith) (λ z. nothing-narrow)
 
-client-takes-edit : (m : model.Client) (h : Header) (e : Edit) → Small (model.clientTakesEdit m h e)
+client-takes-edit : (m : model.Client) (h : Header) (e : Edit) → positionAt e < 65536 → Small (model.clientTakesEdit m h e)
 unfolding model.clientTakesEdit
-client-takes-edit m h e =
-    answer-small (model.clientEditQuestions m h e) m (model.clientTaken m (h .seen) e) (m .own .made - h .seen) (omega arith)
-    (λ z. omega (arith, client-facts m (yes-all (model.clientEditQuestions m h e) (omega arith) z .0) .own .edits))
+client-takes-edit m h e low =
+    answer-small (model.clientEditQuestions m h e) m (model.clientTaken m (h .origin) (h .seen) e) (lineReport (m .own) (h .seen) e) (omega arith)
+    (λ z.
+    let y = yes-all (model.clientEditQuestions m h e) (omega arith) z in
+    let facts = client-facts m (y .0) in
+    record { passed = omega (arith, facts .own .edits); arrived = low; applied = taken-low (carried (m .own) (h .seen) e) (length (m .items)) _ _ (facts .items) (y .1 .1 .1 .1 .1 .1 .0) })
 
 client-takes-ack : (m : model.Client) (l d s : ℕ) → Small (model.clientTakesAck m l d s)
 unfolding model.clientTakesAck
-client-takes-ack m l d s = answer-small (model.clientAckQuestions m l d s) m (model.clientAcked m s) 0 (omega arith) (λ z. omega arith)
+client-takes-ack m l d s = answer-small (model.clientAckQuestions m l d s) m (model.clientAcked m s) noReport (omega arith) (λ z. nothing-narrow)
 
-client-reads : (m : model.Client) (r : Read) → Small (model.clientReads m r)
-client-reads m read.Refused = answer-small (ask 2 (model.soundClient m) ∷ ask 3 false ∷ []) m m 0 (omega arith) (λ z. omega arith)
-client-reads m (read.Message (message.Insert h p x q)) = client-takes-edit m h (Insert p x q)
-client-reads m (read.Message (message.Delete h p)) = client-takes-edit m h (Delete p)
-client-reads m (read.Message (message.Nothing h)) = client-takes-edit m h Nothing
-client-reads m (read.Message (message.Ack l d s)) = client-takes-ack m l d s
+client-reads : (m : model.Client) (r : Read) → ((x : Message) → r ≡ read.Message x → inRange x ≡ true) → Small (model.clientReads m r)
+client-reads m read.Refused t = answer-small (ask 2 (model.soundClient m) ∷ ask 3 false ∷ []) m m noReport (omega arith) (λ z. nothing-narrow)
+client-reads m (read.Message (message.Insert h p x q)) t = client-takes-edit m h (Insert p x q) (arrived-low (message.Insert h p x q) (t (message.Insert h p x q) refl))
+client-reads m (read.Message (message.Delete h p)) t = client-takes-edit m h (Delete p) (arrived-low (message.Delete h p) (t (message.Delete h p) refl))
+client-reads m (read.Message (message.Nothing h)) t = client-takes-edit m h Nothing (arrived-low (message.Nothing h) (t (message.Nothing h) refl))
+client-reads m (read.Message (message.Ack l d s)) t = client-takes-ack m l d s
 
 pub client-take-small : (m : model.Client) (bytes : List ℕ) → Small (model.takeClient m bytes)
 unfolding model.takeClient
-client-take-small m bytes = client-reads m (parsed bytes)
+client-take-small m bytes = client-reads m (parsed bytes) (codec .read-in-range bytes)
 
 pub client-open-small : (n l : ℕ) (ranks items : List ℕ) → Small (model.openClient n l ranks items)
 unfolding model.openClient
 client-open-small n l ranks items =
-    answer-small (model.openClientQuestions n l ranks items) model.noClient (record { n = n; line = l; ranks = ranks; items = items; own = noLine }) 0
-    (omega arith) (λ z. omega arith)
+    answer-small (model.openClientQuestions n l ranks items) model.noClient (record { n = n; line = l; ranks = ranks; items = initialPlaces items; own = noLine }) noReport
+    (omega arith) (λ z. nothing-narrow)
 
 pub client-send-little : (m : model.Client) (l number : ℕ) (lent : List ℕ) → Little (model.sendClient m l number lent)
 unfolding model.sendClient
@@ -106,34 +137,41 @@ client-tell-little m l lent = sent-little (model.tellClientQuestions m l lent) (
 
 -- ---- the server's answers
 
-server-takes-edit : (m : models.Server) (h : Header) (e : Edit) → Small (models.serverTakesEdit m h e)
+server-takes-edit : (m : models.Server) (h : Header) (e : Edit) → positionAt e < 65536 → Small (models.serverTakesEdit m h e)
 unfolding models.serverTakesEdit
-server-takes-edit m h e =
-    answer-small (models.serverEditQuestions m h e) m (models.serverTaken m (h .line) (h .seen) e) (models.lineOf m (h .line) .made - h .seen) (omega arith)
+server-takes-edit m h e low =
+    answer-small (models.serverEditQuestions m h e) m (models.serverTaken m (h .line) (h .origin) (h .seen) e) (lineReport (models.lineOf m (h .line)) (h .seen) e)
+    (omega arith)
     (λ z.
     let y = yes-all (models.serverEditQuestions m h e) (omega arith) z in
-    let on = between-true 1 (m .n) (h .line) (three (eqb (h .direction) 0) (between 1 (m .n) (h .line)) (priority (eqb (rankOf (m .ranks) (h .line))) e) (y .1 .0) .1) in
-    let low = leb-true (models.lineOf m (h .line) .acked) (h .seen) (y .1 .1 .1 .1 .0) in
-    omega (arith, low, line-fact m (server-facts m (y .0)) (h .line) (on .0) (on .1) .line .room))
+    let asked = four (eqb (h .direction) 0) (between 1 (m .n) (h .line)) (priority (eqb (rankOf (m .ranks) (h .line))) e) (models.ownOrigin h) (y .1 .0) in
+    let on = between-true 1 (m .n) (h .line) (asked .1) in
+    let seen = leb-true (models.lineOf m (h .line) .acked) (h .seen) (y .1 .1 .1 .1 .0) in
+    let facts = server-facts m (y .0) in
+    record {
+      passed = omega (arith, seen, line-fact m facts (h .line) (on .0) (on .1) .line .room);
+      arrived = low;
+      applied = taken-low (carried (models.lineOf m (h .line)) (h .seen) e) (length (m .items)) _ _ (facts .items) (y .1 .1 .1 .1 .1 .1 .0);
+    })
 
 server-takes-ack : (m : models.Server) (l d s : ℕ) → Small (models.serverTakesAck m l d s)
 unfolding models.serverTakesAck
-server-takes-ack m l d s = answer-small (models.serverAckQuestions m l d s) m (models.serverAcked m l s) 0 (omega arith) (λ z. omega arith)
+server-takes-ack m l d s = answer-small (models.serverAckQuestions m l d s) m (models.serverAcked m l s) noReport (omega arith) (λ z. nothing-narrow)
 
-server-reads : (m : models.Server) (r : Read) → Small (models.serverReads m r)
-server-reads m read.Refused = answer-small (ask 2 (models.soundServer m) ∷ ask 3 false ∷ []) m m 0 (omega arith) (λ z. omega arith)
-server-reads m (read.Message (message.Insert h p x q)) = server-takes-edit m h (Insert p x q)
-server-reads m (read.Message (message.Delete h p)) = server-takes-edit m h (Delete p)
-server-reads m (read.Message (message.Nothing h)) = server-takes-edit m h Nothing
-server-reads m (read.Message (message.Ack l d s)) = server-takes-ack m l d s
+server-reads : (m : models.Server) (r : Read) → ((x : Message) → r ≡ read.Message x → inRange x ≡ true) → Small (models.serverReads m r)
+server-reads m read.Refused t = answer-small (ask 2 (models.soundServer m) ∷ ask 3 false ∷ []) m m noReport (omega arith) (λ z. nothing-narrow)
+server-reads m (read.Message (message.Insert h p x q)) t = server-takes-edit m h (Insert p x q) (arrived-low (message.Insert h p x q) (t (message.Insert h p x q) refl))
+server-reads m (read.Message (message.Delete h p)) t = server-takes-edit m h (Delete p) (arrived-low (message.Delete h p) (t (message.Delete h p) refl))
+server-reads m (read.Message (message.Nothing h)) t = server-takes-edit m h Nothing (arrived-low (message.Nothing h) (t (message.Nothing h) refl))
+server-reads m (read.Message (message.Ack l d s)) t = server-takes-ack m l d s
 
 pub server-take-small : (m : models.Server) (bytes : List ℕ) → Small (models.takeServer m bytes)
 unfolding models.takeServer
-server-take-small m bytes = server-reads m (parsed bytes)
+server-take-small m bytes = server-reads m (parsed bytes) (codec .read-in-range bytes)
 
 pub server-open-small : (n : ℕ) (ranks items : List ℕ) → Small (models.openServer n ranks items)
 unfolding models.openServer
-server-open-small n ranks items = answer-small (models.openServerQuestions n ranks items) models.noServer _ 0 (omega arith) (λ z. omega arith)
+server-open-small n ranks items = answer-small (models.openServerQuestions n ranks items) models.noServer _ noReport (omega arith) (λ z. nothing-narrow)
 
 pub server-send-little : (m : models.Server) (l number : ℕ) (lent : List ℕ) → Little (models.sendServer m l number lent)
 unfolding models.sendServer
@@ -150,14 +188,14 @@ module _ {E M : Type 0} (k : Stored E M) (form : Form E) (stored-whole : (m : M)
   given-fits e a h s =
       record {
         refusal = h .0;
-        passed = h .1;
+        report = h .1;
         whole = λ z. subst (λ (t : Bool). form .Whole (cond t (k .store (a .end)) e)) (sym (eq-eqb (a .refusal) 0 z)) (stored-whole (a .end) (s z));
       }
 
   answer-fits : (e : E) (a : Answer M) → Small a → (k .soundEnd (k .view e) ≡ true → k .soundEnd (a .end) ≡ true) → Fits (form .Whole) (k .answer e a)
   answer-fits e a h s =
       answer-either k (Fits (form .Whole)) e a (λ t. given-fits e a h (λ z. s (k .sound-view e t)))
-      (record { refusal = omega arith; passed = omega arith; whole = λ z. absurd (omega arith) })
+      (record { refusal = omega arith; report = nothing-narrow; whole = λ z. absurd (omega arith) })
 
   pub changing : (call : M → Answer M) → ((m : M) → Small (call m)) → ((m : M) → Back m (call m))
       → ((m : M) → k .soundEnd m ≡ true → k .soundEnd (call m .end) ≡ true) → Changing form (λ e. k .answer e (call (k .view e)))

@@ -6,17 +6,17 @@ use mathlib.Core.List.{List}
 use Prim.Native.Nat.{ℕ}
 use lib.Dec.{eqb}
 use borrow.Author.Tests.{eqb-false, eq-eqb, ne-eqb}
-use Rattle.model.specs.Questions.{Answer, Sent}
+use Rattle.model.specs.Questions.{noReport, Answer, Sent}
 use Rattle.model.specs.Claim.{Back, Unwritten, PastStays}
 use Rattle.convergence.proofs.Carry.{Alike}
 
 -- the model's answer in structs: on a refusal the end is the one that came
 abbrev pub given : {E M : Type 0} → (M → E) → E → Answer M → Answer E
-given store e a = record { refusal = a .refusal; end = cond (eqb (a .refusal) 0) (store (a .end)) e; passed = a .passed }
+given store e a = record { refusal = a .refusal; end = cond (eqb (a .refusal) 0) (store (a .end)) e; report = a .report }
 
 -- question 2 said no
 abbrev pub unsound : {E : Type 0} → E → Answer E
-unsound e = record { refusal = 2; end = e; passed = 0 }
+unsound e = record { refusal = 2; end = e; report = noReport }
 
 abbrev pub unsent : List ℕ → Sent
 unsent lent = record { refusal = 2; written = 0; buffer = lent }
@@ -79,7 +79,7 @@ module _ {E M : Type 0} (k : Stored E M) where
       → Alike Stands (k .answer e (call (k .view e))) (call m)
   alike e m r call h t =
       subst (λ (a : Answer E). Alike Stands a (call m)) (sym (ap (λ (y : E). k .answer y (call (k .view y))) (r .0) ∙ at-stored m (r .1) call))
-      (record { refusal = refl; passed = refl; ends = (stored-end m (call m) h, t) })
+      (record { refusal = refl; report = refl; ends = (stored-end m (call m) h, t) })
 
   pub sending-alike : (e : E) (m : M) → Stands e m → (call : M → Sent) (lent : List ℕ) → k .sending e (call (k .view e)) lent ≡ call m
   sending-alike e m r call lent =

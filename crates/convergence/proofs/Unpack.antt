@@ -7,8 +7,9 @@ use mathlib.Core.List.{List, _++_}
 use lib.Dec.{eqb, ltb}
 use lib.ListN.{length, drop, length-append}
 use borrow.Author.Tests.{eq-eqb, ne-eqb, eqb-true, eqb-false, le-ltb}
-use Rattle.model.specs.Questions.{Answer, Sent}
+use Rattle.model.specs.Questions.{Report, Answer, Sent}
 use Rattle.model.specs.Claim.{Back}
+use Rattle.line.specs.Taking.{reportIn}
 use Rattle.c_layout.specs.Called.{Called, called, laidOut, changing, opening, sending}
 use Rattle.c_layout.specs.Words.{itemsOf}
 use Rattle.c_layout.specs.ItemBytes.{itemBytes}
@@ -29,10 +30,15 @@ pub record Form (E : Type 0) : Type 1 where
 
 -- ---- what is asked of the struct's calls
 
--- an answer fits its number, and its new end is whole
+-- an answer fits its number, its report in 16 bits a number, and its new end is whole
+pub record Narrow (k : Report) : Type 0 where
+  pub passed : k .passed < 65536
+  pub arrived : k .arrived < 65536
+  pub applied : k .applied < 65536
+
 pub record Fits {E : Type 0} (Whole : E → Type 0) (a : Answer E) : Type 0 where
   pub refusal : a .refusal < 256
-  pub passed : a .passed < 65536
+  pub report : Narrow (a .report)
   pub whole : a .refusal ≡ 0 → Whole (a .end)
 
 pub record Little (s : Sent) : Type 0 where
@@ -55,7 +61,7 @@ module _ {E : Type 0} (form : Form E) where
   -- ---- calls that may change their end
 
   abbrev packedAnswer : Answer E → List ℕ → Called
-  packedAnswer a b = changing (form .size) (a .refusal) (a .passed) (form .write (a .end)) b
+  packedAnswer a b = changing (form .size) (a .refusal) (reportIn (a .report)) (form .write (a .end)) b
 
   -- its bytes, accepted or not
   abbrev after : Bool → E → List ℕ → List ℕ
@@ -63,10 +69,16 @@ module _ {E : Type 0} (form : Form E) where
 
   module _ (a : Answer E) (b : List ℕ) (f : Fits (form .Whole) a) where
     pub same-refusal : answerOf (packedAnswer a b) .refusal ≡ a .refusal
-    same-refusal = unpacks (a .refusal) (a .passed) (f .refusal) (f .passed) .0
+    same-refusal = unpacks .refusal (a .refusal) (reportIn (a .report)) (f .refusal)
 
-    same-passed : answerOf (packedAnswer a b) .passed ≡ a .passed
-    same-passed = unpacks (a .refusal) (a .passed) (f .refusal) (f .passed) .1
+    same-report : answerOf (packedAnswer a b) .report ≡ a .report
+    same-report =
+        let k = reportIn (a .report) in
+        let n = f .report in
+        let passed = unpacks .count (a .refusal) k (f .refusal) (n .passed) in
+        let arrived = unpacks .arrived (a .refusal) k (f .refusal) (n .passed) (n .arrived) in
+        let applied = unpacks .applied (a .refusal) k (f .refusal) (n .passed) (n .arrived) (n .applied) in
+        λ i. record { passed = passed i; arrived = arrived i; applied = applied i }
 
     pub accepted : a .refusal ≡ 0 → Are (packedAnswer a b .bytes) (a .end)
     accepted z =
@@ -74,7 +86,7 @@ module _ {E : Type 0} (form : Form E) where
         (form .read-back (a .end) (drop (form .size) b) (f .whole z), simp length-append (omega (arith, form .long (a .end) (f .whole z))))
 
     same-answer : (e : E) → Back e a → Are b e → Alike Are (answerOf (packedAnswer a b)) a
-    same-answer e k r = record { refusal = same-refusal; passed = same-passed; ends = go (eqb (a .refusal) 0) refl }
+    same-answer e k r = record { refusal = same-refusal; report = same-report; ends = go (eqb (a .refusal) 0) refl }
       where
         go : (t : Bool) → eqb (a .refusal) 0 ≡ t → Are (packedAnswer a b .bytes) (a .end)
         go true p = accepted (eqb-true (a .refusal) 0 p)
@@ -83,7 +95,7 @@ module _ {E : Type 0} (form : Form E) where
     answer-back : (e : E) → Back e a → Back b (answerOf (packedAnswer a b))
     answer-back e k h =
         let n : a .refusal ≡ 0 → ⊥ = λ z. h (same-refusal ∙ z) in
-        (ap (λ (t : Bool). after t (a .end) b) (ne-eqb (a .refusal) 0 n), same-passed ∙ k n .1)
+        (ap (λ (t : Bool). after t (a .end) b) (ne-eqb (a .refusal) 0 n), same-report ∙ k n .1)
 
   -- question 18, then the call of the end that the bytes are
   module _ (call : E → Answer E) (c : Changing call) (b : List ℕ) where
@@ -126,7 +138,7 @@ module _ {E : Type 0} (form : Form E) where
 
   same-sent : (s : Sent) → Little s → sentOf (sending s) ≡ s
   same-sent s h =
-      let u = unpacks (s .refusal) (s .written) (h .refusal) (h .written) in
+      let u = unpacks .sent (s .refusal) (s .written) (h .refusal) (h .written) in
       λ i. record { refusal = u .0 i; written = u .1 i; buffer = s .buffer }
 
   module _ (out : List ℕ) (call : E → Sent) (c : Sending out call) (b : List ℕ) where

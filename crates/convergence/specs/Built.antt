@@ -3,15 +3,15 @@ use Prim.Native.Nat.{ℕ, _-_}
 use mathlib.Core.Path.{_≡_}
 use mathlib.Core.Bool.{true}
 use mathlib.Core.List.{List}
-use lib.ListN.{take}
-use Rattle.model.specs.Questions.{Answer}
+use Rattle.model.specs.Questions.{Answer, Report}
 use Rattle.model.specs.Sheet.{Sheet}
 use Rattle.model.specs.SheetOf as sheets
 use Rattle.model.specs.SheetOf.{ClientCalls, ServerCalls, End, answerAs, sheetOf}
 use Rattle.model.specs.Run.{areBytes}
 use Rattle.model.specs.Claim.{Opened, Converges}
-use Rattle.model.specs.Consequences.{Consistent, TakingRefusals, Agree}
+use Rattle.model.specs.Consequences.{Consistent, OneOrder, TakingRefusals, Agree}
 use Rattle.model.specs.Ours.{ours}
+use Rattle.line.specs.declared.taking.Report as lines
 use Rattle.client.specs.declared.Client.{Client}
 use Rattle.client.specs.declared.Answer as clients
 use Rattle.client.specs.View as clientView
@@ -21,18 +21,22 @@ use Rattle.server.specs.declared.Answer as servers
 use Rattle.server.specs.View as serverView
 use Rattle.server.specs.Answers as server
 
+-- the report of a method as the model's
+abbrev pub reportOf : lines.Report → Report
+reportOf k = record { passed = k .passed; arrived = k .arrived; applied = k .applied }
+
 abbrev pub clientAnswer : clients.Answer → Answer Client
-clientAnswer a = record { refusal = a .refusal; end = a .client; passed = a .passed }
+clientAnswer a = record { refusal = a .refusal; end = a .client; report = reportOf (a .report) }
 
 abbrev pub serverAnswer : servers.Answer → Answer Server
-serverAnswer a = record { refusal = a .refusal; end = a .server; passed = a .passed }
+serverAnswer a = record { refusal = a .refusal; end = a .server; report = reportOf (a .report) }
 
 -- Lists and counts are read off the structs.
 abbrev pub clientCalls : ClientCalls
 clientCalls =
     record {
       Client = Client;
-      items = λ c. take (c .counts .len) (clientView.itemsIn (c .words));
+      items = λ c. clientView.listIn (c .counts .len) (c .words);
       made = λ c. c .counts .own .made;
       taken = λ c. c .counts .own .taken;
       opens = λ n l ranks items. clientAnswer (client.opened n l ranks items);
@@ -47,7 +51,7 @@ abbrev pub serverCalls : ServerCalls
 serverCalls =
     record {
       Server = Server;
-      items = λ s. take (s .counts .len) (serverView.itemsIn (s .words));
+      items = λ s. serverView.listIn (s .counts .len) (s .words);
       made = λ s l. serverView.countsAt (s .counts) (l - 1) .made;
       taken = λ s l. serverView.countsAt (s .counts) (l - 1) .taken;
       opens = λ n ranks items. serverAnswer (server.opened n ranks items);
@@ -85,6 +89,7 @@ pub record Carried (S T : Sheet) : Type 0 where
   pub claimed : Converges S
   pub ranks : RanksAreBytes S
   pub consistent : Consistent S
+  pub order : OneOrder S
   pub refusals : TakingRefusals S
   pub agree : Agree S T
 

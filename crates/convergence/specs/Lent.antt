@@ -1,11 +1,11 @@
 -- The sheet of the exported calls: an end is the bytes that were lent for it, as the last call on that end left them.
-use Prim.Native.Nat.{ℕ, _/_, _%_, _≤_}
+use Prim.Native.Nat.{ℕ, _≤_}
 use mathlib.Core.List.{List}
 use lib.ListN.{length}
 use Rattle.model.specs.Questions.{Answer, Sent}
 use Rattle.model.specs.Sheet.{Sheet}
 use Rattle.model.specs.SheetOf.{ClientCalls, ServerCalls, sheetOf}
-use Rattle.c_layout.specs.Called.{Called}
+use Rattle.c_layout.specs.Called.{Called, refusalOf, countOf, arrivedOf, appliedOf}
 use Rattle.c_layout.specs.ItemBytes.{itemBytes}
 use Rattle.c_client.specs.Layout as clients
 use Rattle.c_client.specs.Calls as client
@@ -13,18 +13,17 @@ use Rattle.c_server.specs.Layout as servers
 use Rattle.c_server.specs.Calls as server
 use Rattle.convergence.specs.Built.{clientCalls, serverCalls, built, Carried}
 
--- An answer, taken apart: the refusal in bits 0 to 7, the count or length in bits 8 to 23.
-abbrev pub refusalOf : Called → ℕ
-refusalOf k = k .answer % 256
-
-abbrev pub countOf : Called → ℕ
-countOf k = k .answer / 256 % 65536
-
+-- An answer, taken apart.
 abbrev pub answerOf : Called → Answer (List ℕ)
-answerOf k = record { refusal = refusalOf k; end = k .bytes; passed = countOf k }
+answerOf k =
+    record {
+      refusal = refusalOf (k .answer);
+      end = k .bytes;
+      report = record { passed = countOf (k .answer); arrived = arrivedOf (k .answer); applied = appliedOf (k .answer) };
+    }
 
 abbrev pub sentOf : Called → Sent
-sentOf k = record { refusal = refusalOf k; written = countOf k; buffer = k .bytes }
+sentOf k = record { refusal = refusalOf (k .answer); written = countOf (k .answer); buffer = k .bytes }
 
 -- An opening gets the bytes lent for its line, a byte for each rank and four for each item. Lists and counts are those of the end that the
 -- bytes are.

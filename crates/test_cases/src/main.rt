@@ -2,6 +2,7 @@
 // priority; a message as its bytes, written and read again.
 ghost use Prim.Native.Nat.{_<_};
 ghost use Rattle.ot.specs.Form.{positionOf};
+use list::Origin;
 use ot::Form;
 use wire::Header;
 use wire::Message;
@@ -44,7 +45,8 @@ fn case(n: u64, a: Form, x: u32, b: Form)
     requires { ⌜ positionOf a < 65535 ⌝ }
 {
     label(n);
-    edit(ot::transform(a, b), x);
+    let form = ot::transform(a, b).form;
+    edit(form, x);
 }
 
 fn bytes(s: &[u8]) {
@@ -65,13 +67,15 @@ fn message(n: u64, s: &[u8]) {
 }
 
 fn insert_message() {
+    let origin = Origin { line: 1, number: 1 };
     let h = Header {
         line: 1,
         direction: 0,
         number: 1,
         seen: 0,
+        origin,
     };
-    let mut out = [0u8; 14];
+    let mut out = [0u8; 17];
     wire_write::write(Message::Insert(h, 1, 30, 1), &mut out);
     message(9, &out);
 }

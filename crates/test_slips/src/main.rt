@@ -1,5 +1,5 @@
-// The slips at the bench and the edges of seen, by the ends that run. A script of the run program sends every message fresh, so that it reaches
-// none of them. Each line is what calls answered: a refusal's number or 0, and where it says so a count.
+// The slips at the bench, and the edges of seen and of origins, by the ends that run. A script of the run program sends every message fresh, so that it
+// reaches none of them. Each line is what calls answered: a refusal's number or 0, and where it says so a count.
 ghost use mathlib.Core.Path.{_≡_};
 ghost use mathlib.Core.List.{[], _∷_};
 ghost use Rattle.client.specs.Answers.{taken};
@@ -27,9 +27,35 @@ fn count(x: u16) {
 
 // Client 1 takes an insert of client 2 at the front.
 fn take_insert(c: Client, number: u8, seen: u8) -> client::Answer
-    ensures { λ r. ⌜ r ≡ taken c (1 ∷ 1 ∷ 1 ∷ 0 ∷ number ∷ 0 ∷ seen ∷ 0 ∷ 1 ∷ 0 ∷ 0 ∷ 0 ∷ 9 ∷ 2 ∷ []) ⌝ }
+    ensures { λ r. ⌜ r ≡ taken c (5 ∷ 1 ∷ 1 ∷ 0 ∷ number ∷ 0 ∷ seen ∷ 0 ∷ 1 ∷ 0 ∷ 0 ∷ 0 ∷ 9 ∷ 2 ∷ 2 ∷ 0 ∷ number ∷ []) ⌝ }
 {
-    let m = [1u8, 1, 1, 0, number, 0, seen, 0, 1, 0, 0, 0, 9, 2];
+    let m = [
+        5u8,
+        1,
+        1,
+        0,
+        number,
+        0,
+        seen,
+        0,
+        1,
+        0,
+        0,
+        0,
+        9,
+        2,
+        2,
+        0,
+        number,
+    ];
+    c.take(&m)
+}
+
+// The next message on its line, a delete: made on that line, with that number in two bytes.
+fn take_delete(c: Client, maker: u8, high: u8, low: u8) -> client::Answer
+    ensures { λ r. ⌜ r ≡ taken c (7 ∷ 1 ∷ 1 ∷ 0 ∷ 1 ∷ 0 ∷ 0 ∷ 0 ∷ 1 ∷ maker ∷ high ∷ low ∷ []) ⌝ }
+{
+    let m = [7u8, 1, 1, 0, 1, 0, 0, 0, 1, maker, high, low];
     c.take(&m)
 }
 
@@ -47,7 +73,7 @@ fn refusal(a: client::Answer) {
 
 // Sending an edit is not refused while it is pending.
 fn send(c: Client, number: u16) {
-    let mut m = [0u8; 14];
+    let mut m = [0u8; 17];
     let s = c.send(1, number, &mut m);
     byte(s.refusal);
 }
@@ -99,12 +125,12 @@ fn overtaken(c: Client) {
 fn kept(c: Client) {
     io::write_all(1, b"kept");
     let a = take_insert(c, 1, 0);
-    number(a.passed as u64);
+    number(a.report.passed as u64);
     let d = a.client;
     item(d.words[0]);
     item(d.words[1]);
     item(d.words[2]);
-    let mut m = [0u8; 14];
+    let mut m = [0u8; 17];
     d.send(1, 1, &mut m);
     byte(m[8]);
     d.send(1, 2, &mut m);
@@ -112,24 +138,67 @@ fn kept(c: Client) {
     io::write_all(1, b"\n");
 }
 
-// Both clients delete the one item. The second delete becomes nothing, and still has its number.
+// The same list's origins: edit 1 of client 2, the opening item, and edits 1 and 2 of client 1.
+fn origins(c: Client) {
+    io::write_all(1, b"origins");
+    let a = take_insert(c, 1, 0);
+    let d = a.client;
+    item(d.words[640]);
+    item(d.words[641]);
+    item(d.words[642]);
+    item(d.words[643]);
+    io::write_all(1, b"\n");
+}
+
+// Coming down, the maker is the other of two lines: not the client's own, and none that the sheet has not. Line and number in their ranges.
+fn makers(c: Client) {
+    io::write_all(1, b"makers");
+    refusal(take_delete(c, 2, 0, 1));
+    refusal(take_delete(c, 1, 0, 1));
+    refusal(take_delete(c, 3, 0, 1));
+    refusal(take_delete(c, 0, 0, 1));
+    refusal(take_delete(c, 9, 0, 1));
+    refusal(take_delete(c, 2, 0, 0));
+    refusal(take_delete(c, 2, 1, 144));
+    refusal(take_delete(c, 2, 1, 145));
+    io::write_all(1, b"\n");
+}
+
+// Going up, the maker is the message's own line and number. The kind without an origin is no message any more.
+fn makers_up() {
+    io::write_all(1, b"makers up");
+    let items = [10u32];
+    let a = Server::open(2, &[1u8, 2], &items);
+    let s = a.server;
+    let b = s.take(&[7u8, 1, 0, 0, 1, 0, 0, 0, 1, 2, 0, 1]);
+    number(b.refusal as u64);
+    let d = s.take(&[7u8, 1, 0, 0, 1, 0, 0, 0, 1, 1, 0, 2]);
+    number(d.refusal as u64);
+    let e = s.take(&[2u8, 1, 0, 0, 1, 0, 0, 0, 1]);
+    number(e.refusal as u64);
+    io::write_all(1, b"\n");
+}
+
+// Both clients delete the one item. The second delete becomes nothing, and still has its number and its origin.
 fn nothing() {
     io::write_all(1, b"nothing");
     let items = [10u32];
     let a = Server::open(2, &[1u8, 2], &items);
     let s = a.server;
-    let b = s.take(&[2u8, 1, 0, 0, 1, 0, 0, 0, 1]);
+    let b = s.take(&[7u8, 1, 0, 0, 1, 0, 0, 0, 1, 1, 0, 1]);
     number(b.refusal as u64);
     let t = b.server;
-    let d = t.take(&[2u8, 2, 0, 0, 1, 0, 0, 0, 1]);
+    let d = t.take(&[7u8, 2, 0, 0, 1, 0, 0, 0, 1, 2, 0, 1]);
     number(d.refusal as u64);
-    number(d.passed as u64);
+    number(d.report.passed as u64);
     let u = d.server;
-    let mut m = [0u8; 14];
+    let mut m = [0u8; 17];
     let e = u.send(1, 1, &mut m);
     number(e.refusal as u64);
     byte(m[0]);
     byte(m[4]);
+    byte(m[7]);
+    byte(m[9]);
     io::write_all(1, b"\n");
 }
 
@@ -203,6 +272,9 @@ fn main() {
     let d = a.client.insert(2, 20);
     let e = d.client.insert(3, 30);
     kept(e.client);
+    origins(e.client);
+    makers(e.client);
+    makers_up();
     nothing();
     refused_client();
     refused_server();

@@ -2,7 +2,7 @@
 use Prim.Native.Nat.{ℕ}
 use mathlib.Core.List.{List, [], _∷_}
 use lib.ListN.{take, replicate}
-use Rattle.c_layout.specs.Called.{packed}
+use Rattle.c_layout.specs.Called.{packedReport}
 use Rattle.client.specs.declared.Client.{Client}
 use Rattle.client.specs.declared.Answer as clients
 use Rattle.client.specs.Answers as client
@@ -23,7 +23,7 @@ unfoldable pub serverWith : ℕ → Server
 serverWith count = server.opened 2 ranks (items count) .server
 
 abbrev pub clientAnswered : clients.Answer → ℕ
-clientAnswered a = packed (a .refusal) (a .passed)
+clientAnswered a = packedReport (a .refusal) (a .report)
 
 abbrev pub serverAnswered : servers.Answer → ℕ
-serverAnswered a = packed (a .refusal) (a .passed)
+serverAnswered a = packedReport (a .refusal) (a .report)

@@ -4,7 +4,7 @@ ghost use mathlib.Core.Path.{_≡_};
 ghost use Rattle.client.specs.Answers as client;
 ghost use Rattle.server.specs.Answers as server;
 ghost use Rattle.test_timing.specs.Opened.{clientWith, serverWith, clientAnswered, serverAnswered};
-use c_layout::answer;
+use c_layout::report;
 use client::Client;
 use server::Server;
 
@@ -36,7 +36,7 @@ pub extern "C" fn lub_time_client_insert(count: u8, position: u16, item: u32, ti
     loop {
         let a = c.insert(position, item);
         if times <= i {
-            return answer(a.refusal, a.passed);
+            return report(a.refusal, a.report);
         }
         i += 1;
     }
@@ -51,7 +51,7 @@ pub extern "C" fn lub_time_client_take(count: u8, message: &[u8], times: u32) ->
     loop {
         let a = c.take(message);
         if times <= i {
-            return answer(a.refusal, a.passed);
+            return report(a.refusal, a.report);
         }
         i += 1;
     }
@@ -66,7 +66,7 @@ pub extern "C" fn lub_time_server_take(count: u8, message: &[u8], times: u32) ->
     loop {
         let a = s.take(message);
         if times <= i {
-            return answer(a.refusal, a.passed);
+            return report(a.refusal, a.report);
         }
         i += 1;
     }

@@ -23,21 +23,21 @@ loop-holds c = omega arith
 insert-requires : tie.Need-insert-requires Inv-loop μ-loop
 insert-requires c κs = search needs
 
-answer-requires : tie.Need-answer-requires Inv-loop μ-loop
-answer-requires c κs = search needs
+report-requires : tie.Need-report-requires Inv-loop μ-loop
+report-requires c κs = search needs
 
-abbrev called : tie.After-answer Inv-loop μ-loop → tie.After-insert Inv-loop μ-loop
+abbrev called : tie.After-report Inv-loop μ-loop → tie.After-insert Inv-loop μ-loop
 called c = c .before .before
 
-abbrev opened : tie.After-answer Inv-loop μ-loop → tie.After-client-with Inv-loop μ-loop
+abbrev opened : tie.After-report Inv-loop μ-loop → tie.After-client-with Inv-loop μ-loop
 opened c = called c .before .before
 
-abbrev start : tie.After-answer Inv-loop μ-loop → tie.Start Inv-loop μ-loop
+abbrev start : tie.After-report Inv-loop μ-loop → tie.Start Inv-loop μ-loop
 start c = opened c .before
 
 returns : tie.Need-returns Inv-loop μ-loop
 returns c =
-    c .answer .ensures
+    c .report .ensures
     ∙ ap clientAnswered (called c .insert .ensures ∙ ap (λ (e : Client). inserted e (start c .args .position) (start c .args .item)) (opened c .client-with .ensures))
 
 add-i : tie.Need-add-i Inv-loop μ-loop
@@ -58,7 +58,7 @@ lub-time-client-insert-spec =
     client-with-requires
     loop-holds
     insert-requires
-    answer-requires
+    report-requires
     returns
     add-i
     loop-less

@@ -24,21 +24,21 @@ loop-holds c = omega arith
 take-requires : tie.Need-take-requires Inv-loop μ-loop
 take-requires c κs = search needs
 
-answer-requires : tie.Need-answer-requires Inv-loop μ-loop
-answer-requires c κs = search needs
+report-requires : tie.Need-report-requires Inv-loop μ-loop
+report-requires c κs = search needs
 
-abbrev called : tie.After-answer Inv-loop μ-loop → tie.After-take Inv-loop μ-loop
+abbrev called : tie.After-report Inv-loop μ-loop → tie.After-take Inv-loop μ-loop
 called c = c .before .before
 
-abbrev opened : tie.After-answer Inv-loop μ-loop → tie.After-client-with Inv-loop μ-loop
+abbrev opened : tie.After-report Inv-loop μ-loop → tie.After-client-with Inv-loop μ-loop
 opened c = called c .before .before
 
-abbrev start : tie.After-answer Inv-loop μ-loop → tie.Start Inv-loop μ-loop
+abbrev start : tie.After-report Inv-loop μ-loop → tie.Start Inv-loop μ-loop
 start c = opened c .before .before
 
 returns : tie.Need-returns Inv-loop μ-loop
 returns c =
-    c .answer .ensures
+    c .report .ensures
     ∙ ap clientAnswered (called c .take .ensures ∙ ap (λ (e : Client). taken e (now (start c .args .message))) (opened c .client-with .ensures))
 
 add-i : tie.Need-add-i Inv-loop μ-loop
@@ -59,7 +59,7 @@ lub-time-client-take-spec =
     client-with-requires
     loop-holds
     take-requires
-    answer-requires
+    report-requires
     returns
     add-i
     loop-less
