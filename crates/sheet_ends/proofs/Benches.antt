@@ -6,16 +6,15 @@ use mathlib.Core.List.{List, [], _∷_, map}
 use native.Mathlib.Omega.{arith}
 use borrow.Author.Tests.{leb-true}
 use lib.Dec.{leb, eqb}
-use lib.ListN.{length, getD, set, take, replicate, length-set}
+use lib.ListN.{length, getD, set, take, length-set}
 use Rattle.wire.specs.declared.Read.{Read}
 use Rattle.wire.specs.declared.Read.the-variants as read
 use Rattle.wire.specs.declared.Message.{Message}
 use Rattle.wire.specs.declared.Message.the-variants as message
 use Rattle.wire.specs.Bytes.{parsed}
-use Rattle.model.specs.Questions.{every, asks, between, Answer, answer, Sent}
+use Rattle.model.specs.Questions.{every, asks, between, Report, noReport, Answer, answer, Sent}
 use Rattle.model.specs.Ranks.{lineRanks}
 use Rattle.model.specs.Client.{Client, noClient, soundClient, insertClient, deleteClient, sendClient, tellClient, takeClient}
-use Rattle.model.specs.Line.{noLine}
 use Rattle.model.specs.Server.{Server, noServer, openServerQuestions, openServer, sendServer, tellServer, takeServer, serverReads, serverTakes, serverTakesEdit, serverTakesAck}
 use Rattle.model.specs.Limits.{maxLines, maxInitial}
 use Rattle.model.proofs.Tests.{hold, yes-all, between-true}
@@ -27,9 +26,9 @@ use Rattle.sheet_ends.specs.Bench.{Bench, Step, SoundBench, clientOf, on
 use Rattle.sheet_print.proofs.Sinks.{both, and-left, and-right}
 
 -- a property of both ends that an answer may hand back
-pub ends : {E : Type 0} (P : E → Type 0) (r : ℕ) (old new : E) (k : ℕ) → P old → P new → P (answer r old new k .end)
+pub ends : {E : Type 0} (P : E → Type 0) (r : ℕ) (old new : E) (k : Report) → P old → P new → P (answer r old new k .end)
 unfolding answer
-ends {E} P r old new k p q = both (λ (a : Answer E). P (a .end)) (eqb r 0) (record { refusal = 0; end = new; passed = k }) (record { refusal = r; end = old; passed = 0 }) q p
+ends {E} P r old new k p q = both (λ (a : Answer E). P (a .end)) (eqb r 0) (record { refusal = 0; end = new; report = k }) (record { refusal = r; end = old; report = noReport }) q p
 
 abbrev SameN : Server → Server → Type 0
 SameN s t = t .n ≡ s .n
@@ -109,7 +108,7 @@ pub opened : (n : ℕ) (ranks items : List ℕ) → openServer n ranks items .re
 unfolding openServer
 opened n ranks items e =
     let r = asks (openServerQuestions n ranks items) in
-    let z : r ≡ 0 = accepted r noServer (record { n = n; initial = length items; ranks = ranks; items = items; lines = replicate n noLine }) 0 e in
+    let z : r ≡ 0 = accepted r noServer (freshServer n ranks items) noReport e in
     let h = hold (between 1 maxLines n ∷ leb (length items) maxInitial ∷ []) (yes-all (openServerQuestions n ranks items) (omega arith) z .0) in
     let few = between-true 1 maxLines n (h .0) in
     (few .0, few .1, leb-true (length items) maxInitial (h .1 .0))
@@ -126,7 +125,7 @@ module _ (n : ℕ) (items : List ℕ) (low : 1 ≤ n) (high : n ≤ 8) (short : 
   clients-count zero = refl
   clients-count (suc k) = ap suc (clients-count k)
 
-  opens : openServer n (lineRanks n) items ≡ record { refusal = 0; end = freshServer n (lineRanks n) items; passed = 0 }
+  opens : openServer n (lineRanks n) items ≡ record { refusal = 0; end = freshServer n (lineRanks n) items; report = noReport }
   opens = server-opens n (lineRanks n) items low high short (line-ranking n)
 
   pub open-sound : SoundBench (openBench n items)

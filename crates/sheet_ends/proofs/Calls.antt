@@ -10,7 +10,7 @@ use Rattle.wire.specs.declared.Read.{Read}
 use Rattle.wire.specs.declared.Read.the-variants as read
 use Rattle.wire.specs.declared.Message.the-variants as message
 use Rattle.wire.specs.Bytes.{parsed}
-use Rattle.model.specs.Questions.{Answer, answer, Sent}
+use Rattle.model.specs.Questions.{Report, noReport, Answer, answer, Sent}
 use Rattle.model.specs.Client as models
 use Rattle.model.specs.Server as serverModels
 use Rattle.client.specs.declared.Client.{Client}
@@ -19,6 +19,7 @@ use Rattle.client.specs.Answers as clients
 use Rattle.client.proofs.Stored.{client-view, client-stored}
 use Rattle.server.specs.declared.Server.{Server}
 use Rattle.server.specs.View as server
+use Rattle.line.specs.Taking.{reportIn}
 use Rattle.server.specs.Answers as servers
 use Rattle.server.proofs.Stored.{view-store, store-sound}
 
@@ -27,11 +28,11 @@ use Rattle.server.proofs.Stored.{view-store, store-sound}
 abbrev pub Keeps : {E : Type 0} → E → Answer E → Type 0
 Keeps m a = (a .refusal ≡ 0 → ⊥) → a .end ≡ m
 
-keeps : {E : Type 0} (r : ℕ) (old new : E) (k : ℕ) → Keeps old (answer r old new k)
+keeps : {E : Type 0} (r : ℕ) (old new : E) (k : Report) → Keeps old (answer r old new k)
 unfolding answer
 keeps {E} r old new k = go (eqb r 0)
   where
-    go : (t : Bool) → Keeps old (cond {A = Answer E} t (record { refusal = 0; end = new; passed = k }) (record { refusal = r; end = old; passed = 0 }))
+    go : (t : Bool) → Keeps old (cond {A = Answer E} t (record { refusal = 0; end = new; report = k }) (record { refusal = r; end = old; report = noReport }))
     go true no0 = absurd (no0 refl)
     go false no0 = refl
 
@@ -41,7 +42,7 @@ edit-keeps m e = keeps _ m _ _
 
 client-reads : (m : models.Client) (r : Read) → Keeps m (models.clientReads m r)
 unfolding models.clientTakesEdit models.clientTakesAck
-client-reads m read.Refused = keeps _ m m 0
+client-reads m read.Refused = keeps _ m m noReport
 client-reads m (read.Message (message.Insert h p x q)) = keeps _ m _ _
 client-reads m (read.Message (message.Delete h p)) = keeps _ m _ _
 client-reads m (read.Message (message.Nothing h)) = keeps _ m _ _
@@ -53,7 +54,7 @@ client-keeps m bytes = client-reads m (parsed bytes)
 
 server-reads : (m : serverModels.Server) (r : Read) → Keeps m (serverModels.serverReads m r)
 unfolding serverModels.serverTakesEdit serverModels.serverTakesAck
-server-reads m read.Refused = keeps _ m m 0
+server-reads m read.Refused = keeps _ m m noReport
 server-reads m (read.Message (message.Insert h p x q)) = keeps _ m _ _
 server-reads m (read.Message (message.Delete h p)) = keeps _ m _ _
 server-reads m (read.Message (message.Nothing h)) = keeps _ m _ _
@@ -79,12 +80,12 @@ end-stored {E} {F} store m a h = go (eqb (a .refusal) 0) refl
 
 module _ (m : models.Client) (s : models.soundClient m ≡ true) where
   pub client-answers : (call : models.Client → Answer models.Client) → Keeps m (call m)
-      → clients.guarded (client.store m) (call (client.view (client.store m))) ≡ record { refusal = call m .refusal; passed = call m .passed; client = client.store (call m .end) }
+      → clients.guarded (client.store m) (call (client.view (client.store m))) ≡ record { refusal = call m .refusal; report = reportIn (call m .report); client = client.store (call m .end) }
   unfolding clients.guarded
   client-answers call h =
       ap (λ (b : Bool). cond b (clients.given (client.store m) (call (client.view (client.store m)))) (clients.refusedWith 2 (client.store m))) (client-stored m s)
       ∙ ap (λ (v : models.Client). clients.given (client.store m) (call v)) (client-view m s)
-      ∙ ap (λ (c : Client). record { refusal = call m .refusal; passed = call m .passed; client = c }) (end-stored client.store m (call m) h)
+      ∙ ap (λ (c : Client). record { refusal = call m .refusal; report = reportIn (call m .report); client = c }) (end-stored client.store m (call m) h)
 
   pub client-sends : (call : models.Client → Sent) (lent : List ℕ) → clients.guardedSending (client.store m) (call (client.view (client.store m))) lent ≡ call m
   unfolding clients.guardedSending
@@ -97,12 +98,12 @@ module _ (m : models.Client) (s : models.soundClient m ≡ true) where
 module _ (m : serverModels.Server) (s : serverModels.soundServer m ≡ true) where
   pub server-answers : (bytes : List ℕ)
       → servers.taken (server.store m) bytes
-      ≡ record { refusal = serverModels.takeServer m bytes .refusal; passed = serverModels.takeServer m bytes .passed; server = server.store (serverModels.takeServer m bytes .end) }
+      ≡ record { refusal = serverModels.takeServer m bytes .refusal; report = reportIn (serverModels.takeServer m bytes .report); server = server.store (serverModels.takeServer m bytes .end) }
   unfolding servers.guarded
   server-answers bytes =
       ap (λ (b : Bool). cond b (servers.given (server.store m) (serverModels.takeServer (server.view (server.store m)) bytes)) (servers.refusedWith 2 (server.store m))) (store-sound m s)
       ∙ ap (λ (v : serverModels.Server). servers.given (server.store m) (serverModels.takeServer v bytes)) (view-store m s)
-      ∙ ap (λ (c : Server). record { refusal = serverModels.takeServer m bytes .refusal; passed = serverModels.takeServer m bytes .passed; server = c })
+      ∙ ap (λ (c : Server). record { refusal = serverModels.takeServer m bytes .refusal; report = reportIn (serverModels.takeServer m bytes .report); server = c })
       (end-stored server.store m (serverModels.takeServer m bytes) (server-keeps m bytes))
 
   pub server-sends : (call : serverModels.Server → Sent) (lent : List ℕ) → servers.guardedSending (server.store m) (call (server.view (server.store m))) lent ≡ call m

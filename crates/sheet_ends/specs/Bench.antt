@@ -38,7 +38,7 @@ delivered b m taking = cond (eqb (m .refusal) 0) (taking (take (m .written) (m .
 
 -- room for one message
 abbrev pub room : List ℕ
-room = replicate 14 0
+room = replicate 17 0
 
 unfoldable pub step : Bench → Command → Step
 step b Bad = record { refusal = 0; bench = b }

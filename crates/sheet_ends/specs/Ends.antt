@@ -19,7 +19,7 @@ use Rattle.sheet_ends.specs.Bench.{Bench, SoundBench}
 
 -- the words of all clients
 abbrev pub allSize : ℕ
-allSize = 5120
+allSize = 9216
 
 -- past the last place
 abbrev pub noCounts : Counts

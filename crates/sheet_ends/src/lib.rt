@@ -1,5 +1,5 @@
 // A server and its clients, as the run program holds them: opening the clients, and what an order does to the ends. An end is its numbers
-// and its words. The clients stand side by side, client j's words from 640 * j on in one array, so that each call changes its end in place.
+// and its words. The clients stand side by side, client j's words from 1,152 * j on in one array, so that each call changes its end in place.
 ghost use mathlib.Core.Path.{_≡_};
 ghost use lib.ListN.{replicate};
 ghost use Rattle.limits.specs.Limits.{maxLines};
@@ -129,7 +129,7 @@ pub fn turn(
     let c = clients[at];
     let from = Client::WORDS * at;
     let to = from + Client::WORDS;
-    let mut m = [0u8; 14];
+    let mut m = [0u8; 17];
     let b = sent(s, words, c, &own[from..to], o, &mut m);
     let mut t = Turned {
         refusal: b.refusal,

@@ -9,7 +9,7 @@ use lib.Dec.{leb, ltb}
 use lib.ListN.{length, take, drop}
 use lib.Seq.{take-all, length-take-le}
 use Rattle.limits.specs.Limits.{maxLines, maxInitial}
-use Rattle.model.specs.Questions.{between, answer}
+use Rattle.model.specs.Questions.{between, noReport, answer}
 use Rattle.model.specs.Ranks.{countFrom, lineRanks}
 use Rattle.model.specs.Server as models
 use Rattle.client.specs.declared.Counts.{Counts}
@@ -45,7 +45,7 @@ count-take l (suc k) zero h = absurd (omega arith)
 count-take l (suc k) (suc m) h = ap (λ (r : List ℕ). l ∷ r) (count-take (suc l) k m (omega arith))
 
 -- with n past eight, question 1 says no before the ranks are asked
-past-eight : (n : ℕ) (ranks items : List ℕ) → maxLines < n → models.openServer n ranks items ≡ record { refusal = 1; end = models.noServer; passed = 0 }
+past-eight : (n : ℕ) (ranks items : List ℕ) → maxLines < n → models.openServer n ranks items ≡ record { refusal = 1; end = models.noServer; report = noReport }
 unfolding models.openServer answer
 past-eight n ranks items h = rw (lt-leb n maxLines h, and-none (leb 1 n))
 

@@ -8,12 +8,14 @@ use borrow.Author.Tests.{ltb-false, eqb-true, eqb-false, leb-true}
 use lib.Dec.{leb, ltb, eqb}
 use lib.ListN.{length, take, drop, length-append}
 use lib.Seq.{take-all, take-at}
+use Rattle.list.specs.Places.{itemsOf}
+use Rattle.list.proofs.Places.{items-length}
 use Rattle.wire.specs.declared.Read.{Read}
 use Rattle.wire.specs.declared.Read.the-variants as read
 use Rattle.wire.specs.declared.Message.{Message}
 use Rattle.wire.specs.declared.Message.the-variants as message
 use Rattle.wire.specs.Bytes.{parsed}
-use Rattle.model.specs.Questions.{Question, ask, every, asks, Answer, answer, Sent, sent}
+use Rattle.model.specs.Questions.{Question, ask, every, asks, Report, noReport, Answer, answer, Sent, sent}
 use Rattle.model.specs.Client.{Client, ownRank, soundClient, editQuestions, editClient, sendClientQuestions, tellClientQuestions, clientEditQuestions, clientAckQuestions, sendClient, tellClient, takeClient, clientReads, clientTakes, clientTakesEdit, clientTakesAck}
 use Rattle.model.specs.Ranks.{lineRanks}
 use Rattle.model.specs.Server.{Server, soundServer, openServerQuestions, openServer, sendServerQuestions, tellServerQuestions, serverEditQuestions, serverAckQuestions, sendServer, tellServer, takeServer, serverReads, serverTakes, serverTakesEdit, serverTakesAck}
@@ -90,10 +92,10 @@ asks-length (q ∷ qs) h =
     both (λ r. r ≤ 16) (q .yes) (asks qs) (q .number) (asks-length qs (and-right (leb (q .number) 16) (numbered qs) h))
     (leb-true (q .number) 16 (and-left (leb (q .number) 16) (numbered qs) h))
 
-answer-small : {E : Type 0} (r : ℕ) (old new : E) (k : ℕ) → r ≤ 16 → answer r old new k .refusal ≤ 16
+answer-small : {E : Type 0} (r : ℕ) (old new : E) (k : Report) → r ≤ 16 → answer r old new k .refusal ≤ 16
 unfolding answer
 answer-small {E} r old new k h =
-    both (λ (a : Answer E). a .refusal ≤ 16) (eqb r 0) (record { refusal = 0; end = new; passed = k }) (record { refusal = r; end = old; passed = 0 }) (omega arith) h
+    both (λ (a : Answer E). a .refusal ≤ 16) (eqb r 0) (record { refusal = 0; end = new; report = k }) (record { refusal = r; end = old; report = noReport }) (omega arith) h
 
 sent-small : (r : ℕ) (bytes lent : List ℕ) → r ≤ 16 → sent r bytes lent .refusal ≤ 16
 unfolding sent
@@ -162,10 +164,11 @@ unfolding clientLists
 clients-length l [] h = omega arith
 clients-length l (c ∷ cs) h =
     let f = client-facts c (and-left (soundClient c) (every (map soundClient cs)) h) .items in
-    let a = length-append (clientList l (c .items)) (clientLists (suc l) cs) in
-    let d = length-append (clientWord ++ decimal l) (listed (c .items)) in
+    let n = items-length (c .items) in
+    let a = length-append (clientList l (itemsOf (c .items))) (clientLists (suc l) cs) in
+    let d = length-append (clientWord ++ decimal l) (listed (itemsOf (c .items))) in
     let e = decimal-length l in
-    let g = listed-length (c .items) in
+    let g = listed-length (itemsOf (c .items)) in
     let k = clients-length (suc l) cs (and-right (soundClient c) (every (map soundClient cs)) h) in
     let w = length-append clientWord (decimal l) in
     omega arith
@@ -176,9 +179,10 @@ lists-length b g =
     let few = f .n .1 in
     let items = f .items in
     let n = g .count in
-    let a = length-append (serverList (b .server .items)) (clientLists 1 (b .clients)) in
-    let d = length-append serverWord (listed (b .server .items)) in
-    let k = listed-length (b .server .items) in
+    let long = items-length (b .server .items) in
+    let a = length-append (serverList (itemsOf (b .server .items))) (clientLists 1 (b .clients)) in
+    let d = length-append serverWord (listed (itemsOf (b .server .items))) in
+    let k = listed-length (itemsOf (b .server .items)) in
     let c = clients-length 1 (b .clients) (g .clients) in
     omega arith
 

@@ -5,6 +5,7 @@ use mathlib.Core.Bool.{Bool, true, false, cond}
 use mathlib.Core.List.{List, [], _∷_, _++_}
 use lib.Dec.{ltb, eqb}
 use lib.ListN.{length, take}
+use Rattle.list.specs.Places.{itemsOf}
 use Rattle.model.specs.Ranks.{lineRanks}
 use Rattle.model.specs.Client.{Client}
 use Rattle.model.specs.Server.{openServer}
@@ -33,13 +34,13 @@ understood (Told l) = true
 abbrev pub replies : Command → ℕ → List ℕ
 replies c r = cond (understood c) (replied r) unknown
 
--- the lists of the clients from line l on
+-- the lists of the clients from line l on: their items alone
 unfoldable pub clientLists : ℕ → List Client → List ℕ
 clientLists l [] = []
-clientLists l (c ∷ cs) = clientList l (c .items) ++ clientLists (suc l) cs
+clientLists l (c ∷ cs) = clientList l (itemsOf (c .items)) ++ clientLists (suc l) cs
 
 abbrev pub lists : Bench → List ℕ
-lists b = serverList (b .server .items) ++ clientLists 1 (b .clients)
+lists b = serverList (itemsOf (b .server .items)) ++ clientLists 1 (b .clients)
 
 -- the lines after the first, and the lists
 unfoldable pub ran : Bench → List (List ℕ) → List ℕ

@@ -91,7 +91,7 @@ loop-again c =
     let s = start (t .before) in (
       omega (arith, t .loop-test .taken),
       d .client-list .kept .0 ∙ l .inv .1,
-      lists-next (s .args .t4) (s .args .own .now) (l .i) (s .args .n) (t .loop-test .taken) (short t) _ _ refl refl _ _ _ (d .client-list .ensures) (l .inv .2),
+      lists-next (s .args .t4) (s .args .own .now) (l .i) (s .args .n) (t .loop-test .taken) (short t) (ends t) _ _ refl refl _ _ _ (d .client-list .ensures) (l .inv .2),
     )
 
 same-length : tie.Need-same-length Inv-loop μ-loop
