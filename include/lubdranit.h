@@ -12,17 +12,21 @@
  *                                                               client 1 of 3, with the list 101 102
  *     lub_client_open(end, sizeof end, 3, 1, ranks, sizeof ranks, steps, sizeof steps);
  *     lub_client_insert(end, sizeof end, 1, 201);               step 201 at the front, shown at once
+ *     lub_client_maker(end, 1);                                 1: client 1 put it there; 0 for a step of the opening list
  *     answer = lub_client_send(end, sizeof end, 1, 1, message, sizeof message);
  *     if (lub_refusal(answer) == 0)
  *         carry(message, lub_count(answer));                    to the server, which takes it
  *     answer = lub_client_take(end, sizeof end, received, received_length);
  *     if (lub_refusal(answer) == LUB_REFUSED_GAP)
  *         wait_or_ask_again();
+ *     else if (lub_applied(answer) != 0 && lub_applied(answer) != lub_arrived(answer))
+ *         mark(lub_applied(answer));                            the edit landed elsewhere than its message put it
  *
- * Every call returns one number: bits 0 to 7 are the refusal, 0 for none, and bits 8 to 23 a count or a length. A call that is
- * refused changes no lent byte, neither of the end nor of the buffer. What each call does is proved; docs/PROMISES.md says what that
- * covers. An end's bytes may be stored and lent again later: the promise that all copies agree holds while each call gets the bytes
- * that the last call on that end left.
+ * Every call returns one number: bits 0 to 7 are the refusal, 0 for none, and bits 8 to 23 a count or a length. If the call took an
+ * edit, bits 24 to 39 are the position that arrived and bits 40 to 55 the position applied. All other bits are 0. A call that is
+ * refused changes no lent byte, neither of the end nor of the buffer, and answers the refusal alone. What each call does is proved;
+ * docs/PROMISES.md says what that covers. An end's bytes may be stored and lent again later: the promise that all copies agree holds
+ * while each call gets the bytes that the last call on that end left.
  *
  * What a call is lent may not overlap, and no pointer is NULL, not even one with length 0. One call at a time on an end; two ends
  * share nothing.
@@ -46,9 +50,9 @@ extern "C" {
 #define LUB_ITEMS 512u          /* items of a list */
 #define LUB_INITIAL 128u        /* items at opening */
 
-#define LUB_CLIENT_BYTES 2596u  /* a client's end */
-#define LUB_SERVER_BYTES 6292u  /* the server's end */
-#define LUB_MESSAGE_BYTES 14u   /* the longest message */
+#define LUB_CLIENT_BYTES 4644u  /* a client's end */
+#define LUB_SERVER_BYTES 10388u /* the server's end */
+#define LUB_MESSAGE_BYTES 17u   /* the longest message: an insert has 17 bytes, a delete 12, an edit that became nothing 10 */
 #define LUB_RUN_BYTES 262144u   /* room for any output of lub_run */
 
 /* ---- refusals: the number of the question that said no, in the order in which a call asks them */
@@ -58,7 +62,7 @@ enum lub_refusal_number {
     LUB_REFUSED_OPENING = 1,       /* n, line, number of items, or a cut item */
     LUB_REFUSED_UNSOUND = 2,       /* the end's bytes are damaged */
     LUB_REFUSED_NO_MESSAGE = 3,    /* not exactly one message with its fields in range */
-    LUB_REFUSED_MISDIRECTED = 4,   /* another direction, line or rank */
+    LUB_REFUSED_MISDIRECTED = 4,   /* another direction, line, rank or maker */
     LUB_REFUSED_REPEAT = 5,        /* taken before: drop it */
     LUB_REFUSED_GAP = 6,           /* an earlier edit is missing */
     LUB_REFUSED_OVERTAKEN = 7,     /* its sender knew less than a message taken before: drop it */
@@ -89,16 +93,18 @@ uint64_t lub_client_insert(uint8_t *end, size_t end_length, uint16_t position, u
 /* Deletes the item at `position`. Refusals: 18 2 9 11 12. */
 uint64_t lub_client_delete(uint8_t *end, size_t end_length, uint16_t position);
 
-/* Writes the message of pending edit `number` in its present form into `out`, for the server. Counts the bytes written. Changes no
- * end, and may be repeated: a message that may be lost is sent again. `line` is the client's own. Refusals: 18 2 4 13 14. */
+/* Writes the message of pending edit `number` in its present form into `out`, for the server. Counts the bytes written; LUB_MESSAGE_BYTES
+ * are enough for any message. Changes no end, and may be repeated: a message that may be lost is sent again. `line` is the client's own.
+ * Refusals: 18 2 4 13 14. */
 uint64_t lub_client_send(const uint8_t *end, size_t end_length, uint8_t line, uint16_t number, uint8_t *out, size_t out_length);
 
-/* Writes an acknowledgement of all edits taken into `out`, for the server. Send one when no edit is waiting to go up, so that the
- * server can drop what it keeps. Counts the bytes written. Refusals: 18 2 4 14. */
+/* Writes an acknowledgement of all edits taken into `out`, for the server: 5 bytes. Send one when no edit is waiting to go up, so that
+ * the server can drop what it keeps. Counts the bytes written. Refusals: 18 2 4 14. */
 uint64_t lub_client_acknowledge(const uint8_t *end, size_t end_length, uint8_t line, uint8_t *out, size_t out_length);
 
 /* Takes one message of the server: an edit, which is applied, or an acknowledgement. Counts the pending edits that the edit was
- * transformed past. Refusals: 18 2 3 4 5 6 7 8 9. 5 and 7 are normal on a lossy line: drop the message. */
+ * transformed past, and tells where it arrived and where it was applied. Refusals: 18 2 3 4 5 6 7 8 9. 5 and 7 are normal on a lossy
+ * line: drop the message. */
 uint64_t lub_client_take(uint8_t *end, size_t end_length, const uint8_t *message, size_t message_length);
 
 /* ---- the server
@@ -109,15 +115,16 @@ uint64_t lub_client_take(uint8_t *end, size_t end_length, const uint8_t *message
 uint64_t lub_server_open(uint8_t *end, size_t end_length, uint8_t n, const uint8_t *ranks, size_t ranks_length, const uint8_t *items,
                          size_t items_length);
 
-/* Writes the message of edit `number` pending on `line` into `out`, for that line's client. Counts the bytes written. Changes no end.
- * Refusals: 18 2 4 13 14. */
+/* Writes the message of edit `number` pending on `line` into `out`, for that line's client. It says which client made the edit, and
+ * which of that client's edits it was. Counts the bytes written. Changes no end. Refusals: 18 2 4 13 14. */
 uint64_t lub_server_send(const uint8_t *end, size_t end_length, uint8_t line, uint16_t number, uint8_t *out, size_t out_length);
 
 /* Writes an acknowledgement of all edits taken on `line` into `out`, for its client. Counts the bytes written. Refusals: 18 2 4 14. */
 uint64_t lub_server_acknowledge(const uint8_t *end, size_t end_length, uint8_t line, uint8_t *out, size_t out_length);
 
 /* Takes one message of a client: an edit, which is applied and then pending on every other line, or an acknowledgement. Counts the
- * pending edits that the edit was transformed past. Refusals: 18 2 3 4 5 6 7 8 9 10 12. */
+ * pending edits that the edit was transformed past, and tells where it arrived and where it was applied. Refusals: 18 2 3 4 5 6 7 8 9 10
+ * 12. */
 uint64_t lub_server_take(uint8_t *end, size_t end_length, const uint8_t *message, size_t message_length);
 
 /* ---- the lengths as the library has them, and the run program */
@@ -125,8 +132,8 @@ uint64_t lub_server_take(uint8_t *end, size_t end_length, const uint8_t *message
 uint64_t lub_client_bytes(void);
 uint64_t lub_server_bytes(void);
 
-/* The run program in memory, with line numbers as ranks: reads a script of at most 65,536 bytes, writes what it prints, and returns how many bytes that is. What
- * does not fit is left out; LUB_RUN_BYTES always suffice. */
+/* The run program in memory, with line numbers as ranks: reads a script of at most 65,536 bytes, writes what it prints, and returns how
+ * many bytes that is. What does not fit is left out; LUB_RUN_BYTES always suffice. */
 uint64_t lub_run(const uint8_t *input, size_t input_length, uint8_t *out, size_t out_length);
 
 /* ---- an answer taken apart */
@@ -134,6 +141,13 @@ uint64_t lub_run(const uint8_t *input, size_t input_length, uint8_t *out, size_t
 static inline unsigned lub_refusal(uint64_t answer) { return (unsigned)(answer & 0xff); }
 
 static inline unsigned lub_count(uint64_t answer) { return (unsigned)(answer >> 8 & 0xffff); }
+
+/* Of a taking: the position of the edit in its message, and the position at which it was applied here. Each pending edit that it passed
+ * moved it up by one, down by one or not at all; or it was a delete whose item is gone, which arrives at a position and is applied at
+ * none, 0. An edit that became nothing before has 0 for both, and so have a refusal, an acknowledgement and every call but a taking. */
+static inline unsigned lub_arrived(uint64_t answer) { return (unsigned)(answer >> 24 & 0xffff); }
+
+static inline unsigned lub_applied(uint64_t answer) { return (unsigned)(answer >> 40 & 0xffff); }
 
 /* ---- reading an end (docs/LAYOUT.md)
  * These ask nothing of the bytes: the end has to be one that the last call on it left. A position outside the list reads 0. */
@@ -143,6 +157,11 @@ static inline uint32_t lub_word(const uint8_t *end, size_t word) {
     return (uint32_t)at[0] | (uint32_t)at[1] << 8 | (uint32_t)at[2] << 16 | (uint32_t)at[3] << 24;
 }
 
+/* The word of a position from 1 among those of the list that begin at word `first`. */
+static inline uint32_t lub_place(const uint8_t *end, size_t first, unsigned position) {
+    return position < 1 || position > LUB_ITEMS ? 0 : lub_word(end, first + position - 1);
+}
+
 /* The rank that a line from 1 to 8 was opened with; 0 past n. */
 static inline unsigned lub_rank(const uint8_t *end, unsigned line) { return line < 1 || line > LUB_LINES ? 0 : end[12 + line - 1]; }
 
@@ -150,11 +169,16 @@ static inline unsigned lub_client_rank(const uint8_t *end, unsigned line) { retu
 
 static inline unsigned lub_server_rank(const uint8_t *end, unsigned line) { return lub_rank(end, line); }
 
-/* How many items the list has, and the item at a position from 1. */
+/* How many items the list has, the item at a position from 1, the line of the client that put it there and the number of that client's
+ * edit. An item of the opening list has line 0 and its place in that list as number. */
 static inline unsigned lub_client_length(const uint8_t *end) { return (unsigned)lub_word(end, 2); }
 
-static inline uint32_t lub_client_item(const uint8_t *end, unsigned position) {
-    return position < 1 || position > LUB_ITEMS ? 0 : lub_word(end, 9 + (size_t)position - 1);
+static inline uint32_t lub_client_item(const uint8_t *end, unsigned position) { return lub_place(end, 9, position); }
+
+static inline unsigned lub_client_maker(const uint8_t *end, unsigned position) { return (unsigned)(lub_place(end, 649, position) >> 16); }
+
+static inline unsigned lub_client_maker_number(const uint8_t *end, unsigned position) {
+    return (unsigned)(lub_place(end, 649, position) & 0xffff);
 }
 
 /* Edits made here, edits taken, and how many of those made the server has acknowledged: numbers acked + 1 to made are pending. */
@@ -166,8 +190,12 @@ static inline unsigned lub_client_acked(const uint8_t *end) { return (unsigned)l
 
 static inline unsigned lub_server_length(const uint8_t *end) { return (unsigned)lub_word(end, 2); }
 
-static inline uint32_t lub_server_item(const uint8_t *end, unsigned position) {
-    return position < 1 || position > LUB_ITEMS ? 0 : lub_word(end, 37 + (size_t)position - 1);
+static inline uint32_t lub_server_item(const uint8_t *end, unsigned position) { return lub_place(end, 37, position); }
+
+static inline unsigned lub_server_maker(const uint8_t *end, unsigned position) { return (unsigned)(lub_place(end, 1573, position) >> 16); }
+
+static inline unsigned lub_server_maker_number(const uint8_t *end, unsigned position) {
+    return (unsigned)(lub_place(end, 1573, position) & 0xffff);
 }
 
 /* Of a line from 1 to 8: edits made for it, edits taken on it, and how many of those made its client has acknowledged. */

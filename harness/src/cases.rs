@@ -78,20 +78,20 @@ fn shown(subject: &dyn Calls, mut list: List, slot: u8, bytes: usize) -> Result<
     Ok(out[out.len() - 1 - SLOT..][..bytes].to_vec())
 }
 
-/// P9: the first edit of client 1. The bytes past the message stay.
+/// P9 with its origin: the first edit of client 1. The bytes past the message stay.
 fn p9(subject: &dyn Calls) -> Result<Vec<u8>, String> {
     let mut list = List::opened(2, vec![]);
     list.calls.extend([Call::insert(1, 1, 30), Call::send(1, 1, 1, 0, 20)]);
     shown(subject, list, 0, P9.len())
 }
 
-const P9: [u8; 17] = [14, 1, 1, 0, 0, 1, 0, 0, 0, 1, 0, 0, 0, 0x1E, 1, FRESH, FRESH];
+const P9: [u8; 20] = [17, 5, 1, 0, 0, 1, 0, 0, 0, 1, 0, 0, 0, 0x1E, 1, 1, 0, 1, FRESH, FRESH];
 
 /// P10: three edits of client 2 reach the server, which acknowledges them.
 fn p10(subject: &dyn Calls) -> Result<Vec<u8>, String> {
     let mut list = List::opened(2, vec![1, 2, 3]);
     for number in 1..=3 {
-        list.calls.extend([Call::delete(2, 1), Call::send(2, 2, number, 0, 14), Call::take(0, 0)]);
+        list.calls.extend([Call::delete(2, 1), Call::send(2, 2, number, 0, MESSAGE), Call::take(0, 0)]);
     }
     list.calls.push(Call::acknowledge(0, 2, 1, 5));
     shown(subject, list, 1, P10.len())
@@ -108,28 +108,142 @@ fn open(subject: &dyn Calls, end: u8, bytes: &mut [u8], n: u8, ranks: &[u8], ite
     }
 }
 
+/// The places of a list: item, maker's line, maker's number.
+type Places = Vec<(u32, u32, u32)>;
+
+/// The lists of all ends after the calls of a list.
+fn lists(subject: &dyn Calls, list: &List) -> Vec<Places> {
+    let mut world = World::unwatched(subject);
+    list.calls.iter().for_each(|call| world.perform(call, &list.initial, &mut Vec::new()));
+    (0..=list.lines().unwrap()).map(|end| world.places(end)).collect()
+}
+
+/// Hands edits over: from client or server, the line, the number.
+fn handed(list: &mut List, edits: &[(u8, u8, u16)]) {
+    for &(from, line, number) in edits {
+        list.calls.extend([Call::send(from, line, number, 0, MESSAGE), Call::take(if from == 0 { line } else { 0 }, 0)]);
+    }
+}
+
+/// P11 as calls.
+fn p11_calls() -> List {
+    let mut list = List::opened(2, vec![10, 20]);
+    list.calls.extend([Call::insert(1, 1, 30), Call::delete(2, 2)]);
+    handed(&mut list, &[(1, 1, 1), (2, 2, 1), (0, 1, 1), (0, 2, 1)]);
+    list
+}
+
+/// P12 as calls.
+fn p12_calls() -> List {
+    let mut list = List::opened(2, vec![10, 20, 30]);
+    list.calls.extend([Call::delete(1, 1), Call::insert(1, 1, 40), Call::insert(2, 2, 50)]);
+    handed(&mut list, &[(2, 2, 1), (1, 1, 1), (1, 1, 2), (0, 1, 1), (0, 2, 1), (0, 2, 2)]);
+    list
+}
+
+/// P12 with origins, at all ends.
+fn p12(subject: &dyn Calls) -> Result<(), String> {
+    equal(vec![vec![(40, 1, 2), (50, 2, 1), (20, 0, 2), (30, 0, 3)]; 3], lists(subject, &p12_calls()))
+}
+
+/// The answers of a list's takings: refusal, pending edits passed, the position that arrived, the position applied. No other call has positions.
+fn takings(subject: &dyn Calls, list: &List) -> Result<Vec<(u8, u16, u16, u16)>, String> {
+    let out = calls::output(subject, list)?;
+    let mut at = 0;
+    let mut all = Vec::new();
+    for call in &list.calls {
+        let Answer { refusal, count, arrived, applied, rest } = Answer::of(&out[at..]);
+        if call.op == TAKE {
+            all.push((refusal, count, arrived, applied));
+        } else {
+            equal((0, 0), (arrived, applied)).map_err(|text| format!("{}: {text}", call.words()))?;
+        }
+        equal(0, rest)?;
+        at += call.answer_length();
+    }
+    Ok(all)
+}
+
+/// The positions of P11 and P12: of their takings one edit alone moves, P11's delete at the server, up by one.
+fn positions(subject: &dyn Calls) -> Result<(), String> {
+    equal([(0, 0, 1, 1), (0, 1, 2, 3), (0, 0, 3, 3), (0, 0, 1, 1)], takings(subject, &p11_calls())?)?;
+    let twelve = [(0, 0, 2, 2), (0, 1, 1, 1), (0, 1, 1, 1), (0, 0, 2, 2), (0, 0, 1, 1), (0, 0, 1, 1)];
+    equal(twelve, takings(subject, &p12_calls())?)
+}
+
+/// Both clients delete one item: the other's delete is gone at client 2, and client 2's, written before, at the server. Client 1 takes nothing.
+fn gone(subject: &dyn Calls) -> Result<(), String> {
+    let mut list = List::opened(2, vec![10, 20, 30]);
+    list.calls.extend([Call::delete(1, 2), Call::delete(2, 2), Call::send(2, 2, 1, 1, MESSAGE)]);
+    handed(&mut list, &[(1, 1, 1), (0, 2, 1)]);
+    list.calls.push(Call::take(0, 1));
+    handed(&mut list, &[(0, 1, 1)]);
+    equal([(0, 0, 2, 2), (0, 1, 2, 0), (0, 1, 2, 0), (0, 0, 0, 0)], takings(subject, &list)?)
+}
+
+/// A delete and an insert past another client's two deletes and three inserts, which move them down and up. Then a repeat, an early edit and
+/// acknowledgements.
+fn moves(subject: &dyn Calls) -> Result<(), String> {
+    let mut list = List::opened(2, (1..=9).collect());
+    list.calls.extend([Call::delete(1, 1), Call::delete(1, 2), Call::insert(1, 1, 5), Call::insert(1, 1, 6), Call::insert(1, 4, 7)]);
+    list.calls.extend([Call::delete(2, 8), Call::insert(2, 2, 8)]);
+    // client 1 takes both while all five of its own are pending
+    handed(&mut list, &[(2, 2, 1), (2, 2, 2), (0, 1, 1), (0, 1, 2)]);
+    let mut expected = vec![(0, 0, 8, 8), (0, 0, 2, 2), (0, 5, 8, 9), (0, 5, 2, 3)];
+    // the server takes the five, which have now seen both
+    handed(&mut list, &[(1, 1, 1), (1, 1, 2), (1, 1, 3), (1, 1, 4), (1, 1, 5)]);
+    expected.extend([(0, 0, 1, 1), (0, 0, 3, 3), (0, 0, 1, 1), (0, 0, 1, 1), (0, 0, 5, 5)]);
+    handed(&mut list, &[(1, 1, 5), (0, 2, 2)]);
+    list.calls.extend([Call::acknowledge(0, 2, 0, MESSAGE), Call::take(2, 0), Call::acknowledge(2, 2, 0, MESSAGE), Call::take(0, 0)]);
+    expected.extend([(5, 0, 0, 0), (6, 0, 0, 0), (0, 0, 0, 0), (0, 0, 0, 0)]);
+    equal(expected, takings(subject, &list)?)
+}
+
+/// A delete, one that became nothing and an insert, as the server sends them to client 3: numbered 1 to 3 on its line, with the makers' lines
+/// and numbers behind.
+fn sent_on(subject: &dyn Calls) -> Result<(), String> {
+    let mut list = List::opened(3, vec![10, 20, 30]);
+    list.calls.extend([Call::delete(1, 1), Call::insert(1, 1, 40), Call::delete(2, 1)]);
+    handed(&mut list, &[(1, 1, 1), (2, 2, 1), (1, 1, 2)]);
+    let expected: [&[u8]; 3] = [
+        &[12, 7, 3, 1, 0, 1, 0, 0, 0, 1, 1, 0, 1, FRESH],
+        &[10, 8, 3, 1, 0, 2, 0, 0, 2, 0, 1, FRESH],
+        &[17, 5, 3, 1, 0, 3, 0, 0, 0, 1, 0, 0, 0, 40, 1, 1, 0, 2, FRESH],
+    ];
+    for (number, bytes) in (1..).zip(expected) {
+        let mut list = list.clone();
+        list.calls.push(Call::send(0, 3, number, 1, MESSAGE));
+        equal(bytes, shown(subject, list, 1, bytes.len())?)?;
+    }
+    Ok(())
+}
+
+/// 128 opening items: line 0, and the places as numbers.
+fn opening_origins(subject: &dyn Calls) -> Result<(), String> {
+    let expected: Places = (1..=128).map(|place| (7, 0, place)).collect();
+    equal(vec![expected; 9], lists(subject, &List::opened(8, vec![7; 128])))
+}
+
 /// The lists of all ends after these clients inserted their line's number at one position of one list, the server took the edits in this order,
 /// and everything was delivered.
-fn tied(subject: &dyn Calls, ranks: &[u8], initial: &[u32], position: u16, order: &[u8]) -> Vec<Vec<u32>> {
+fn tied(subject: &dyn Calls, ranks: &[u8], initial: &[u32], position: u16, order: &[u8]) -> Vec<Places> {
     let mut list = List::ranked(ranks, initial.to_vec());
     list.calls.extend(order.iter().map(|&line| Call::insert(line, position, line as u32)));
     for &line in order {
-        list.calls.extend([Call::send(line, line, 1, 0, 14), Call::take(0, 0)]);
+        list.calls.extend([Call::send(line, line, 1, 0, MESSAGE), Call::take(0, 0)]);
     }
     for line in 1..=ranks.len() as u8 {
         let others = order.iter().filter(|&&other| other != line).count() as u16;
-        list.calls.extend((1..=others).flat_map(|number| [Call::send(0, line, number, 0, 14), Call::take(line, 0)]));
+        list.calls.extend((1..=others).flat_map(|number| [Call::send(0, line, number, 0, MESSAGE), Call::take(line, 0)]));
     }
-    let mut world = World::unwatched(subject);
-    list.calls.iter().for_each(|call| world.perform(call, &list.initial, &mut Vec::new()));
-    (0..=ranks.len()).map(|end| world.items(end)).collect()
+    lists(subject, &list)
 }
 
 /// Client 5 has rank 1 and wins the tie against client 1, whichever of them the server takes first.
 fn lead(subject: &dyn Calls) -> Result<(), String> {
     for order in [[1, 5], [5, 1]] {
         let lists = tied(subject, &[2, 3, 4, 5, 1], &[10, 20], 2, &order);
-        equal(vec![vec![10, 5, 1, 20]; 6], lists)?;
+        equal(vec![vec![(10, 0, 1), (5, 5, 1), (1, 1, 1), (20, 0, 2)]; 6], lists)?;
     }
     Ok(())
 }
@@ -140,7 +254,8 @@ fn ties(subject: &dyn Calls) -> Result<(), String> {
         for order in rankings::all(4) {
             let mut lines: Vec<u32> = (1..=4).collect();
             lines.sort_by_key(|&line| ranks[line as usize - 1]);
-            equal(vec![lines; 5], tied(subject, &ranks, &[], 1, &order))
+            let places: Places = lines.into_iter().map(|line| (line, line, 1)).collect();
+            equal(vec![places; 5], tied(subject, &ranks, &[], 1, &order))
                 .map_err(|text| format!("ranks {ranks:?}, order {order:?}: {text}"))?;
         }
     }
@@ -171,13 +286,13 @@ fn ranks(subject: &dyn Calls) -> Result<(), String> {
     Ok(())
 }
 
-/// An end opened with item 7 in 65,536 bytes more than the layout has: the answer, the item, and whether the rest stayed.
-fn far(subject: &dyn Calls, end: u8) -> (u64, u32, bool) {
+/// An end opened with item 7 in 65,536 bytes more than the layout has: the answer, the item, its origin, and whether the rest stayed.
+fn far(subject: &dyn Calls, end: u8) -> (u64, u32, u32, bool) {
     let mut bytes = vec![FRESH; layout::bytes(end) + 65_536];
     let items = [0, 0, 0, 7];
     let answer = open(subject, end, &mut bytes, 3, &[2, 3, 1], &items);
-    let item = layout::read(&bytes, layout::word(end, 1, Field::Item(0)).unwrap());
-    (answer, item, bytes[layout::bytes(end)..].iter().all(|&byte| byte == FRESH))
+    let [item, origin] = [Field::Item(0), Field::Origin(0)].map(|field| layout::read(&bytes, layout::word(end, 1, field).unwrap()));
+    (answer, item, origin, bytes[layout::bytes(end)..].iter().all(|&byte| byte == FRESH))
 }
 
 /// What was expected, and what came.
@@ -198,14 +313,20 @@ fn on(subject: &dyn Calls) -> bool {
         ("P10", p10(subject).and_then(|came| equal(P10, came))),
         ("P11", script(P11.0, P11.1)),
         ("P12", script(P12.0, P12.1)),
+        ("P12 with origins", p12(subject)),
+        ("positions of P11 and P12", positions(subject)),
+        ("positions of an edit that is gone", gone(subject)),
+        ("positions of edits that move", moves(subject)),
+        ("edits sent on", sent_on(subject)),
+        ("opening items' origins", opening_origins(subject)),
         ("inserts", script(&inserts.0, &inserts.1)),
         ("pending", script(&pending.0, &pending.1)),
-        ("the layouts' lengths", equal((2596, 6292), (subject.client_bytes(), subject.server_bytes()))),
+        ("the layouts' lengths", equal((4644, 10388), (subject.client_bytes(), subject.server_bytes()))),
         ("ranks", ranks(subject)),
         ("client 5 with rank 1", lead(subject)),
         ("ties", ties(subject)),
-        ("a client in far more bytes", equal((0, 7, true), far(subject, 1))),
-        ("a server in far more bytes", equal((0, 7, true), far(subject, 0))),
+        ("a client in far more bytes", equal((0, 7, 1, true), far(subject, 1))),
+        ("a server in far more bytes", equal((0, 7, 1, true), far(subject, 0))),
     ];
     for (name, verdict) in &verdicts {
         if let Err(text) = verdict {

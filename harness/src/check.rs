@@ -5,14 +5,16 @@ use crate::describe::difference;
 use crate::list::*;
 use crate::oracle::{self, Report, Wrong};
 use crate::report;
-use crate::{cases, clock, crafted, damage, edges, ends, generate, hostile, openings, scripts, steady};
+use crate::{cases, clock, crafted, damage, edges, ends, generate, hostile, openings, scripts, shortest, steady};
 use std::time::{Duration, Instant};
 
-/// The sorts of input; all but the first two are made from a seed.
+/// The sorts of input; all but the first four are made from a seed.
 #[derive(Clone, Copy, PartialEq, Eq, Debug)]
 pub enum Sort {
     Cases,
     Openings,
+    Shortest,
+    Crafted,
     Honest,
     Limits,
     Hostile,
@@ -25,7 +27,7 @@ pub enum Sort {
 
 use Sort::*;
 
-pub const SORTS: [Sort; 10] = [Cases, Openings, Honest, Limits, Hostile, Bytes, Noise, Ends, Words, Script];
+pub const SORTS: [Sort; 12] = [Cases, Openings, Shortest, Crafted, Honest, Limits, Hostile, Bytes, Noise, Ends, Words, Script];
 
 impl Sort {
     /// The call lists of a seed; cases and scripts have none.
@@ -33,12 +35,14 @@ impl Sort {
         match self {
             Cases | Script => vec![],
             Openings => openings::all(),
+            Shortest => shortest::all(),
+            Crafted => crafted::all(),
             Honest => vec![generate::honest(seed)],
             Limits => vec![edges::limits(seed)],
             Hostile => vec![hostile::hostile(seed)],
             Bytes => damage::bytes(seed),
             Noise => vec![damage::noise(seed)],
-            Ends => [crafted::crafted(), ends::ends(seed)].concat(),
+            Ends => ends::ends(seed),
             Words => ends::words(seed),
         }
     }
@@ -57,12 +61,16 @@ pub struct Tally {
     /// Calls that the history, the graph and the definition followed.
     followed: u64,
     refusals: [u64; 256],
-    most_passed: u64,
+    most_passed: u16,
+    /// Takings whose edit was applied elsewhere than it arrived, and how far at most; those whose edit was gone.
+    moved: u64,
+    furthest: u16,
+    gone: u64,
 }
 
 impl Default for Tally {
     fn default() -> Tally {
-        Tally { lists: 0, calls: 0, scripts: 0, followed: 0, refusals: [0; 256], most_passed: 0 }
+        Tally { lists: 0, calls: 0, scripts: 0, followed: 0, refusals: [0; 256], most_passed: 0, moved: 0, furthest: 0, gone: 0 }
     }
 }
 
@@ -77,9 +85,20 @@ impl Tally {
                 self.refusals[out[at] as usize] += 1;
             }
             if call.op == TAKE {
-                self.most_passed = self.most_passed.max(answer(&out[at..]) >> 8);
+                self.taking(Answer::of(&out[at..]));
             }
             at += call.answer_length();
+        }
+    }
+
+    fn taking(&mut self, answer: Answer) {
+        self.most_passed = self.most_passed.max(answer.count);
+        if answer.applied == 0 {
+            self.gone += (answer.arrived != 0) as u64;
+        } else {
+            let far = answer.applied.abs_diff(answer.arrived);
+            self.moved += (far != 0) as u64;
+            self.furthest = self.furthest.max(far);
         }
     }
 
@@ -97,6 +116,7 @@ impl Tally {
         let named: Vec<String> = (0..=255).filter(|&r| self.refusals[r] > 0).map(|r| format!("{r}: {}", self.refusals[r])).collect();
         println!("answers by refusal  {}", named.join("  "));
         println!("most edits passed by one taking: {}", self.most_passed);
+        println!("takings that moved their edit: {}, {} places at most; whose edit was gone: {}", self.moved, self.furthest, self.gone);
     }
 }
 
@@ -207,7 +227,7 @@ pub fn replay(bytes: &[u8], subjects: &[&dyn Calls]) -> bool {
 pub fn timed(seconds: u64, first: u64, subjects: &[&dyn Calls]) -> bool {
     let start = Instant::now();
     let mut tally = Tally::default();
-    let fine = [Cases, Openings].into_iter().all(|sort| seed(sort, first, subjects, &mut tally));
+    let fine = [Cases, Openings, Shortest, Crafted].into_iter().all(|sort| seed(sort, first, subjects, &mut tally));
     // honest runs, limits and hostile ends get most of the time
     let turns = [Honest, Honest, Hostile, Script, Noise, Honest, Hostile, Limits, Script, Honest, Hostile, Bytes, Words, Ends];
     let going = |_: &Tally| start.elapsed() < Duration::from_secs(seconds);

@@ -4,13 +4,18 @@
 //! Names follow the document: css, cur, state, serial, cop, xForm, Perform, DoOp, Rev, SRev. Sets of operation identifiers are counts for each
 //! client, as in `form`: every replica applies one client's operations in their order.
 
-use crate::edit::{apply, transform, Edit};
+use crate::edit::{apply, opening, transform, Edit, Origin, Place};
 use crate::form::{with, Quick, Set};
 use crate::limits::LINES;
 use std::collections::HashMap;
 
 /// An operation identifier: the client (from 0) and its sequence number (from 1).
 pub type Oid = (u8, u16);
+
+/// What an item that the operation puts on a list has as its origin.
+fn origin(oid: Oid) -> Origin {
+    (oid.0 + 1, oid.1)
+}
 
 /// An operation with its context.
 #[derive(Clone, Copy, PartialEq, Eq, Debug)]
@@ -20,7 +25,7 @@ pub struct Cop {
     pub ctx: Set,
 }
 
-/// An edge; its origin is the node it is listed under, its end that node with the operation added.
+/// An edge; it starts at the node it is listed under, and ends at that node with the operation added.
 #[derive(Clone, Copy, PartialEq, Eq, Debug)]
 pub struct Edge {
     pub op: Edit,
@@ -30,7 +35,7 @@ pub struct Edge {
 pub struct Replica {
     css: HashMap<Set, Vec<Edge>, Quick>,
     cur: Set,
-    pub state: Vec<u32>,
+    pub state: Vec<Place>,
     /// The place of each operation in this replica's serial view, by client; an operation past the end is not in the view.
     serial: [Vec<u32>; LINES],
     viewed: u32,
@@ -41,7 +46,7 @@ impl Replica {
         Replica {
             css: HashMap::from_iter([([0; LINES], Vec::new())]),
             cur: [0; LINES],
-            state: initial.to_vec(),
+            state: opening(initial),
             serial: Default::default(),
             viewed: 0,
         }
@@ -86,15 +91,20 @@ impl Replica {
         let mut v = self.add(u, op, cop.oid);
         while u != self.cur {
             let edge = self.first_edge(&u, cop.oid);
-            let (op_past, edge_past) = (transform(op, edge.op), transform(edge.op, op));
+            let ((op_past, _), (edge_past, _)) = (transform(op, edge.op), transform(edge.op, op));
             self.add(v, edge_past, edge.oid);
             u = with(u, edge.oid.0 as usize);
             op = op_past;
             v = self.add(u, op, cop.oid);
         }
         self.cur = v;
-        apply(op, &mut self.state);
+        apply(op, origin(cop.oid), &mut self.state);
         op
+    }
+
+    /// What an operation is on its edge from a node, if it has one there.
+    pub fn at(&self, node: &Set, oid: Oid) -> Option<Edit> {
+        self.css.get(node)?.iter().find(|edge| edge.oid == oid).map(|edge| edge.op)
     }
 
     /// Takes over the server's serial view up to and with `oid`, which the server appended last.

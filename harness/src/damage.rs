@@ -25,25 +25,25 @@ pub fn furnished(seed: u64) -> (List, Vec<(u8, Vec<u8>)>) {
         Call::delete(2, p),
         Call::insert(1, q, rng.next() as u32),
         Call::insert(3, q, 7),
-        Call::send(1, 1, 1, 10, 14),
+        Call::send(1, 1, 1, 10, MESSAGE),
         Call::take(0, 10),
-        Call::send(2, 2, 1, 11, 14),
+        Call::send(2, 2, 1, 11, MESSAGE),
         Call::take(0, 11),
-        Call::send(3, 3, 1, 12, 14),
+        Call::send(3, 3, 1, 12, MESSAGE),
         Call::take(0, 12),
         // what may still be taken: up and down, every kind
-        Call::send(1, 1, 2, 0, 14),
-        Call::send(0, 1, 1, 1, 14),
-        Call::send(0, 2, 1, 2, 14),
-        Call::send(0, 3, 1, 3, 14),
-        Call::send(0, 3, 2, 4, 14),
-        Call::send(0, 2, 2, 5, 14),
-        Call::acknowledge(1, 1, 6, 14),
-        Call::acknowledge(0, 1, 7, 14),
+        Call::send(1, 1, 2, 0, MESSAGE),
+        Call::send(0, 1, 1, 1, MESSAGE),
+        Call::send(0, 2, 1, 2, MESSAGE),
+        Call::send(0, 3, 1, 3, MESSAGE),
+        Call::send(0, 3, 2, 4, MESSAGE),
+        Call::send(0, 2, 2, 5, MESSAGE),
+        Call::acknowledge(1, 1, 6, MESSAGE),
+        Call::acknowledge(0, 1, 7, MESSAGE),
         Call::take(1, 1),
-        Call::send(0, 1, 2, 8, 14),
+        Call::send(0, 1, 2, 8, MESSAGE),
         Call::delete(2, 2),
-        Call::send(2, 2, 2, 9, 14),
+        Call::send(2, 2, 2, 9, MESSAGE),
     ];
     list.calls.extend(calls);
     let mut world = World::unwatched(&Plain);
@@ -108,7 +108,7 @@ pub fn noise(seed: u64) -> List {
         let wide = rng.once_in(2);
         let mut bytes: Vec<u8> = (0..length).map(|_| if wide { rng.next() as u8 } else { rng.pick(&[0, 0, 0, 1, 1, 2, 3]) }).collect();
         if let Some(kind) = bytes.first_mut().filter(|_| rng.once_in(2)) {
-            *kind = rng.between(0, 5) as u8;
+            *kind = rng.between(0, 9) as u8;
         }
         run.give(0, &bytes);
         for end in 0..=3 {

@@ -69,7 +69,8 @@ pub fn had_to_stay(bits: u8) -> String {
 }
 
 fn in_words(bytes: &[u8]) -> String {
-    let answer = answer(bytes);
-    let rest = if answer >> 24 == 0 { String::new() } else { format!(", and {:#x} past the count", answer >> 24) };
-    format!("refusal {}, count {}{rest}", answer & 255, answer >> 8 & 65_535)
+    let Answer { refusal, count, arrived, applied, rest } = Answer::of(bytes);
+    let positions = if arrived == 0 && applied == 0 { String::new() } else { format!(", arrived {arrived}, applied {applied}") };
+    let rest = if rest == 0 { String::new() } else { format!(", and {rest:#x} past the positions") };
+    format!("refusal {refusal}, count {count}{positions}{rest}")
 }

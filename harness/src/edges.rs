@@ -3,7 +3,7 @@
 
 use crate::generate::Run;
 use crate::limits::*;
-use crate::list::{Call, List};
+use crate::list::{Call, List, MESSAGE};
 use crate::rng::Rng;
 
 pub fn limits(seed: u64) -> List {
@@ -134,7 +134,7 @@ fn full_buffers(mut rng: Rng) -> Run {
 }
 
 /// Everything that a line still owes in both directions, as far as it is taken, and both acknowledgements.
-fn exchange(run: &mut Run, l: usize) {
+pub fn exchange(run: &mut Run, l: usize) {
     while run.world.server(l).taken < run.world.client(l).made {
         if !run.hand_over(l, l, run.world.server(l).taken + 1) {
             break;
@@ -143,9 +143,9 @@ fn exchange(run: &mut Run, l: usize) {
     while run.world.client(l).taken < run.world.server(l).made {
         run.hand_over(0, l, run.world.client(l).taken + 1);
     }
-    run.call(Call::acknowledge(l as u8, l as u8, 0, 14));
+    run.call(Call::acknowledge(l as u8, l as u8, 0, MESSAGE));
     run.call(Call::take(0, 0));
-    run.call(Call::acknowledge(0, l as u8, 1, 14));
+    run.call(Call::acknowledge(0, l as u8, 1, MESSAGE));
     run.call(Call::take(l as u8, 1));
 }
 
@@ -154,7 +154,7 @@ fn ask_edges(run: &mut Run) {
     for l in 1..=run.n as u8 {
         for choice in 0..5 {
             let length = run.world.length(l as usize) as u16;
-            let position = [0, 1, length, length + 1, length + 2][choice];
+            let position = [0, length, 1, length + 1, length + 2][choice];
             run.call_and_look(Call::insert(l, position, 9));
             run.call_and_look(Call::delete(l, position));
         }

@@ -29,11 +29,39 @@ pub fn pending(end: u8, line: u8, index: u16, place: u32, item: u32) -> [Call; 2
     [Call::field(end, line, Field::Place(index), place), Call::field(end, line, Field::Brought(index), item)]
 }
 
+/// Origins at their edges: makers to 9 and 255, numbers to 401 and 65,535, and a word's upper bits.
+const ORIGINS: [u32; 18] = {
+    const ONE: u32 = 1 << 16;
+    [
+        0,
+        1,
+        400,
+        ONE,
+        ONE + 1,
+        ONE + 400,
+        ONE + 401,
+        ONE + 65_535,
+        2 * ONE,
+        2 * ONE + 1,
+        3 * ONE + 1,
+        3 * ONE + 400,
+        4 * ONE + 1,
+        8 * ONE + 1,
+        9 * ONE + 1,
+        (1 << 24) + ONE + 1,
+        (1 << 31) + 2 * ONE + 1,
+        u32::MAX,
+    ]
+};
+
 /// The calls that ask question 2, at one end, with dumps around each.
 fn probes(end: u8, list: &mut List) {
     let slots: &[u8] = if end == 0 { &[0, 6, 9, 60] } else { &[1, 2, 3, 7, 8, 60] };
-    let mut calls =
-        vec![Call::send(end, end.max(1), 1, 20, 14), Call::send(end, end.max(1), 2, 20, 14), Call::acknowledge(end, end.max(1), 21, 14)];
+    let mut calls = vec![
+        Call::send(end, end.max(1), 1, 20, MESSAGE),
+        Call::send(end, end.max(1), 2, 20, MESSAGE),
+        Call::acknowledge(end, end.max(1), 21, MESSAGE),
+    ];
     calls.extend(slots.iter().map(|&slot| Call::take(end, slot)));
     if end != 0 {
         calls.extend([Call::insert(end, 1, 5), Call::delete(end, 1), Call::delete(end, 20)]);
@@ -58,7 +86,8 @@ pub fn ends(seed: u64) -> Vec<List> {
     for end in [0, 1, 2] {
         for field in NUMBERS {
             for &value in edge_values(field).iter().chain(&WIDE) {
-                for line in if end == 0 { 1..=4 } else { 1..=1 } {
+                let of_a_line = matches!(field, Field::Made | Field::Taken | Field::Acked | Field::Inserts);
+                for line in if end == 0 && of_a_line { 1..=4 } else { 1..=1 } {
                     if let Some(word) = layout::word(end, line, field) {
                         add(&[Call::set(end, word, value)], end);
                     }
@@ -69,20 +98,40 @@ pub fn ends(seed: u64) -> Vec<List> {
             for &value in edge_values(Field::Item(index)) {
                 add(&[Call::field(end, 0, Field::Item(index), value)], end);
             }
+            for value in ORIGINS {
+                add(&[Call::field(end, 0, Field::Origin(index), value)], end);
+            }
         }
         for line in if end == 0 { 1..=8 } else { 1..=1 } {
             for sets in pending_sets(end, line) {
                 add(&sets, end);
             }
+            for (index, value) in [0, 1, 2, 63].into_iter().flat_map(|index| ORIGINS.map(|value| (index, value))) {
+                if let Some(word) = layout::word(end, line, Field::PendingOrigin(index)) {
+                    add(&[Call::set(end, word, value)], end);
+                }
+            }
         }
         for (field, value) in rank_words(&damage::ranks(seed)) {
             add(&[Call::field(end, 0, field, value)], end);
         }
-        for sets in together(end, &damage::ranks(seed)) {
-            add(&sets, end);
-        }
         for byte in [0, 1, 255] {
             add(&[Call::fill(end, byte)], end);
+        }
+    }
+    [several(seed), lists].concat()
+}
+
+/// The same with several fields of an end at once.
+pub fn several(seed: u64) -> Vec<List> {
+    let (prefix, _) = furnished(seed);
+    let mut lists = Vec::new();
+    for end in [0, 1, 2] {
+        for sets in together(end, &damage::ranks(seed)) {
+            let mut list = prefix.clone();
+            list.calls.extend(sets);
+            probes(end, &mut list);
+            lists.push(list);
         }
     }
     lists
@@ -176,6 +225,8 @@ fn together_at_client(end: u8, ranks: &[u8]) -> Vec<Vec<Call>> {
         vec![set(Field::Taken, 2800)],
         vec![set(Field::Taken, 2801)],
         vec![set(Field::N, 9), set(Field::Line, 9)],
+        [all_pending(64, 0), vec![set(Field::Line, 0)]].concat(),
+        [all_pending(64, 0), vec![set(Field::Line, 4)]].concat(),
         vec![set(Field::N, 0), set(Field::Line, 0)],
         vec![set(Field::N, 256 + 3), set(Field::Line, 256 + end as u32)],
         vec![set(Field::Made, 65_536), set(Field::Acked, 65_536)],
@@ -192,12 +243,18 @@ fn together_at_client(end: u8, ranks: &[u8]) -> Vec<Vec<Call>> {
 
 fn together_at_server(ranks: &[u8]) -> Vec<Vec<Call>> {
     let set = |line: u8, field: Field, value: u32| Call::field(0, line, field, value);
+    // so many edits of line 1 pending on another line, all of which became nothing
+    let unacked = |line: u8, count: u16| {
+        let origin = |index: u16| set(line, Field::PendingOrigin(index), layout::origin_word((1, index + 1)));
+        [vec![set(line, Field::Acked, 0)], (0..count).map(origin).collect()].concat()
+    };
     // three lines: taken (a, b, c), made the sums of the others, nothing pending
     let counts = |a: u32, b: u32, c: u32| {
         let mut sets = Vec::new();
         for (line, taken, made) in [(1, a, b + c), (2, b, a + c), (3, c, a + b)] {
             sets.extend([set(line, Field::Taken, taken), set(line, Field::Made, made), set(line, Field::Acked, made)]);
             sets.extend((0..4).flat_map(|index| pending(0, line, index, 0, 0)));
+            sets.extend((0..4).map(|index| set(line, Field::PendingOrigin(index), 0)));
         }
         sets
     };
@@ -218,9 +275,14 @@ fn together_at_server(ranks: &[u8]) -> Vec<Vec<Call>> {
             counts(100, 100, 100),
             &[set(2, Field::Inserts, 48), set(2, Field::Taken, 47), set(1, Field::Made, 147), set(3, Field::Made, 147)],
         ),
-        with(counts(64, 0, 0), &[set(2, Field::Acked, 0), set(3, Field::Acked, 0)]),
-        with(counts(65, 0, 0), &[set(2, Field::Acked, 0), set(3, Field::Acked, 0)]),
-        with(counts(63, 0, 0), &[set(2, Field::Acked, 0), set(3, Field::Acked, 63)]),
+        with(counts(64, 0, 0), &[unacked(2, 64), unacked(3, 64)].concat()),
+        with(counts(65, 0, 0), &[unacked(2, 64), unacked(3, 64)].concat()),
+        with(counts(63, 0, 0), &[unacked(2, 63), vec![set(3, Field::Acked, 63)]].concat()),
+        // an origin too few, one too many, one of the line itself, and all of a number that is none
+        with(counts(64, 0, 0), &unacked(2, 63)),
+        with(counts(63, 0, 0), &unacked(2, 64)),
+        with(counts(64, 0, 0), &[unacked(2, 64), vec![set(2, Field::PendingOrigin(40), layout::origin_word((2, 1)))]].concat()),
+        with(counts(64, 0, 0), &[unacked(2, 64), vec![set(2, Field::PendingOrigin(63), layout::origin_word((1, 401)))]].concat()),
         with(counts(64, 0, 0), &[set(1, Field::Inserts, 0), set(3, Field::Inserts, 0), set(0, Field::Initial, 18)]),
         with(counts(64, 0, 0), &[set(0, Field::Initial, 17)]),
         vec![set(4, Field::Acked, 1)],

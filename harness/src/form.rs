@@ -3,7 +3,7 @@
 //! Everywhere in a sheet one client's edits are applied in the order of making, so a set of applied edits is, for each line, how many
 //! of its edits are in it: eight counts stand for the set.
 
-use crate::edit::{transform, Edit};
+use crate::edit::{transform, Carried, Edit};
 use crate::limits::LINES;
 use std::collections::HashMap;
 use std::hash::{BuildHasherDefault, Hasher};
@@ -66,9 +66,25 @@ impl History {
         }
         let before = without(set, z);
         let other = self.form(z, set[z], before);
-        let form = transform(self.form(line, number, before), other);
+        let (form, _) = transform(self.form(line, number, before), other);
         self.known.insert((line, number, set), form);
         form
+    }
+
+    /// The edit's form at `from`, where it arrived, its form at `to`, where it is applied, and its moves on the definition's way between the two.
+    /// None if that way does not pass `from`.
+    pub fn carried(&mut self, line: usize, number: u16, from: Set, to: Set) -> Option<Carried> {
+        let context = self.lines[line][number as usize - 1].context;
+        let (mut set, mut moves) = (to, Vec::new());
+        while set != from {
+            let z = self.last_outside(&context, &set)?;
+            let before = without(set, z);
+            let other = self.form(z, set[z], before);
+            moves.push(transform(self.form(line, number, before), other).1);
+            set = before;
+        }
+        moves.reverse();
+        Some(Carried { arrived: self.form(line, number, from), applied: self.form(line, number, to), moves })
     }
 
     /// The line of the last edit of `set` outside `context`: the server's order, then the edits that it has not taken, in order of making.

@@ -132,7 +132,7 @@ impl Run {
         if self.odd() {
             self.rng.below(SLOT + 1) as u8
         } else {
-            self.rng.between(14, SLOT) as u8
+            self.rng.between(MESSAGE as usize, SLOT) as u8
         }
     }
 
@@ -286,7 +286,7 @@ impl Run {
 
     pub fn hand_over(&mut self, from: usize, l: usize, k: u32) -> bool {
         let slot = self.slot();
-        self.call(Call::send(from as u8, l as u8, k as u16, slot, 14));
+        self.call(Call::send(from as u8, l as u8, k as u16, slot, MESSAGE));
         self.call(Call::take(if from == 0 { l as u8 } else { 0 }, slot)) == 0
     }
 

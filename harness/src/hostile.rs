@@ -1,9 +1,11 @@
 //! Runs that leave the third demand: ends overwritten, messages that nobody wrote.
 
+use crate::edit::Edit;
 use crate::generate::Run;
 use crate::layout::{self, Field};
 use crate::limits::*;
 use crate::list::*;
+use crate::literal::{self, Message, Numbered};
 use crate::rankings;
 
 /// A run that is honest for a while.
@@ -30,7 +32,8 @@ impl Run {
         let index = if self.rng.once_in(2) { self.rng.below(520) } else { self.rng.below(65) } as u16;
         let count = self.rng.pick(&[0, 1, 63, 64, 65, 399, 400, 401, 511, 512, 513, 2799, 2800, 2801, 65_535]);
         let place = self.rng.pick(&[0, 1, 2, 511, 512, 513, 65_535]) << 8 | self.rng.below(10) as u32;
-        let (field, value) = match self.rng.below(13) {
+        let origin = layout::origin_word((self.rng.between(0, 9) as u8, self.rng.pick(&[0, 1, 2, 399, 400, 401, 65_535])));
+        let (field, value) = match self.rng.below(15) {
             0 => (Field::N, self.rng.below(10) as u32),
             1 => (Field::Line, self.rng.below(10) as u32),
             2 => (Field::Length, count),
@@ -43,6 +46,8 @@ impl Run {
             9 => (Field::Place(index), place | self.rng.pick(&[0, 0, 0, 1, 2, 255]) << 24),
             10 => (Field::Brought(index), self.rng.below(2) as u32),
             11 => self.other_ranks(),
+            12 => (Field::Origin(index), origin),
+            13 => (Field::PendingOrigin(index), origin),
             _ => return self.overwrite_all(end),
         };
         let value = if self.rng.once_in(6) { value | 1 << self.rng.between(8, 31) } else { value };
@@ -85,17 +90,20 @@ impl Run {
         let position =
             if self.rng.once_in(2) { self.rng.between(1, 20) } else { self.rng.pick(&[0, 1, 448, 449, 500, 511, 512, 513]) } as u16;
         let priority = if up && self.rng.below(4) > 0 { self.ranks[l - 1] } else { self.rng.between(1, LINES) as u8 };
-        let kind = self.rng.between(1, 4) as u8;
-        let mut bytes = vec![kind, l as u8, !up as u8];
-        if kind < 4 {
-            bytes.extend_from_slice(&number.to_be_bytes());
-        }
-        bytes.extend_from_slice(&seen.to_be_bytes());
-        if kind < 3 {
-            bytes.extend_from_slice(&position.to_be_bytes());
-        }
-        if kind == 1 {
-            bytes.extend_from_slice(&[0, 0, 0, 5, priority]);
+        let edit = self.rng.pick(&[Edit::Insert(position, 5, priority), Edit::Delete(position), Edit::Nothing]);
+        // going up mostly the right origin, coming down mostly another line's
+        let maker = if up && self.rng.below(8) > 0 { l } else { self.rng.between(1, self.n + 1) } as u8;
+        let made = if up && self.rng.below(8) > 0 { number } else { self.rng.pick(&[1, 2, 399, 400, 401, number]) };
+        let numbered = (!self.rng.once_in(4)).then_some(Numbered { number, edit, origin: (maker, made) });
+        let mut bytes = literal::write(&Message { line: l as u8, direction: !up as u8, numbered, seen });
+        if bytes[0] != 4 && self.rng.once_in(12) {
+            // a message of before origins
+            bytes.truncate(bytes.len() - 3);
+            bytes[0] = match edit {
+                Edit::Insert(..) => 1,
+                Edit::Delete(_) => 2,
+                Edit::Nothing => 3,
+            };
         }
         self.give(1, &bytes);
         let end = if up { 0 } else { l as u8 };

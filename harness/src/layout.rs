@@ -1,12 +1,13 @@
 //! The layout of an end in lent bytes: words of 4 bytes, low byte first, no padding. End 0 is the server, end l (1 to 8) a client.
 //! `plain` has its own reading of it.
 
+use crate::edit::Origin;
 use crate::limits::*;
 
 /// Words before the counts: n, the line or the count of opening items, the length, and eight ranks in two words.
 const HEAD: u16 = 5;
-pub const CLIENT_WORDS: usize = HEAD as usize + 4 + ITEMS + 2 * PENDING;
-pub const SERVER_WORDS: usize = HEAD as usize + 4 * LINES + ITEMS + 2 * LINES * PENDING;
+pub const CLIENT_WORDS: usize = HEAD as usize + 4 + ITEMS + 2 * PENDING + ITEMS;
+pub const SERVER_WORDS: usize = HEAD as usize + 4 * LINES + ITEMS + 2 * LINES * PENDING + ITEMS + LINES * PENDING;
 
 /// Words of an end.
 pub fn words(end: u8) -> usize {
@@ -42,6 +43,10 @@ pub enum Field {
     Place(u16),
     /// Its item.
     Brought(u16),
+    /// The origin of a list's place: maker * 65536 + number.
+    Origin(u16),
+    /// That of a pending edit, which the server has.
+    PendingOrigin(u16),
 }
 
 /// The numbers of an end, without its ranks and arrays.
@@ -55,6 +60,7 @@ pub fn word(end: u8, line: u8, field: Field) -> Option<u16> {
     let items = HEAD + 4 * lines;
     let places = items + ITEMS as u16;
     let pending = PENDING as u16;
+    let origins = places + 2 * pending * lines;
     match field {
         Field::N => Some(0),
         Field::Line => (end != 0).then_some(1),
@@ -62,6 +68,7 @@ pub fn word(end: u8, line: u8, field: Field) -> Option<u16> {
         Field::Length => Some(2),
         Field::Ranks(half) => (half < 2).then_some(3 + half),
         Field::Item(index) => (index < ITEMS as u16).then_some(items + index),
+        Field::Origin(index) => (index < ITEMS as u16).then_some(origins + index),
         _ if at >= lines => None,
         Field::Made => Some(HEAD + 4 * at),
         Field::Taken => Some(HEAD + 4 * at + 1),
@@ -69,6 +76,7 @@ pub fn word(end: u8, line: u8, field: Field) -> Option<u16> {
         Field::Inserts => Some(HEAD + 4 * at + 3),
         Field::Place(index) => (index < pending).then_some(places + 2 * pending * at + index),
         Field::Brought(index) => (index < pending).then_some(places + 2 * pending * at + pending + index),
+        Field::PendingOrigin(index) => (end == 0 && index < pending).then_some(origins + ITEMS as u16 + pending * at + index),
     }
 }
 
@@ -76,6 +84,11 @@ pub fn word(end: u8, line: u8, field: Field) -> Option<u16> {
 pub fn rank_words(ranks: &[u8]) -> [u32; 2] {
     let rank = |line: usize| ranks.get(line).copied().unwrap_or(0);
     [0, 4].map(|first| u32::from_le_bytes([rank(first), rank(first + 1), rank(first + 2), rank(first + 3)]))
+}
+
+/// The word of an origin.
+pub fn origin_word((maker, number): Origin) -> u32 {
+    (maker as u32) << 16 | number as u32
 }
 
 /// A word of an end's bytes.
@@ -89,6 +102,8 @@ pub fn name(end: u8, index: u16) -> String {
     let lines = if end == 0 { LINES as u16 } else { 1 };
     let items = HEAD + 4 * lines;
     let places = items + ITEMS as u16;
+    let origins = places + 2 * PENDING as u16 * lines;
+    let of = |line: u16| if end == 0 { format!(" of line {line}") } else { String::new() };
     if index < 3 {
         let names = if end == 0 { ["n", "initial", "length"] } else { ["n", "line", "length"] };
         names[index as usize].to_string()
@@ -97,19 +112,19 @@ pub fn name(end: u8, index: u16) -> String {
     } else if index < items {
         let (line, which) = ((index - HEAD) / 4 + 1, (index - HEAD) % 4);
         let name = ["made", "taken", "acked", "inserts"][which as usize];
-        if end == 0 {
-            format!("{name} of line {line}")
-        } else {
-            name.to_string()
-        }
+        format!("{name}{}", of(line))
     } else if index < places {
         format!("items[{}]", index - items)
-    } else {
+    } else if index < origins {
         let (at, pending) = (index - places, PENDING as u16);
         let (line, at) = (at / (2 * pending) + 1, at % (2 * pending));
         let (which, slot) = if at < pending { ("place", at) } else { ("item", at - pending) };
-        let of = if end == 0 { format!(" of line {line}") } else { String::new() };
-        format!("{which} of pending edit {slot}{of}")
+        format!("{which} of pending edit {slot}{}", of(line))
+    } else if index < origins + ITEMS as u16 {
+        format!("origin of items[{}]", index - origins)
+    } else {
+        let (at, pending) = (index - origins - ITEMS as u16, PENDING as u16);
+        format!("origin of pending edit {}{}", at % pending, of(at / pending + 1))
     }
 }
 
@@ -120,13 +135,15 @@ mod tests {
     /// The words that the layout names.
     #[test]
     fn named_words() {
-        assert_eq!((CLIENT_WORDS, SERVER_WORDS), (649, 1573));
+        assert_eq!((CLIENT_WORDS, SERVER_WORDS), (1161, 2597));
         for (end, line, field, at) in [
             (1, 1, Field::Ranks(0), 3),
             (1, 1, Field::Inserts, 8),
             (1, 1, Field::Item(511), 520),
             (1, 1, Field::Place(0), 521),
             (1, 1, Field::Brought(63), 648),
+            (1, 1, Field::Origin(0), 649),
+            (1, 1, Field::Origin(511), 1160),
             (0, 0, Field::Initial, 1),
             (0, 0, Field::Ranks(1), 4),
             (0, 1, Field::Made, 5),
@@ -138,15 +155,26 @@ mod tests {
             (0, 1, Field::Brought(0), 613),
             (0, 2, Field::Place(63), 740),
             (0, 8, Field::Brought(63), 1572),
+            (0, 0, Field::Origin(0), 1573),
+            (0, 0, Field::Origin(511), 2084),
+            (0, 1, Field::PendingOrigin(0), 2085),
+            (0, 2, Field::PendingOrigin(63), 2212),
+            (0, 8, Field::PendingOrigin(63), 2596),
         ] {
             assert_eq!(word(end, line, field), Some(at), "{end} {line} {field:?}");
         }
         assert_eq!(word(0, 0, Field::Line), None);
         assert_eq!(word(1, 1, Field::Initial), None);
         assert_eq!(word(1, 1, Field::Ranks(2)), None);
+        assert_eq!(word(1, 1, Field::PendingOrigin(0)), None);
+        assert_eq!(word(0, 1, Field::PendingOrigin(64)), None);
         assert_eq!(name(0, 1571), "item of pending edit 62 of line 8");
         assert_eq!(name(1, 584), "place of pending edit 63");
         assert_eq!(name(1, 4), "ranks of lines 5 to 8");
+        assert_eq!(name(1, 1160), "origin of items[511]");
+        assert_eq!(name(0, 2084), "origin of items[511]");
+        assert_eq!(name(0, 2149), "origin of pending edit 0 of line 2");
+        assert_eq!(origin_word((3, 400)), 196_608 + 400);
         assert_eq!(rank_words(&[2, 3, 4, 5, 1]), [0x0504_0302, 1]);
     }
 }

@@ -6,6 +6,8 @@ use crate::limits::*;
 pub const SLOTS: usize = 64;
 /// Bytes of a slot: an odd number, so that messages stand at every alignment.
 pub const SLOT: usize = 21;
+/// Bytes of the longest message: what a sending is lent.
+pub const MESSAGE: u8 = 17;
 /// What a byte is before anything is written to it.
 pub const FRESH: u8 = 170;
 /// Bytes past the layout that a call may lend.
@@ -187,9 +189,31 @@ pub const AROUND: u8 = 2;
 /// The slot's: those past a message that was written, else any.
 pub const OUT: u8 = 4;
 
-/// The answer of an exported call.
-pub fn answer(bytes: &[u8]) -> u64 {
-    u64::from_le_bytes(bytes[..8].try_into().unwrap())
+/// An exported call's answer taken apart.
+#[derive(Clone, Copy, PartialEq, Eq, Debug, Default)]
+pub struct Answer {
+    pub refusal: u8,
+    /// A count, or a length.
+    pub count: u16,
+    /// The position of the edit that a taking took, in its message and as it was applied; 0 for nothing.
+    pub arrived: u16,
+    pub applied: u16,
+    /// The bits past these.
+    pub rest: u8,
+}
+
+impl Answer {
+    /// From the first 8 bytes.
+    pub fn of(bytes: &[u8]) -> Answer {
+        let two = |at: usize| u16::from_le_bytes([bytes[at], bytes[at + 1]]);
+        Answer { refusal: bytes[0], count: two(1), arrived: two(3), applied: two(5), rest: bytes[7] }
+    }
+
+    /// The number: refusal in bits 0 to 7, count in 8 to 23, positions in 24 to 39 and 40 to 55.
+    pub fn number(&self) -> u64 {
+        let [count, arrived, applied] = [self.count, self.arrived, self.applied].map(u64::from);
+        self.refusal as u64 | count << 8 | arrived << 24 | applied << 40 | (self.rest as u64) << 56
+    }
 }
 
 /// Ranks as the rule book asks for them: 1 to n, each used once.
@@ -257,5 +281,17 @@ impl List {
     /// How many lines that sheet has.
     pub fn lines(&self) -> Option<usize> {
         Some(self.ranks()?.len())
+    }
+}
+
+#[cfg(test)]
+mod tests {
+    use super::*;
+
+    #[test]
+    fn answers() {
+        let answer = Answer { refusal: 1, count: 0x0203, arrived: 0x0405, applied: 0x0607, rest: 8 };
+        assert_eq!(answer.number(), 0x08_0607_0405_0203_01);
+        assert_eq!(Answer::of(&answer.number().to_le_bytes()), answer);
     }
 }

@@ -13,6 +13,8 @@ mod describe;
 mod edges;
 mod edit;
 mod ends;
+mod exported;
+mod forged;
 mod form;
 mod generate;
 mod hostile;
@@ -30,6 +32,7 @@ mod rankings;
 mod report;
 mod rng;
 mod scripts;
+mod shortest;
 mod shrink;
 mod steady;
 mod world;
@@ -61,7 +64,7 @@ fn main() -> ExitCode {
         },
         _ => Vec::new(),
     };
-    let mut subjects = calls::all();
+    let mut subjects = calls::all(matches!(command, Command::Bench { .. }));
     if let Some(slip) = slip {
         slip::set(slip);
         subjects.push(&Slipping);

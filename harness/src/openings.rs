@@ -82,15 +82,16 @@ fn called(end: u8, sound: bool) -> List {
     // what a client of line 2 made lies in slot 1, what it takes in slot 2, and nothing in slot 3
     list.calls.extend([
         Call::delete(2, 1),
-        Call::send(2, 2, 1, 1, 14),
+        Call::send(2, 2, 1, 1, MESSAGE),
         Call::insert(1, 1, 9),
-        Call::send(1, 1, 1, 4, 14),
+        Call::send(1, 1, 1, 4, MESSAGE),
         Call::take(0, 4),
     ]);
-    list.calls.extend([Call::send(0, 2, 1, 2, 14), Call::copy(8, 2)]);
+    list.calls.extend([Call::send(0, 2, 1, 2, MESSAGE), Call::copy(8, 2)]);
     let line = end.max(1);
     let (slot, number) = if end == 0 { (1, 1) } else { (2, 2) };
-    let mut calls = vec![Call::take(end, slot), Call::take(end, 3), Call::send(end, line, number, 5, 14), Call::send(end, line, 1, 5, 0)];
+    let mut calls =
+        vec![Call::take(end, slot), Call::take(end, 3), Call::send(end, line, number, 5, MESSAGE), Call::send(end, line, 1, 5, 0)];
     calls.extend([Call::acknowledge(end, line, 5, 5), Call::acknowledge(end, 9, 5, 5), Call::acknowledge(end, line, 5, 4)]);
     if end != 0 {
         calls.extend([Call::insert(end, 1, 7), Call::insert(end, 0, 7), Call::delete(end, 1), Call::delete(end, 99)]);

@@ -1,6 +1,6 @@
 //! The proved library, linked from liblubdranit.a (build.rs).
 
-use crate::calls::Calls;
+use crate::exported::Calls;
 
 // A byte slice goes over as its pointer and its length. The library does not keep them.
 extern "C" {

@@ -5,10 +5,11 @@ use crate::check::{judge, judge_script, same, Tally};
 use crate::list::List;
 use crate::plain::slip;
 use crate::shrink;
-use std::time::Duration;
 
 const FAILED_CALLS: &str = "failure.calls";
 const FAILED_SCRIPT: &str = "failure.txt";
+/// How many calls, or lines of scripts, are run to find the shortest list: a minute or two where the slowest opinions are asked.
+const TRIED: usize = 5_000_000;
 
 pub fn heading(place: &str, text: &str) {
     println!("FAILURE: {place}: {text}");
@@ -37,7 +38,7 @@ pub fn list(list: &List, index: usize, delivers: bool, subjects: &[&dyn Calls]) 
     let mut cut = list.clone();
     cut.calls.truncate(index + 1);
     let start = if fails(&cut) { &cut } else { list };
-    let short = shrink::shrink(start, Duration::from_secs(60), &fails);
+    let short = shrink::shrink(start, TRIED, &fails);
     let items = if short.initial.len() <= 160 { format!("{:?}", short.initial) } else { format!("{} items", short.initial.len()) };
     println!("shortest list found ({} calls of {}), initial {items}:", short.calls.len(), list.calls.len());
     let left_out = short.calls.len().saturating_sub(60);
@@ -60,7 +61,7 @@ pub fn list(list: &List, index: usize, delivers: bool, subjects: &[&dyn Calls]) 
 
 /// The same of a script.
 pub fn script(script: &[u8], subjects: &[&dyn Calls]) {
-    let short = shrink::shrink_script(script, Duration::from_secs(20), &|script| judge_script(script, subjects).is_err());
+    let short = shrink::shrink_script(script, TRIED, &|script| judge_script(script, subjects).is_err());
     println!("shortest script found:\n{}", String::from_utf8_lossy(&short).escape_debug());
     if let Err(text) = judge_script(&short, subjects) {
         println!("  {text}");

@@ -103,10 +103,10 @@ fn calls_of(line: &[u8], n: u64) -> Option<Vec<Call>> {
     Some(match words[1..] {
         ["ins", position, item] => vec![Call::insert(bay, small(position)?, number(item, 32)? as u32)],
         ["del", position] => vec![Call::delete(bay, small(position)?)],
-        ["up", k] => vec![Call::send(bay, bay, small(k)?, 0, 14), Call::take(0, 0)],
-        ["down", k] => vec![Call::send(0, bay, small(k)?, 0, 14), Call::take(bay, 0)],
-        ["ack"] => vec![Call::acknowledge(bay, bay, 0, 14), Call::take(0, 0)],
-        ["told"] => vec![Call::acknowledge(0, bay, 0, 14), Call::take(bay, 0)],
+        ["up", k] => vec![Call::send(bay, bay, small(k)?, 0, MESSAGE), Call::take(0, 0)],
+        ["down", k] => vec![Call::send(0, bay, small(k)?, 0, MESSAGE), Call::take(bay, 0)],
+        ["ack"] => vec![Call::acknowledge(bay, bay, 0, MESSAGE), Call::take(0, 0)],
+        ["told"] => vec![Call::acknowledge(0, bay, 0, MESSAGE), Call::take(bay, 0)],
         _ => return None,
     })
 }

@@ -1,5 +1,5 @@
 //! What can be said of every run, hostile ones too, from its own dumps: question 2 read literally, clause by clause, what an opening leaves,
-//! when 18, 1 and 16 are given, and that a refusal changes nothing.
+//! when 18, 1 and 16 are given, that a refusal changes nothing, and that a taking changes the list at the position applied.
 
 use crate::describe::had_to_stay;
 use crate::layout::{self, Field};
@@ -15,6 +15,8 @@ struct Line {
     inserts: u64,
     /// the place's top byte, position, priority; item
     pending: Vec<(u64, u64, u64, u64)>,
+    /// The pending edits' makers and their numbers, slot by slot; a client has none.
+    origins: Vec<(u64, u64)>,
 }
 
 /// An end as a dump shows it.
@@ -32,6 +34,11 @@ impl View {
         self.words[layout::word(self.end, line, field).unwrap() as usize]
     }
 
+    fn origin(&self, line: u8, field: Field) -> (u64, u64) {
+        let word = self.number(line, field);
+        (word >> 16, word & 65_535)
+    }
+
     fn line(&self, line: u8) -> Line {
         let edit = |index: u16| {
             let (place, item) = (self.number(line, Field::Place(index)), self.number(line, Field::Brought(index)));
@@ -43,6 +50,7 @@ impl View {
             acked: self.number(line, Field::Acked),
             inserts: self.number(line, Field::Inserts),
             pending: (0..PENDING as u16).map(edit).collect(),
+            origins: (0..PENDING as u16).filter(|_| self.end == 0).map(|index| self.origin(line, Field::PendingOrigin(index))).collect(),
         }
     }
 
@@ -51,8 +59,9 @@ impl View {
         [0, 1].iter().flat_map(|&half| (self.number(0, Field::Ranks(half)) as u32).to_le_bytes()).collect()
     }
 
-    fn items(&self) -> Vec<u64> {
-        (0..ITEMS as u16).map(|index| self.number(0, Field::Item(index))).collect()
+    /// The list's places: the item and its origin.
+    fn places(&self) -> Vec<(u64, (u64, u64))> {
+        (0..ITEMS as u16).map(|index| (self.number(0, Field::Item(index)), self.origin(0, Field::Origin(index)))).collect()
     }
 }
 
@@ -62,8 +71,8 @@ fn sound_ranks(n: u64, ranks: &[u8]) -> bool {
     is_ranking(n as usize, used) && unused.iter().all(|&rank| rank == 0)
 }
 
-fn unused_items_are_zero(items: &[u64], length: u64) -> bool {
-    items.iter().skip(length as usize).all(|&item| item == 0)
+fn unused_places_are_zero(places: &[(u64, (u64, u64))], length: u64) -> bool {
+    places.iter().skip(length as usize).all(|&place| place == (0, (0, 0)))
 }
 
 /// The pending edits are exactly acked + 1 to made, at most 64, with positions 1 to 512, and the rest is zero.
@@ -79,10 +88,17 @@ fn sound_pending(line: &Line, priority_allowed: impl Fn(u64) -> bool) -> bool {
     }) && unused.iter().all(|&edit| edit == (0, 0, 0, 0))
 }
 
+/// At the server every pending edit has an origin, whatever it became: another line of 1 to n and a number of 1 to 400; the rest is zero.
+fn sound_origins(line: &Line, own: u64, n: u64) -> bool {
+    let (used, unused) = line.origins.split_at((line.made - line.acked) as usize);
+    used.iter().all(|&(maker, number)| (1..=n).contains(&maker) && maker != own && (1..=400).contains(&number))
+        && unused.iter().all(|&origin| origin == (0, 0))
+}
+
 fn sound_client(dump: &[u8]) -> bool {
     let view = View::new(1, dump);
     let [n, line, length] = [Field::N, Field::Line, Field::Length].map(|field| view.number(1, field));
-    let (own, items, ranks) = (view.line(1), view.items(), view.ranks());
+    let (own, ranks) = (view.line(1), view.ranks());
     (1..=8).contains(&n)
         && (1..=n).contains(&line)
         && sound_ranks(n, &ranks)
@@ -92,13 +108,13 @@ fn sound_client(dump: &[u8]) -> bool {
         && sound_pending(&own, |priority| priority == ranks[line as usize - 1] as u64)
         && own.inserts <= 48
         && own.inserts <= own.made
-        && unused_items_are_zero(&items, length)
+        && unused_places_are_zero(&view.places(), length)
 }
 
 fn sound_server(dump: &[u8]) -> bool {
     let view = View::new(0, dump);
     let [n, initial, length] = [Field::N, Field::Initial, Field::Length].map(|field| view.number(0, field));
-    let (lines, items): (Vec<Line>, _) = ((1..=LINES as u8).map(|line| view.line(line)).collect(), view.items());
+    let lines: Vec<Line> = (1..=LINES as u8).map(|line| view.line(line)).collect();
     let ranks = view.ranks();
     if !(1..=8).contains(&n) || !sound_ranks(n, &ranks) || initial > 128 || length > 512 {
         return false;
@@ -106,17 +122,21 @@ fn sound_server(dump: &[u8]) -> bool {
     let (used, unused) = lines.split_at(n as usize);
     let all_taken: u64 = used.iter().map(|line| line.taken).sum();
     let all_inserts: u64 = used.iter().map(|line| line.inserts).sum();
-    let zero =
-        |line: &Line| [line.made, line.taken, line.acked, line.inserts] == [0; 4] && line.pending.iter().all(|&edit| edit == (0, 0, 0, 0));
+    let zero = |line: &Line| {
+        [line.made, line.taken, line.acked, line.inserts] == [0; 4]
+            && line.pending.iter().all(|&edit| edit == (0, 0, 0, 0))
+            && line.origins.iter().all(|&origin| origin == (0, 0))
+    };
     used.iter().enumerate().all(|(index, line)| {
         line.taken <= 400
             && line.made == all_taken - line.taken
             && sound_pending(line, |priority| (1..=n).contains(&priority) && priority != ranks[index] as u64)
+            && sound_origins(line, index as u64 + 1, n)
             && line.inserts <= 48
             && line.inserts <= line.taken
     }) && length <= initial + all_inserts
         && unused.iter().all(zero)
-        && unused_items_are_zero(&items, length)
+        && unused_places_are_zero(&view.places(), length)
 }
 
 /// Question 2 of a dump.
@@ -138,6 +158,8 @@ fn opened(call: &Call, initial: &[u32]) -> Vec<u8> {
     words[3..5].copy_from_slice(&layout::rank_words(&call.ranks()));
     let first = layout::word(call.end, 1, Field::Item(0)).unwrap() as usize;
     words[first..first + items.len()].copy_from_slice(items);
+    let first = layout::word(call.end, 1, Field::Origin(0)).unwrap() as usize;
+    (0..items.len()).for_each(|index| words[first + index] = index as u32 + 1);
     words.iter().flat_map(|word| word.to_le_bytes()).collect()
 }
 
@@ -146,14 +168,38 @@ fn opened(call: &Call, initial: &[u32]) -> Vec<u8> {
 struct Known {
     /// Its bytes, and whether they are sound.
     end: Option<(Vec<u8>, bool)>,
-    /// A call was accepted since: the list and counts may have changed, but the end has to be sound if it was.
-    changed: bool,
+    since: Since,
+}
+
+/// What was accepted since: the list and counts may have changed, but the end has to be sound if it was.
+#[derive(Clone, Copy, PartialEq, Eq, Default)]
+enum Since {
+    #[default]
+    Nothing,
+    /// One taking, which said that it applied an edit at this position.
+    Taking(u16),
+    More,
+}
+
+/// Whether an edit at this position made the list of the second dump out of that of the first, items and origins; 0 leaves it.
+fn changed_at(end: u8, position: u16, before: &[u8], now: &[u8]) -> bool {
+    let word = |field: Field| layout::word(end, 1, field).unwrap();
+    let [length, new_length] = [before, now].map(|dump| layout::read(dump, word(Field::Length)));
+    [Field::Item(0), Field::Origin(0)].into_iter().all(|first| {
+        let [before, now] = [before, now].map(|dump| dump[4 * word(first) as usize..][..4 * ITEMS].as_chunks::<4>().0);
+        let Some(at) = (position as usize).checked_sub(1) else {
+            return before == now && length == new_length;
+        };
+        let inserted = new_length == length + 1 && now[at + 1..] == before[at..ITEMS - 1];
+        let deleted = new_length + 1 == length && now[at..ITEMS - 1] == before[at + 1..];
+        before[..at] == now[..at] && (inserted || deleted)
+    })
 }
 
 /// Checks a whole run: 18 exactly with too few lent bytes, 1 and 16 exactly by their questions, 2 exactly at unsound ends, openings give their
-/// end, refusals change nothing and have no count or length, accepted calls keep ends sound.
+/// end, refusals change nothing and have no count, length or position, takings alone have positions, accepted calls keep ends sound.
 pub fn check(list: &List, out: &[u8]) -> Result<(), Wrong> {
-    let fresh = |end: u8| Known { end: Some((vec![FRESH; layout::bytes(end)], false)), changed: false };
+    let fresh = |end: u8| Known { end: Some((vec![FRESH; layout::bytes(end)], false)), since: Since::Nothing };
     let mut ends: Vec<Known> = (0..=LINES as u8).map(fresh).collect();
     let mut at = 0;
     for (index, call) in list.calls.iter().enumerate() {
@@ -183,7 +229,7 @@ fn seen(known: &mut Known, call: &Call, now: &[u8]) -> Result<(), String> {
     };
     if let Some((before, was_sound)) = before {
         let differs = before.iter().zip(now).position(|(before, now)| before != now);
-        if let Some(at) = differs.filter(|_| !known.changed) {
+        if let Some(at) = differs.filter(|_| known.since == Since::Nothing) {
             let word = at as u16 / 4;
             let [before, now] = [&before, now].map(|bytes| layout::read(bytes, word));
             return Err(format!("{} (word {word}): expected {before}; came {now}", layout::name(call.end, word)));
@@ -191,19 +237,40 @@ fn seen(known: &mut Known, call: &Call, now: &[u8]) -> Result<(), String> {
         if was_sound && !is_sound {
             return Err("end: expected a sound one after an accepted call; came an unsound one".to_string());
         }
+        if let Since::Taking(position) = known.since {
+            if !changed_at(call.end, position, &before, now) {
+                return Err(format!("list: expected a change at the position applied, {position}; came another"));
+            }
+        }
     }
-    *known = Known { end: Some((now.to_vec(), is_sound)), changed: false };
+    *known = Known { end: Some((now.to_vec(), is_sound)), since: Since::Nothing };
     Ok(())
 }
 
+/// What an answer says beside its refusal: nothing at one; positions at a taking alone, at most 512, which differ by at most one for each pending
+/// edit passed unless the edit is gone past one of them.
+fn said(call: &Call, answer: Answer) -> Result<(), String> {
+    let Answer { refusal, count, arrived, applied, rest } = answer;
+    let far = arrived.abs_diff(applied);
+    let expected = match () {
+        _ if refusal != 0 && answer != (Answer { refusal, ..Answer::default() }) => "no count and no positions at a refusal",
+        _ if call.op != TAKE && (arrived, applied) != (0, 0) => "no positions",
+        _ if rest != 0 => "no bit past the positions",
+        _ if arrived as usize > ITEMS || applied as usize > ITEMS => "positions of at most 512",
+        _ if arrived == 0 && applied != 0 => "no position applied of an edit that arrived without one",
+        _ if (applied != 0 && far > count) || (applied == 0 && arrived != 0 && count == 0) => "positions that so many moves explain",
+        _ => return Ok(()),
+    };
+    Err(format!("answer: expected {expected}; came {answer:?}"))
+}
+
 fn called(known: &mut Known, call: &Call, initial: &[u32], bytes: &[u8]) -> Result<(), String> {
-    let (refusal, rest) = (answer(bytes) as u8, answer(bytes) >> 8);
+    let answer = Answer::of(bytes);
+    let refusal = answer.refusal;
     if bytes[ANSWER - 1] != 0 {
         return Err(format!("changed that had to stay: expected no byte; came {}", had_to_stay(bytes[ANSWER - 1])));
     }
-    if refusal != 0 && rest != 0 || rest > 65_535 {
-        return Err(format!("count at refusal {refusal}: expected {}; came {rest}", if refusal != 0 { "0" } else { "16 bits" }));
-    }
+    said(call, answer)?;
     let unsound = known.end.as_ref().map(|end| !end.1);
     let opening = (call.op == OPEN).then(|| opening_refusal(call, initial.len()));
     let wanted = match refusal {
@@ -223,8 +290,11 @@ fn called(known: &mut Known, call: &Call, initial: &[u32], bytes: &[u8]) -> Resu
         return Err(format!("refusal: expected {expected}; came {refusal} (the end is {state})"));
     }
     if refusal == 0 && call.op == OPEN {
-        *known = Known { end: Some((opened(call, initial), true)), changed: false };
+        *known = Known { end: Some((opened(call, initial), true)), since: Since::Nothing };
     }
-    known.changed |= refusal == 0 && matches!(call.op, INSERT | DELETE | TAKE);
+    if refusal == 0 && matches!(call.op, INSERT | DELETE | TAKE) {
+        let first = known.since == Since::Nothing && call.op == TAKE;
+        known.since = if first { Since::Taking(answer.applied) } else { Since::More };
+    }
     Ok(())
 }

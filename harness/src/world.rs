@@ -194,6 +194,12 @@ impl<'a, C: Calls + ?Sized> World<'a, C> {
         (0..self.length(end).min(ITEMS as u32) as u16).map(|index| self.number(end as u8, 1, Field::Item(index))).collect()
     }
 
+    /// The list's places: item, maker's line and maker's number.
+    pub fn places(&self, end: usize) -> Vec<(u32, u32, u32)> {
+        let origin = |index: u16| self.number(end as u8, 1, Field::Origin(index));
+        self.items(end).into_iter().zip(0..).map(|(item, index)| (item, origin(index) >> 16, origin(index) & 65_535)).collect()
+    }
+
     fn counts(&self, end: u8, line: usize) -> Counts {
         let [made, taken, acked, inserts] =
             [Field::Made, Field::Taken, Field::Acked, Field::Inserts].map(|field| self.number(end, line, field));

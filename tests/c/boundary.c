@@ -1,5 +1,6 @@
-/* The exported calls from C: the marked cases of the rule book, its edges, ranks, and the refusals 1, 2, 3, 14, 16 and 18, with every lent
- * byte compared before and after. Prints what differs and returns 1, or prints how many comparisons were made. */
+/* The exported calls from C: the marked cases of the rule book, its edges, ranks, origins, the positions that a taking reports, and the
+ * refusals 1, 2, 3, 4, 14, 16 and 18, with every lent byte compared before and after. Prints what differs and returns 1, or prints how
+ * many comparisons were made. */
 #include <stdio.h>
 #include <string.h>
 
@@ -78,29 +79,40 @@ static void rest_stays(const char *what) {
         same_bytes(what, mark, client(line) + LUB_CLIENT_BYTES, REST);
 }
 
-/* Client `line` sends edit `number`, and the server takes it: the refusal of the taking. */
-static unsigned up(unsigned line, unsigned number) {
+/* Client `line` sends edit `number`, and the server takes it: the answer of the taking. */
+static uint64_t taken_up(unsigned line, unsigned number) {
     uint64_t sent = lub_client_send(client(line), sizeof clients[0], (uint8_t)line, (uint16_t)number, out, sizeof out);
     same("an edit is sent up", 0, lub_refusal(sent));
-    return lub_refusal(lub_server_take(server, sizeof server, out, lub_count(sent)));
+    return lub_server_take(server, sizeof server, out, lub_count(sent));
 }
 
-static unsigned down(unsigned line, unsigned number) {
+static uint64_t taken_down(unsigned line, unsigned number) {
     uint64_t sent = lub_server_send(server, sizeof server, (uint8_t)line, (uint16_t)number, out, sizeof out);
     same("an edit is sent down", 0, lub_refusal(sent));
-    return lub_refusal(lub_client_take(client(line), sizeof clients[0], out, lub_count(sent)));
+    return lub_client_take(client(line), sizeof clients[0], out, lub_count(sent));
 }
 
-static unsigned acknowledge_up(unsigned line) {
+/* The same: the refusal alone. */
+static unsigned up(unsigned line, unsigned number) { return lub_refusal(taken_up(line, number)); }
+
+static unsigned down(unsigned line, unsigned number) { return lub_refusal(taken_down(line, number)); }
+
+/* An acknowledgement is sent and taken: the answer of the taking, which is 0 in all its bits. */
+static uint64_t acknowledge_up(unsigned line) {
     uint64_t sent = lub_client_acknowledge(client(line), sizeof clients[0], (uint8_t)line, out, sizeof out);
-    same("an acknowledgement is sent up", 0, lub_refusal(sent));
-    return lub_refusal(lub_server_take(server, sizeof server, out, lub_count(sent)));
+    same("an acknowledgement is sent up", 5u << 8, sent);
+    return lub_server_take(server, sizeof server, out, lub_count(sent));
 }
 
-static unsigned acknowledge_down(unsigned line) {
+static uint64_t acknowledge_down(unsigned line) {
     uint64_t sent = lub_server_acknowledge(server, sizeof server, (uint8_t)line, out, sizeof out);
-    same("an acknowledgement is sent down", 0, lub_refusal(sent));
-    return lub_refusal(lub_client_take(client(line), sizeof clients[0], out, lub_count(sent)));
+    same("an acknowledgement is sent down", 5u << 8, sent);
+    return lub_client_take(client(line), sizeof clients[0], out, lub_count(sent));
+}
+
+/* The answer of taking an edit: pending edits passed, the position that arrived, the position applied. */
+static uint64_t edit_taken(unsigned passed, unsigned arrived, unsigned applied) {
+    return (uint64_t)passed << 8 | (uint64_t)arrived << 24 | (uint64_t)applied << 40;
 }
 
 static uint64_t insert(unsigned line, unsigned position, uint32_t item) {
@@ -111,24 +123,38 @@ static uint64_t delete_at(unsigned line, unsigned position) {
     return lub_client_delete(client(line), sizeof clients[0], (uint16_t)position);
 }
 
-static void client_shows(const char *what, unsigned line, const uint32_t *items, unsigned count) {
+/* A place of a list: the item, the line of its maker and the number of that maker's edit. */
+struct place {
+    uint32_t item;
+    unsigned maker;
+    unsigned number;
+};
+
+/* The list, and zeros behind it. */
+static void client_shows(const char *what, unsigned line, const struct place *places, unsigned count) {
     unsigned i;
     same(what, count, lub_client_length(client(line)));
-    for (i = 0; i < count; i++)
-        same(what, items[i], lub_client_item(client(line), i + 1));
+    for (i = 0; i <= LUB_ITEMS; i++) {
+        same(what, i < count ? places[i].item : 0, lub_client_item(client(line), i + 1));
+        same(what, i < count ? places[i].maker : 0, lub_client_maker(client(line), i + 1));
+        same(what, i < count ? places[i].number : 0, lub_client_maker_number(client(line), i + 1));
+    }
 }
 
-static void server_shows(const char *what, const uint32_t *items, unsigned count) {
+static void server_shows(const char *what, const struct place *places, unsigned count) {
     unsigned i;
     same(what, count, lub_server_length(server));
-    for (i = 0; i < count; i++)
-        same(what, items[i], lub_server_item(server, i + 1));
+    for (i = 0; i <= LUB_ITEMS; i++) {
+        same(what, i < count ? places[i].item : 0, lub_server_item(server, i + 1));
+        same(what, i < count ? places[i].maker : 0, lub_server_maker(server, i + 1));
+        same(what, i < count ? places[i].number : 0, lub_server_maker_number(server, i + 1));
+    }
 }
 
 /* ---- marked cases */
 
 static void p9_and_p10(void) {
-    static const uint8_t p9[14] = {1, 1, 0, 0, 1, 0, 0, 0, 1, 0, 0, 0, 0x1e, 1};
+    static const uint8_t p9[17] = {5, 1, 0, 0, 1, 0, 0, 0, 1, 0, 0, 0, 0x1e, 1, 1, 0, 1};
     static const uint8_t p10[5] = {4, 2, 1, 0, 3};
     uint64_t sent;
     unsigned i;
@@ -136,9 +162,9 @@ static void p9_and_p10(void) {
     same("P9: the insert", 0, insert(1, 1, 30));
     memset(out, MARK, sizeof out);
     sent = lub_client_send(client(1), sizeof clients[0], 1, 1, out, sizeof out);
-    same("P9: no refusal, 14 bytes", 14u << 8, sent);
+    same("P9: no refusal, 17 bytes", 17u << 8, sent);
     same_bytes("P9", p9, out, sizeof p9);
-    same("P9: the byte behind stays", MARK, out[14]);
+    same("P9: the byte behind stays", MARK, out[17]);
     for (i = 1; i <= 3; i++) {
         same("P10: an insert", 0, insert(2, 1, i));
         same("P10: it goes up", 0, up(2, i));
@@ -154,7 +180,7 @@ static void p11(void) {
     static const char input[] = "lines 2 items 10 20\n1 ins 1 30\n2 del 2\n1 up 1\n2 up 1\n1 down 1\n2 down 1\n";
     static const char output[] = "0\n0\n0\n0\n0\n0\n0\nserver 30 10\nclient 1 30 10\nclient 2 30 10\n";
     static const uint32_t opening[2] = {10, 20};
-    static const uint32_t both[2] = {30, 10};
+    static const struct place both[2] = {{30, 1, 1}, {10, 0, 1}};
     static uint8_t printed[LUB_RUN_BYTES];
     uint64_t length = lub_run((const uint8_t *)input, sizeof input - 1, printed, sizeof printed);
     same("P11: bytes printed", sizeof output - 1, length);
@@ -162,10 +188,10 @@ static void p11(void) {
     open_sheet(2, opening, 2);
     same("P11: client 1 inserts", 0, insert(1, 1, 30));
     same("P11: client 2 deletes", 0, delete_at(2, 2));
-    same("P11: up", 0, up(1, 1));
-    same("P11: up", 0, up(2, 1));
-    same("P11: down", 0, down(1, 1));
-    same("P11: down", 0, down(2, 1));
+    same("P11: up", edit_taken(0, 1, 1), taken_up(1, 1));
+    same("P11: up, behind the insert", edit_taken(1, 2, 3), taken_up(2, 1));
+    same("P11: down", edit_taken(0, 3, 3), taken_down(1, 1));
+    same("P11: down", edit_taken(0, 1, 1), taken_down(2, 1));
     server_shows("P11: the server", both, 2);
     client_shows("P11: client 1", 1, both, 2);
     client_shows("P11: client 2", 2, both, 2);
@@ -174,17 +200,17 @@ static void p11(void) {
 
 static void p12(void) {
     static const uint32_t opening[3] = {10, 20, 30};
-    static const uint32_t end[4] = {40, 50, 20, 30};
+    static const struct place end[4] = {{40, 1, 2}, {50, 2, 1}, {20, 0, 2}, {30, 0, 3}};
     open_sheet(2, opening, 3);
     same("P12: client 1 deletes", 0, delete_at(1, 1));
     same("P12: client 1 inserts", 0, insert(1, 1, 40));
     same("P12: client 2 inserts", 0, insert(2, 2, 50));
-    same("P12: client 2's goes up", 0, up(2, 1));
-    same("P12: client 1's first goes up", 0, up(1, 1));
-    same("P12: client 1's second goes up", 0, up(1, 2));
-    same("P12: client 1 takes", 0, down(1, 1));
-    same("P12: client 2 takes", 0, down(2, 1));
-    same("P12: client 2 takes", 0, down(2, 2));
+    same("P12: client 2's goes up", edit_taken(0, 2, 2), taken_up(2, 1));
+    same("P12: client 1's first goes up", edit_taken(1, 1, 1), taken_up(1, 1));
+    same("P12: client 1's second goes up", edit_taken(1, 1, 1), taken_up(1, 2));
+    same("P12: client 1 takes", edit_taken(0, 2, 2), taken_down(1, 1));
+    same("P12: client 2 takes", edit_taken(0, 1, 1), taken_down(2, 1));
+    same("P12: client 2 takes", edit_taken(0, 1, 1), taken_down(2, 2));
     server_shows("P12: the server", end, 4);
     client_shows("P12: client 1", 1, end, 4);
     client_shows("P12: client 2", 2, end, 4);
@@ -200,9 +226,9 @@ static void p12(void) {
 /* Client 5 has rank 1 and wins the tie against client 1, whichever of them the server takes first. */
 static void lead_first(unsigned first, unsigned second) {
     static const uint8_t ranks[5] = {2, 3, 4, 5, 1};
-    static const uint8_t message[14] = {1, 5, 0, 0, 1, 0, 0, 0, 2, 0, 0, 0, 50, 1};
+    static const uint8_t message[17] = {5, 5, 0, 0, 1, 0, 0, 0, 2, 0, 0, 0, 50, 1, 5, 0, 1};
     static const uint32_t opening[2] = {10, 20};
-    static const uint32_t both[4] = {10, 50, 15, 20};
+    static const struct place both[4] = {{10, 0, 1}, {50, 5, 1}, {15, 1, 1}, {20, 0, 2}};
     unsigned line;
     open_ranked(5, ranks, opening, 2);
     for (line = 0; line <= LUB_LINES + 1; line++) {
@@ -212,7 +238,7 @@ static void lead_first(unsigned first, unsigned second) {
     }
     same("client 1 inserts", 0, insert(1, 2, 15));
     same("client 5 inserts at the same place", 0, insert(5, 2, 50));
-    same("its message", 14u << 8, lub_client_send(client(5), sizeof clients[0], 5, 1, out, sizeof out));
+    same("its message", 17u << 8, lub_client_send(client(5), sizeof clients[0], 5, 1, out, sizeof out));
     same_bytes("its message carries its rank", message, out, sizeof message);
     same("the first goes up", 0, up(first, 1));
     same("the second goes up", 0, up(second, 1));
@@ -311,6 +337,8 @@ static void four_hundred_edits(void) {
     end[29] = 399 >> 8;
     same("edit 400", 0, lub_client_insert(end, sizeof end, 1, 7));
     memcpy(client(1), end, sizeof end);
+    same("edit 400: its maker", 1, lub_client_maker(end, 1));
+    same("edit 400: its number", 400, lub_client_maker_number(end, 1));
     remember(1);
     refused("edit 401", 1, LUB_REFUSED_EDITS, insert(1, 1, 8));
 }
@@ -338,7 +366,7 @@ static void full_line(void) {
         refused("line 2 is full", 1, LUB_REFUSED_PENDING, lub_server_take(server, sizeof server, message, length));
         same("client 2 takes one", 0, down(2, 1));
         same("and acknowledges it", 0, acknowledge_up(2));
-        same("now it is taken", 0, lub_server_take(server, sizeof server, message, length));
+        same("now it is taken", edit_taken(0, 1, 1), lub_server_take(server, sizeof server, message, length));
         remember(1);
         refused("a repeat", 1, LUB_REFUSED_REPEAT, lub_server_take(server, sizeof server, message, length));
     }
@@ -350,6 +378,105 @@ static void full_line(void) {
     old[4]++;
     remember(1);
     refused("seen one above made", 1, LUB_REFUSED_UNMADE, lub_server_take(server, sizeof server, old, old_length));
+}
+
+/* ---- the positions that a taking reports */
+
+static void answers(void) {
+    const uint64_t answer = 0x5a1234fedc876502u;
+    same("bits 0 to 7", 0x02, lub_refusal(answer));
+    same("bits 8 to 23", 0x8765, lub_count(answer));
+    same("bits 24 to 39", 0xfedc, lub_arrived(answer));
+    same("bits 40 to 55", 0x1234, lub_applied(answer));
+    same("of an edit taken", 3, lub_count(edit_taken(3, 511, 512)));
+    same("of an edit taken", 511, lub_arrived(edit_taken(3, 511, 512)));
+    same("of an edit taken", 512, lub_applied(edit_taken(3, 511, 512)));
+}
+
+/* Both clients delete one item: the other's delete is gone at client 2, and client 2's, written before, at the server. What client 1 then
+ * takes is nothing. Repeats and early edits are refused without positions. */
+static void gone(void) {
+    static const uint32_t opening[3] = {10, 20, 30};
+    static const struct place end[2] = {{10, 0, 1}, {30, 0, 3}};
+    uint8_t message[LUB_MESSAGE_BYTES];
+    size_t length;
+    open_sheet(2, opening, 3);
+    same("client 1 deletes", 0, delete_at(1, 2));
+    same("client 2 deletes the same", 0, delete_at(2, 2));
+    length = lub_count(lub_client_send(client(2), sizeof clients[0], 2, 1, message, sizeof message));
+    same("the first arrives and stays", edit_taken(0, 2, 2), taken_up(1, 1));
+    same("it is gone at client 2", edit_taken(1, 2, 0), taken_down(2, 1));
+    same("the second is gone at the server", edit_taken(1, 2, 0), lub_server_take(server, sizeof server, message, length));
+    same("nothing arrives", 0, taken_down(1, 1));
+    server_shows("gone: the server", end, 2);
+    client_shows("gone: client 1", 1, end, 2);
+    client_shows("gone: client 2", 2, end, 2);
+    remember(2);
+    refused("a repeat", 2, LUB_REFUSED_REPEAT, lub_server_take(server, sizeof server, message, length));
+    message[4] = 3;
+    message[length - 1] = 3;
+    refused("an early edit", 2, LUB_REFUSED_GAP, lub_server_take(server, sizeof server, message, length));
+    message[4] = 2;
+    message[length - 1] = 2;
+    message[8] = 3;
+    refused("past the list", 2, LUB_REFUSED_POSITION, lub_server_take(server, sizeof server, message, length));
+    same("an acknowledgement", 0, acknowledge_up(2));
+    same("an acknowledgement", 0, acknowledge_down(2));
+}
+
+/* A delete and an insert past two deletes and three inserts that are pending: down and up at client 1; at the server each by itself. */
+static void moves(void) {
+    static const uint32_t opening[9] = {1, 2, 3, 4, 5, 6, 7, 8, 9};
+    uint8_t messages[5][LUB_MESSAGE_BYTES];
+    size_t lengths[5];
+    unsigned i;
+    open_sheet(2, opening, 9);
+    same("client 1 deletes", 0, delete_at(1, 1));
+    same("client 1 deletes", 0, delete_at(1, 2));
+    same("client 1 inserts", 0, insert(1, 1, 15));
+    same("client 1 inserts", 0, insert(1, 1, 16));
+    same("client 1 inserts", 0, insert(1, 4, 17));
+    for (i = 0; i < 5; i++)
+        lengths[i] = lub_count(lub_client_send(client(1), sizeof clients[0], 1, (uint16_t)(i + 1), messages[i], sizeof messages[i]));
+    same("client 2 deletes", 0, delete_at(2, 8));
+    same("client 2 inserts", 0, insert(2, 1, 18));
+    same("its delete goes up", edit_taken(0, 8, 8), taken_up(2, 1));
+    same("its insert goes up", edit_taken(0, 1, 1), taken_up(2, 2));
+    same("the delete: down twice, up three times", edit_taken(5, 8, 9), taken_down(1, 1));
+    same("the insert: up twice", edit_taken(5, 1, 3), taken_down(1, 2));
+    same("client 1's: up behind the insert", edit_taken(2, 1, 2), lub_server_take(server, sizeof server, messages[0], lengths[0]));
+    same("client 1's: up behind the insert", edit_taken(2, 2, 3), lub_server_take(server, sizeof server, messages[1], lengths[1]));
+    same("client 1's: it goes first", edit_taken(2, 1, 1), lub_server_take(server, sizeof server, messages[2], lengths[2]));
+    same("client 1's: it goes first", edit_taken(2, 1, 1), lub_server_take(server, sizeof server, messages[3], lengths[3]));
+    same("client 1's: up behind the insert", edit_taken(2, 4, 5), lub_server_take(server, sizeof server, messages[4], lengths[4]));
+    same("client 1's insert of 15", 15, lub_server_item(server, 2));
+    same("client 2's insert of 18", 18, lub_server_item(server, 3));
+    same("client 1's insert of 17", 17, lub_server_item(server, 5));
+    for (i = 1; i <= lub_server_length(server); i++)
+        same("the lists are one", lub_server_item(server, i), lub_client_item(client(1), i));
+}
+
+/* Positions that need more than 8 bits, up to 512: client 1's list is made that long by hand. Sixty-four deletes are pending at the front. */
+static void far_positions(void) {
+    static const unsigned at[6] = {512, 511, 257, 256, 255, 65};
+    static uint8_t long_end[LUB_CLIENT_BYTES];
+    uint8_t message[12] = {7, 1, 1, 0, 1, 0, 0, 0, 0, 2, 0, 1};
+    unsigned i, passed;
+    open_sheet(2, NULL, 0);
+    client(1)[8] = 512 & 255;
+    client(1)[9] = 512 >> 8;
+    memcpy(long_end, client(1), sizeof long_end);
+    for (i = 0; i < 6; i++) {
+        memcpy(client(1), long_end, sizeof long_end);
+        message[7] = (uint8_t)(at[i] >> 8);
+        message[8] = (uint8_t)at[i];
+        same("a delete far behind", edit_taken(0, at[i], at[i]), lub_client_take(client(1), sizeof clients[0], message, sizeof message));
+        memcpy(client(1), long_end, sizeof long_end);
+        for (passed = 1; passed <= LUB_PENDING; passed++)
+            same("a delete at the front", 0, delete_at(1, 1));
+        same("down 64 times", edit_taken(LUB_PENDING, at[i], at[i] - LUB_PENDING),
+             lub_client_take(client(1), sizeof clients[0], message, sizeof message));
+    }
 }
 
 /* ---- refusals that no order of calls brings about, or only here */
@@ -432,7 +559,7 @@ static void wrong_ranks(void) {
 /* Question 4 compares an insert's priority with ranks, of a sheet of three in which no rank is its line's number. */
 static void other_ranks(void) {
     static const uint8_t ranks[3] = {2, 3, 1};
-    uint8_t message[14] = {1, 1, 0, 0, 1, 0, 0, 0, 1, 0, 0, 0, 7, 0};
+    uint8_t message[17] = {5, 1, 0, 0, 1, 0, 0, 0, 1, 0, 0, 0, 7, 0, 0, 0, 1};
     unsigned priority;
     unsigned line;
     for (line = 1; line <= 3; line++) {
@@ -442,10 +569,12 @@ static void other_ranks(void) {
             message[1] = (uint8_t)line;
             message[13] = (uint8_t)priority;
             message[2] = 0;
-            same("the rank of an insert going up", priority == own ? 0 : LUB_REFUSED_MISDIRECTED,
+            message[14] = (uint8_t)line;
+            same("the rank of an insert going up", priority == own ? edit_taken(0, 1, 1) : LUB_REFUSED_MISDIRECTED,
                  lub_server_take(server, sizeof server, message, sizeof message));
             message[2] = 1;
-            same("the rank of an insert coming down", priority <= 3 && priority != own ? 0 : LUB_REFUSED_MISDIRECTED,
+            message[14] = (uint8_t)(line % 3 + 1);
+            same("the rank of an insert coming down", priority <= 3 && priority != own ? edit_taken(0, 1, 1) : LUB_REFUSED_MISDIRECTED,
                  lub_client_take(client(line), sizeof clients[0], message, sizeof message));
         }
     }
@@ -481,6 +610,241 @@ static void damaged_ranks(void) {
     refused("ranks exchanged", 1, LUB_REFUSED_UNSOUND, insert(1, 1, 8));
 }
 
+/* ---- origins */
+
+static void opening_origins(void) {
+    static uint32_t opening[LUB_INITIAL];
+    static struct place places[LUB_INITIAL];
+    unsigned i;
+    for (i = 0; i < LUB_INITIAL; i++) {
+        opening[i] = 7;
+        places[i].item = 7;
+        places[i].number = i + 1;
+    }
+    open_sheet(2, opening, LUB_INITIAL);
+    server_shows("128 opening items", places, LUB_INITIAL);
+    client_shows("128 opening items", 2, places, LUB_INITIAL);
+    same("position 0", 0, lub_client_maker_number(client(2), 0) + lub_server_maker_number(server, 0));
+}
+
+/* A delete, an edit that became nothing and an insert, as the server sends them on: numbered on the line, with the makers' own numbers
+ * behind. */
+static void sent_on(void) {
+    static const uint32_t opening[3] = {10, 20, 30};
+    static const uint8_t first[12] = {7, 3, 1, 0, 1, 0, 0, 0, 1, 1, 0, 1};
+    static const uint8_t second[10] = {8, 3, 1, 0, 2, 0, 0, 2, 0, 1};
+    static const uint8_t third[17] = {5, 3, 1, 0, 3, 0, 0, 0, 1, 0, 0, 0, 40, 1, 1, 0, 2};
+    static const uint8_t *const messages[3] = {first, second, third};
+    static const size_t lengths[3] = {sizeof first, sizeof second, sizeof third};
+    static const struct place end[3] = {{40, 1, 2}, {20, 0, 2}, {30, 0, 3}};
+    unsigned i;
+    open_sheet(3, opening, 3);
+    same("client 1 deletes", 0, delete_at(1, 1));
+    same("client 1 inserts", 0, insert(1, 1, 40));
+    same("client 2 deletes the same", 0, delete_at(2, 1));
+    same("up", 0, up(1, 1));
+    same("up", 0, up(2, 1));
+    same("up", 0, up(1, 2));
+    for (i = 0; i < 3; i++) {
+        remember(3);
+        refused("a byte too few", 3, LUB_REFUSED_SHORT_BUFFER,
+                lub_server_send(server, sizeof server, 3, (uint16_t)(i + 1), out, lengths[i] - 1));
+        same("its length", (uint64_t)lengths[i] << 8, lub_server_send(server, sizeof server, 3, (uint16_t)(i + 1), out, sizeof out));
+        same_bytes("an edit sent on", messages[i], out, lengths[i]);
+        same("the byte behind stays", MARK, out[lengths[i]]);
+        same("it is taken", 0, down(3, i + 1));
+    }
+    server_shows("sent on: the server", end, 3);
+    client_shows("sent on: client 3", 3, end, 3);
+}
+
+/* The first edit of a line as an insert, a delete or nothing, in one direction; how many bytes it has. */
+static size_t edit_message(uint8_t *message, unsigned kind, unsigned line, unsigned direction, unsigned maker, unsigned number) {
+    static const uint8_t body[7] = {0, 1, 0, 0, 0, 7, 0};
+    size_t length = kind == 5 ? 17 : kind == 7 ? 12 : 10;
+    message[0] = (uint8_t)kind;
+    message[1] = (uint8_t)line;
+    message[2] = (uint8_t)direction;
+    message[3] = 0;
+    message[4] = 1;
+    message[5] = 0;
+    message[6] = 0;
+    memcpy(message + 7, body, sizeof body);
+    /* an insert has the rank of the line going up, and another's coming down */
+    message[13] = (uint8_t)(direction == 0 ? line : line % 3 + 1);
+    message[length - 3] = (uint8_t)maker;
+    message[length - 2] = (uint8_t)(number >> 8);
+    message[length - 1] = (uint8_t)number;
+    return length;
+}
+
+/* Its answer where nothing is pending: it stands at position 1, unless it is nothing. */
+static uint64_t message_taken(unsigned kind) { return kind == 5 || kind == 7 ? edit_taken(0, 1, 1) : 0; }
+
+static int origin_in_range(unsigned maker, unsigned number) {
+    return maker >= 1 && maker <= LUB_LINES && number >= 1 && number <= LUB_EDITS;
+}
+
+/* Going up, maker and number are the message's own line and number, 1; asked before 5. */
+static void maker_up(unsigned kind, unsigned line, unsigned maker, unsigned number) {
+    uint8_t message[LUB_MESSAGE_BYTES];
+    size_t length = edit_message(message, kind, line, 0, maker, number);
+    int own = maker == line && number == 1;
+    remember(line);
+    if (!own) {
+        refused("the maker of an edit going up", line, origin_in_range(maker, number) ? 4 : 3,
+                lub_server_take(server, sizeof server, message, length));
+        return;
+    }
+    same("the sender's own edit", message_taken(kind), lub_server_take(server, sizeof server, message, length));
+    length = edit_message(message, kind, line, 0, line, 2);
+    remember(line);
+    refused("4 comes before 5", line, LUB_REFUSED_MISDIRECTED, lub_server_take(server, sizeof server, message, length));
+}
+
+/* Coming down, the maker is another line of 1 to n; its number may be any. */
+static void maker_down(unsigned n, unsigned kind, unsigned line, unsigned maker, unsigned number) {
+    uint8_t message[LUB_MESSAGE_BYTES];
+    size_t length = edit_message(message, kind, line, 1, maker, number);
+    remember(line);
+    if (!origin_in_range(maker, number) || maker > n || maker == line) {
+        refused("the maker of an edit coming down", line, origin_in_range(maker, number) ? 4 : 3,
+                lub_client_take(client(line), sizeof clients[0], message, length));
+        return;
+    }
+    same("another's edit", message_taken(kind), lub_client_take(client(line), sizeof clients[0], message, length));
+    if (kind == 5) {
+        same("the maker on the list", maker, lub_client_maker(client(line), 1));
+        same("its number on the list", number, lub_client_maker_number(client(line), 1));
+    }
+}
+
+/* Questions 3 and 4 of every maker and of numbers at their edges, for every kind, up from each line of three and down to it. */
+static void makers(void) {
+    static const unsigned kinds[3] = {5, 7, 8};
+    static const unsigned numbers[8] = {0, 1, 2, 257, 399, 400, 401, 65535};
+    static const uint32_t opening[1] = {10};
+    unsigned line, maker, i, k;
+    for (line = 1; line <= 3; line++)
+        for (k = 0; k < 3; k++)
+            for (maker = 0; maker <= 10; maker++)
+                for (i = 0; i < 8; i++) {
+                    open_sheet(3, opening, 1);
+                    maker_up(kinds[k], line, maker, numbers[i]);
+                    maker_down(3, kinds[k], line, maker, numbers[i]);
+                }
+}
+
+/* The kind byte alone fixes the length: of 256 kinds and all lengths, only the four that are messages are taken. */
+static void kinds(void) {
+    unsigned kind;
+    size_t length;
+    uint8_t message[BUFFER];
+    uint8_t ack[5] = {4, 1, 0, 0, 0};
+    for (kind = 0; kind < 256; kind++) {
+        for (length = 0; length <= BUFFER; length++) {
+            static const uint32_t opening[1] = {10};
+            int right = (kind == 5 && length == 17) || (kind == 7 && length == 12) || (kind == 8 && length == 10) || (kind == 4 && length == 5);
+            size_t shape = length == 12 || length == 9 ? 7 : length == 10 || length == 7 ? 8 : 5;
+            open_sheet(1, opening, 1);
+            memset(message, 0, sizeof message);
+            edit_message(message, (unsigned)shape, 1, 0, 1, 1);
+            if (length == 5)
+                memcpy(message, ack, sizeof ack);
+            message[0] = (uint8_t)kind;
+            remember(1);
+            if (right)
+                same("a message", message_taken(kind), lub_server_take(server, sizeof server, message, length));
+            else
+                refused("no kind, or another length", 1, LUB_REFUSED_NO_MESSAGE, lub_server_take(server, sizeof server, message, length));
+        }
+    }
+}
+
+static void put_word(uint8_t *end, size_t word, uint32_t value) {
+    end[4 * word] = (uint8_t)value;
+    end[4 * word + 1] = (uint8_t)(value >> 8);
+    end[4 * word + 2] = (uint8_t)(value >> 16);
+    end[4 * word + 3] = (uint8_t)(value >> 24);
+}
+
+/* One word of the server's end with another value: whether question 2 lets it be. */
+static void server_word(const char *what, size_t word, uint32_t value, unsigned refusal) {
+    uint32_t right = lub_word(server, word);
+    uint8_t message[LUB_MESSAGE_BYTES];
+    put_word(server, word, value);
+    remember(1);
+    same(what, refusal, lub_refusal(lub_server_acknowledge(server, sizeof server, 2, message, sizeof message)));
+    nothing_changed(what, 1);
+    put_word(server, word, right);
+}
+
+static void client_word(const char *what, size_t word, uint32_t value, unsigned refusal) {
+    uint32_t right = lub_word(client(1), word);
+    uint8_t message[LUB_MESSAGE_BYTES];
+    put_word(client(1), word, value);
+    remember(1);
+    same(what, refusal, lub_refusal(lub_client_acknowledge(client(1), sizeof clients[0], 1, message, sizeof message)));
+    nothing_changed(what, 1);
+    put_word(client(1), word, right);
+}
+
+#define ORIGIN(maker, number) ((uint32_t)(maker) << 16 | (uint32_t)(number))
+
+/* Question 2 of origins: those of the server's pending edits, of nothings too; on the lists, zeros past the end. */
+static void damaged_origins(void) {
+    static const uint32_t opening[2] = {10, 20};
+    const size_t line_2 = 2085 + LUB_PENDING;
+    size_t slot;
+    unsigned line;
+    open_sheet(3, opening, 2);
+    same("client 1 deletes", 0, delete_at(1, 1));
+    same("client 3 deletes the same", 0, delete_at(3, 1));
+    same("client 1 inserts", 0, insert(1, 1, 30));
+    same("up", 0, up(1, 1));
+    same("up", 0, up(3, 1));
+    same("up", 0, up(1, 2));
+    same("pending on line 2: the delete of client 1", ORIGIN(1, 1), lub_word(server, line_2));
+    same("the nothing of client 3", ORIGIN(3, 1), lub_word(server, line_2 + 1));
+    same("and the insert of client 1", ORIGIN(1, 2), lub_word(server, line_2 + 2));
+    /* an insert's rank and its maker are not compared with each other */
+    for (slot = 0; slot < 3; slot++) {
+        server_word("maker 1", line_2 + slot, ORIGIN(1, 1), 0);
+        server_word("maker 3, number 400", line_2 + slot, ORIGIN(3, 400), 0);
+        server_word("no origin", line_2 + slot, 0, 2);
+        server_word("maker 0", line_2 + slot, ORIGIN(0, 1), 2);
+        server_word("the line's own maker", line_2 + slot, ORIGIN(2, 1), 2);
+        server_word("maker n + 1", line_2 + slot, ORIGIN(4, 1), 2);
+        server_word("maker 8", line_2 + slot, ORIGIN(8, 1), 2);
+        server_word("maker 9", line_2 + slot, ORIGIN(9, 1), 2);
+        server_word("maker 257", line_2 + slot, ORIGIN(257, 1), 2);
+        server_word("number 0", line_2 + slot, ORIGIN(1, 0), 2);
+        server_word("number 401", line_2 + slot, ORIGIN(1, 401), 2);
+        server_word("number 65535", line_2 + slot, ORIGIN(1, 65535), 2);
+        server_word("the top bit", line_2 + slot, 0x80000000u | ORIGIN(1, 1), 2);
+    }
+    for (slot = 3; slot < LUB_PENDING; slot++)
+        server_word("an origin past the pending edits", line_2 + slot, ORIGIN(1, 1), 2);
+    for (line = 4; line <= LUB_LINES; line++)
+        server_word("an origin of a line past n", 2085 + LUB_PENDING * (size_t)(line - 1), ORIGIN(1, 1), 2);
+    server_word("any origin on the list", 1573, 0xffffffffu, 0);
+    client_word("any origin on the list", 649, 0xffffffffu, 0);
+    for (slot = 2; slot < LUB_ITEMS; slot++) {
+        server_word("an origin past the list's end", 1573 + slot, ORIGIN(0, slot + 1), 2);
+        client_word("an origin past the list's end", 649 + slot, ORIGIN(0, slot + 1), 2);
+    }
+    same("as it was", 0, down(2, 1));
+    same("client 2 acknowledges", 0, acknowledge_up(2));
+    same("the second origin comes first", ORIGIN(3, 1), lub_word(server, line_2));
+    same("then the third", ORIGIN(1, 2), lub_word(server, line_2 + 1));
+    same("then zero", 0, lub_word(server, line_2 + 2));
+    same("client 2 takes the second", 0, down(2, 2));
+    same("and edits", 0, delete_at(2, 1));
+    same("which says what it has seen", 0, up(2, 1));
+    same("the third origin comes first", ORIGIN(1, 2), lub_word(server, line_2));
+    same("then zero", 0, lub_word(server, line_2 + 1));
+}
+
 static void damaged(void) {
     static const uint32_t opening[2] = {10, 20};
     static const uint8_t junk[3] = {9, 9, 9};
@@ -490,7 +854,7 @@ static void damaged(void) {
     open_sheet(2, opening, 2);
     same("an insert", 0, insert(1, 1, 30));
     sent = lub_client_send(client(1), sizeof clients[0], 1, 1, first, sizeof first);
-    same("a message", 14, lub_count(sent));
+    same("a message", 17, lub_count(sent));
     remember(1);
     refused("junk at the server", 1, LUB_REFUSED_NO_MESSAGE, lub_server_take(server, sizeof server, junk, sizeof junk));
     refused("junk at a client", 1, LUB_REFUSED_NO_MESSAGE, lub_client_take(client(1), sizeof clients[0], junk, sizeof junk));
@@ -499,7 +863,7 @@ static void damaged(void) {
     refused("to the wrong end", 1, LUB_REFUSED_MISDIRECTED, lub_client_take(client(1), sizeof clients[0], first, sizeof first));
     refused("not pending", 1, LUB_REFUSED_NOT_PENDING, lub_client_send(client(1), sizeof clients[0], 1, 2, out, sizeof out));
     refused("another line", 1, LUB_REFUSED_MISDIRECTED, lub_client_send(client(1), sizeof clients[0], 2, 1, out, sizeof out));
-    refused("a short buffer", 1, LUB_REFUSED_SHORT_BUFFER, lub_client_send(client(1), sizeof clients[0], 1, 1, out, 13));
+    refused("a short buffer", 1, LUB_REFUSED_SHORT_BUFFER, lub_client_send(client(1), sizeof clients[0], 1, 1, out, 16));
     refused("a short buffer", 1, LUB_REFUSED_SHORT_BUFFER, lub_client_acknowledge(client(1), sizeof clients[0], 1, out, 4));
     refused("a short buffer", 1, LUB_REFUSED_SHORT_BUFFER, lub_server_acknowledge(server, sizeof server, 2, out, 4));
     /* every unused byte of the layout is looked at, and every number's high bytes */
@@ -512,6 +876,8 @@ static void damaged(void) {
             continue; /* the pending place: another position is sound too */
         if (at >= 2340 && at < 2344)
             continue; /* the pending item */
+        if (at >= 2596 && at < 2608)
+            continue; /* nothing is asked of the three items' origins */
         client(1)[at] ^= 0x80;
         remember(1);
         refused("a damaged client", 1, LUB_REFUSED_UNSOUND, delete_at(1, 1));
@@ -522,12 +888,14 @@ static void damaged(void) {
             continue;
         if (at >= 148 && at < 156)
             continue;
+        if (at >= 6292 && at < 6300)
+            continue;
         server[at] ^= 0x80;
         remember(1);
         refused("a damaged server", 1, LUB_REFUSED_UNSOUND, lub_server_take(server, sizeof server, first, sizeof first));
         server[at] ^= 0x80;
     }
-    same("as it was, it is taken", 0, lub_server_take(server, sizeof server, first, sizeof first));
+    same("as it was, it is taken", edit_taken(0, 1, 1), lub_server_take(server, sizeof server, first, sizeof first));
 }
 
 static void short_ends(void) {
@@ -560,10 +928,19 @@ int main(void) {
     sixty_four_pending();
     four_hundred_edits();
     full_line();
+    answers();
+    gone();
+    moves();
+    far_positions();
     openings();
     wrong_ranks();
     other_ranks();
+    opening_origins();
+    sent_on();
+    makers();
+    kinds();
     damaged();
+    damaged_origins();
     damaged_ranks();
     short_ends();
     printf("boundary: %u comparisons, %u wrong\n", compared, wrong);

@@ -19,8 +19,8 @@ const TIMES: u32 = 20_000;
 const COUNT: u8 = 128;
 
 /// An insert of client 2 at the front, going down to client 1, and one of client 1 going up.
-const DOWN: [u8; 14] = [1, 1, 1, 0, 1, 0, 0, 0, 1, 0, 0, 0, 9, 2];
-const UP: [u8; 14] = [1, 1, 0, 0, 1, 0, 0, 0, 1, 0, 0, 0, 9, 1];
+const DOWN: [u8; 17] = [5, 1, 1, 0, 1, 0, 0, 0, 1, 0, 0, 0, 9, 2, 2, 0, 1];
+const UP: [u8; 17] = [5, 1, 0, 0, 1, 0, 0, 0, 1, 0, 0, 0, 9, 1, 1, 0, 1];
 
 /// Nanoseconds for one of `TIMES` calls.
 fn timed(work: impl FnOnce()) -> f64 {
@@ -63,20 +63,14 @@ pub fn table() -> String {
         table += &row(name, &[turns.iter().map(|turn| turn.0).collect(), turns.iter().map(|turn| turn.1).collect()]);
     };
     // SAFETY: pointer and length are those of a constant
-    add(
-        "client insert, 128 items",
-        &|| plain(client(), |client| client.insert::<Plain>(64, 5).refusal),
-        &|| proved(|| unsafe { lub_time_client_insert(COUNT, 64, 5, TIMES) }),
-    );
-    add(
-        "client take, 128 items",
-        &|| plain(client(), |client| client.take::<Plain>(black_box(&DOWN)).refusal),
-        &|| proved(|| unsafe { lub_time_client_take(COUNT, DOWN.as_ptr(), DOWN.len(), TIMES) }),
-    );
-    add(
-        "server take, 128 items",
-        &|| plain(server(), |server| server.take::<Plain>(black_box(&UP)).refusal),
-        &|| proved(|| unsafe { lub_time_server_take(COUNT, UP.as_ptr(), UP.len(), TIMES) }),
-    );
+    add("client insert, 128 items", &|| plain(client(), |client| client.insert::<Plain>(64, 5).refusal), &|| {
+        proved(|| unsafe { lub_time_client_insert(COUNT, 64, 5, TIMES) })
+    });
+    add("client take, 128 items", &|| plain(client(), |client| client.take::<Plain>(black_box(&DOWN)).refusal), &|| {
+        proved(|| unsafe { lub_time_client_take(COUNT, DOWN.as_ptr(), DOWN.len(), TIMES) })
+    });
+    add("server take, 128 items", &|| plain(server(), |server| server.take::<Plain>(black_box(&UP)).refusal), &|| {
+        proved(|| unsafe { lub_time_server_take(COUNT, UP.as_ptr(), UP.len(), TIMES) })
+    });
     table
 }

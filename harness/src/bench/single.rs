@@ -141,7 +141,7 @@ fn takings() -> Vec<Task> {
 }
 
 fn sendings() -> Vec<Task> {
-    let out = || black_box([0; 14]);
+    let out = || black_box([0; MESSAGE as usize]);
     let (client_end, server_end) = (client(128, 8).0, server(128, 8).0);
     let mut tasks = vec![
         Task::new("client send, 8 pending, 128 items", &client_end, move |calls, end| calls.client_send(end, 1, 4, &mut out())),

@@ -1,10 +1,11 @@
 //! The calls: which question says no, and what an accepted one does to the history.
 
-use super::{answer, Expected, Oracle};
-use crate::edit::{apply, fits, Edit};
+use super::{answer, taken, Expected, Oracle};
+use crate::edit::{apply, fits, twice, Carried, Edit, Origin};
+use crate::form::Set;
 use crate::limits::*;
 use crate::list::*;
-use crate::literal::{self, Message};
+use crate::literal::{self, Message, Numbered};
 
 impl Oracle {
     pub(super) fn edit(&mut self, l: usize, edit: Edit) -> Result<Expected, String> {
@@ -25,7 +26,8 @@ impl Oracle {
             line.client.inserts += insert as u16;
             self.history.make(l - 1, edit, context);
             self.graph.do_op(l, edit);
-            apply(edit, &mut line.shown);
+            apply(edit, (l as u8, line.client.made), &mut line.shown);
+            self.orders.applied(edit, &line.shown)?;
             0
         };
         self.same_lists(l)?;
@@ -42,7 +44,8 @@ impl Oracle {
         let numbered = if call.op == ACKNOWLEDGE {
             None
         } else if counts.acked < call.number && call.number <= counts.made {
-            Some((call.number, self.pending(end, l, call.number)))
+            let origin = self.maker(end, l, call.number);
+            Some(Numbered { number: call.number, edit: self.pending(end, l, call.number), origin })
         } else {
             return answer(13, 0);
         };
@@ -76,7 +79,7 @@ impl Oracle {
         }
         let line = &mut self.lines[l - 1];
         let counts = if end == 0 { &mut line.server } else { &mut line.client };
-        let Some((number, _)) = message.numbered else {
+        let Some(Numbered { number, edit, .. }) = message.numbered else {
             counts.acked = message.seen;
             return Ok(answer(0, 0));
         };
@@ -84,38 +87,52 @@ impl Oracle {
         if end == 0 && self.full(l) {
             return Ok(answer(12, 0));
         }
-        if end == 0 {
-            self.serve(l, number, message.seen)?;
-        } else {
-            self.deliver(l, message.seen)?;
+        let carried = if end == 0 { self.serve(l, number, message.seen)? } else { self.deliver(l, message.seen)? };
+        if carried.arrived != edit || carried.moves.len() != passed as usize {
+            return Err(format!("{edit:?} arrives and {passed} are pending, the definition gives {carried:?}"));
         }
         self.same_lists(end)?;
-        Ok(answer(0, passed))
+        Ok(taken(&carried))
     }
 
     /// Questions 4 to 8 of a message at an end.
     pub(super) fn turn(&self, end: usize, message: &Message) -> u8 {
         let l = message.line as usize;
-        let priority = match message.numbered {
-            Some((_, Edit::Insert(_, _, priority))) => Some(priority),
-            _ => None,
-        };
-        let own = self.ranks.get(l - 1);
-        let mine = if end == 0 {
-            message.direction == 0 && l <= self.n && priority.is_none_or(|p| own == Some(&p))
-        } else {
-            message.direction == 1 && l == end && priority.is_none_or(|p| self.ranks.contains(&p) && own != Some(&p))
-        };
-        if !mine {
+        let mine = if end == 0 { message.direction == 0 && l <= self.n } else { message.direction == 1 && l == end };
+        if !mine || message.numbered.is_some_and(|numbered| !self.may_be(end, l, &numbered)) {
             return 4;
         }
         let counts = if end == 0 { self.lines[l - 1].server } else { self.lines[l - 1].client };
         match message.numbered {
-            Some((number, _)) if number <= counts.taken => 5,
-            Some((number, _)) if number != counts.taken + 1 => 6,
+            Some(Numbered { number, .. }) if number <= counts.taken => 5,
+            Some(Numbered { number, .. }) if number != counts.taken + 1 => 6,
             _ if message.seen < counts.acked => 7,
             _ if message.seen > counts.made => 8,
             _ => 0,
+        }
+    }
+
+    /// Question 4 of an insert's priority and of the maker: going up, both are the line's own and the maker's number is the message's; coming
+    /// down, both are another's.
+    fn may_be(&self, end: usize, l: usize, numbered: &Numbered) -> bool {
+        let (maker, own) = (numbered.origin.0 as usize, self.ranks[l - 1]);
+        let priority = match numbered.edit {
+            Edit::Insert(_, _, priority) => Some(priority),
+            _ => None,
+        };
+        if end == 0 {
+            priority.is_none_or(|p| p == own) && numbered.origin == (l as u8, numbered.number)
+        } else {
+            priority.is_none_or(|p| self.ranks.contains(&p) && p != own) && maker <= self.n && maker != l
+        }
+    }
+
+    /// Who made edit `number` of line l, as the end numbers it.
+    pub(super) fn maker(&self, end: usize, l: usize, number: u16) -> Origin {
+        if end == 0 {
+            self.origin(self.lines[l - 1].others[number as usize - 1])
+        } else {
+            (l as u8, number)
         }
     }
 
@@ -125,17 +142,18 @@ impl Oracle {
         others.into_iter().any(|(_, line)| line.server.made - line.server.acked >= PENDING as u16)
     }
 
-    /// The server takes edit `number` of line l, in its form at what the server applied.
-    pub(super) fn serve(&mut self, l: usize, number: u16, seen: u16) -> Result<(), String> {
-        let form = self.history.form(l - 1, number, self.applied);
-        if !fits(form, &self.shown) {
-            return Err(format!("the definition's form {form:?} does not fit the server's list"));
+    /// The server takes edit `number` of line l: what arrives is its form at what its client had taken with it, what is applied its form at what
+    /// the server applied.
+    pub(super) fn serve(&mut self, l: usize, number: u16, seen: u16) -> Result<Carried, String> {
+        let (origin, from) = ((l as u8, number), self.lines[l - 1].point(l - 1, number - 1, seen));
+        let carried = self.carried(origin, from, self.applied)?;
+        if !fits(carried.applied, &self.shown) {
+            return Err(format!("the definition's form {:?} does not fit the server's list", carried.applied));
         }
-        apply(form, &mut self.shown);
-        let graph = self.graph.s_rev(l, number);
-        if graph != form {
-            return Err(format!("the definition gives {form:?}, the graph {graph:?}"));
-        }
+        apply(carried.applied, origin, &mut self.shown);
+        self.orders.applied(carried.applied, &self.shown)?;
+        let applied = self.graph.s_rev(l, number);
+        self.same_in_graph(0, origin, from, &carried, applied)?;
         let place = self.history.order.len();
         self.history.serve(l - 1, number);
         self.numbers.push(number);
@@ -144,7 +162,7 @@ impl Oracle {
             if index + 1 == l {
                 line.server.taken += 1;
                 line.server.acked = seen;
-                line.server.inserts += matches!(form, Edit::Insert(..)) as u16;
+                line.server.inserts += matches!(carried.applied, Edit::Insert(..)) as u16;
             } else {
                 line.server.made += 1;
                 line.others.push(place);
@@ -152,30 +170,55 @@ impl Oracle {
                 line.first.push(crate::form::with(last, l - 1));
             }
         }
-        Ok(())
+        Ok(carried)
     }
 
-    /// Client l takes its next missing edit, in its form at what the client applied.
-    pub(super) fn deliver(&mut self, l: usize, seen: u16) -> Result<(), String> {
-        let line = &mut self.lines[l - 1];
+    /// Client l takes its next missing edit: what arrives is its form at what the server had taken of this line with it, what is applied its form
+    /// at what the client applied.
+    pub(super) fn deliver(&mut self, l: usize, seen: u16) -> Result<Carried, String> {
+        let line = &self.lines[l - 1];
         let place = line.others[line.client.taken as usize];
-        let set = line.point(l - 1, line.client.made, line.client.taken);
-        let form = self.history.form(self.history.order[place], self.numbers[place], set);
-        if !fits(form, &line.shown) {
-            return Err(format!("the definition's form {form:?} does not fit client {l}'s list"));
+        let [from, to] = [seen, line.client.made].map(|own| line.point(l - 1, own, line.client.taken));
+        let origin = self.origin(place);
+        let carried = self.carried(origin, from, to)?;
+        let line = &mut self.lines[l - 1];
+        if !fits(carried.applied, &line.shown) {
+            return Err(format!("the definition's form {:?} does not fit client {l}'s list", carried.applied));
         }
-        apply(form, &mut line.shown);
+        apply(carried.applied, origin, &mut line.shown);
+        self.orders.applied(carried.applied, &line.shown)?;
         line.client.taken += 1;
         line.client.acked = seen;
-        let graph = self.graph.rev(l, place);
-        if graph != form {
-            return Err(format!("the definition gives {form:?}, the graph {graph:?}"));
+        let applied = self.graph.rev(l, place);
+        self.same_in_graph(l, origin, from, &carried, applied)?;
+        Ok(carried)
+    }
+
+    /// What the definition makes of an edit between two sets. The moves add up.
+    fn carried(&mut self, origin: Origin, from: Set, to: Set) -> Result<Carried, String> {
+        let carried = self.history.carried(origin.0 as usize - 1, origin.1, from, to);
+        let carried = carried.ok_or_else(|| format!("the definition's way to {to:?} does not pass {from:?}, where {origin:?} arrives"))?;
+        if !carried.adds_up() {
+            return Err(format!("the moves do not add up: {carried:?}"));
+        }
+        Ok(carried)
+    }
+
+    /// The graph has the edit as the definition gives it, where it arrives and where it is applied.
+    fn same_in_graph(&self, end: usize, origin: Origin, from: Set, carried: &Carried, applied: Edit) -> Result<(), String> {
+        let arrived = self.graph.replicas[end].at(&from, (origin.0 - 1, origin.1));
+        if arrived != Some(carried.arrived) || applied != carried.applied {
+            return Err(format!("the definition gives {carried:?}, the graph {arrived:?} as it arrives and {applied:?} as applied"));
         }
         Ok(())
     }
 
+    /// The graph has the list that the definition gives, origins too, and no origin stands there twice.
     pub(super) fn same_lists(&self, end: usize) -> Result<(), String> {
         let shown = if end == 0 { &self.shown } else { &self.lines[end - 1].shown };
+        if let Some(origin) = twice(shown) {
+            return Err(format!("end {end}: the origin {origin:?} stands twice in {shown:?}"));
+        }
         if *shown != self.graph.replicas[end].state {
             return Err(format!("end {end}: the definition's list is {shown:?}, the graph's {:?}", self.graph.replicas[end].state));
         }

@@ -1,19 +1,21 @@
 //! What the rule book says that a list of calls has to answer, from the history of accepted calls alone: no buffer is kept here.
 //!
-//! Every pending edit, message and list is asked of the recursive definition (`form`) and of the graph (`cjupiter`). The oracle follows
-//! a list as long as it is one of those that the third demand speaks of; from the first call that is none (an end
+//! Every pending edit, message, list and taking's two positions are asked of the recursive definition (`form`) and of the graph (`cjupiter`). The
+//! oracle follows a list as long as it is one of those that the third demand speaks of; from the first call that is none (an end
 //! overwritten, a message that nobody wrote taken) it says nothing more.
 
 mod calls;
+mod orders;
 mod views;
 
 use crate::cjupiter::CJupiter;
 use crate::describe::difference;
-use crate::edit::Edit;
+use crate::edit::{opening, Carried, Edit, Origin, Place};
 use crate::form::{History, Set};
 use crate::layout;
 use crate::limits::*;
 use crate::list::*;
+use orders::Orders;
 use std::collections::HashSet;
 
 /// What is counted on one side of a line, at the client or at the server.
@@ -34,7 +36,7 @@ struct Line {
     others: Vec<usize>,
     /// The set of the first j others, at index j.
     first: Vec<Set>,
-    shown: Vec<u32>,
+    shown: Vec<Place>,
     /// Forms already asked for, of the client's and of the server's pending edits.
     asked: [Asked; 2],
 }
@@ -69,13 +71,14 @@ pub struct Oracle {
     history: History,
     graph: CJupiter,
     lines: Vec<Line>,
-    shown: Vec<u32>,
+    shown: Vec<Place>,
     /// What the server applied.
     applied: Set,
     /// The number of each edit of the server's order within its line.
     numbers: Vec<u16>,
     slots: [Slot; SLOTS],
     written: HashSet<Vec<u8>>,
+    orders: Orders,
 }
 
 /// What a check found: how far the oracle followed, and whether every edit had been delivered everywhere at the end.
@@ -124,7 +127,7 @@ impl Oracle {
     /// The oracle after the openings of a sheet whose lines have these ranks.
     fn start(ranks: Vec<u8>, initial: &[u32]) -> Oracle {
         let n = ranks.len();
-        let line = || Line { first: vec![[0; LINES]], shown: initial.to_vec(), ..Line::default() };
+        let line = || Line { first: vec![[0; LINES]], shown: opening(initial), ..Line::default() };
         Oracle {
             n,
             ranks,
@@ -132,12 +135,18 @@ impl Oracle {
             history: History::default(),
             graph: CJupiter::new(n, initial),
             lines: (0..n).map(|_| line()).collect(),
-            shown: initial.to_vec(),
+            shown: opening(initial),
             applied: [0; LINES],
             numbers: Vec::new(),
             slots: [Slot { bytes: [FRESH; SLOT], length: 0 }; SLOTS],
             written: HashSet::new(),
+            orders: Orders::default(),
         }
+    }
+
+    /// Who made the edit at a place of the server's order.
+    fn origin(&self, place: usize) -> Origin {
+        (self.history.order[place] as u8 + 1, self.numbers[place])
     }
 
     fn expect(&mut self, call: &Call) -> Result<Expected, String> {
@@ -182,10 +191,19 @@ pub fn opening_refusal(call: &Call, initial: usize) -> u8 {
     }
 }
 
-/// The answer of a call; no byte changed that had to stay.
+/// The answer of a call; no byte changed that had to stay. It has no positions.
 fn answer(refusal: u8, count: u16) -> Expected {
-    let number = refusal as u64 | (count as u64) << 8;
-    Expected::Bytes([&number.to_le_bytes()[..], &[0]].concat())
+    packed(Answer { refusal, count, ..Answer::default() })
+}
+
+/// The answer of taking an edit: how many pending edits it passed, where it arrived and where it was applied.
+fn taken(carried: &Carried) -> Expected {
+    let (arrived, applied) = (carried.arrived.position(), carried.applied.position());
+    packed(Answer { count: carried.moves.len() as u16, arrived, applied, ..Answer::default() })
+}
+
+fn packed(answer: Answer) -> Expected {
+    Expected::Bytes([&answer.number().to_le_bytes()[..], &[0]].concat())
 }
 
 /// The answer of a dump or a show, and the bytes after it.

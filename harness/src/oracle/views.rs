@@ -45,14 +45,15 @@ impl Oracle {
             let word = layout::word(end as u8, line as u8, field).unwrap();
             words[word as usize] = value;
         };
-        let items = if end == 0 { &self.shown } else { &self.lines[end - 1].shown };
+        let places = if end == 0 { &self.shown } else { &self.lines[end - 1].shown };
         put(0, Field::N, self.n as u32);
-        put(0, Field::Length, items.len() as u32);
+        put(0, Field::Length, places.len() as u32);
         for (half, word) in layout::rank_words(&self.ranks).into_iter().enumerate() {
             put(0, Field::Ranks(half as u16), word);
         }
-        for (index, &item) in items.iter().enumerate() {
-            put(0, Field::Item(index as u16), item);
+        for (index, place) in places.iter().enumerate() {
+            put(0, Field::Item(index as u16), place.item);
+            put(0, Field::Origin(index as u16), layout::origin_word(place.origin));
         }
         if end == 0 {
             put(0, Field::Initial, self.initial as u32);
@@ -73,6 +74,9 @@ impl Oracle {
                 };
                 put(l, Field::Place(index as u16), place);
                 put(l, Field::Brought(index as u16), item);
+                if end == 0 {
+                    put(l, Field::PendingOrigin(index as u16), layout::origin_word(self.maker(end, l, number)));
+                }
             }
         }
         if end != 0 {
@@ -93,7 +97,7 @@ impl Oracle {
             if !fits(form, &here) {
                 return Err(format!("meeting: the missing edit {j} does not fit client {l}'s list"));
             }
-            apply(form, &mut here);
+            apply(form, self.origin(place), &mut here);
         }
         for i in server.taken + 1..=client.made {
             let set = self.lines[l - 1].point(l - 1, i - 1, server.made);
@@ -101,7 +105,7 @@ impl Oracle {
             if !fits(form, &there) {
                 return Err(format!("meeting: the unaccepted edit {i} of client {l} does not fit the server's list"));
             }
-            apply(form, &mut there);
+            apply(form, (l as u8, i), &mut there);
         }
         if here != there {
             return Err(format!("meeting: line {l}: {here:?} from the client, {there:?} from the server"));
@@ -112,7 +116,9 @@ impl Oracle {
     pub(super) fn meeting_everywhere(&mut self) -> Result<(), String> {
         for l in 1..=self.n {
             self.meeting(l)?;
+            self.orders.shown(&self.lines[l - 1].shown)?;
         }
+        self.orders.shown(&self.shown)?;
         if self.delivered() {
             if self.lines.iter().any(|line| line.shown != self.shown) {
                 return Err("everything is delivered and the lists differ".to_string());

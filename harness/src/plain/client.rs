@@ -3,9 +3,12 @@
 use super::codec::{self, DOWN, UP};
 use super::edit::{Edit, INSERT};
 use super::line::Line;
+use super::origins;
+use super::places::Places;
 use super::ranks::{self, Ranks};
+use super::reported;
 use super::slip::{Rules, Slip};
-use super::{rest_is_zero, Answer, Sent};
+use super::{Answer, Sent};
 use crate::limits::*;
 
 #[derive(Clone, PartialEq, Eq, Debug)]
@@ -13,14 +16,13 @@ use crate::limits::*;
 pub struct Client {
     pub n: u8,
     pub line: u8,
-    pub length: u16,
     pub ranks: Ranks,
     pub own: Line,
-    pub items: [u32; ITEMS],
+    pub list: Places,
 }
 
 impl Client {
-    pub const ZERO: Client = Client { n: 0, line: 0, length: 0, ranks: [0; LINES], own: Line::ZERO, items: [0; ITEMS] };
+    pub const ZERO: Client = Client { n: 0, line: 0, ranks: [0; LINES], own: Line::ZERO, list: Places::ZERO };
 
     /// Questions 1 and 16, of an end that is all zeros. Refused, it stays so.
     #[inline]
@@ -33,9 +35,9 @@ impl Client {
         }
         self.n = n;
         self.line = line;
-        self.length = items.len() as u16;
         self.ranks = ranks::stored(ranks);
-        self.items[..items.len()].copy_from_slice(items);
+        self.list.open::<R>(items);
+        self.list.given_to::<R>(line);
         0
     }
 
@@ -45,13 +47,13 @@ impl Client {
         let own = &self.own;
         ((1 <= self.n && self.n as usize <= LINES) || R::slips(Slip::SoundN))
             && ((1 <= self.line && self.line <= self.n) || R::slips(Slip::SoundLine))
-            && (self.length as usize <= ITEMS || R::slips(Slip::SoundLength))
+            && (self.list.length as usize <= ITEMS || R::slips(Slip::SoundLength))
             && (own.made <= EDITS || R::slips(Slip::SoundMade))
             && (own.taken <= OTHERS || R::slips(Slip::SoundTaken))
             && (own.inserts <= own.made || R::slips(Slip::SoundInsertsMade))
             && ranks::sound::<R>(self.n, &self.ranks)
             && own.sound::<R>(|priority| priority == self.own_priority::<R>() as u32)
-            && (rest_is_zero(&self.items, self.length) || R::slips(Slip::SoundItemsZero))
+            && self.list.sound::<R>(self.n)
     }
 
     /// The rank of the client's own line.
@@ -86,16 +88,14 @@ impl Client {
         if refusal != 0 {
             return Answer::refused(refusal);
         }
+        let number = self.own.made + !R::slips(Slip::OwnNumberBefore) as u16;
         if !R::slips(Slip::ListLeft) {
-            let last = self.items[(self.length as usize).saturating_sub(1).min(ITEMS - 1)];
-            edit.apply(&mut self.items, &mut self.length);
-            if R::slips(Slip::TailLeft) && edit.kind() != INSERT {
-                self.items[self.length as usize] = last;
-            }
+            self.list.apply::<R>(edit, origins::word(self.line, number));
         }
         self.own.keep(edit);
         self.own.inserts += (edit.kind() == INSERT) as u16;
-        Answer { refusal: 0, passed: 0 }
+        let position = if R::slips(Slip::MadePositions) { edit.position() } else { 0 };
+        Answer { arrived: position, applied: position, ..Answer::default() }
     }
 
     #[inline]
@@ -109,7 +109,7 @@ impl Client {
             2
         } else if ten && R::slips(Slip::TenBeforeNine) {
             10
-        } else if !fits::<R>(edit, self.length) {
+        } else if !fits::<R>(edit, self.list.length) {
             9
         } else if ten {
             10
@@ -131,7 +131,8 @@ impl Client {
         } else if line != self.line {
             Sent::refused(4)
         } else {
-            self.own.send::<R>(line, UP, k, out)
+            let number = |slot: usize| if R::slips(Slip::SendsSlot) { slot as u16 + 1 } else { k };
+            self.own.send::<R>(line, UP, k, |slot| origins::word(line, number(slot)), out)
         }
     }
 
@@ -159,33 +160,50 @@ impl Client {
         }
         let edit = message.edit;
         if R::slips(Slip::FiveBeforeFour) && !message.is_ack() && message.number <= self.own.taken {
-            return Answer::refused(5);
+            return reported::refused::<R>(5, edit);
         }
         let own = if R::slips(Slip::FourByLine) { self.line } else { self.rank::<R>() };
         let other = edit.priority() != own || R::slips(Slip::OwnPriorityDown);
         let foreign = edit.kind() != INSERT || (1 <= edit.priority() && edit.priority() <= self.n && other);
-        if message.direction != DOWN || message.line != self.line || !foreign {
-            return Answer::refused(4);
+        let another = message.is_ack() || self.is_anothers::<R>(edit, message.origin);
+        if message.direction != DOWN || message.line != self.line || !foreign || !(another || R::slips(Slip::MakerLate)) {
+            return reported::refused::<R>(4, edit);
         }
         let refusal = self.own.in_turn::<R>(&message);
         if refusal != 0 {
             if R::slips(Slip::RefusedSeen) {
                 self.own.acknowledge::<R>(message.seen);
             }
-            return Answer::refused(refusal);
+            return reported::refused::<R>(refusal, edit);
         }
         if message.is_ack() {
             return self.own.acknowledge::<R>(message.seen);
         }
-        let crossed = self.own.cross::<R>(edit, message.seen, &self.ranks);
-        if !crossed.within || !crossed.edit.fits(self.length, ITEMS as u16) {
-            return Answer::refused(9);
+        if !another {
+            return Answer::refused(4);
         }
+        let crossed = self.own.cross::<R>(edit, message.seen, &self.ranks);
+        if !crossed.within || !crossed.edit.fits(self.list.length, ITEMS as u16) {
+            return reported::refused_late::<R>(9, &message, &crossed);
+        }
+        let answer = reported::taken::<R>(&self.own, &message, &crossed, Slip::ClientSilent);
         self.own.store::<R>(&crossed, message.seen);
         if !R::slips(Slip::ListLeft) {
-            crossed.edit.apply(&mut self.items, &mut self.length);
+            let maker = if R::slips(Slip::MakerOfLine) { message.line } else { origins::maker(message.origin) };
+            let number = if R::slips(Slip::NumberOfMessage) { message.number } else { origins::number(message.origin) };
+            self.list.apply::<R>(crossed.edit, origins::word(maker, number));
         }
-        Answer { refusal: 0, passed: crossed.passed }
+        answer
+    }
+
+    /// Question 4 of the maker of an edit that comes down: another line of 1 to n.
+    #[inline]
+    fn is_anothers<R: Rules>(&self, edit: Edit, origin: u32) -> bool {
+        let maker = origins::maker(origin);
+        ((1 <= maker && maker <= self.n) || R::slips(Slip::MakerPastN))
+            && (maker != self.line || R::slips(Slip::MakerOwnDown))
+            && (edit.kind() != INSERT || edit.priority() == ranks::of::<R>(&self.ranks, maker) || !R::slips(Slip::MakersRank))
+            || (edit.kind() != INSERT && R::slips(Slip::MakerOfInserts))
     }
 }
 

@@ -12,6 +12,37 @@ pub struct Edit(u64);
 
 const STEP: u32 = 40;
 
+/// How a position moves past another edit. Added up, moves that went past a `Gone` are above every sum of the others: an edit passes 64 at most.
+#[derive(Clone, Copy, PartialEq, Eq, Debug)]
+#[repr(i16)]
+pub enum Move {
+    Down = -1,
+    Still = 0,
+    Up = 1,
+    Gone = 1024,
+}
+
+/// The moves of an edit added up.
+#[derive(Clone, Copy, PartialEq, Eq, Debug, Default)]
+pub struct Moves(i16);
+
+impl Moves {
+    #[inline]
+    pub fn add(&mut self, how: Move) {
+        self.0 += how as i16;
+    }
+
+    /// Where an edit that arrived at this position is applied: 0 if it is gone.
+    #[inline]
+    pub fn from(self, arrived: u16) -> u16 {
+        if self.0 > Move::Gone as i16 / 2 {
+            0
+        } else {
+            arrived.wrapping_add_signed(self.0)
+        }
+    }
+}
+
 impl Edit {
     pub const NOTHING: Edit = Edit(0);
 
@@ -64,11 +95,11 @@ impl Edit {
         (self.0 >> 32) as u32 & 0xFF_FFFF
     }
 
-    /// This edit's form after `other`.
+    /// This edit's form after `other`, and how its position moved.
     /// An insert moves up behind an insert at a smaller position, or at its own with a smaller priority; a delete also moves up behind an
     /// insert at its own position, which the tie value 255, above the priorities 1 to 8, says.
     #[inline]
-    pub fn past(self, other: Edit) -> Edit {
+    pub fn past(self, other: Edit) -> (Edit, Move) {
         let (kind, other_kind) = (self.kind(), other.kind());
         let key = self.place() | if kind == INSERT { 0 } else { 255 };
         let there = kind != NOTHING;
@@ -77,7 +108,13 @@ impl Edit {
         let down = there & (other_kind == DELETE) & later;
         let gone = (kind == DELETE) & (other_kind == DELETE) & (self.position() == other.position());
         let moved = self.0.wrapping_add((up as u64) << STEP).wrapping_sub((down as u64) << STEP);
-        Edit(if gone { 0 } else { moved })
+        let how = match (up, down, gone) {
+            (true, _, _) => Move::Up,
+            (_, true, _) => Move::Down,
+            (_, _, true) => Move::Gone,
+            _ => Move::Still,
+        };
+        (Edit(if gone { 0 } else { moved }), how)
     }
 
     /// Whether the edit fits a list of `length` items and leaves at most `limit`.
@@ -88,25 +125,6 @@ impl Edit {
             INSERT => 1 <= position && position <= length + 1 && length < limit,
             DELETE => 1 <= position && position <= length,
             _ => true,
-        }
-    }
-
-    /// Applies an edit that fits; the place a delete leaves at the end becomes zero.
-    #[inline]
-    pub fn apply(self, items: &mut [u32], length: &mut u16) {
-        let (at, end) = (self.position() as usize, *length as usize);
-        match self.kind() {
-            INSERT => {
-                items.copy_within(at - 1..end, at);
-                items[at - 1] = self.item();
-                *length += 1;
-            }
-            DELETE => {
-                items.copy_within(at..end, at - 1);
-                items[end - 1] = 0;
-                *length -= 1;
-            }
-            _ => {}
         }
     }
 }

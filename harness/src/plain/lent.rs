@@ -30,13 +30,13 @@ fn change<R: Rules, E: End>(end: &mut [u8], call: impl FnOnce(&mut E) -> Answer)
     };
     let mut changed = E::ZERO;
     if !changed.read::<R>(words) {
-        return packed::<R>(2, 0);
+        return packed::<R>(2, 0, [0, 0]);
     }
-    let before = R::slips(Slip::ListRepeated).then(|| changed.shown()).map(|(_, length, items)| (*length, *items));
+    let before = R::slips(Slip::ListRepeated).then(|| changed.shown().1.clone());
     let answer = call(&mut changed);
-    if let (Some(before), (counts, length, items)) = (before, changed.shown()) {
+    if let (Some(before), (counts, list)) = (before, changed.shown()) {
         if answer.refusal == 0 && counts % 3 == 2 {
-            (*length, *items) = before;
+            *list = before;
         }
     }
     if answer.refusal == 0 || R::slips(Slip::RefusedSeen) {
@@ -47,7 +47,7 @@ fn change<R: Rules, E: End>(end: &mut [u8], call: impl FnOnce(&mut E) -> Answer)
     if R::slips(Slip::RestCleared) {
         end[4 * E::WORDS..].fill(0);
     }
-    packed::<R>(answer.refusal, answer.passed)
+    packed::<R>(answer.refusal, answer.passed, [answer.arrived, answer.applied])
 }
 
 /// A sending.
@@ -58,10 +58,11 @@ fn look<R: Rules, E: End>(end: &[u8], call: impl FnOnce(&E) -> Sent) -> u64 {
     };
     let mut looked = E::ZERO;
     if !looked.read::<R>(words) {
-        return packed::<R>(2, 0);
+        return packed::<R>(2, 0, [0, 0]);
     }
     let sent = call(&looked);
-    packed::<R>(sent.refusal, sent.length as u16)
+    let position = if R::slips(Slip::SentPositions) { sent.length as u16 } else { 0 };
+    packed::<R>(sent.refusal, sent.length as u16, [position; 2])
 }
 
 /// Questions 18, 1 and 16 of an opening, and the end it gives.
@@ -98,7 +99,8 @@ fn open<R: Rules, E: End>(end: &mut [u8], items: &[u8], call: impl FnOnce(&mut E
     } else if refusal == 16 && R::slips(Slip::RanksLate) {
         words[2] = (fours.len() as u32).to_le_bytes();
     }
-    packed::<R>(refusal, 0)
+    let opened = refusal == 0 && R::slips(Slip::OpenPositions);
+    packed::<R>(refusal, 0, if opened { [fours.len() as u16; 2] } else { [0, 0] })
 }
 
 #[inline]
@@ -112,7 +114,7 @@ fn short<R: Rules>(end: &mut [u8], bytes: usize, call: impl FnOnce(&mut [u8]) ->
     let late = R::slips(Slip::ShortLate);
     let let_through = R::slips(Slip::ShortByThree) && end.len() + 3 >= bytes;
     if end.len() >= bytes || !(late || let_through) {
-        return packed::<R>(18, 0);
+        return packed::<R>(18, 0, [0, 0]);
     }
     let mut padded = end.to_vec();
     padded.resize(bytes, 0);
@@ -123,13 +125,27 @@ fn short<R: Rules>(end: &mut [u8], bytes: usize, call: impl FnOnce(&mut [u8]) ->
     if let_through || answer as u8 != 0 {
         answer
     } else {
-        packed::<R>(18, 0)
+        packed::<R>(18, 0, [0, 0])
     }
 }
 
+/// The answer's number: the refusal in bits 0 to 7, a count or a length in 8 to 23, where an edit arrived in 24 to 39, where it was applied in 40
+/// to 55.
 #[inline]
-fn packed<R: Rules>(refusal: u8, count: u16) -> u64 {
-    refusal as u64 | (count as u64) << 8 | (R::slips(Slip::AnswerHigh) as u64) << 24
+fn packed<R: Rules>(refusal: u8, count: u16, positions: [u16; 2]) -> u64 {
+    let kept = match () {
+        _ if R::slips(Slip::Positions8) => 255,
+        _ if R::slips(Slip::Positions9) => 511,
+        _ => u64::MAX,
+    };
+    let [at, then] = match () {
+        _ if R::slips(Slip::ArrivedEarly) => [23, 40],
+        _ if R::slips(Slip::AppliedEarly) => [24, 39],
+        _ if R::slips(Slip::PositionsEarly) => [16, 32],
+        _ => [24, 40],
+    };
+    let [arrived, applied] = positions.map(|position| position as u64 & kept);
+    refusal as u64 | (count as u64) << 8 | arrived << at | applied << then | (R::slips(Slip::AnswerHigh) as u64) << 56
 }
 
 /// The message that is taken.

@@ -1,7 +1,7 @@
 //! One line of an end: its counts and its pending edits. A client has one, the server eight.
 
 use super::codec::{self, Message};
-use super::edit::{Edit, DELETE, INSERT};
+use super::edit::{Edit, Move, Moves, DELETE, INSERT};
 use super::ranks::Ranks;
 use super::slip::{Rules, Slip};
 use super::{Answer, Sent};
@@ -31,7 +31,7 @@ impl Pending {
     const ZERO: Pending = Pending { places: [0; PENDING], items: [0; PENDING] };
 
     #[inline]
-    fn get(&self, at: usize) -> Edit {
+    pub fn get(&self, at: usize) -> Edit {
         Edit::pending(self.places[at], self.items[at])
     }
 
@@ -103,6 +103,7 @@ impl Line {
         let seen = seen.clamp(self.acked, self.made);
         let (drop, kept) = ((seen - self.acked) as usize, self.kept() as usize);
         let passed = if R::slips(Slip::AckCounted) { self.made - seen } else { 0 };
+        let position = if R::slips(Slip::AckPositions) { self.pending.get(0).position() } else { 0 };
         if !R::slips(Slip::AckIgnored) {
             for words in [&mut self.pending.places, &mut self.pending.items] {
                 words.copy_within(drop..kept, 0);
@@ -112,11 +113,11 @@ impl Line {
             }
             self.acked = seen;
         }
-        Answer { refusal: 0, passed }
+        Answer { refusal: 0, passed, arrived: position, applied: position }
     }
 
     /// The arriving edit past the pending edits after `seen` in order, and each of these past the edit as it stood
-    /// before that one.
+    /// before that one. Its moves have to add up.
     #[inline]
     pub fn cross<R: Rules>(&self, arriving: Edit, seen: u16, ranks: &Ranks) -> Crossed {
         let seen = seen.clamp(self.acked, self.made);
@@ -126,13 +127,18 @@ impl Line {
         if R::slips(Slip::PendingTailLeft) {
             crossed.pending = self.pending.clone();
         }
-        let mut highest = 0;
+        let (mut highest, mut moves) = (0, Moves::default());
         for at in from..to.min(PENDING) {
             let old = self.pending.get(at);
-            let form = carried::<R>(old, crossed.edit, ranks);
-            crossed.edit = carried::<R>(crossed.edit, old, ranks);
+            let (form, _) = carried::<R>(old, crossed.edit, ranks);
+            let (edit, how) = carried::<R>(crossed.edit, old, ranks);
+            crossed.edit = edit;
+            moves.add(how);
             highest = highest.max(form.position());
             crossed.pending.put(at - from, form);
+        }
+        if R::CHECKS {
+            assert_eq!(moves.from(arriving.position()), crossed.edit.position(), "the moves of {arriving:?} do not add up");
         }
         crossed.within = highest <= ITEMS as u16 || R::slips(Slip::PendingPast512);
         self.slip_of_crossing::<R>(&mut crossed, from..to, arriving);
@@ -152,7 +158,7 @@ impl Line {
             left(crossed, 0);
         }
         if R::slips(Slip::FirstOnly) && !passed.is_empty() {
-            crossed.edit = arriving.past(self.pending.get(passed.start));
+            crossed.edit = arriving.past(self.pending.get(passed.start)).0;
             left(crossed, 1);
         }
         if R::slips(Slip::CountZero) {
@@ -177,24 +183,24 @@ impl Line {
         self.made += 1;
     }
 
-    /// Questions 13 and 14 of sending number k, and the message's bytes.
-    pub fn send<R: Rules>(&self, line: u8, direction: u8, k: u16, out: &mut [u8]) -> Sent {
+    /// Questions 13 and 14 of sending number k, and the message's bytes; `origin` is that of the pending edit at a slot.
+    pub fn send<R: Rules>(&self, line: u8, direction: u8, k: u16, origin: impl Fn(usize) -> u32, out: &mut [u8]) -> Sent {
         if !(self.acked < k && k <= self.made) {
             return Sent::refused(13);
         }
-        let edit = self.pending.get((k - self.acked - 1) as usize);
+        let slot = (k - self.acked - 1) as usize;
         let seen = if R::slips(Slip::SeenOfAcked) { self.acked } else { self.taken };
-        put::<R>(&Message { line, direction, number: k, seen, edit }, out)
+        put::<R>(&Message { line, direction, number: k, seen, edit: self.pending.get(slot), origin: origin(slot) }, out)
     }
 
     /// Question 14 of sending an acknowledgement, and its bytes.
     pub fn tell<R: Rules>(&self, line: u8, direction: u8, out: &mut [u8]) -> Sent {
-        put::<R>(&Message { line, direction, number: 0, seen: self.taken, edit: Edit::NOTHING }, out)
+        put::<R>(&Message { line, direction, number: 0, seen: self.taken, edit: Edit::NOTHING, origin: 0 }, out)
     }
 }
 
 fn put<R: Rules>(message: &Message, out: &mut [u8]) -> Sent {
-    let (bytes, length) = codec::write(message);
+    let (bytes, length) = codec::write::<R>(message);
     if out.len() < length {
         if R::slips(Slip::RefusedWrites) {
             let fits = out.len();
@@ -210,9 +216,9 @@ fn put<R: Rules>(message: &Message, out: &mut [u8]) -> Sent {
     Sent { refusal: 0, length: length as u8 }
 }
 
-/// One edit past another, and the slips of that table, one of which looks at the ranks.
+/// One edit past another and its move, and the slips of that table, one of which looks at the ranks.
 #[inline]
-fn carried<R: Rules>(edit: Edit, other: Edit, ranks: &Ranks) -> Edit {
+fn carried<R: Rules>(edit: Edit, other: Edit, ranks: &Ranks) -> (Edit, Move) {
     let position = edit.position();
     let line = |edit: Edit| ranks.iter().position(|&rank| rank == edit.priority());
     let slip = match (edit.kind(), other.kind(), position == other.position()) {
@@ -224,5 +230,10 @@ fn carried<R: Rules>(edit: Edit, other: Edit, ranks: &Ranks) -> Edit {
         (DELETE, DELETE, true) if R::slips(Slip::DeleteTwice) => position,
         _ => return edit.past(other),
     };
-    edit.at(slip)
+    let how = match slip as i32 - position as i32 {
+        1 => Move::Up,
+        -1 => Move::Down,
+        _ => Move::Still,
+    };
+    (edit.at(slip), how)
 }

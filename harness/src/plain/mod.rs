@@ -6,23 +6,29 @@ pub mod codec;
 pub mod edit;
 pub mod lent;
 pub mod line;
+pub mod origins;
+pub mod places;
 pub mod ranks;
+pub mod reported;
 pub mod script;
 pub mod server;
 pub mod slip;
 pub mod words;
 
-/// The answer of editing and taking: the number of the first no, or 0, and how many pending edits were passed.
-#[derive(Clone, Copy, PartialEq, Eq, Debug)]
+/// The answer of editing and taking: the number of the first no, or 0, how many pending edits were passed, and of an edit that was taken the
+/// position that arrived and the position applied, 0 for nothing.
+#[derive(Clone, Copy, PartialEq, Eq, Debug, Default)]
 pub struct Answer {
     pub refusal: u8,
     pub passed: u16,
+    pub arrived: u16,
+    pub applied: u16,
 }
 
 impl Answer {
     #[inline]
     pub fn refused(refusal: u8) -> Answer {
-        Answer { refusal, passed: 0 }
+        Answer { refusal, ..Answer::default() }
     }
 }
 
@@ -37,10 +43,4 @@ impl Sent {
     pub fn refused(refusal: u8) -> Sent {
         Sent { refusal, length: 0 }
     }
-}
-
-/// All places from `length` on are zero.
-#[inline]
-fn rest_is_zero(items: &[u32], length: u16) -> bool {
-    items[(length as usize).min(items.len())..].iter().fold(0, |all, item| all | item) == 0
 }

@@ -1,6 +1,8 @@
 //! The run program: a script in, the refusals and the lists out.
 
 use super::client::Client;
+use super::codec::LONGEST as LONGEST_MESSAGE;
+use super::places::Places;
 use super::server::Server;
 use super::slip::{Rules, Slip};
 use crate::limits::*;
@@ -157,7 +159,7 @@ impl Sheet {
 
     fn perform<R: Rules>(&mut self, bay: u8, order: Order) -> u8 {
         let (server, client) = (&mut self.server, &mut self.clients[bay as usize - 1]);
-        let mut buffer = [0; 14];
+        let mut buffer = [0; LONGEST_MESSAGE];
         let sent = match order {
             Order::Insert(position, item) => return client.insert::<R>(position, item).refusal,
             Order::Delete(position) => return client.delete::<R>(position).refusal,
@@ -178,16 +180,18 @@ impl Sheet {
 
     fn print<R: Rules>(&self, out: &mut Vec<u8>) {
         out.extend_from_slice(b"server");
-        print_items::<R>(&self.server.items[..self.server.length as usize], out);
+        print_items::<R>(&self.server.list, out);
         for client in &self.clients[..self.n as usize] {
             out.extend_from_slice(b"client ");
             decimal(client.line as u32, out);
-            print_items::<R>(&client.items[..client.length as usize], out);
+            print_items::<R>(&client.list, out);
         }
     }
 }
 
-fn print_items<R: Rules>(items: &[u32], out: &mut Vec<u8>) {
+/// The items alone, without their origins.
+fn print_items<R: Rules>(list: &Places, out: &mut Vec<u8>) {
+    let items = &list.items[..list.length as usize];
     if items.is_empty() && R::slips(Slip::ScriptEmptyList) {
         out.push(b' ');
     }

@@ -1,26 +1,31 @@
 //! The server's end.
 
 use super::codec::{self, Message, DOWN, UP};
-use super::edit::{INSERT, NOTHING};
-use super::line::Line;
+use super::edit::{Edit, INSERT, NOTHING};
+use super::line::{Crossed, Line};
+use super::origins::{self, Kept};
+use super::places::Places;
 use super::ranks::{self, Ranks};
+use super::reported;
 use super::slip::{Rules, Slip};
-use super::{rest_is_zero, Answer, Sent};
+use super::{Answer, Sent};
 use crate::limits::*;
 
 #[derive(Clone, PartialEq, Eq, Debug)]
 #[repr(C)]
 pub struct Server {
     pub n: u8,
-    pub length: u16,
     pub initial: u16,
     pub ranks: Ranks,
     pub lines: [Line; LINES],
-    pub items: [u32; ITEMS],
+    pub list: Places,
+    /// Of each line those of its pending edits.
+    pub origins: [Kept; LINES],
 }
 
 impl Server {
-    pub const ZERO: Server = Server { n: 0, length: 0, initial: 0, ranks: [0; LINES], lines: [Line::ZERO; LINES], items: [0; ITEMS] };
+    pub const ZERO: Server =
+        Server { n: 0, initial: 0, ranks: [0; LINES], lines: [Line::ZERO; LINES], list: Places::ZERO, origins: [[0; PENDING]; LINES] };
 
     /// Questions 1 and 16, of an end that is all zeros. Refused, it stays so.
     #[inline]
@@ -33,10 +38,9 @@ impl Server {
             return refusal;
         }
         self.n = n;
-        self.length = items.len() as u16;
-        self.initial = self.length;
+        self.initial = items.len() as u16;
         self.ranks = ranks::stored(ranks);
-        self.items[..items.len()].copy_from_slice(items);
+        self.list.open::<R>(items);
         0
     }
 
@@ -52,16 +56,39 @@ impl Server {
         let inserts: u32 = used.iter().map(|line| line.inserts as u32).sum();
         ranks::sound::<R>(self.n, &self.ranks)
             && (self.initial as usize <= INITIAL || R::slips(Slip::SoundInitial))
-            && (self.length as usize <= ITEMS || R::slips(Slip::SoundLength))
-            && (self.length as u32 <= self.initial as u32 + inserts || R::slips(Slip::SoundListBound))
+            && (self.list.length as usize <= ITEMS || R::slips(Slip::SoundLength))
+            && (self.list.length as u32 <= self.initial as u32 + inserts || R::slips(Slip::SoundListBound))
             && used.iter().enumerate().all(|(l, line)| {
                 (line.taken <= EDITS || R::slips(Slip::SoundTaken))
                     && (line.made as u32 == taken - line.taken as u32 || R::slips(Slip::SoundSum))
                     && (line.inserts <= line.taken || R::slips(Slip::SoundInsertsMade))
                     && line.sound::<R>(self.others::<R>(l as u8 + 1))
+                    && self.sound_origins::<R>(l)
             })
             && (unused.iter().all(|line| *line == Line::ZERO) || R::slips(Slip::SoundPastN))
-            && (rest_is_zero(&self.items, self.length) || R::slips(Slip::SoundItemsZero))
+            && (self.origins[used.len()..].as_flattened().iter().fold(0, |all, word| all | word) == 0 || R::slips(Slip::SoundOriginsPastN))
+            && self.list.sound::<R>(self.n)
+    }
+
+    /// Question 2 of the origins kept for a line (from 0): each has another maker of 1 to n and a number of 1 to 400, whatever became of its
+    /// edit; the rest is zero.
+    #[inline]
+    fn sound_origins<R: Rules>(&self, l: usize) -> bool {
+        let line = &self.lines[l];
+        let (used, unused) = self.origins[l].split_at((line.kept() as usize).min(PENDING));
+        let most = if R::slips(Slip::SoundMakerPastN) { LINES as u8 } else { self.n } as u32;
+        let mut bad = false;
+        for (&word, &place) in used.iter().zip(&line.pending.places) {
+            let maker = if R::slips(Slip::WideMaker) { origins::maker(word) as u32 } else { word >> 16 };
+            let outside = (maker.wrapping_sub(1) >= most) & !R::slips(Slip::SoundMaker);
+            let own = (maker == l as u32 + 1) & !R::slips(Slip::SoundMakerOwn);
+            let number = (origins::number(word).wrapping_sub(1) >= EDITS) & !R::slips(Slip::SoundMakerNumber);
+            let asked = place != 0 || !R::slips(Slip::SoundNothingOrigin);
+            let ranked = place as u8 == ranks::of::<R>(&self.ranks, origins::maker(word)) || place as u8 == 0;
+            bad |= (outside | own | number) & asked | (R::slips(Slip::TwoMakersRank) && !ranked);
+        }
+        let rest = unused.iter().fold(0, |all, word| all | word);
+        !bad && (rest == 0 || R::slips(Slip::SoundKeptZero))
     }
 
     /// The rank of a line.
@@ -96,8 +123,18 @@ impl Server {
         } else if !self.has(line) {
             Sent::refused(4)
         } else {
-            self.lines[line as usize - 1].send::<R>(line, DOWN, k, out)
+            let l = line as usize - 1;
+            self.lines[l].send::<R>(line, DOWN, k, |slot| self.sent_origin::<R>(l, k, slot), out)
         }
+    }
+
+    /// The origin that the edit at a slot of a line (from 0) is sent with, as number k.
+    #[inline]
+    fn sent_origin<R: Rules>(&self, l: usize, k: u16, slot: usize) -> u32 {
+        let origin = self.origins[l][if R::slips(Slip::SendsFirstOrigin) { 0 } else { slot }];
+        let maker = if R::slips(Slip::SendsLine) { l as u8 + 1 } else { origins::maker(origin) };
+        let number = if R::slips(Slip::SendsNumber) { k } else { origins::number(origin) };
+        origins::word(maker, number)
     }
 
     /// Sends an acknowledgement. Questions 2, 4, 14.
@@ -125,21 +162,59 @@ impl Server {
         let edit = message.edit;
         let rank = if R::slips(Slip::FourByLine) { message.line } else { self.rank::<R>(message.line) };
         let own = edit.kind() != INSERT || edit.priority() == rank || R::slips(Slip::OtherPriorityUp);
-        if message.direction != UP || !self.has(message.line) || !own {
-            return Answer::refused(4);
+        let by_sender = message.is_ack() || is_by_sender::<R>(&message);
+        if message.direction != UP || !self.has(message.line) || !own || !(by_sender || R::slips(Slip::MakerLate)) {
+            return reported::refused::<R>(4, edit);
         }
-        let line = &mut self.lines[message.line as usize - 1];
-        let refusal = line.in_turn::<R>(&message);
+        let line = message.line as usize - 1;
+        let refusal = self.lines[line].in_turn::<R>(&message);
         if refusal != 0 {
             if R::slips(Slip::RefusedSeen) {
-                line.acknowledge::<R>(message.seen);
+                self.acknowledge::<R>(line, message.seen);
             }
-            return Answer::refused(refusal);
+            return reported::refused::<R>(refusal, edit);
         }
         if message.is_ack() {
-            return line.acknowledge::<R>(message.seen);
+            return self.acknowledge::<R>(line, message.seen);
+        }
+        if !by_sender {
+            return Answer::refused(4);
         }
         self.take_edit::<R>(message)
+    }
+
+    /// Drops the pending edits of a line (from 0) up to `seen`, and their origins.
+    fn acknowledge<R: Rules>(&mut self, l: usize, seen: u16) -> Answer {
+        let line = &mut self.lines[l];
+        let (acked, pending) = (line.acked, line.kept());
+        let answer = line.acknowledge::<R>(seen);
+        if !R::slips(Slip::AckOrigins) {
+            origins::forget::<R>(&mut self.origins[l], line.acked - acked, pending);
+        }
+        answer
+    }
+
+    /// Writes what crossing computed for a line (from 0), and drops the origins of the edits that were seen.
+    #[inline]
+    fn store<R: Rules>(&mut self, l: usize, crossed: &Crossed, message: &Message) {
+        let line = &mut self.lines[l];
+        let (acked, pending) = (line.acked, line.kept());
+        line.store::<R>(crossed, message.seen);
+        if !R::slips(Slip::SeenOrigins) {
+            origins::forget::<R>(&mut self.origins[l], line.acked - acked, pending);
+        }
+        if R::slips(Slip::CrossedOrigins) {
+            self.origins[l][..line.kept() as usize].fill(message.origin);
+        }
+    }
+
+    /// Keeps an edit of that origin for a line (from 0).
+    #[inline]
+    fn keep<R: Rules>(&mut self, l: usize, edit: Edit, origin: u32) {
+        let line = &mut self.lines[l];
+        let bare = R::slips(Slip::NothingOrigin) && edit.kind() == NOTHING;
+        self.origins[l][line.kept() as usize] = if bare { 0 } else { origin };
+        line.keep(edit);
     }
 
     /// Questions 9, 10 and 12, and the taking.
@@ -149,31 +224,40 @@ impl Server {
         let line = &self.lines[own];
         let crossed = line.cross::<R>(message.edit, message.seen, &self.ranks);
         let ten = insert && line.inserts >= INSERTS && !R::slips(Slip::ServerNoTen);
-        if !crossed.within || !crossed.edit.fits(self.length, ITEMS as u16) {
-            return Answer::refused(9);
+        if !crossed.within || !crossed.edit.fits(self.list.length, ITEMS as u16) {
+            return reported::refused_late::<R>(9, &message, &crossed);
         }
         if ten {
-            return Answer::refused(10);
+            return reported::refused_late::<R>(10, &message, &crossed);
         }
         let n = (self.n as usize).min(LINES);
         let room = if R::slips(Slip::ServerTwelveAt63) { 63 } else { PENDING as u16 };
         let asked = |l: usize| l != own || R::slips(Slip::TwelveOwnLine);
         if (0..n).any(|l| asked(l) && self.lines[l].kept() >= room) {
-            return Answer::refused(12);
+            return reported::refused_late::<R>(12, &message, &crossed);
         }
-        self.lines[own].store::<R>(&crossed, message.seen);
+        let answer = reported::taken::<R>(&self.lines[own], &message, &crossed, Slip::ServerSilent);
+        self.store::<R>(own, &crossed, &message);
         self.lines[own].inserts += insert as u16;
         let kept = if R::slips(Slip::KeepsArrived) { message.edit } else { crossed.edit };
         let thrown = R::slips(Slip::NothingThrown) && kept.kind() == NOTHING;
         for l in 0..n {
             let other = l != own || (R::slips(Slip::KeepsForMaker) && self.lines[l].kept() < 64);
             if other && !thrown {
-                self.lines[l].keep(kept);
+                self.keep::<R>(l, kept, message.origin);
             }
         }
         if !R::slips(Slip::ListLeft) {
-            crossed.edit.apply(&mut self.items, &mut self.length);
+            self.list.apply::<R>(crossed.edit, message.origin);
         }
-        Answer { refusal: 0, passed: crossed.passed }
+        answer
     }
+}
+
+/// Question 4 of the maker of an edit that goes up: the line itself, and the message's own number.
+#[inline]
+fn is_by_sender<R: Rules>(message: &Message) -> bool {
+    (origins::maker(message.origin) == message.line || R::slips(Slip::MakerUp))
+        && (origins::number(message.origin) == message.number || R::slips(Slip::MakerNumberUp))
+        || (message.edit.kind() != INSERT && R::slips(Slip::MakerOfInserts))
 }

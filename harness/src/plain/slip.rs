@@ -1,10 +1,13 @@
 //! Mistakes that can be switched on, one at a time, to show that the harness notices each of them.
-//! `Plain` never slips and costs nothing: the compiler removes every question it is asked. `Slipping` slips as `set` says.
+//! `Plain` never slips and costs nothing: the compiler removes every question it is asked. `Checked` is the same and checks itself as it goes.
+//! `Slipping` slips as `set` says.
 
 use std::sync::atomic::{AtomicUsize, Ordering};
 
 pub trait Rules {
     const NAME: &'static str;
+    /// Whether the moves of every edit are added up and compared with its positions.
+    const CHECKS: bool = false;
     fn slips(slip: Slip) -> bool;
 }
 
@@ -12,6 +15,18 @@ pub struct Plain;
 
 impl Rules for Plain {
     const NAME: &'static str = "plain";
+
+    #[inline(always)]
+    fn slips(_: Slip) -> bool {
+        false
+    }
+}
+
+pub struct Checked;
+
+impl Rules for Checked {
+    const NAME: &'static str = Plain::NAME;
+    const CHECKS: bool = true;
 
     #[inline(always)]
     fn slips(_: Slip) -> bool {
@@ -51,8 +66,11 @@ impl Rules for Slipping {
 pub enum Seen {
     /// On reachable ends: the history, the graph and the definition alone have to notice it.
     History,
-    /// Only on bytes or ends that no run of calls gives: the comparison with the right implementation has to notice it.
-    Comparison,
+    /// Only at openings that no run of calls makes, by messages that no end writes, or on ends that no run gives: the comparison with the right
+    /// implementation has to notice it.
+    Opening,
+    Message,
+    End,
     /// In the run program alone.
     Script,
 }
@@ -111,6 +129,62 @@ slips! {
     SixteenFirst History "16 is asked before 1",
     CutLate History "a cut item is asked after 16",
     RanksLate History "16 is asked when the list's length is written",
+    // origins
+    MakerOfLine History "a client writes the message's line in the place of the maker's",
+    NumberOfMessage History "a client writes the message's number in the place of the maker's",
+    SendsLine History "the server sends the line in the place of the maker's",
+    SendsNumber History "the server sends its own number in the place of the maker's",
+    SendsSlot History "a client sends the place among the pending edits as the maker's number",
+    SendsFirstOrigin History "the server sends the origin of the line's first pending edit",
+    OwnNumberBefore History "an edit made here has the number of the one before as its origin",
+    InsertOrigins History "an insert moves the items behind it up and not their origins",
+    DeleteOrigins History "a delete moves the items behind it down and not their origins",
+    OriginUnwritten History "an insert leaves the origin that stood there",
+    OriginTailLeft History "a delete leaves a copy of the last origin in the unused place",
+    OpenFromZero History "opening items are numbered from 0",
+    OpenOwnLine History "a client's opening items have its own line as maker",
+    OpenNoOrigins History "opening items have no origin",
+    AckOrigins History "an acknowledgement drops pending edits and leaves their origins",
+    SeenOrigins History "an edit message's seen drops pending edits and leaves their origins",
+    OriginsTailLeft History "dropping origins leaves copies in the unused places",
+    NothingOrigin History "an edit that became nothing is kept without its origin",
+    CrossedOrigins History "the pending edits that an edit passed take over its origin",
+    NumberLowFirst History "the maker's number is written and read low byte first",
+    // the positions that a taking reports
+    ArrivedTwice History "the position that arrived is reported twice",
+    AppliedTwice History "the position applied is reported twice",
+    PositionsExchanged History "the two positions are exchanged",
+    GoneLast History "an edit that is gone reports its last position as applied",
+    GoneUnmoved History "an edit that is gone reports the position that arrived as applied",
+    GoneTwice History "an edit that is gone reports 0 twice",
+    UpForDown History "the reported position goes down for up and up for down",
+    UpsAlone History "the reported position leaves out the moves down",
+    DownsAlone History "the reported position leaves out the moves up",
+    MovesOfPending History "the moves of the pending edits are added up",
+    FirstMove History "the position past the first pending edit is reported",
+    LastMoveLost History "the position before the last pending edit is reported",
+    PositionOfPending History "the position of the last pending edit is reported",
+    MovesPastSeen History "moves past the pending edits that its sender had seen are added up too",
+    Distance History "how far the edit moved is reported in the place of where it was applied",
+    MovedAlone History "only an edit that moved has positions",
+    InsertsAlone History "only inserts have positions",
+    DeletesAlone History "only deletes have positions",
+    PositionsFromZero History "the reported positions count from 0",
+    NothingRead History "an arriving nothing has the bytes behind seen as its position",
+    ClientSilent History "a client reports no positions",
+    ServerSilent History "the server reports no positions",
+    RefusedArrived History "a refused edit message has the position that arrived",
+    RefusedAt12 History "a taking that 12 refuses has positions",
+    RefusedAt9 Message "a taking that 9 or 10 refuses has positions",
+    AckPositions History "an acknowledgement has the first pending edit's position",
+    MadePositions History "an edit made has positions",
+    OpenPositions History "an opening has the number of items as positions",
+    SentPositions History "a sending has the message's length as positions",
+    ArrivedEarly History "the position that arrived begins in the count's highest bit",
+    AppliedEarly History "the position applied begins in the highest bit of the one that arrived",
+    PositionsEarly History "the positions begin at bits 16 and 32, over the count's upper half",
+    Positions8 History "positions are cut to 8 bits",
+    Positions9 History "positions are cut to 9 bits: 512 is 0",
     // limits and order of the questions
     Insert49 History "a client makes insert 49",
     Edit401 History "a client makes edit 401",
@@ -128,45 +202,65 @@ slips! {
     RefusedWrites History "sending into a short buffer writes what fits",
     LengthAtRefusal History "a refused sending gives the message's length",
     // messages that no end writes
-    ServerNoTen Comparison "the server does not ask 10",
-    NoEight Comparison "question 8 is not asked",
-    TrailingBytes Comparison "bytes after a message are passed over",
-    KindByLength Comparison "the length of the bytes fixes the kind",
-    NumberRange Comparison "numbers up to 2,800 are read going up",
-    SeenRange Comparison "any seen is read",
-    PositionRange Comparison "position 0 and positions above 512 are read",
-    PriorityRange Comparison "any priority is read",
-    LineRange Comparison "any line is read",
-    DirectionRange Comparison "any direction is read",
-    OwnPriorityDown Comparison "an insert of one's own priority comes down",
-    OtherPriorityUp Comparison "an insert of another's priority goes up",
-    PendingPast512 Comparison "question 9 does not look at the pending forms",
+    ServerNoTen Message "the server does not ask 10",
+    NoEight Message "question 8 is not asked",
+    TrailingBytes Message "bytes after a message are passed over",
+    KindByLength Message "the length of the bytes fixes the kind",
+    NumberRange Message "numbers up to 2,800 are read going up",
+    SeenRange Message "any seen is read",
+    PositionRange Message "position 0 and positions above 512 are read",
+    PriorityRange Message "any priority is read",
+    LineRange Message "any line is read",
+    DirectionRange Message "any direction is read",
+    OwnPriorityDown Message "an insert of one's own priority comes down",
+    OtherPriorityUp Message "an insert of another's priority goes up",
+    OldKinds Message "kinds 1 to 3 are read, their origin the message's own line and number",
+    MakerRange Message "any maker is read",
+    MakerNumberRange Message "any maker's number is read",
+    MakerUp Message "an edit of another maker goes up",
+    MakerNumberUp Message "an edit of another of the maker's numbers goes up",
+    MakerOwnDown Message "an edit of one's own comes down",
+    MakerPastN Message "an edit of a maker past n comes down",
+    MakerOfInserts Message "question 4 asks the maker of inserts alone",
+    MakersRank Message "question 4 asks that an insert's priority is its maker's rank",
+    MakerLate Message "the maker is asked after 8",
+    PendingPast512 Message "question 9 does not look at the pending forms",
     // question 2, conjunct by conjunct
-    SoundN Comparison "n is not asked",
-    SoundLine Comparison "the line is not asked",
-    SoundLength Comparison "the list's length is not asked",
-    SoundMade Comparison "a client's made is not asked",
-    SoundTaken Comparison "taken is not asked",
-    SoundAcked Comparison "acked at most made is not asked",
-    SoundPending Comparison "at most 64 pending is not asked",
-    SoundPosition Comparison "the pending edits' positions are not asked",
-    SoundPriority Comparison "the pending inserts' priorities are not asked",
-    SoundInserts Comparison "at most 48 inserts is not asked",
-    SoundInsertsMade Comparison "inserts at most the client's edits is not asked",
-    SoundItemsZero Comparison "unused items are not asked",
-    SoundPendingZero Comparison "unused pending places are not asked",
-    SoundInitial Comparison "the count of opening items is not asked",
-    SoundSum Comparison "the server's sums are not asked",
-    SoundListBound Comparison "the server's list against opening and inserts is not asked",
-    SoundPastN Comparison "lines past n are not asked",
-    SoundRanks Comparison "the stored ranks are not asked",
-    SoundRanksAlike Comparison "two stored ranks may be alike",
-    SoundRanksZero Comparison "stored ranks past n are not asked",
+    SoundN End "n is not asked",
+    SoundLine End "the line is not asked",
+    SoundLength End "the list's length is not asked",
+    SoundMade End "a client's made is not asked",
+    SoundTaken End "taken is not asked",
+    SoundAcked End "acked at most made is not asked",
+    SoundPending End "at most 64 pending is not asked",
+    SoundPosition End "the pending edits' positions are not asked",
+    SoundPriority End "the pending inserts' priorities are not asked",
+    SoundInserts End "at most 48 inserts is not asked",
+    SoundInsertsMade End "inserts at most the client's edits is not asked",
+    SoundItemsZero End "unused items are not asked",
+    SoundPendingZero End "unused pending places are not asked",
+    SoundInitial End "the count of opening items is not asked",
+    SoundSum End "the server's sums are not asked",
+    SoundListBound End "the server's list against opening and inserts is not asked",
+    SoundPastN End "lines past n are not asked",
+    SoundRanks End "the stored ranks are not asked",
+    SoundRanksAlike End "two stored ranks may be alike",
+    SoundRanksZero End "stored ranks past n are not asked",
+    SoundOriginsZero End "origins past the list's end are not asked",
+    SoundMaker End "the pending edits' makers are not asked to be 1 to n",
+    SoundMakerPastN End "the pending edits' makers may be up to 8",
+    SoundMakerOwn End "a pending edit's maker may be its own line",
+    SoundMakerNumber End "the pending edits' makers' numbers are not asked",
+    SoundNothingOrigin End "the origins of pending edits that are nothing are not asked",
+    SoundKeptZero End "unused places for the pending edits' origins are not asked",
+    SoundOriginsPastN End "the origins of lines past n are not asked",
+    TwoListMakers End "question 2 asks that the makers on the list are at most n",
+    TwoMakersRank End "question 2 asks that a pending insert's priority is its maker's rank",
     // opening
-    Open129 Comparison "129 items open",
-    OpenNine Comparison "n = 9 opens a server",
-    OpenLineZero Comparison "line 0 opens a client",
-    ItemsCounted8 Comparison "opening items are counted in 8 bits: 256 are none",
+    Open129 Opening "129 items open",
+    OpenNine Opening "n = 9 opens a server",
+    OpenLineZero Opening "line 0 opens a client",
+    ItemsCounted8 Opening "opening items are counted in 8 bits: 256 are none",
     ItemsLowFirst History "opening items are read low byte first",
     CutItem History "a cut opening item is passed over",
     OpenZeros History "a refused opening writes zeros",
@@ -178,12 +272,13 @@ slips! {
     RestCleared History "the bytes past the layout become zero",
     ShortOut18 History "too short a buffer for a message gives 18",
     RefusedByte History "a refused edit or taking changes a byte of the end",
-    AnswerHigh History "an answer has a bit past its count",
-    Length8 Comparison "the message's length is read in 8 bits: 261 bytes are 5",
+    AnswerHigh History "an answer has a bit past its positions",
+    Length8 Message "the message's length is read in 8 bits: 261 bytes are 5",
     // bytes of the layout that nobody looks at
-    WideN Comparison "the upper bytes of n and line are not looked at",
-    WideCount Comparison "the upper bytes of the counts are not looked at",
-    WidePlace Comparison "the top byte of a pending place is not looked at",
+    WideN End "the upper bytes of n and line are not looked at",
+    WideCount End "the upper bytes of the counts are not looked at",
+    WidePlace End "the top byte of a pending place is not looked at",
+    WideMaker End "the top byte of a pending edit's origin is not looked at",
     // the run program
     ScriptRanks Script "the lines' ranks are their numbers from the last on",
     ScriptWide Script "a number too wide for its field loses its high bits",

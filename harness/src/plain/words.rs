@@ -2,6 +2,7 @@
 
 use super::client::Client;
 use super::line::Pending;
+use super::places::Places;
 use super::ranks::Ranks;
 use super::server::Server;
 use super::slip::{Rules, Slip};
@@ -23,7 +24,7 @@ pub trait End: Sized {
     fn read<R: Rules>(&mut self, words: &[Word]) -> bool;
     fn write(&self, words: &mut [Word]);
     /// For the slip that repeats an earlier list: how often the end changed, and its list.
-    fn shown(&mut self) -> (u16, &mut u16, &mut [u32; ITEMS]);
+    fn shown(&mut self) -> (u16, &mut Places);
 }
 
 /// All words together.
@@ -73,7 +74,7 @@ fn read_pending<R: Rules>(pending: &mut Pending, places: &[Word], items: &[Word]
 }
 
 impl End for Client {
-    const WORDS: usize = 649;
+    const WORDS: usize = 1161;
     const ZERO: Client = Client::ZERO;
 
     #[inline]
@@ -81,33 +82,35 @@ impl End for Client {
         let small = |at: usize| number(words[at]) as u16;
         self.n = small(0) as u8;
         self.line = small(1) as u8;
-        self.length = small(2);
+        self.list.length = small(2);
         read_ranks(&mut self.ranks, &words[3..]);
         let own = &mut self.own;
         (own.made, own.taken, own.acked, own.inserts) = (small(5), small(6), small(7), small(8));
-        read_all(&mut self.items, &words[9..521]);
+        read_all(&mut self.list.items, &words[9..521]);
         read_pending::<R>(&mut own.pending, &words[521..585], &words[585..649]);
+        read_all(&mut self.list.origins, &words[649..1161]);
         !is_wide::<R>(gathered(&words[..2]), number(words[2]) | gathered(&words[5..9]))
     }
 
     #[inline]
     fn write(&self, words: &mut [Word]) {
         let own = &self.own;
-        write_all(&mut words[..3], &[self.n as u32, self.line as u32, self.length as u32]);
+        write_all(&mut words[..3], &[self.n as u32, self.line as u32, self.list.length as u32]);
         write_ranks(&mut words[3..], &self.ranks);
         write_all(&mut words[5..9], &[own.made, own.taken, own.acked, own.inserts].map(u32::from));
-        write_all(&mut words[9..521], &self.items);
+        write_all(&mut words[9..521], &self.list.items);
         write_all(&mut words[521..585], &own.pending.places);
         write_all(&mut words[585..649], &own.pending.items);
+        write_all(&mut words[649..1161], &self.list.origins);
     }
 
-    fn shown(&mut self) -> (u16, &mut u16, &mut [u32; ITEMS]) {
-        (self.own.made, &mut self.length, &mut self.items)
+    fn shown(&mut self) -> (u16, &mut Places) {
+        (self.own.made, &mut self.list)
     }
 }
 
 impl End for Server {
-    const WORDS: usize = 1573;
+    const WORDS: usize = 2597;
     const ZERO: Server = Server::ZERO;
 
     #[inline]
@@ -115,7 +118,7 @@ impl End for Server {
         let small = |at: usize| number(words[at]) as u16;
         self.n = small(0) as u8;
         self.initial = small(1);
-        self.length = small(2);
+        self.list.length = small(2);
         read_ranks(&mut self.ranks, &words[3..]);
         for (at, line) in self.lines.iter_mut().enumerate() {
             let count = 5 + 4 * at;
@@ -123,13 +126,15 @@ impl End for Server {
             let (places, items) = words[549 + 2 * PENDING * at..][..2 * PENDING].split_at(PENDING);
             read_pending::<R>(&mut line.pending, places, items);
         }
-        read_all(&mut self.items, &words[37..549]);
+        read_all(&mut self.list.items, &words[37..549]);
+        read_all(&mut self.list.origins, &words[1573..2085]);
+        read_all(self.origins.as_flattened_mut(), &words[2085..2597]);
         !is_wide::<R>(number(words[0]), gathered(&words[1..3]) | gathered(&words[5..37]))
     }
 
     #[inline]
     fn write(&self, words: &mut [Word]) {
-        write_all(&mut words[..3], &[self.n as u32, self.initial as u32, self.length as u32]);
+        write_all(&mut words[..3], &[self.n as u32, self.initial as u32, self.list.length as u32]);
         write_ranks(&mut words[3..], &self.ranks);
         for (at, line) in self.lines.iter().enumerate() {
             write_all(&mut words[5 + 4 * at..][..4], &[line.made, line.taken, line.acked, line.inserts].map(u32::from));
@@ -137,10 +142,12 @@ impl End for Server {
             write_all(places, &line.pending.places);
             write_all(items, &line.pending.items);
         }
-        write_all(&mut words[37..549], &self.items);
+        write_all(&mut words[37..549], &self.list.items);
+        write_all(&mut words[1573..2085], &self.list.origins);
+        write_all(&mut words[2085..2597], self.origins.as_flattened());
     }
 
-    fn shown(&mut self) -> (u16, &mut u16, &mut [u32; ITEMS]) {
-        (self.lines[0].taken, &mut self.length, &mut self.items)
+    fn shown(&mut self) -> (u16, &mut Places) {
+        (self.lines[0].taken, &mut self.list)
     }
 }
