@@ -3,13 +3,13 @@ use Prim.Native.Nat.{ℕ, zero, suc, _+_, _-_, _≤_, _<_}
 use native.Mathlib.Numerals.{add-one}
 use native.Mathlib.Omega.{arith}
 use mathlib.Core.Path.{_≡_, refl, ap, _∙_, sym}
-use mathlib.Core.Bool.{Bool, true, _&&_, and-true, and-assoc}
+use mathlib.Core.Bool.{Bool, true, false, _&&_, and-true, and-assoc}
 use mathlib.Core.List.{List, [], _∷_}
-use lib.Dec.{eqb}
+use lib.Dec.{eqb, ltb}
 use lib.ListN.{length, getD, take, drop, set, replicate, length-take, length-drop, length-set, length-replicate, drop-of-length-le}
 use lib.Seq.{drop-cons, getD-take}
 use lib.Bits.{bitOr}
-use borrow.Author.Tests.{eqb-true}
+use borrow.Author.Tests.{eqb-true, ltb-true, ltb-false}
 use Rattle.ot.proofs.Fits.{and-left, and-right}
 use Rattle.list.proofs.Pad.{pad-of, pad-drop, fill-turn, fill-end}
 use Rattle.list.proofs.Zero.{or-zero}
@@ -79,5 +79,24 @@ module _ (n m : ℕ) (l : List ℕ) (room : m ≤ n) where
         size = length-set a i v ∙ f .size;
       }
 
+  pub filling-stop : (i : ℕ) (a : List ℕ) → length (take m l) ≤ i → Filling n m l a i → a ≡ padded 0 n (take m l)
+  filling-stop i a h f = fill-end n 0 (take m l) short i a h (f .items)
+
   pub filling-end : (i : ℕ) (a : List ℕ) → m ≤ i → Filling n m l a i → a ≡ padded 0 n (take m l)
-  filling-end i a h f = fill-end n 0 (take m l) short i a (simp length-take (omega arith)) (f .items)
+  filling-end i a h f = filling-stop i a (simp length-take (omega arith)) f
+
+-- ---- a loop over the first m items of l: where it goes on, and where it ends
+
+pub going : {m : ℕ} (i len : ℕ) → (ltb i m && ltb i len) ≡ true → (i < m) × (i < len)
+going {m} i len e = (ltb-true i m (and-left (ltb i m) (ltb i len) e), ltb-true i len (and-right (ltb i m) (ltb i len) e))
+
+ended : (m i : ℕ) (l : List ℕ) (b : Bool) → ltb i m ≡ b → (b && ltb i (length l)) ≡ false → length (take m l) ≤ i
+ended m i l true p e =
+    let h : length l ≤ i = ltb-false i (length l) e in
+    simp length-take (omega (arith, h))
+ended m i l false p e =
+    let h : m ≤ i = ltb-false i m p in
+    simp length-take (omega (arith, h))
+
+pub done : (m i : ℕ) (l : List ℕ) → (ltb i m && ltb i (length l)) ≡ false → length (take m l) ≤ i
+done m i l e = ended m i l (ltb i m) refl e

@@ -5,3 +5,4 @@ pub mod Zero
 pub mod Parts
 pub mod Items
 pub mod Places
+pub mod Seconds

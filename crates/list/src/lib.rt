@@ -4,12 +4,17 @@ ghost use mathlib.Core.Path.{_≡_};
 ghost use Prim.Native.Nat.{ℕ, _-_, _<_, _≤_};
 ghost use mathlib.Core.List.{List, [], _∷_, _++_};
 ghost use lib.ListN.{length, getD, take, drop, replicate};
-ghost use Rattle.ot.specs.Edit.{edit};
+ghost use mathlib.Core.Bool.{true};
+ghost use Rattle.ot.specs.Edit.{edit, applied, fits};
 ghost use Rattle.limits.specs.Limits.{maxInitial};
 ghost use Rattle.list.specs.Items.{capacity, stored, initialItems, allZero, Room, Edited};
 ghost use Rattle.list.specs.Places.{initialPlaces, originsOf, wordOf, originAt};
+ghost use Rattle.list.specs.Seconds.{totalSeconds};
 use limits::INITIAL;
 use ot::Form;
+
+// An item is its seconds and a multiple of this: the low 12 bits.
+const SECONDS: u32 = 4096;
 
 // Which edit put an item on the list: its client's line and its number there. Line 0 is the initial list, with the place as number.
 pub struct Origin {
@@ -92,13 +97,39 @@ pub fn item_at(items: &[u32], i: usize) -> u32
     if i < items.len() { items[i] } else { 0 }
 }
 
-// Puts the first 128 items into the array of an end, whose places are zero.
+// The seconds of all items together, the low 12 bits of each. Places that are zero add nothing.
+pub fn total(items: &[u32]) -> u32
+    requires { ⌜ length (now items) ≤ capacity ⌝ }
+    ensures { λ r. ⌜ r ≡ totalSeconds (now (items .entry)) ⌝ }
+{
+    let mut sum = 0u32;
+    for i in 0..items.len() {
+        sum += items[i] % SECONDS;
+    }
+    sum
+}
+
+// The total once the edit of form f and item x is applied to the list: an insert adds its seconds, a delete subtracts those of its item.
+pub fn total_after(items: &[u32], total: u32, f: Form, x: u32) -> u32
+    requires { ⌜ (length (now items) ≤ capacity) × ((fits (edit f x) (length (now items)) ≡ true) × (total ≡ totalSeconds (now items))) ⌝ }
+    ensures { λ r. ⌜ r ≡ totalSeconds (applied (edit f x) (now (items .entry))) ⌝ }
+{
+    match f {
+        Form::Nothing => total,
+        Form::Delete(p) => total - items[(p - 1) as usize] % SECONDS,
+        Form::Insert(_, _) => total + x % SECONDS,
+    }
+}
+
+// Puts the first 128 items into the array of an end, whose places are zero. The loop ends where the items do, so that it is vectorised.
 pub fn initial(items: &[u32], list: &mut [u32])
     requires { ⌜ now list ≡ replicate capacity 0 ⌝ }
     ensures { λ _. ⌜ now (list .exit) ≡ initialItems (now (items .entry)) ⌝ }
 {
-    for i in 0..INITIAL {
+    let mut i = 0;
+    while (i < INITIAL) & (i < items.len()) {
         list[i] = item_at(items, i);
+        i += 1;
     }
 }
 
