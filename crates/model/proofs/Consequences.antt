@@ -7,6 +7,7 @@ use Prim.Native.Nat.{ℕ, zero, suc, _≤_}
 use lib.ListN.{getElem?}
 use borrow.Author.Tests.{le-leb}
 use Rattle.list.specs.Places.{Place, initialPlaces}
+use Rattle.list.specs.Seconds.{runningTime}
 use Rattle.jupiter.specs.Ends.{Ends}
 use Rattle.jupiter.specs.Run as theory
 use Rattle.jupiter.specs.Run.{Message, up, down, upAck, downAck}
@@ -110,6 +111,9 @@ agree S T c d =
       lists = λ n ranks items o calls a b.
           let h = both-hold S T c d n ranks items o calls in
           h .0 .lists a b ∙ ap (λ (w : Log ranks). w .shown a) (same-run S T c d n ranks items o calls) ∙ sym (h .1 .lists a b);
+      totals = λ n ranks items o calls a b.
+          let h = both-hold S T c d n ranks items o calls in
+          h .0 .totals a b ∙ ap (λ (w : Log ranks). runningTime (w .shown a)) (same-run S T c d n ranks items o calls) ∙ sym (h .1 .totals a b);
       made = λ n ranks items o calls l lo hi.
           let h = both-hold S T c d n ranks items o calls in
           let x = h .0 .lines l lo hi in

@@ -9,6 +9,7 @@ use lib.ListN.{length}
 use borrow.Author.Tests.{leb-true}
 use Rattle.list.specs.declared.Origin.{Origin}
 use Rattle.list.specs.Places.{Place, initialPlaces}
+use Rattle.list.specs.Seconds.{runningTime}
 use Rattle.list.proofs.Places.{initial-length}
 use Rattle.jupiter.specs.Made.{select, reject}
 use Rattle.jupiter.specs.Form.{replay}
@@ -49,6 +50,11 @@ use Rattle.model.proofs.Numbers.{refusal-is, numbered, reads-back}
 some-left : {A : Type 0} (xs : List A) → (xs ≡ [] → ⊥) → 1 ≤ length xs
 some-left [] h = absurd (h refl)
 some-left (x ∷ xs) h = omega arith
+
+-- an end keeps the total of the list that it shows
+total-is : (e : End) → ours .total e ≡ runningTime (ours .items e)
+total-is (client c) = refl
+total-is (server v) = refl
 
 module _ (n : ℕ) (items : List Place) {ranks : List ℕ} {from : Moment ranks} (s : State ours ranks) (sim : Sim n items from s) (few : length items ≤ maxInitial) where
   abbrev h : History (edits ranks)
@@ -106,6 +112,7 @@ module _ (n : ℕ) (items : List Place) {ranks : List ℕ} {from : Moment ranks}
   holds opening-list =
       record {
         lists = λ a b. shown a b;
+        totals = λ a b. total-is (s .ends a) ∙ ap runningTime (shown a b);
         origins = λ a b. subst (λ (l : List Place). Once (namesOf l)) (sym (shows sim a b)) (shown-once ranks items (laws sim) opening-list (stateOf (present sim)) (reached sim) (who a));
         messages = sim .messages;
         read-back = reads-back n items s sim few;

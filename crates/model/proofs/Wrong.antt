@@ -8,6 +8,7 @@ use lib.Dec.{ltb}
 use lib.ListN.{take, getD}
 use borrow.Author.Tests.{ltb-true}
 use Rattle.list.specs.Places.{Place}
+use Rattle.list.specs.Seconds.{totalSeconds}
 use Rattle.model.specs.Questions.{Report, noReport, Answer, Sent}
 use Rattle.model.specs.Client.{Client}
 use Rattle.model.specs.Server.{Server}
@@ -18,7 +19,7 @@ use Rattle.model.specs.Run.{State, run, start}
 use Rattle.model.specs.Claim.{Delivered, Enough, Opened, Holds, Converges, Full}
 use Rattle.model.specs.Consequences.{OneOrder}
 use Rattle.model.specs.Marked.{lent}
-use Rattle.model.specs.Wrong.{leaving, repeating, firstOnly, refusing, miscounting, forgiving, listening, early, frozen, byLine, otherRanks, bySender, byMessage, arrivedTwice, goneShown, showingAs, turning, mirroring, Refuted}
+use Rattle.model.specs.Wrong.{leaving, repeating, unsubtracted, firstOnly, refusing, miscounting, forgiving, listening, early, frozen, byLine, otherRanks, bySender, byMessage, arrivedTwice, goneShown, showingAs, turning, mirroring, Refuted}
 use Rattle.model.proofs.Ranks.{line-ranking}
 use Rattle.model.proofs.Ranges.{short}
 use Rattle.model.proofs.Opens.{client-asks, server-asks, client-opens, server-opens}
@@ -75,6 +76,10 @@ numbers e = ap (λ (p : Place). p .origin .number) (heads e)
 applied-at : (i : ℕ) {ks js : List Report} → ks ≡ js → getD ks i noReport .applied ≡ getD js i noReport .applied
 applied-at i e = ap (λ (ks : List Report). getD ks i noReport .applied) e
 
+-- two numbers that are not the same
+differ : (a b : ℕ) → ltb a b ≡ true → a ≡ b → ⊥
+differ a b l e = omega (arith, ltb-true a b l)
+
 leaving-fails : Converges leaving → ⊥
 unfolding computing
 leaving-fails c = nil-cons (one leaving c (insert 1 1 7 ∷ []) .lists 1 (omega arith))
@@ -82,6 +87,11 @@ leaving-fails c = nil-cons (one leaving c (insert 1 1 7 ∷ []) .lists 1 (omega 
 repeating-fails : Converges repeating → ⊥
 unfolding computing
 repeating-fails c = nil-cons (one repeating c (insert 1 1 7 ∷ []) .lists 1 (omega arith))
+
+-- Item 7 is 7 seconds long.
+unsubtracted-fails : Converges unsubtracted → ⊥
+unfolding computing totalSeconds
+unsubtracted-fails c = differ 0 7 refl (sym (one unsubtracted c (insert 1 1 7 ∷ delete 1 1 ∷ []) .totals 1 (omega arith)))
 
 -- Client 1 has two edits pending when client 2's arrives: its place is 3, and 2 past the first alone.
 crossed : List Call
@@ -95,10 +105,6 @@ first-only-fails c =
   where
     nine-one : _≡_ {A = ℕ} 9 1 → ⊥
     nine-one e = omega arith
-
--- two numbers that are not the same
-differ : (a b : ℕ) → ltb a b ≡ true → a ≡ b → ⊥
-differ a b l e = omega (arith, ltb-true a b l)
 
 -- 17 bytes are enough for any message
 enough : (S : Sheet) (n : ℕ) {ranks : List ℕ} (s : State S ranks) (a l k : ℕ) → Enough S n s a l k lent
@@ -286,6 +292,7 @@ refuted =
     record {
       leaving-fails = leaving-fails;
       repeating-fails = repeating-fails;
+      unsubtracted-fails = unsubtracted-fails;
       first-only-fails = first-only-fails;
       refusing-fails = refusing-fails;
       miscounting-fails = miscounting-fails;

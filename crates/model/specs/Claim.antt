@@ -4,6 +4,7 @@ use mathlib.Core.Path.{_≡_}
 use mathlib.Core.Bool.{true}
 use mathlib.Core.List.{List, [], map}
 use lib.ListN.{length, take, drop}
+use Rattle.list.specs.Seconds.{runningTime}
 use Rattle.wire.specs.declared.Read.the-variants as read
 use Rattle.wire.specs.Bytes.{parsed}
 use Rattle.jupiter.specs.Form.{replay}
@@ -73,6 +74,8 @@ module _ (S : Sheet) where
     pub record Holds : Type 0 where
       -- each end's list is the initial list with its edits applied, each in its form at what the end had applied
       pub lists : (a : ℕ) → a ≤ n → S .items (s .ends a) ≡ s .recorded .shown a
+      -- and its total is the sum over that list, from the front
+      pub totals : (a : ℕ) → a ≤ n → S .total (s .ends a) ≡ runningTime (s .recorded .shown a)
       -- no list holds one origin twice
       pub origins : (a : ℕ) → a ≤ n → Once (map (λ p. nameOf (p .origin)) (S .items (s .ends a)))
       -- each message written is the one that the definitions give, byte for byte

@@ -49,13 +49,15 @@ module _ (S : Sheet) where
       (n : ℕ) (ranks items : List ℕ) → Opened S n ranks items → (calls : List Call) (a i : ℕ) → a ≤ n
       → among (0 ∷ 4 ∷ 5 ∷ 6 ∷ 7 ∷ 12 ∷ []) (numberOf S (after S n ranks items calls) (receive a i)) ≡ true
 
-  -- No list of calls tells two sheets apart that converge: by what opening says, by lists, counts of edits, messages and reports, or
+  -- No list of calls tells two sheets apart that converge: by what opening says, by lists, totals, counts of edits, messages and reports, or
   -- by the number that the next call gets.
   pub record Agree (T : Sheet) : Type 0 where
     pub opens-server : (n : ℕ) (ranks items : List ℕ) → areItems items ≡ true → S .openServer n ranks items .refusal ≡ T .openServer n ranks items .refusal
     pub opens-client : (n l : ℕ) (ranks items : List ℕ) → areItems items ≡ true → S .openClient n l ranks items .refusal ≡ T .openClient n l ranks items .refusal
     pub lists : (n : ℕ) (ranks items : List ℕ) → Opened S n ranks items → (calls : List Call) (a : ℕ) → a ≤ n
         → S .items (after S n ranks items calls .ends a) ≡ T .items (after T n ranks items calls .ends a)
+    pub totals : (n : ℕ) (ranks items : List ℕ) → Opened S n ranks items → (calls : List Call) (a : ℕ) → a ≤ n
+        → S .total (after S n ranks items calls .ends a) ≡ T .total (after T n ranks items calls .ends a)
     pub made : (n : ℕ) (ranks items : List ℕ) → Opened S n ranks items → (calls : List Call) (l : ℕ) → 1 ≤ l → l ≤ n
         → (S .made (after S n ranks items calls .ends l) l ≡ T .made (after T n ranks items calls .ends l) l)
         × (S .made (after S n ranks items calls .ends 0) l ≡ T .made (after T n ranks items calls .ends 0) l)

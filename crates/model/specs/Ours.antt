@@ -1,4 +1,5 @@
 -- The sheet that this project builds.
+use Rattle.list.specs.Seconds.{runningTime}
 use Rattle.model.specs.Sheet.{Sheet}
 use Rattle.model.specs.SheetOf as sheets
 use Rattle.model.specs.SheetOf.{ClientCalls, ServerCalls, sheetOf}
@@ -16,6 +17,7 @@ clientCalls =
     record {
       Client = Client;
       items = λ c. c .items;
+      total = λ c. runningTime (c .items);
       made = λ c. c .own .made;
       taken = λ c. c .own .taken;
       opens = clients.openClient;
@@ -31,6 +33,7 @@ serverCalls =
     record {
       Server = Server;
       items = λ s. s .items;
+      total = λ s. runningTime (s .items);
       made = λ s l. lineOf s l .made;
       taken = λ s l. lineOf s l .taken;
       opens = servers.openServer;

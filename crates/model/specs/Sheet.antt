@@ -9,6 +9,8 @@ pub record Sheet : Type 1 where
   pub End : Type 0
   -- its list, each place with its origin, and for each line how many edits it made and took there
   pub items : End → List Place
+  -- its running time (02: N6), as the end keeps it
+  pub total : End → ℕ
   pub made : End → ℕ → ℕ
   pub taken : End → ℕ → ℕ
   -- n, ranks, items; n, line, ranks, items

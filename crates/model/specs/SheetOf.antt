@@ -8,6 +8,7 @@ use Rattle.model.specs.Sheet.{Sheet}
 pub record ClientCalls : Type 1 where
   pub Client : Type 0
   pub items : Client → List Place
+  pub total : Client → ℕ
   -- on its own line
   pub made : Client → ℕ
   pub taken : Client → ℕ
@@ -22,6 +23,7 @@ pub record ClientCalls : Type 1 where
 pub record ServerCalls : Type 1 where
   pub Server : Type 0
   pub items : Server → List Place
+  pub total : Server → ℕ
   pub made : Server → ℕ → ℕ
   pub taken : Server → ℕ → ℕ
   -- n, ranks, items
@@ -49,6 +51,10 @@ module _ (c : ClientCalls) (v : ServerCalls) where
   abbrev items : Ends → List Place
   items (client e) = c .items e
   items (server e) = v .items e
+
+  abbrev total : Ends → ℕ
+  total (client e) = c .total e
+  total (server e) = v .total e
 
   abbrev made : Ends → ℕ → ℕ
   made (client e) l = c .made e
@@ -83,6 +89,7 @@ module _ (c : ClientCalls) (v : ServerCalls) where
       record {
         End = Ends;
         items = items;
+        total = total;
         made = made;
         taken = taken;
         openServer = λ n ranks xs. answerAs server (v .opens n ranks xs);

@@ -29,6 +29,7 @@ clientAs insert take =
     record {
       Client = Client;
       items = clientCalls .items;
+      total = clientCalls .total;
       made = clientCalls .made;
       taken = clientCalls .taken;
       opens = clientCalls .opens;
@@ -44,6 +45,7 @@ serverAs take =
     record {
       Server = Server;
       items = serverCalls .items;
+      total = serverCalls .total;
       made = serverCalls .made;
       taken = serverCalls .taken;
       opens = serverCalls .opens;
@@ -68,35 +70,43 @@ leaving = insertingAs (λ c p x. answerAs (showing (c .items)) (insertClient c p
     showing : List Place → Client → Client
     showing l c = with c l (c .own)
 
--- A client with the list that it shows.
-pub record Showing : Type 0 where
+-- A client with something beside it.
+pub record Beside (A : Type 0) : Type 0 where
   pub now : Client
-  pub shown : List Place
+  pub beside : A
+
+-- the client with what it should have beside it
+abbrev pub having : {A : Type 0} → (Client → A) → Client → Beside A
+having f c = record { now = c; beside = f c }
 
 -- the end after an answer
-abbrev pub showsAfter : Showing → (Client → Showing) → Answer Client → Answer Showing
-showsAfter e f a = record { refusal = a .refusal; end = cond (eqb (a .refusal) 0) (f (a .end)) e; report = a .report }
+abbrev pub becoming : {A : Type 0} → Beside A → (Client → Beside A) → Answer Client → Answer (Beside A)
+becoming e f a = record { refusal = a .refusal; end = cond (eqb (a .refusal) 0) (f (a .end)) e; report = a .report }
+
+-- ours, with what stands beside a client after an insert and after a delete, and the list and the total that it shows
+abbrev pub besideAs : {A : Type 0} → (Client → A) → (A → Client → A) → (A → Client → A) → (Beside A → List Place) → (Beside A → ℕ) → Sheet
+besideAs {A} right inserted deleted items total =
+    sheetOf
+    (record {
+      Client = Beside A;
+      items = items;
+      total = total;
+      made = λ e. e .now .own .made;
+      taken = λ e. e .now .own .taken;
+      opens = λ n l ranks xs. answerAs (having right) (clientCalls .opens n l ranks xs);
+      insert = λ e p x. becoming e (λ c. record { now = c; beside = inserted (e .beside) c }) (insertClient (e .now) p x);
+      delete = λ e p. becoming e (λ c. record { now = c; beside = deleted (e .beside) c }) (clientCalls .delete (e .now) p);
+      send = λ e. clientCalls .send (e .now);
+      tell = λ e. clientCalls .tell (e .now);
+      take = λ e bytes. becoming e (having right) (takeClient (e .now) bytes);
+    })
+    serverCalls
 
 -- What clients show is made of their own list; after an insert, of that and the list that was shown before.
 abbrev pub showingAs : (List Place → List Place) → (List Place → List Place → List Place) → Sheet
 showingAs usual inserted =
-    sheetOf
-    (record {
-      Client = Showing;
-      items = λ e. e .shown;
-      made = λ e. e .now .own .made;
-      taken = λ e. e .now .own .taken;
-      opens = λ n l ranks items. answerAs shows (clientCalls .opens n l ranks items);
-      insert = λ e p x. showsAfter e (λ c. record { now = c; shown = inserted (e .shown) (c .items) }) (insertClient (e .now) p x);
-      delete = λ e p. showsAfter e shows (clientCalls .delete (e .now) p);
-      send = λ e. clientCalls .send (e .now);
-      tell = λ e. clientCalls .tell (e .now);
-      take = λ e bytes. showsAfter e shows (takeClient (e .now) bytes);
-    })
-    serverCalls
-  where
-    shows : Client → Showing
-    shows c = record { now = c; shown = usual (c .items) }
+    besideAs (λ c. usual (c .items)) (λ before c. inserted before (c .items)) (λ before c. usual (c .items)) (λ e. e .beside)
+    (λ e. clientCalls .total (e .now))
 
 -- An earlier list is shown again: after an insert a client shows the list that it showed before.
 abbrev pub repeating : Sheet
@@ -109,6 +119,12 @@ turning = showingAs (λ own. own) (λ before own. reverse own)
 -- Two steps stand the other way round at another end: clients always show their list turned round.
 abbrev pub mirroring : Sheet
 mirroring = showingAs reverse (λ before own. reverse own)
+
+-- ---- the total
+
+-- A delete does not subtract.
+abbrev pub unsubtracted : Sheet
+unsubtracted = besideAs (clientCalls .total) (λ t c. clientCalls .total c) (λ t c. t) (λ e. e .now .items) (λ e. e .beside)
 
 -- ---- taking
 
@@ -231,6 +247,7 @@ rankingAs clientRanks serverRanks =
     (record {
       Client = Client;
       items = clientCalls .items;
+      total = clientCalls .total;
       made = clientCalls .made;
       taken = clientCalls .taken;
       opens = λ n l ranks items. answerAs (clientRanked clientRanks) (clientCalls .opens n l ranks items);
@@ -243,6 +260,7 @@ rankingAs clientRanks serverRanks =
     (record {
       Server = Server;
       items = serverCalls .items;
+      total = serverCalls .total;
       made = serverCalls .made;
       taken = serverCalls .taken;
       opens = λ n ranks items. answerAs (serverRanked serverRanks) (serverCalls .opens n ranks items);
@@ -287,6 +305,7 @@ byMessage = originAs (λ h. record { line = h .origin .line; number = h .number 
 pub record Refuted : Type 0 where
   pub leaving-fails : Converges leaving → ⊥
   pub repeating-fails : Converges repeating → ⊥
+  pub unsubtracted-fails : Converges unsubtracted → ⊥
   pub first-only-fails : Converges firstOnly → ⊥
   pub refusing-fails : Converges refusing → ⊥
   pub miscounting-fails : Converges miscounting → ⊥
