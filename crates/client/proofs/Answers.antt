@@ -11,7 +11,9 @@ use borrow.Author.Tests.{ne-eqb, leb-true}
 use Rattle.limits.specs.Limits.{maxLines, maxItems, maxInitial}
 use Rattle.list.specs.Items.{stored, initialItems}
 use Rattle.list.specs.Places.{initialPlaces, itemsOf, originsOf}
+use Rattle.list.specs.Seconds.{totalSeconds, runningTime}
 use Rattle.list.proofs.Places.{initial-length, initial-items}
+use Rattle.list.proofs.Seconds.{total-initial}
 use Rattle.model.specs.Questions as model
 use Rattle.model.specs.Ranks.{ranking}
 use Rattle.model.specs.Line.{noLine}
@@ -69,11 +71,11 @@ module _ (n line : ℕ) (rs items : List ℕ) where
         (and-right (model.between 1 maxLines n && model.between 1 n line) (leb (length items) maxInitial) (and-left (openTests n line items) ranked h))
 
     -- the initial list goes into words that are zero, and so do its origins
-    pub open-yes : (words origins list places : List ℕ) → (openTests n line items && ranked) ≡ true → words ≡ replicate size 0
+    pub open-yes : (words origins list places : List ℕ) (total : ℕ) → (openTests n line items && ranked) ≡ true → words ≡ replicate size 0
         → origins ≡ stored (originsOf (initialPlaces items)) → list ≡ initialItems items → places ≡ ranks.stored rs
-        → answerOf (freshCounts 0 n line (length items) places) (withPlaces words origins list) ≡ opened n line rs items
+        → total ≡ totalSeconds items → answerOf (freshCounts 0 n line (length items) total places) (withPlaces words origins list) ≡ opened n line rs items
     unfolding model.answer
-    open-yes words origins list places h ew eo el ep =
+    open-yes words origins list places total h ew eo el ep et =
         let start : client.Client = opening n line rs items in
         let most : length (initialPlaces items) ≤ maxItems = omega (arith, initial-length items, open-short h) in
         let held : list ≡ stored (itemsOf (initialPlaces items)) =
@@ -87,20 +89,21 @@ module _ (n line : ℕ) (rs items : List ℕ) where
         (places-items words long origins list names-long list-long ∙ held)
         (places-slots words long origins list names-long list-long ∙ ap slotsIn ew ∙ zero-slots)
         (places-origins words long origins list names-long list-long ∙ eo) in
-        (λ i. answerOf (freshCounts 0 n line (sym (initial-length items) i) (ep i)) (written i))
+        let seconds : total ≡ runningTime (initialPlaces items) = et ∙ sym (total-initial items) in
+        (λ i. answerOf (freshCounts 0 n line (sym (initial-length items) i) (seconds i) (ep i)) (written i))
         ∙ asked-is true true (and-left (openTests n line items) ranked h) (sym er ∙ and-right (openTests n line items) ranked h)
 
     -- refused, the words stay zero
     abbrev none : ℕ → List ℕ → Answer
-    none refusal words = answerOf (freshCounts refusal 0 0 0 (replicate maxLines 0)) words
+    none refusal words = answerOf (freshCounts refusal 0 0 0 0 (replicate maxLines 0)) words
 
     pub open-unranked : (words : List ℕ) → (openTests n line items && ranked) ≡ false → openTests n line items ≡ true → words ≡ replicate size 0
         → none 16 words ≡ opened n line rs items
-    unfolding model.answer
+    unfolding model.answer totalSeconds
     open-unranked words h t ew =
         let not-ranked : ranking n rs ≡ false = sym er ∙ sym (ap (λ (b : Bool). b && ranked) t) ∙ h in
         ap (none 16) (ew ∙ zero-words) ∙ asked-is true false t not-ranked
 
     pub open-no : (words : List ℕ) → openTests n line items ≡ false → words ≡ replicate size 0 → none 1 words ≡ opened n line rs items
-    unfolding model.answer
+    unfolding model.answer totalSeconds
     open-no words h ew = ap (none 1) (ew ∙ zero-words) ∙ asked-is false (ranking n rs) h refl

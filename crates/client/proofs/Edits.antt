@@ -9,10 +9,11 @@ use lib.ListN.{length, length-append}
 use borrow.Author.Tests.{eqb-false, ltb-true, leb-true, le-leb, lt-leb, lt-ltb, le-ltb}
 use Rattle.limits.specs.Limits.{maxInserts, maxEdits, maxPending, maxItems}
 use Rattle.ot.specs.declared.Form.{Form}
-use Rattle.ot.specs.Edit.{Edit, Insert, edit, fits}
+use Rattle.ot.specs.Edit.{Edit, Insert, edit, applied, fits}
 use Rattle.list.specs.declared.Origin.{Origin}
 use Rattle.list.specs.Items.{Room}
 use Rattle.list.specs.Places.{appliedBy}
+use Rattle.list.specs.Seconds.{totalSeconds}
 use Rattle.model.specs.Cross.{insertsOf}
 use Rattle.model.specs.Questions.{Question, ask, asks, noReport, answer}
 use Rattle.line.specs.Taking as lines
@@ -33,7 +34,7 @@ use Rattle.client.specs.Answers.{refusedWith, answerOf, doneCounts, guar
 use Rattle.client.proofs.Words.{withSlots}
 use Rattle.client.proofs.Answers.{unsound, refused, done}
 use Rattle.client.proofs.Sound.{sound-rank}
-use Rattle.client.proofs.Written.{facts, len-few, kept-long, becomes}
+use Rattle.client.proofs.Written.{Summed, listed, facts, len-few, summed, kept-long, becomes}
 
 -- ---- questions 9 to 12 as the code asks them
 
@@ -70,13 +71,14 @@ pub record Allowed (c : Client) (f : Form) (x : ℕ) : Type 0 where
   pub kept : Kept (c .counts .own) (slotsIn (c .words))
   pub pending : c .counts .own .made - c .counts .own .acked < maxPending
   pub room : Room (edit f x) (c .counts .len) maxItems
+  pub summed : Summed c f x
   pub inserts : c .counts .own .inserts + insertsOf (edit f x) ≤ maxInserts
   pub made : c .counts .own .made < maxEdits
   pub words : (slots : List ℕ) → slots ≡ slotsOf (view c .own .pending ++ (edit f x ∷ [])) → length (withSlots (c .words) slots) ≡ size
-  pub done : (own : Line) (i len : ℕ) (slots after : List ℕ) → slots ≡ slotsOf (view c .own .pending ++ (edit f x ∷ [])) → i ≡ insertsOf (edit f x)
-      → own ≡ withKept (c .counts .own) (c .counts .own .inserts + i)
+  pub done : (own : Line) (i len total : ℕ) (slots after : List ℕ) → slots ≡ slotsOf (view c .own .pending ++ (edit f x ∷ [])) → i ≡ insertsOf (edit f x)
+      → own ≡ withKept (c .counts .own) (c .counts .own .inserts + i) → total ≡ totalSeconds (applied (edit f x) (listed c))
       → Applied f x (client.originHere (view c) (c .counts .own .made + 1)) (c .counts .len) (withSlots (c .words) slots) after len
-      → answerOf (doneCounts (c .counts) lines.noReport own len) after ≡ edited c (edit f x)
+      → answerOf (doneCounts (c .counts) lines.noReport own len total) after ≡ edited c (edit f x)
 
 module _ (c : Client) (s : Sound c) (f : Form) (x : ℕ) where
   abbrev e : Edit
@@ -127,14 +129,14 @@ module _ (c : Client) (s : Sound c) (f : Form) (x : ℕ) where
     kept-few : length (kept .pending) ≤ maxPending
     kept-few = omega (arith, length-append (view c .own .pending) (e ∷ []), facts c s .own .count, edit-pending)
 
-    edit-done : length (c .words) ≡ size → (own : Line) (i len : ℕ) (slots after : List ℕ) → slots ≡ slotsOf (kept .pending) → i ≡ insertsOf e
-        → own ≡ withKept (c .counts .own) (c .counts .own .inserts + i) → Applied f x here (c .counts .len) (withSlots (c .words) slots) after len
-        → answerOf (doneCounts (c .counts) lines.noReport own len) after ≡ edited c e
+    edit-done : length (c .words) ≡ size → (own : Line) (i len total : ℕ) (slots after : List ℕ) → slots ≡ slotsOf (kept .pending) → i ≡ insertsOf e
+        → own ≡ withKept (c .counts .own) (c .counts .own .inserts + i) → total ≡ totalSeconds (applied e (listed c)) → Applied f x here (c .counts .len) (withSlots (c .words) slots) after len
+        → answerOf (doneCounts (c .counts) lines.noReport own len total) after ≡ edited c e
     unfolding editClient
-    edit-done long own i len slots after es ei eo a =
+    edit-done long own i len total slots after es ei eo et a =
         ap (λ (d : Client). record { refusal = 0; report = lines.noReport; client = d })
-        (becomes c s long kept kept-few slots es f x here edit-room own len lines.noReport after
-        (eo ∙ ap (λ (j : ℕ). withKept (c .counts .own) (c .counts .own .inserts + j)) ei) a)
+        (becomes c s long kept kept-few slots es f x here edit-room own len total lines.noReport after
+        (eo ∙ ap (λ (j : ℕ). withKept (c .counts .own) (c .counts .own .inserts + j)) ei) et a)
         ∙ done c (asks (client.editQuestions (view c) e)) noReport (client.edited (view c) e) (s .yes) (same-questions ∙ z)
 
     edit-allowing : length (c .words) ≡ size → Allowed c f x
@@ -143,6 +145,7 @@ module _ (c : Client) (s : Sound c) (f : Form) (x : ℕ) where
           kept = s .kept;
           pending = edit-pending;
           room = edit-room;
+          summed = summed c s f x edit-room;
           inserts = leb-true (c .counts .own .inserts + insertsOf e) maxInserts (answered-yes .1 .0);
           made = ltb-true (c .counts .own .made) maxEdits (answered-yes .1 .1 .0);
           words = λ slots es. kept-long c s long kept kept-few slots es;

@@ -7,12 +7,14 @@ use mathlib.Core.List.{List, [], _∷_}
 use lib.Dec.{leb, eqb}
 use lib.ListN.{length, take, drop}
 use lib.Seq.{length-take-le}
-use borrow.Author.Tests.{leb-true, le-leb}
+use borrow.Author.Tests.{leb-true, le-leb, eqb-true}
 use Rattle.limits.specs.Limits.{maxLines, maxOthers, maxItems}
 use Rattle.list.specs.Items.{stored, allZero}
 use Rattle.list.specs.Places.{itemsOf, originsOf}
+use Rattle.list.specs.Seconds.{totalSeconds, runningTime}
 use Rattle.list.proofs.Items.{stored-of}
 use Rattle.list.proofs.Places.{places-length, places-items, places-origins, places-numbered}
+use Rattle.list.proofs.Seconds.{total-padded}
 use Rattle.model.specs.Questions.{every, between}
 use Rattle.model.specs.Ranks.{rankOf, ranking}
 use Rattle.model.specs.Line.{lineTests}
@@ -26,7 +28,7 @@ use Rattle.line_sound.specs.Sound.{tidy, soundLine}
 use Rattle.line_sound.proofs.Words.{sound-kept}
 use Rattle.client.specs.declared.Counts.{Counts}
 use Rattle.client.specs.declared.Client.{Client}
-use Rattle.client.specs.View.{itemsIn, slotsIn, originsIn, clientOf, view, unusedZero, store, soundTests, sound, Sound, Sizes}
+use Rattle.client.specs.View.{itemsIn, slotsIn, originsIn, clientOf, view, unusedZero, listRight, store, soundTests, sound, Sound, Sizes}
 use Rattle.client.proofs.Words.{items-long, slots-long, origins-long, parts-are}
 
 -- a line of the sheet has the same rank in its places as among the ranks of the sheet
@@ -65,7 +67,7 @@ module _ (c : Client) (z : Sizes (c .counts) (c .words)) where
       ∷ leb (k .len) maxItems
       ∷ leb (k .own .taken) maxOthers
       ∷ ranks.soundRanks (k .n) (k .ranks)
-      ∷ unusedZero (k .len) (c .words)
+      ∷ listRight (k .len) (k .total) (c .words)
       ∷ lineSound rank
       ∷ []
 
@@ -97,6 +99,17 @@ module _ (c : Client) (z : Sizes (c .counts) (c .words)) where
           stored-of origins (k .len) (origins-long (c .words) (z .words)) few (and-right (behind items) (behind origins) zero)
           ∙ ap stored (sym (places-origins (take (k .len) items) (take (k .len) origins) both-taken))
 
+      -- zeros add nothing: the sum over all places is the running time
+      places-sum : totalSeconds items ≡ runningTime (view c .items)
+      places-sum = ap totalSeconds items-stored ∙ total-padded maxItems (itemsOf (view c .items))
+
+  -- the list's two tests: the unused places, and the total by all places
+  abbrev unused : Bool
+  unused = unusedZero (k .len) (c .words)
+
+  abbrev totalled : Bool
+  totalled = eqb (k .total) (totalSeconds items)
+
   -- the tests of the line, at a rank
   abbrev lineTested : ℕ → List Bool
   lineTested r = lineTests (k .own .made) (eqb r) (lineOf (k .own) slots)
@@ -114,6 +127,7 @@ module _ (c : Client) (z : Sizes (c .counts) (c .words)) where
       let t = hold tests h in
       let len : k .len ≤ maxItems = leb-true (k .len) maxItems (t .1 .1 .0) in
       let right = t .1 .1 .1 .1 .0 in
+      let zero : unused ≡ true = and-left unused totalled (t .1 .1 .1 .1 .1 .0) in
       let l : (every (lineTested (ownRank (view c))) && tidied) ≡ true =
       sym (line-tests (ownRank (view c))) ∙ ap lineSound (own-rank c (t .1 .0)) ∙ t .1 .1 .1 .1 .1 .1 .0 in
       let m : every (clientTests (view c)) ≡ true =
@@ -136,7 +150,13 @@ module _ (c : Client) (z : Sizes (c .counts) (c .words)) where
           t .1 .1 .0,
           (
             sound-zero (k .n) (k .ranks) right,
-            (t .1 .1 .1 .1 .1 .0, (and-right (every (lineTested (ownRank (view c)))) tidied l, tt)),
+            (
+              zero,
+              (
+                ap (eqb (k .total)) (sym (places-sum len zero)) ∙ and-right unused totalled (t .1 .1 .1 .1 .1 .0),
+                (and-right (every (lineTested (ownRank (view c)))) tidied l, tt),
+              ),
+            ),
           ),
         ),
       )
@@ -154,14 +174,21 @@ module _ (c : Client) (z : Sizes (c .counts) (c .words)) where
       let m = hold (clientTests (view c)) (f .0) in
       ap lineSound (sym (own-rank c (m .1 .0)))
       ∙ line-tests (ownRank (view c))
-      ∙ both (every (lineTested (ownRank (view c)))) tidied (held (lineTested (ownRank (view c))) (m .1 .1 .1 .1 .1 .1)) (f .1 .1 .1 .1 .0)
+      ∙ both (every (lineTested (ownRank (view c)))) tidied (held (lineTested (ownRank (view c))) (m .1 .1 .1 .1 .1 .1)) (f .1 .1 .1 .1 .1 .0)
+
+  sound-listed : sound c ≡ true → listRight (k .len) (k .total) (c .words) ≡ true
+  unfolding sound
+  sound-listed h =
+      let f = hold (soundTests c) h in
+      both unused totalled (f .1 .1 .1 .0)
+      (ap (eqb (k .total)) (places-sum (leb-true (k .len) maxItems (f .1 .0)) (f .1 .1 .1 .0)) ∙ f .1 .1 .1 .1 .0)
 
   sound-tested : sound c ≡ true → every tests ≡ true
   unfolding sound soundClient
   sound-tested h =
       let f = hold (soundTests c) h in
       let m = hold (clientTests (view c)) (f .0) in
-      held tests (m .0, (m .1 .0, (f .1 .0, (m .1 .1 .1 .1 .1 .0, (sound-ranks h, (f .1 .1 .1 .0, (sound-line h, tt)))))))
+      held tests (m .0, (m .1 .0, (f .1 .0, (m .1 .1 .1 .1 .1 .0, (sound-ranks h, (sound-listed h, (sound-line h, tt)))))))
 
   -- What a sound client is, once its words and its ranks are as many as they should be.
   pub sound-facts : sound c ≡ true → Sound c
@@ -175,8 +202,9 @@ module _ (c : Client) (z : Sizes (c .counts) (c .words)) where
       let words : c .words ≡ store (view c) .words =
       parts-are (c .words) (z .words) (stored (itemsOf (view c .items))) (slotsOf (view c .own .pending)) (stored (originsOf (view c .items)))
       (items-stored len (f .1 .1 .1 .0)) (kept .whole) (origins-stored len (f .1 .1 .1 .0)) in
+      let seconds : k .total ≡ runningTime (view c .items) = eqb-true (k .total) (runningTime (view c .items)) (f .1 .1 .1 .1 .0) in
       let whole : c ≡ store (view c) =
-      λ i. clientOf (record { own = k .own; len = sym (listed len) i; n = k .n; line = k .line; ranks = stored-ranks i }) (words i) in
+      λ i. clientOf (record { own = k .own; len = sym (listed len) i; total = seconds i; n = k .n; line = k .line; ranks = stored-ranks i }) (words i) in
       record { yes = h; model = f .0; whole = whole; listed = listed len; kept = kept }
 
   -- ---- the tests as the code joins them
@@ -188,16 +216,16 @@ module _ (c : Client) (z : Sizes (c .counts) (c .words)) where
   no-lines h = (ap (λ (b : Bool). b && every rest) (sym h) ∙ tested, λ y. never y)
 
   abbrev made : Bool → Bool → Bool → Bool
-  made right unused own = (((between 1 (k .n) (k .line) && (leb (k .len) maxItems && leb (k .own .taken) maxOthers)) && right) && unused) && own
+  made right list own = (((between 1 (k .n) (k .line) && (leb (k .len) maxItems && leb (k .own .taken) maxOthers)) && right) && list) && own
 
-  pub answers : between 1 maxLines (k .n) ≡ true → (right unused own : Bool) (r : ℕ) → right ≡ ranks.soundRanks (k .n) (k .ranks) → r ≡ rank
-      → unused ≡ unusedZero (k .len) (c .words) → own ≡ lineSound r → (made right unused own ≡ sound c) × (made right unused own ≡ true → Sound c)
-  answers h right unused own r er ek eu eo =
-      let joined : made (ranks.soundRanks (k .n) (k .ranks)) (unusedZero (k .len) (c .words)) (lineSound rank) ≡ every rest =
+  pub answers : between 1 maxLines (k .n) ≡ true → (right list own : Bool) (r : ℕ) → right ≡ ranks.soundRanks (k .n) (k .ranks) → r ≡ rank
+      → list ≡ listRight (k .len) (k .total) (c .words) → own ≡ lineSound r → (made right list own ≡ sound c) × (made right list own ≡ true → Sound c)
+  answers h right list own r er ek el eo =
+      let joined : made (ranks.soundRanks (k .n) (k .ranks)) (listRight (k .len) (k .total) (c .words)) (lineSound rank) ≡ every rest =
       simp (and-assoc, and-true) in
       let first : every rest ≡ every tests = ap (λ (b : Bool). b && every rest) (sym h) in
-      let is : made right unused own ≡ sound c =
-      ap (λ (b : Bool). made b unused own) er ∙ ap (λ (b : Bool). made (ranks.soundRanks (k .n) (k .ranks)) b own) eu
-      ∙ ap (made (ranks.soundRanks (k .n) (k .ranks)) (unusedZero (k .len) (c .words))) (eo ∙ ap lineSound ek)
+      let is : made right list own ≡ sound c =
+      ap (λ (b : Bool). made b list own) er ∙ ap (λ (b : Bool). made (ranks.soundRanks (k .n) (k .ranks)) b own) el
+      ∙ ap (made (ranks.soundRanks (k .n) (k .ranks)) (listRight (k .len) (k .total) (c .words))) (eo ∙ ap lineSound ek)
       ∙ joined ∙ first ∙ tested in
       (is, λ y. sound-facts (sym is ∙ y))

@@ -6,10 +6,11 @@ use mathlib.Core.Bool.{true}
 use mathlib.Core.List.{List}
 use lib.Dec.{eqb}
 use lib.ListN.{length, take, drop, replicate}
-use borrow.Author.Tests.{le-leb}
+use borrow.Author.Tests.{le-leb, eq-eqb}
 use Rattle.limits.specs.Limits.{maxItems, maxPending}
 use Rattle.list.specs.Items.{stored, allZero}
 use Rattle.list.specs.Places.{itemsOf, originsOf, placesOf}
+use Rattle.list.specs.Seconds.{runningTime}
 use Rattle.list.proofs.Pad.{pad-take, pad-drop}
 use Rattle.list.proofs.Places.{items-length, origins-length, places-of}
 use Rattle.model.specs.Questions.{every}
@@ -102,10 +103,14 @@ module _ (m : model.Client) (s : model.soundClient m ≡ true) where
         ap model.soundClient client-view ∙ s,
         (
           le-leb (length (m .items)) maxItems (f .items),
-          (sound-zero (m .n) (ranks.stored (m .ranks)) (stored-sound (m .n) (m .ranks) (f .lines .1) (f .ranked)), (unused, (slots-tidy, tt))),
+          (sound-zero (m .n) (ranks.stored (m .ranks)) (stored-sound (m .n) (m .ranks) (f .lines .1) (f .ranked)), (unused, (seconds, (slots-tidy, tt)))),
         ),
       )
     where
+      seconds : eqb (runningTime (m .items)) (runningTime (view (store m) .items)) ≡ true
+      seconds =
+          eq-eqb (runningTime (m .items)) (runningTime (view (store m) .items)) (ap (λ (v : model.Client). runningTime (v .items)) (sym client-view))
+
       unused : unusedZero (length (m .items)) words ≡ true
       unused =
           both (allZero (drop (length (m .items)) (itemsIn words))) (allZero (drop (length (m .items)) (originsIn words)))

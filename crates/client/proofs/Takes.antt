@@ -10,9 +10,10 @@ use borrow.Author.Tests.{eqb-false}
 use Rattle.limits.specs.Limits.{maxItems, maxPending}
 use Rattle.ot.specs.declared.Form.{Form}
 use Rattle.ot.specs.declared.Form.the-variants as form
-use Rattle.ot.specs.Edit.{Edit, edit, itemOf, appliedAs}
+use Rattle.ot.specs.Edit.{Edit, edit, itemOf, applied, appliedAs}
 use Rattle.list.specs.Items.{Room}
 use Rattle.list.specs.Places.{appliedBy}
+use Rattle.list.specs.Seconds.{totalSeconds}
 use Rattle.wire.specs.declared.Header.{Header}
 use Rattle.wire.specs.declared.Message.{Message}
 use Rattle.wire.specs.declared.Message.the-variants as message
@@ -39,17 +40,19 @@ use Rattle.client.specs.Taking.{downTo, clientThen, refusalAt, arrived}
 use Rattle.client.proofs.Words.{withSlots}
 use Rattle.client.proofs.Answers as ends
 use Rattle.client.proofs.Sound.{sound-rank}
-use Rattle.client.proofs.Written.{facts, len-few, kept-long, becomes}
+use Rattle.client.proofs.Written.{Summed, listed, facts, len-few, summed, kept-long, becomes}
 
 -- What a decision that refuses nothing leaves known: what the steps that follow ask, and that they do what the model does.
 pub record Accepted (c : Client) (a : Arrival) (d : Decision) (later : List ℕ) : Type 0 where
   pub seen : Between (c .counts .own) (a .seen)
   pub places : length later ≡ maxPending
   pub room : Room (edit (d .form) (a .item)) (c .counts .len) maxItems
+  pub summed : Summed c (d .form) (a .item)
   pub words : (slots : List ℕ) → slots ≡ accepted (c .counts .own) (a .seen) later (slotsIn (c .words)) → length (withSlots (c .words) slots) ≡ size
-  pub done : (len : ℕ) (slots after : List ℕ) → slots ≡ accepted (c .counts .own) (a .seen) later (slotsIn (c .words))
+  pub done : (len total : ℕ) (slots after : List ℕ) → slots ≡ accepted (c .counts .own) (a .seen) later (slotsIn (c .words))
+      → total ≡ totalSeconds (applied (edit (d .form) (a .item)) (listed c))
       → Applied (d .form) (a .item) (a .origin) (c .counts .len) (withSlots (c .words) slots) after len
-      → answerOf (doneCounts (c .counts) (d .report) (d .line) len) after ≡ arrived c a
+      → answerOf (doneCounts (c .counts) (d .report) (d .line) len total) after ≡ arrived c a
 
 module _ (c : Client) (s : Sound c) where
   abbrev v : line.Line
@@ -152,14 +155,15 @@ module _ (c : Client) (s : Sound c) where
           slots-then slots es =
               es ∙ accepted-slots (c .counts .own) (a .seen) (slotsIn (c .words)) later (then .pending) (s .kept) seen stay
 
-          take-done : (len : ℕ) (slots after : List ℕ) → slots ≡ accepted (c .counts .own) (a .seen) later (slotsIn (c .words))
+          take-done : (len total : ℕ) (slots after : List ℕ) → slots ≡ accepted (c .counts .own) (a .seen) later (slotsIn (c .words))
+              → total ≡ totalSeconds (applied (edit (d .form) (a .item)) (listed c))
               → Applied (d .form) (a .item) (a .origin) (c .counts .len) (withSlots (c .words) slots) after len
-              → answerOf (doneCounts (c .counts) (d .report) (d .line) len) after ≡ arrived c a
-          take-done len slots after es w =
+              → answerOf (doneCounts (c .counts) (d .report) (d .line) len total) after ≡ arrived c a
+          take-done len total slots after es et w =
               let e : edit (d .form) (a .item) ≡ editThen v a = ap (λ (x : Decision). edit (x .form) (a .item)) is-done ∙ then-edit v a in
               let own : d .line ≡ countsOf then = ap (λ (x : Decision). x .line) is-done in
               let report : d .report ≡ reportIn (reportOf v a) = ap (λ (x : Decision). x .report) is-done in
-              let written = becomes c s long then then-few slots (slots-then slots es) (d .form) (a .item) (a .origin) room (d .line) len (d .report) after own w in
+              let written = becomes c s long then then-few slots (slots-then slots es) (d .form) (a .item) (a .origin) room (d .line) len total (d .report) after own et w in
               let end = written ∙ ap (λ (x : Edit). store (client.with (view c) (appliedBy (a .origin) x (view c .items)) then)) e in
               (λ i. record { refusal = 0; report = report i; client = end i })
               ∙ ends.done c (refusalAt c a) (reportOf v a) (clientThen c a) (s .yes) (sym (by-four true t) ∙ asked-none)
@@ -170,6 +174,7 @@ module _ (c : Client) (s : Sound c) where
                 seen = seen;
                 places = later-length (c .counts .own) (slotsIn (c .words)) (a .seen) later (then .pending) (s .kept) seen stay;
                 room = room;
+                summed = summed c s (d .form) (a .item) room;
                 words = λ slots es. kept-long c s long then then-few slots (slots-then slots es);
                 done = take-done;
               }

@@ -1,17 +1,24 @@
 -- What a call that is not refused writes: the slots of the line as it then is, and the places after an edit. It is the struct for the
 -- model's client with that line and that list.
-use Prim.Native.Nat.{ℕ, _≤_}
+use Prim.Native.Nat.{ℕ, _-_, _≤_}
 use native.Mathlib.Omega.{arith}
-use mathlib.Core.Path.{_≡_, ap, _∙_}
+use mathlib.Core.Path.{_≡_, ap, _∙_, sym}
+use mathlib.Core.Bool.{true}
 use mathlib.Core.List.{List}
-use lib.ListN.{length}
+use lib.ListN.{length, take}
+use lib.Seq.{take-take}
 use Rattle.limits.specs.Limits.{maxItems, maxPending}
 use Rattle.ot.specs.declared.Form.{Form}
-use Rattle.ot.specs.Edit.{edit}
+use Rattle.ot.specs.Edit.{edit, applied, fits}
 use Rattle.list.specs.declared.Origin.{Origin}
 use Rattle.list.specs.Items.{stored, edited, Room, Edited}
 use Rattle.list.specs.Places.{Place, appliedBy, wordOf, itemsOf, originsOf}
+use Rattle.list.specs.Parts.{part}
+use Rattle.list.specs.Seconds.{totalSeconds, runningTime}
+use Rattle.list.proofs.Pad.{pad-take}
 use Rattle.list.proofs.Parts.{Wrote}
+use Rattle.list.proofs.Places.{items-length}
+use Rattle.list.proofs.Seconds.{total-items}
 use Rattle.model.specs.Line as line
 use Rattle.model.specs.Client as client
 use Rattle.model.proofs.SoundClient.{ClientFacts, client-facts}
@@ -47,6 +54,14 @@ module _ (words : List ℕ) (long : length words ≡ size) (f : Form) (x n : ℕ
         len = ei .length;
       }
 
+-- the list as a call lends it, from place 0 to len: its items, and nothing behind them
+abbrev pub listed : Client → List ℕ
+listed c = part 0 (c .counts .len - 0) (c .words)
+
+-- what the total after an edit asks
+abbrev pub Summed : Client → Form → ℕ → Type 0
+Summed c f x = (length (listed c) ≤ maxItems) × ((fits (edit f x) (length (listed c)) ≡ true) × (c .counts .total ≡ totalSeconds (listed c)))
+
 module _ (c : Client) (s : Sound c) where
   pub facts : ClientFacts (view c)
   facts = client-facts (view c) (s .model)
@@ -62,6 +77,23 @@ module _ (c : Client) (s : Sound c) where
 
   origins-stored : originsIn (c .words) ≡ stored (originsOf (view c .items))
   origins-stored = ap (λ (d : Client). originsIn (d .words)) (s .whole) ∙ stored-origins (view c) (facts .items) pending-few
+
+  listed-is : listed c ≡ itemsOf (view c .items)
+  listed-is =
+      let from-0 : c .counts .len - 0 ≡ c .counts .len = omega arith in
+      ap (λ (n : ℕ). part 0 n (c .words)) from-0 ∙ sym (take-take (c .counts .len) maxItems (c .words) len-few) ∙ ap (take (c .counts .len)) items-stored
+      ∙ ap (λ (n : ℕ). take n (stored (itemsOf (view c .items)))) (sym (items-length (view c .items) ∙ s .listed))
+      ∙ pad-take maxItems 0 (itemsOf (view c .items))
+
+  listed-long : length (listed c) ≡ c .counts .len
+  listed-long = ap length listed-is ∙ items-length (view c .items) ∙ s .listed
+
+  -- what the room for an edit leaves to be known
+  pub summed : (f : Form) (x : ℕ) → Room (edit f x) (c .counts .len) maxItems → Summed c f x
+  summed f x room = (
+    omega (arith, listed-long, len-few),
+    (ap (fits (edit f x)) listed-long ∙ room .fitting, ap (λ (d : Client). d .counts .total) (s .whole) ∙ ap totalSeconds (sym listed-is)),
+  )
 
 module _ (c : Client) (s : Sound c) (long : length (c .words) ≡ size) (v : line.Line) (few : length (v .pending) ≤ maxPending)
     (slots : List ℕ) (es : slots ≡ slotsOf (v .pending)) where
@@ -79,9 +111,10 @@ module _ (c : Client) (s : Sound c) (long : length (c .words) ≡ size) (v : lin
     abbrev list : List Place
     list = appliedBy o (edit f x) (view c .items)
 
-    pub becomes : (own : Line) (len : ℕ) (report : Report) (after : List ℕ) → own ≡ countsOf v → Applied f x o (c .counts .len) kept after len
-        → clientOf (doneCounts (c .counts) report own len .counts) after ≡ store (client.with (view c) list v)
-    becomes own len report after eo a =
+    pub becomes : (own : Line) (len total : ℕ) (report : Report) (after : List ℕ) → own ≡ countsOf v
+        → total ≡ totalSeconds (applied (edit f x) (listed c)) → Applied f x o (c .counts .len) kept after len
+        → clientOf (doneCounts (c .counts) report own len total .counts) after ≡ store (client.with (view c) list v)
+    becomes own len total report after eo et a =
         let n : ℕ = c .counts .len in
         let items : itemsIn after ≡ stored (itemsOf list) =
         a .items ∙ room-items o f x n (view c .items) (s .listed) room (itemsIn kept) (wrote .before 0 maxItems (omega arith) ∙ items-stored c s) in
@@ -92,5 +125,7 @@ module _ (c : Client) (s : Sound c) (long : length (c .words) ≡ size) (v : lin
         parts-are after (a .words ∙ kept-long) (stored (itemsOf list)) (slotsOf (v .pending)) (stored (originsOf list)) items
         (a .slots ∙ wrote .here ∙ es) origins in
         let size′ : len ≡ length list = a .len ∙ room-length o f x n (view c .items) (s .listed) room in
+        let seconds : total ≡ runningTime list =
+        et ∙ ap (λ (l : List ℕ). totalSeconds (applied (edit f x) l)) (listed-is c s) ∙ sym (total-items o (edit f x) (view c .items)) in
         let places : c .counts .ranks ≡ ranks.stored (view c .ranks) = ap (λ (d : Client). d .counts .ranks) (s .whole) in
-        λ i. clientOf (record { own = eo i; len = size′ i; n = c .counts .n; line = c .counts .line; ranks = places i }) (words i)
+        λ i. clientOf (record { own = eo i; len = size′ i; total = seconds i; n = c .counts .n; line = c .counts .line; ranks = places i }) (words i)

@@ -30,15 +30,23 @@ answerOf r words = record { refusal = r .refusal; report = r .report; client = c
 abbrev pub refusedCounts : ℕ → Counts → Changed
 refusedCounts r k = record { refusal = r; report = noReport; counts = k }
 
--- a call that is done: the numbers with another line and another length
-abbrev pub doneCounts : Counts → Report → Line → ℕ → Changed
-doneCounts k report own len =
-    record { refusal = 0; report = report; counts = record { own = own; len = len; n = k .n; line = k .line; ranks = k .ranks } }
+-- a call that is done: the numbers with another line, another length and another total
+abbrev pub doneCounts : Counts → Report → Line → ℕ → ℕ → Changed
+doneCounts k report own len total =
+    record {
+      refusal = 0;
+      report = report;
+      counts = record { own = own; len = len; total = total; n = k .n; line = k .line; ranks = k .ranks };
+    }
 
 -- an opening: nothing is made or taken
-abbrev pub freshCounts : ℕ → ℕ → ℕ → ℕ → List ℕ → Changed
-freshCounts r n line len ranks =
-    record { refusal = r; report = noReport; counts = record { own = countsOf noLine; len = len; n = n; line = line; ranks = ranks } }
+abbrev pub freshCounts : ℕ → ℕ → ℕ → ℕ → ℕ → List ℕ → Changed
+freshCounts r n line len total ranks =
+    record {
+      refusal = r;
+      report = noReport;
+      counts = record { own = countsOf noLine; len = len; total = total; n = n; line = line; ranks = ranks };
+    }
 
 -- the model's answer in structs: on a refusal the end is the one that came
 abbrev pub given : Client → model.Answer client.Client → Answer

@@ -3,7 +3,7 @@ use Prim.Native.Nat.{ℕ, _-_}
 use mathlib.Core.Path.{_≡_}
 use mathlib.Core.Bool.{Bool, true, _&&_}
 use mathlib.Core.List.{List, [], _∷_, _++_}
-use lib.Dec.{leb}
+use lib.Dec.{leb, eqb}
 use lib.ListN.{length, take, drop}
 use Rattle.limits.specs.Limits.{maxLines, maxItems}
 use Rattle.ot.specs.declared.Form.{Form}
@@ -12,6 +12,7 @@ use Rattle.list.specs.declared.Origin.{Origin}
 use Rattle.list.specs.Items.{stored, allZero, edited}
 use Rattle.list.specs.Places.{Place, placesOf, itemsOf, originsOf, wordOf}
 use Rattle.list.specs.Parts.{part}
+use Rattle.list.specs.Seconds.{totalSeconds, runningTime}
 use Rattle.model.specs.Questions.{every}
 use Rattle.model.specs.Client as model
 use Rattle.ranks.specs.Stored as ranks
@@ -59,7 +60,14 @@ view c =
 -- the one struct for a client: unused places are zero
 abbrev pub counts : model.Client → Counts
 counts m =
-    record { own = countsOf (m .own); len = length (m .items); n = m .n; line = m .line; ranks = ranks.stored (m .ranks) }
+    record {
+      own = countsOf (m .own);
+      len = length (m .items);
+      total = runningTime (m .items);
+      n = m .n;
+      line = m .line;
+      ranks = ranks.stored (m .ranks);
+    }
 
 abbrev pub store : model.Client → Client
 store m =
@@ -69,6 +77,10 @@ store m =
 abbrev pub unusedZero : ℕ → List ℕ → Bool
 unusedZero len words = allZero (drop len (itemsIn words)) && allZero (drop len (originsIn words))
 
+-- the list's part of question 2 by its words: unused places are zero, and the total is the sum over the items
+abbrev pub listRight : ℕ → ℕ → List ℕ → Bool
+listRight len total words = unusedZero len words && eqb total (totalSeconds (itemsIn words))
+
 -- Question 2: the model's, with what only a struct can break.
 abbrev pub soundTests : Client → List Bool
 soundTests c =
@@ -76,6 +88,7 @@ soundTests c =
     ∷ leb (c .counts .len) maxItems
     ∷ allZero (drop (c .counts .n) (c .counts .ranks))
     ∷ unusedZero (c .counts .len) (c .words)
+    ∷ eqb (c .counts .total) (runningTime (view c .items))
     ∷ tidy (c .counts .own .made - c .counts .own .acked) (slotsIn (c .words))
     ∷ []
 

@@ -54,6 +54,7 @@ fn edit(k: Counts, words: &mut [u32], f: Form, x: u32) -> Changed
     if refusal != 0 {
         return crate::refused(refusal, k);
     }
+    let total = list::total_after(&words[0..k.len as usize], k.total, f, x);
     line::keep(&mut words[Client::ITEMS..Client::ORIGINS], k.own, f, x);
     let origin = Origin {
         line: k.line,
@@ -61,7 +62,7 @@ fn edit(k: Counts, words: &mut [u32], f: Form, x: u32) -> Changed
     };
     let len = crate::apply(words, k.len, f, x, origin);
     let own = k.own.kept(k.own.inserts + line::inserts_of(f));
-    crate::done(k, no_report(), own, len)
+    crate::done(k, no_report(), own, len, total)
 }
 
 // Inserts x before the item at position p. Its priority is the line's rank.

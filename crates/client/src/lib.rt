@@ -7,7 +7,7 @@ ghost use lib.ListN.{length, replicate};
 ghost use Rattle.ot.specs.Edit.{edit};
 ghost use Rattle.list.specs.Items.{capacity, Room};
 ghost use Rattle.model.specs.Ranks.{rankOf};
-ghost use Rattle.client.specs.View.{size, clientOf, unusedZero, sound, Sound, Sizes, Applied};
+ghost use Rattle.client.specs.View.{size, clientOf, listRight, sound, Sound, Sizes, Applied};
 ghost use Rattle.client.specs.Answers.{opened, refusedCounts, doneCounts, freshCounts, answerOf};
 use line::Line;
 use line::taking::Report;
@@ -22,8 +22,9 @@ pub mod taking;
 // The numbers of a client.
 pub struct Counts {
     pub own: Line,
-    // how many items the list has
+    // how many items the list has, and their seconds together
     pub len: u16,
+    pub total: u32,
     // how many clients the sheet has, and which this one is
     pub n: u8,
     pub line: u8,
@@ -63,14 +64,15 @@ fn refused(refusal: u8, k: Counts) -> Changed
     }
 }
 
-// A call that is done: the numbers with another line and another length.
-fn done(k: Counts, report: Report, own: Line, len: u16) -> Changed
-    ensures { λ r. ⌜ r ≡ doneCounts k report own len ⌝ }
+// A call that is done: the numbers with another line, another length and another total.
+fn done(k: Counts, report: Report, own: Line, len: u16, total: u32) -> Changed
+    ensures { λ r. ⌜ r ≡ doneCounts k report own len total ⌝ }
 {
     let ranks = k.ranks;
     let counts = Counts {
         own,
         len,
+        total,
         n: k.n,
         line: k.line,
         ranks,
@@ -103,14 +105,16 @@ fn rank(k: Counts) -> u8
     ranks::of_line(&k.ranks, k.line)
 }
 
-// Are the places behind the list zero, of the items and of the origins?
-fn unused_zero(words: &[u32], len: usize) -> bool
+// Are the places behind the list zero, of the items and of the origins, and is the total the sum over the items?
+fn list_sound(words: &[u32], len: usize, total: u32) -> bool
     requires { ⌜ length (now words) ≡ size ⌝ }
-    ensures { λ r. ⌜ r ≡ unusedZero len (now (words .entry)) ⌝ }
+    ensures { λ r. ⌜ r ≡ listRight len total (now (words .entry)) ⌝ }
 {
-    let items = list::zero_from(&words[0..Client::ITEMS], len);
+    let items = &words[0..Client::ITEMS];
+    let sum = list::total(items);
+    let unused = list::zero_from(items, len);
     let origins = list::zero_from(&words[Client::ORIGINS..Client::WORDS], len);
-    items & origins
+    unused & origins & (total == sum)
 }
 
 // Question 2. Every test is made whatever the others find.
@@ -123,10 +127,10 @@ fn is_sound(k: Counts, words: &[u32]) -> bool
         let own = (1 <= k.line) & (k.line <= k.n);
         let counts = (k.len as usize <= Client::ITEMS) & (k.own.taken <= Client::OTHERS);
         let right = ranks::is_sound(k.n, &k.ranks);
-        let unused = unused_zero(words, k.len as usize);
+        let listed = list_sound(words, k.len as usize, k.total);
         let slots = &words[Client::ITEMS..Client::ORIGINS];
         let line = line_sound::is_sound(k.own.made, k.own, slots, k.n, rank(k), true);
-        return own & counts & right & unused & line;
+        return own & counts & right & listed & line;
     }
     false
 }
@@ -142,8 +146,8 @@ fn apply(words: &mut [u32], len: u16, f: Form, x: u32, origin: Origin) -> u16
 }
 
 // The answer of an opening: the numbers of a client that has made and taken nothing.
-fn fresh(refusal: u8, n: u8, line: u8, len: u16, ranks: [u8; ranks::PLACES]) -> Changed
-    ensures { λ r. ⌜ r ≡ freshCounts refusal n line len ranks ⌝ }
+fn fresh(refusal: u8, n: u8, line: u8, len: u16, total: u32, ranks: [u8; ranks::PLACES]) -> Changed
+    ensures { λ r. ⌜ r ≡ freshCounts refusal n line len total ranks ⌝ }
 {
     let own = Line {
         made: 0,
@@ -154,6 +158,7 @@ fn fresh(refusal: u8, n: u8, line: u8, len: u16, ranks: [u8; ranks::PLACES]) -> 
     let counts = Counts {
         own,
         len,
+        total,
         n,
         line,
         ranks,
@@ -177,13 +182,14 @@ pub fn open_lent(n: u8, line: u8, ranks: &[u8], items: &[u32], words: &mut [u32]
     if sizes & ranked {
         list::initial_origins(items.len(), &mut words[Client::ORIGINS..Client::WORDS]);
         list::initial(items, &mut words[0..Client::ITEMS]);
-        return fresh(0, n, line, items.len() as u16, ranks::store(ranks));
+        let total = list::total(items);
+        return fresh(0, n, line, items.len() as u16, total, ranks::store(ranks));
     }
     let zeros = [0u8; ranks::PLACES];
     if sizes {
-        return fresh(16, 0, 0, 0, zeros);
+        return fresh(16, 0, 0, 0, 0, zeros);
     }
-    fresh(1, 0, 0, 0, zeros)
+    fresh(1, 0, 0, 0, 0, zeros)
 }
 
 impl Client {

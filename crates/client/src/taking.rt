@@ -59,6 +59,7 @@ fn take_arrival(k: Counts, words: &mut [u32], a: Arrival) -> Changed
             return crate::refused(d.refusal, k);
         }
         let f = d.form;
+        let total = list::total_after(&words[0..k.len as usize], k.total, f, a.item);
         accept(
             &mut words[Client::ITEMS..Client::ORIGINS],
             k.own,
@@ -66,7 +67,7 @@ fn take_arrival(k: Counts, words: &mut [u32], a: Arrival) -> Changed
             &later,
         );
         let len = crate::apply(words, k.len, f, a.item, a.origin);
-        return crate::done(k, d.report, d.line, len);
+        return crate::done(k, d.report, d.line, len, total);
     }
     crate::refused(4, k)
 }

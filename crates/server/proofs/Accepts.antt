@@ -9,12 +9,14 @@ use lib.ListN.{length, getD, set, take, drop, length-map, length-set, length-tak
 use lib.Seq.{getD-set-same, getD-set-other}
 use borrow.Author.Tests.{eqb-true, eqb-false, eq-eqb, ne-eqb, ltb-true, ltb-false, le-ltb}
 use Rattle.limits.specs.Limits.{maxItems, maxLines, maxPending}
-use Rattle.ot.specs.Edit.{Edit, edit, itemOf}
+use Rattle.ot.specs.Edit.{Edit, edit, applied, fits}
 use Rattle.list.specs.declared.Origin.{Origin}
 use Rattle.list.specs.Items.{padded, stored, Room}
 use Rattle.list.specs.Places.{appliedBy, itemsOf, originsOf, wordOf, originAt}
+use Rattle.list.specs.Seconds.{totalSeconds, runningTime}
 use Rattle.list.proofs.Pad.{pad-snoc}
 use Rattle.list.proofs.Places.{words-of-at}
+use Rattle.list.proofs.Seconds.{total-items}
 use Rattle.model.specs.Line as line
 use Rattle.model.specs.Server as model
 use Rattle.model.proofs.Instance.{map-drop}
@@ -32,7 +34,7 @@ use Rattle.server.specs.declared.Counts.{Counts}
 use Rattle.server.specs.View.{size, slotsAt, makersAt, countsAt, lineAt, makersOf, serverOf, view, store, Sound, SlotsWrote, MakersWrote, Applied}
 use Rattle.server.specs.Taking.{placeOf, insertsThen, Decided, KeptBy, makersLeft, withLine, takesIt, keepsIt, serverThen}
 use Rattle.server.proofs.Rows.{Row, makersFor, store-is}
-use Rattle.server.proofs.Facts.{sizes, own-holds, lines-few, lines-count, makers-many, at-view, makers-view, at-makers}
+use Rattle.server.proofs.Facts.{sizes, own-holds, len-few, first-words, first-count, first-sum, lines-few, lines-count, makers-many, at-view, makers-view, at-makers}
 use Rattle.server.proofs.Asked.{roomy-each}
 use Rattle.server.proofs.Deciding.{Accepted, accepts}
 use Rattle.server.proofs.Keeping.{keeps-own, keeps-other, countsThen, slotsThen, makersThen}
@@ -144,6 +146,21 @@ module _ (k : Counts) (words : List ℕ) (h : Sound (serverOf k words)) (a : Arr
   abbrev new : model.Server
   new = serverThen m a
 
+  -- ---- the list as it came, lent to find the total that it will have
+
+  lent-list : take (k .len - 0) words ≡ take (k .len) words
+  lent-list =
+      let n : k .len - 0 ≡ k .len = omega arith in
+      ap (λ (c : ℕ). take c words) n
+
+  pub list-asked : (length (take (k .len - 0) words) ≤ maxItems)
+      × ((fits (edit (d .form) (a .item)) (length (take (k .len - 0) words)) ≡ true) × (k .total ≡ totalSeconds (take (k .len - 0) words)))
+  list-asked =
+      let count : length (take (k .len - 0) words) ≡ k .len = ap length lent-list ∙ first-count k words h in (
+        omega (arith, count, len-few k words h),
+        (ap (fits e) count ∙ taken .room .fitting, first-sum k words h ∙ ap totalSeconds (sym lent-list)),
+      )
+
   -- ---- the other lines have kept it
 
   module _ (k₁ : Counts) (words₁ : List ℕ) (by : KeptBy (cond (a .carries) (k .n) 0) (placeOf a) (edit (d .form) (a .item)) (wordOf (a .origin)) k words k₁ words₁) where
@@ -158,9 +175,10 @@ module _ (k : Counts) (words : List ℕ) (h : Sound (serverOf k words)) (a : Arr
 
     module _ (words₂ words₃ words₄ : List ℕ) (len : ℕ) (wrote : SlotsWrote (placeOf a) (accepted (countsAt k (placeOf a)) (a .seen) later (slotsAt (placeOf a) words₁)) words₁ words₂)
         (dropped : MakersWrote (placeOf a) (makersLeft (countsAt k (placeOf a)) (a .seen) (makersAt (placeOf a) words₂)) words₂ words₃)
-        (listed : Applied (d .form) (a .item) (a .origin) (k .len) words₃ words₄ len) where
+        (listed : Applied (d .form) (a .item) (a .origin) (k .len) words₃ words₄ len) (total : ℕ)
+        (summed : total ≡ totalSeconds (applied (edit (d .form) (a .item)) (take (k .len - 0) words))) where
       abbrev k₄ : Counts
-      k₄ = withLine k₁ (placeOf a) (d .line) len
+      k₄ = withLine k₁ (placeOf a) (d .line) len total
 
       own-line : getD (new .lines) at line.noLine ≡ then
       own-line =
@@ -294,7 +312,7 @@ module _ (k : Counts) (words : List ℕ) (h : Sound (serverOf k words)) (a : Arr
           go true q = subst (λ (j : ℕ). Row k₄ words₄ j (getD (new .lines) j line.noLine) (getD (new .makers) j [])) (sym (eqb-true i at q)) own-row
           go false q = other-row i lt (eqb-false i at q) (a .carries) refl (ltb i (k .n)) refl
 
-      pub written : serverOf (withLine k₁ (placeOf a) (d .line) len) words₄ ≡ store (serverThen (view (serverOf k words)) a)
+      pub written : serverOf (withLine k₁ (placeOf a) (d .line) len total) words₄ ≡ store (serverThen (view (serverOf k words)) a)
       written =
           let own = own-holds k words h in
           let count : length (new .lines) ≡ k .n =
@@ -312,6 +330,10 @@ module _ (k : Counts) (words : List ℕ) (h : Sound (serverOf k words)) (a : Arr
             initial = by .initial ∙ own .initial;
             ranks = by .ranks ∙ own .ranks;
             len = listed .length ∙ room-length (a .origin) (d .form) (a .item) (k .len) (m .items) (h .listed) (taken .room) ∙ ap (λ (q : Edit). length (appliedBy (a .origin) q (m .items))) edit-is;
+            total =
+                summed ∙ ap (λ (l : List ℕ). totalSeconds (applied e l)) (lent-list ∙ first-words k words h)
+                ∙ sym (total-items (a .origin) e (m .items))
+                ∙ ap (λ (q : Edit). runningTime (appliedBy (a .origin) q (m .items))) edit-is;
             items =
                 listed .words .items
                 ∙ room-items (a .origin) (d .form) (a .item) (k .len) (m .items) (h .listed) (taken .room) _ (dropped .items ∙ wrote .items ∙ by .words .items ∙ own .items)

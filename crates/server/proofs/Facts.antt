@@ -4,8 +4,14 @@ use native.Mathlib.Omega.{arith}
 use mathlib.Core.Path.{_≡_, ap, sym, _∙_, subst}
 use mathlib.Core.Bool.{true}
 use mathlib.Core.List.{List, []}
-use lib.ListN.{length, getD}
+use lib.ListN.{length, getD, take}
+use lib.Seq.{take-take}
 use Rattle.limits.specs.Limits.{maxLines, maxItems}
+use Rattle.list.specs.Items.{stored}
+use Rattle.list.specs.Places.{itemsOf}
+use Rattle.list.specs.Seconds.{totalSeconds}
+use Rattle.list.proofs.Pad.{pad-take}
+use Rattle.list.proofs.Places.{items-length}
 use Rattle.model.specs.Questions.{between}
 use Rattle.model.specs.Line as line
 use Rattle.model.specs.Server as model
@@ -43,6 +49,19 @@ module _ (k : Counts) (words : List ℕ) (h : Sound (serverOf k words)) where
 
   pub len-few : k .len ≤ maxItems
   len-few = omega (arith, h .listed, facts .items)
+
+  -- the list's items are the first words, and the total is their sum
+  pub first-words : take (k .len) words ≡ itemsOf (view (serverOf k words) .items)
+  first-words =
+      let count : k .len ≡ length (itemsOf (m .items)) = own-holds .len ∙ sym (items-length (m .items)) in
+      sym (take-take (k .len) maxItems words len-few) ∙ ap (take (k .len)) (own-holds .items)
+      ∙ ap (λ (n : ℕ). take n (stored (itemsOf (m .items)))) count ∙ pad-take maxItems 0 (itemsOf (m .items))
+
+  pub first-count : length (take (k .len) words) ≡ k .len
+  first-count = ap length first-words ∙ items-length (m .items) ∙ h .listed
+
+  pub first-sum : k .total ≡ totalSeconds (take (k .len) words)
+  first-sum = own-holds .total ∙ ap totalSeconds (sym first-words)
 
   -- ---- a line in use
 

@@ -69,6 +69,7 @@ module _ (at : ℕ) (e : Edit) (word : ℕ) (k : Counts) (before : List ℕ) whe
         n = refl;
         initial = refl;
         len = refl;
+        total = refl;
         ranks = refl;
         lines = refl;
         counts = λ i h. ap (λ (b : Bool). countsThen b (countsAt k i)) (sym (keeps-past 0 at i (omega arith)));
@@ -99,6 +100,7 @@ module _ (at : ℕ) (e : Edit) (word : ℕ) (k : Counts) (before : List ℕ) whe
           n = s .n;
           initial = s .initial;
           len = s .len;
+          total = s .total;
           ranks = s .ranks;
           lines = s .lines;
           counts = λ j h. s .counts j h ∙ ap (λ (b : Bool). countsThen b (countsAt k j)) (same-keeps j o);
@@ -129,7 +131,7 @@ module _ (at : ℕ) (e : Edit) (word : ℕ) (k : Counts) (before : List ℕ) whe
       module _ (lines : length (k .lines) ≡ maxLines) (middle then : List ℕ) (wrote : SlotsWrote i (slotsKept e v (slotsAt i after)) after middle)
           (named : MakersWrote i (makersKept word v (makersAt i middle)) middle then) (w : Line) (ew : w ≡ withKept v (v .inserts)) where
         abbrev next : Counts
-        next = record { n = r .n; initial = r .initial; len = r .len; ranks = r .ranks; lines = set (r .lines) i w }
+        next = record { n = r .n; initial = r .initial; len = r .len; total = r .total; ranks = r .ranks; lines = set (r .lines) i w }
 
         counts-then : (j : ℕ) → j < maxLines → countsAt next j ≡ countsThen (keeps (i + 1) at j) (countsAt k j)
         counts-then j h = go (eqb j i) refl
@@ -160,12 +162,13 @@ module _ (at : ℕ) (e : Edit) (word : ℕ) (k : Counts) (before : List ℕ) whe
                 ∙ ap (λ (b : Bool). then′ b j) (keeps-still at i j (eqb-false j i f))
 
         -- another line
-        pub kept-turn : KeptBy (i + 1) at e word k before (record { n = r .n; initial = r .initial; len = r .len; ranks = r .ranks; lines = set (r .lines) i w }) then
+        pub kept-turn : KeptBy (i + 1) at e word k before (record { n = r .n; initial = r .initial; len = r .len; total = r .total; ranks = r .ranks; lines = set (r .lines) i w }) then
         kept-turn =
             record {
               n = s .n;
               initial = s .initial;
               len = s .len;
+              total = s .total;
               ranks = s .ranks;
               lines = length-set (r .lines) i w ∙ s .lines;
               counts = counts-then;

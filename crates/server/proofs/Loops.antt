@@ -1,24 +1,23 @@
 -- The words of a line and the origins of its pending edits, as code lends them, and question 2 of one line as code asks it.
-use Prim.Native.Nat.{ℕ, _+_, _-_, _*_, _<_}
+use Prim.Native.Nat.{ℕ, _+_, _-_, _*_, _<_, _≤_}
 use native.Mathlib.Omega.{arith}
-use mathlib.Core.Path.{_≡_, ap, ap₂, sym, _∙_, subst}
-use mathlib.Core.Bool.{Bool, true, false, _&&_, cond}
+use mathlib.Core.Path.{_≡_, ap, ap₂, sym, _∙_}
+use mathlib.Core.Bool.{Bool, false, _&&_, cond}
 use mathlib.Core.List.{List}
-use lib.Dec.{eqb, ltb}
+use lib.Dec.{eqb}
 use lib.ListN.{length, take, drop}
+use borrow.Author.Tests.{lt-ltb, le-ltb}
 use Rattle.limits.specs.Limits.{maxItems, maxLines, maxPending}
 use Rattle.list.specs.Items.{allZero}
 use Rattle.list.specs.Parts.{part}
 use Rattle.list.proofs.Parts.{part-length}
 use Rattle.model.specs.Ranks.{rankOf}
-use Rattle.model.proofs.Tests.{and-right}
 use Rattle.pending.specs.Slots as pending
 use Rattle.line.specs.declared.Line.{Line}
-use Rattle.line.specs.Line.{Kept}
 use Rattle.line_sound.specs.Sound.{rightPriority, soundLine, makersSound, emptyLine}
 use Rattle.server.specs.declared.Counts.{Counts}
-use Rattle.server.specs.View.{size, origins, makers, itemsIn, originsIn, slotsAt, makersAt, countsAt, emptyAt}
-use Rattle.server.specs.Totals.{soundAt, makersSoundAt, lineSoundAt}
+use Rattle.server.specs.View.{size, origins, makers, itemsIn, originsIn, slotsAt, makersAt, countsAt}
+use Rattle.server.specs.Totals.{soundUsed, soundMakers, emptyUnused, soundEither, lineSoundAt}
 
 -- so many words as code lends them, from one place up to another
 pub lent-is : (a n : ℕ) (words : List ℕ) → take (a + n - a) (drop a words) ≡ part a n words
@@ -48,29 +47,33 @@ module _ (words : List ℕ) (e : length words ≡ size) where
 
 -- ---- question 2 of the line at place i, over what the code has read of it
 
-module _ (k : Counts) (words : List ℕ) (i : ℕ) where
-  module _ (v : Line) (ev : v ≡ countsAt k i) where
-    pub pending-answers : (taken rank : ℕ) (slots : List ℕ) (r : Bool) → rank ≡ rankOf (k .ranks) (i + 1) → slots ≡ slotsAt i words
-        → (r ≡ soundLine (v .taken) (rightPriority (k .n) rank false) v slots) × (r ≡ true → Kept v slots)
-        → ((eqb (v .made + v .taken) taken && r) ≡ soundAt k taken words i)
-        × ((eqb (v .made + v .taken) taken && r) ≡ true → Kept (countsAt k i) (slotsAt i words))
-    pending-answers taken rank slots r er es f = (
-      ap (λ (b : Bool). eqb (v .made + v .taken) taken && b) (f .0)
-          ∙ (λ j. eqb (ev j .made + ev j .taken) taken && soundLine (ev j .taken) (rightPriority (k .n) (er j) false) (ev j) (es j)),
-      λ t. subst (λ (w : Line). Kept w (slotsAt i words)) ev (subst (Kept v) es (f .1 (and-right (eqb (v .made + v .taken) taken) r t))),
-    )
+module _ (words : List ℕ) (i : ℕ) (v : Line) where
+  pub pending-answers : (n rank taken : ℕ) (slots : List ℕ) (r : Bool) → slots ≡ slotsAt i words
+      → r ≡ soundLine (v .taken) (rightPriority n rank false) v slots
+      → (eqb (v .made + v .taken) taken && r) ≡ soundUsed n rank v taken words i
+  pending-answers n rank taken slots r es e =
+      ap (λ (b : Bool). eqb (v .made + v .taken) taken && b) (e ∙ ap (soundLine (v .taken) (rightPriority n rank false) v) es)
 
-    pub makers-answers : (count : ℕ) (words′ : List ℕ) (r : Bool) → count ≡ v .made - v .acked → words′ ≡ makersAt i words
-        → r ≡ makersSound (k .n) (i + 1) count words′ → r ≡ makersSoundAt k words i
-    makers-answers count words′ r ec em e =
-        e ∙ ap (λ (c : ℕ). makersSound (k .n) (i + 1) c words′) ec ∙ (λ j. makersSound (k .n) (i + 1) (ev j .made - ev j .acked) (em j))
+  pub makers-answers : (n count : ℕ) (words′ : List ℕ) (r : Bool) → count ≡ v .made - v .acked → words′ ≡ makersAt i words
+      → r ≡ makersSound n (i + 1) count words′ → r ≡ soundMakers n v words i
+  makers-answers n count words′ r ec em e = e ∙ ap₂ (makersSound n (i + 1)) ec em
 
-    pub empty-answers : (slots words′ : List ℕ) (r zero : Bool) → slots ≡ slotsAt i words → words′ ≡ makersAt i words → r ≡ emptyLine v slots
-        → zero ≡ allZero words′ → (r && zero) ≡ emptyAt k words i
-    empty-answers slots words′ r zero es em e z =
-        ap₂ (λ (a b : Bool). a && b) (e ∙ ap₂ emptyLine ev es) (z ∙ ap allZero em)
+  pub empty-answers : (slots words′ : List ℕ) (r zero : Bool) → slots ≡ slotsAt i words → words′ ≡ makersAt i words → r ≡ emptyLine v slots
+      → zero ≡ allZero words′ → (r && zero) ≡ emptyUnused v words i
+  empty-answers slots words′ r zero es em e z = ap₂ (λ (a b : Bool). a && b) (e ∙ ap (emptyLine v) es) (z ∙ ap allZero em)
 
-  -- in use or not, and what was found of its pending edits
-  pub line-answers : (taken : ℕ) (used sound : Bool) → ltb i (k .n) ≡ used → soundAt k taken words i ≡ sound
-      → cond used (sound && makersSoundAt k words i) (emptyAt k words i) ≡ lineSoundAt k taken words i
-  line-answers taken used sound u s = λ j. cond (sym u j) (sym s j && makersSoundAt k words i) (emptyAt k words i)
+  -- in use, by what was found of its pending edits and of their origins; and not in use
+  pub used-answers : (n rank taken : ℕ) (pending makers : Bool) → i < n → pending ≡ soundUsed n rank v taken words i → makers ≡ soundMakers n v words i
+      → (pending && makers) ≡ soundEither n rank v taken words i
+  used-answers n rank taken pending makers h p m =
+      ap₂ (λ (a b : Bool). a && b) p m
+      ∙ ap (λ (b : Bool). cond b (soundUsed n rank v taken words i && soundMakers n v words i) (emptyUnused v words i)) (sym (lt-ltb i n h))
+
+  pub unused-answers : (n rank taken : ℕ) (empty : Bool) → n ≤ i → empty ≡ emptyUnused v words i → empty ≡ soundEither n rank v taken words i
+  unused-answers n rank taken empty h e =
+      e ∙ ap (λ (b : Bool). cond b (soundUsed n rank v taken words i && soundMakers n v words i) (emptyUnused v words i)) (sym (le-ltb i n h))
+
+-- the line at place i, by what was read of the server's numbers
+pub line-answers : (k : Counts) (words : List ℕ) (i taken rank : ℕ) (v : Line) (r : Bool) → rank ≡ rankOf (k .ranks) (i + 1) → v ≡ countsAt k i
+    → r ≡ soundEither (k .n) rank v taken words i → r ≡ lineSoundAt k taken words i
+line-answers k words i taken rank v r er ev e = e ∙ ap₂ (λ (a : ℕ) (w : Line). soundEither (k .n) a w taken words i) er ev

@@ -14,6 +14,7 @@ use Rattle.list.specs.declared.Origin.{Origin}
 use Rattle.list.specs.Items.{stored, initialItems}
 use Rattle.list.specs.Places.{initialFrom, initialPlaces, originsOf}
 use Rattle.list.specs.Parts.{part}
+use Rattle.list.specs.Seconds.{totalSeconds}
 use Rattle.list.proofs.Pad.{pad-drop, pad-length}
 use Rattle.list.proofs.Parts.{Wrote, wrote-part}
 use Rattle.list.proofs.Places.{initial-items, initial-length, origins-length}
@@ -99,7 +100,8 @@ module _ (items words : List ℕ) (short : length items ≤ maxInitial) (blank :
 
 -- ---- a server over whose lines nothing has come
 
-module _ (n : ℕ) (few : n ≤ maxLines) (rs places : List ℕ) (kept : places ≡ ranks.stored rs) (items words : List ℕ) (w : OpenWords items words) where
+module _ (n : ℕ) (few : n ≤ maxLines) (rs places : List ℕ) (kept : places ≡ ranks.stored rs) (items words : List ℕ) (w : OpenWords items words)
+    (total : ℕ) (summed : total ≡ totalSeconds items) where
   abbrev new : model.Server
   new =
       record {
@@ -112,12 +114,12 @@ module _ (n : ℕ) (few : n ≤ maxLines) (rs places : List ℕ) (kept : places 
       }
 
   abbrev k : Counts
-  k = freshCounts n places (length items)
+  k = freshCounts n places (length items) total
 
   row : (i : ℕ) → i < maxLines → Row k words i line.noLine []
   row i h = record { counts = same-at maxLines i (countsOf line.noLine); slots = w .slots i h ∙ sym no-words; makers = w .makers i h }
 
-  fresh-is : serverOf (freshCounts n places (length items)) words ≡ store new
+  fresh-is : serverOf (freshCounts n places (length items) total) words ≡ store new
   fresh-is =
       store-is new (omega (arith, length-replicate n line.noLine)) (omega (arith, length-replicate {A = List Origin} n [])) k words
       (record { words = w .long; lines = refl; ranks = ap length kept ∙ stored-length rs })
@@ -125,6 +127,7 @@ module _ (n : ℕ) (few : n ≤ maxLines) (rs places : List ℕ) (kept : places 
         n = refl;
         initial = refl;
         len = sym (initial-length items);
+        total = summed ∙ ap totalSeconds (sym (initial-items items));
         ranks = kept;
         items = w .items ∙ ap stored (sym (initial-items items));
         origins = w .origins;
@@ -190,18 +193,19 @@ module _ (n : ℕ) (rs items : List ℕ) where
   abbrev opened-by : ℕ → Answer
   opened-by r = given (store model.noServer) (answer r model.noServer next questions.noReport)
 
-  pub open-done : (r : ℕ) (places words : List ℕ) (k : Counts) → r ≡ openAsked n rs (length items) → r ≡ 0 → OpenWords items words → places ≡ ranks.stored rs
-      → k ≡ freshCounts n places (length items) → answerOf (record { refusal = 0; report = noReport; counts = k }) words ≡ opened n rs items
+  pub open-done : (r : ℕ) (places words : List ℕ) (total : ℕ) (k : Counts) → r ≡ openAsked n rs (length items) → r ≡ 0 → OpenWords items words
+      → places ≡ ranks.stored rs → total ≡ totalSeconds items → k ≡ freshCounts n places (length items) total
+      → answerOf (record { refusal = 0; report = noReport; counts = k }) words ≡ opened n rs items
   unfolding model.openServer answer
-  open-done r places words k e z w p ek =
+  open-done r places words total k e z w p summed ek =
       ap (λ (c : Counts). record { refusal = 0; report = noReport; server = serverOf c words }) ek
-      ∙ ap (λ (s : Server). record { refusal = 0; report = noReport; server = s }) (fresh-is n (asked-few n rs (length items) (sym e ∙ z)) rs places p items words w)
+      ∙ ap (λ (s : Server). record { refusal = 0; report = noReport; server = s }) (fresh-is n (asked-few n rs (length items) (sym e ∙ z)) rs places p items words w total summed)
       ∙ sym (ap opened-by (asked ∙ sym e ∙ z))
 
   -- a refused server is all zeros
   module _ (words : List ℕ) (blank : words ≡ replicate size 0) where
-    nothing : serverOf (freshCounts 0 (replicate maxLines 0) 0) words ≡ store model.noServer
-    unfolding initialFrom
+    nothing : serverOf (freshCounts 0 (replicate maxLines 0) 0 0) words ≡ store model.noServer
+    unfolding initialFrom totalSeconds
     nothing =
         fresh-is 0 (omega arith) [] (replicate maxLines 0) refl [] words
         (record {
@@ -211,8 +215,9 @@ module _ (n : ℕ) (rs items : List ℕ) where
           makers = λ i h. zeros-part (makersBase i) maxPending size words blank (omega arith);
           long = ap length blank ∙ length-replicate {A = ℕ} size 0;
         })
+        0 refl
 
-    pub open-refused : (r : ℕ) (c : Counts) (a : Changed) → r ≡ openAsked n rs (length items) → (r ≡ 0 → ⊥) → c ≡ freshCounts 0 (replicate maxLines 0) 0
+    pub open-refused : (r : ℕ) (c : Counts) (a : Changed) → r ≡ openAsked n rs (length items) → (r ≡ 0 → ⊥) → c ≡ freshCounts 0 (replicate maxLines 0) 0 0
         → a ≡ refusedCounts r c → answerOf a words ≡ opened n rs items
     unfolding model.openServer answer
     open-refused r c a e n₀ ek ea =

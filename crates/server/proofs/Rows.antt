@@ -10,6 +10,7 @@ use Rattle.list.specs.Items.{padded, stored}
 use Rattle.list.specs.declared.Origin.{Origin}
 use Rattle.list.specs.Places.{itemsOf, originsOf, wordOf}
 use Rattle.list.specs.Parts.{part}
+use Rattle.list.specs.Seconds.{runningTime}
 use Rattle.list.proofs.Pad.{pad-getD, pad-length}
 use Rattle.list.proofs.Places as places
 use Rattle.model.specs.Line as line
@@ -132,6 +133,7 @@ pub record Holds (k : Counts) (words : List ℕ) (m : model.Server) : Type 0 whe
   pub n : k .n ≡ m .n
   pub initial : k .initial ≡ m .initial
   pub len : k .len ≡ length (m .items)
+  pub total : k .total ≡ runningTime (m .items)
   pub ranks : k .ranks ≡ ranks.stored (m .ranks)
   pub items : itemsIn words ≡ stored (itemsOf (m .items))
   pub origins : originsIn words ≡ stored (originsOf (m .items))
@@ -189,7 +191,7 @@ module _ (m : model.Server) (few : length (m .lines) ≤ maxLines) (few-makers :
       let all : words ≡ joined (stored (itemsOf (m .items))) (slotsOfLines (allLines m)) (stored (originsOf (m .items))) (wordsOfMakers (allMakers m)) =
       words-are words (z .words) ∙ (λ j. joined (h .items j) (slots j) (h .origins j) (made j)) in
       λ j. record {
-        counts = record { n = h .n j; initial = h .initial j; len = h .len j; ranks = h .ranks j; lines = lines j };
+        counts = record { n = h .n j; initial = h .initial j; len = h .len j; total = h .total j; ranks = h .ranks j; lines = lines j };
         words = all j;
       }
 
@@ -243,6 +245,7 @@ module _ (m : model.Server) (few : length (m .lines) ≤ maxLines) (few-makers :
           n = refl;
           initial = refl;
           len = refl;
+          total = refl;
           ranks = refl;
           items = items-of xs ss os ms items-long slots-long origins-long;
           origins = origins-of xs ss os ms items-long slots-long origins-long;

@@ -7,11 +7,12 @@ use mathlib.Core.List.{List, [], map}
 use lib.Dec.{ltb}
 use lib.ListN.{length, getD, take, drop, length-map, List·getD-eq-default}
 use lib.Seq.{ext-getD}
-use borrow.Author.Tests.{le-leb, ltb-true, ltb-false}
+use borrow.Author.Tests.{le-leb, eq-eqb, ltb-true, ltb-false}
 use Rattle.limits.specs.Limits.{maxLines, maxItems, maxPending}
 use Rattle.list.specs.Items.{stored, allZero}
 use Rattle.list.specs.declared.Origin.{Origin}
 use Rattle.list.specs.Places.{itemsOf, originsOf, placesOf, wordOf, originAt}
+use Rattle.list.specs.Seconds.{runningTime}
 use Rattle.list.proofs.Items.{all-zero, padded-zero}
 use Rattle.list.proofs.Pad.{pad-take}
 use Rattle.list.proofs.Places.{items-length, origins-length, places-of}
@@ -196,10 +197,13 @@ module _ (m : model.Server) (s : model.soundServer m ≡ true) where
               (
                 part-unused (originsOf (m .items)) (originsIn words) (holds .origins) (origins-length (m .items)),
                 (
-                  each-all (tidyAt k words) 0 (m .n) (λ i h. line-tidy (0 + i) (omega arith)),
+                  eq-eqb (runningTime (m .items)) (runningTime (view (store m) .items)) (ap (λ (t : model.Server). runningTime (t .items)) (sym view-store)),
                   (
-                    each-all (bareAt k words) 0 (m .n) (λ i h. makers-bare (0 + i) (omega arith)),
-                    (each-all (emptyAt k words) (m .n) (maxLines - m .n) (λ i h. line-empty (m .n + i) (omega arith) (omega arith)), tt),
+                    each-all (tidyAt k words) 0 (m .n) (λ i h. line-tidy (0 + i) (omega arith)),
+                    (
+                      each-all (bareAt k words) 0 (m .n) (λ i h. makers-bare (0 + i) (omega arith)),
+                      (each-all (emptyAt k words) (m .n) (maxLines - m .n) (λ i h. line-empty (m .n + i) (omega arith) (omega arith)), tt),
+                    ),
                   ),
                 ),
               ),

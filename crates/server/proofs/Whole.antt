@@ -14,7 +14,9 @@ use Rattle.limits.specs.Limits.{maxLines, maxItems, maxPending}
 use Rattle.list.specs.Items.{stored, allZero}
 use Rattle.list.specs.declared.Origin.{Origin}
 use Rattle.list.specs.Places.{Place, itemsOf, originsOf, originAt}
+use Rattle.list.specs.Seconds.{totalSeconds, runningTime}
 use Rattle.list.proofs.Items.{stored-of}
+use Rattle.list.proofs.Seconds.{total-padded}
 use Rattle.list.proofs.Places.{places-length, places-items, places-origins, places-numbered}
 use Rattle.model.specs.Questions.{every}
 use Rattle.model.specs.Ranks.{rankOf, ranking}
@@ -34,7 +36,7 @@ use Rattle.line_sound.proofs.Stored.{empty-counts, empty-words}
 use Rattle.server.specs.declared.Counts.{Counts}
 use Rattle.server.specs.declared.Server.{Server}
 use Rattle.server.specs.View.{size, itemsIn, originsIn, slotsAt, makersAt, countsAt, lineAt, linesFrom, makersOf, makersFrom, listIn, serverOf, view, tidyAt, emptyAt, bareAt, soundTests, sound, Sound, Sizes}
-use Rattle.server.specs.Totals.{totalOf, inLimits, listTidy, soundAt, makersSoundAt, lineSoundAt}
+use Rattle.server.specs.Totals.{totalOf, inLimits, listRight, soundAt, makersSoundAt, lineSoundAt}
 use Rattle.server.proofs.Lines.{lines-length, line-used, line-unused, makers-length, makers-used, makers-unused, total-words, total-most}
 use Rattle.server.proofs.Loops.{items-long, origins-long, slots-long, makers-long}
 use Rattle.server.proofs.Rows.{slotsFor, makersFor, Row, Holds, store-is}
@@ -181,6 +183,7 @@ codeTests k words =
     ∷ leb (k .len) (k .initial + totalOf (λ v. v .inserts) k)
     ∷ allZero (drop (k .len) (itemsIn words))
     ∷ allZero (drop (k .len) (originsIn words))
+    ∷ eqb (k .total) (totalSeconds (itemsIn words))
     ∷ allFrom (soundAt k (totalOf (λ v. v .taken) k) words) 0 (k .n)
     ∷ allFrom (makersSoundAt k words) 0 (k .n)
     ∷ allFrom (emptyAt k words) (k .n) (maxLines - k .n)
@@ -223,6 +226,13 @@ module _ (k : Counts) (words : List ℕ) (z : Sizes k words) where
     origins-stored : allZero (drop (k .len) (originsIn words)) ≡ true → originsIn words ≡ stored (originsOf places)
     origins-stored t = stored-of (originsIn words) (k .len) (origins-long words (z .words)) h t ∙ ap stored (sym (places-origins items origins both-taken))
 
+    -- the unused places are zero and add nothing
+    total-is : allZero (drop (k .len) (itemsIn words)) ≡ true → totalSeconds (itemsIn words) ≡ runningTime places
+    total-is t = ap totalSeconds (items-stored t) ∙ total-padded maxItems (itemsOf places)
+
+    total-alike : allZero (drop (k .len) (itemsIn words)) ≡ true → eqb (k .total) (totalSeconds (itemsIn words)) ≡ eqb (k .total) (runningTime places)
+    total-alike t = ap (eqb (k .total)) (total-is t)
+
   abbrev oss : List (List Origin)
   oss = makersFrom k words 0 (k .n)
 
@@ -232,7 +242,7 @@ module _ (k : Counts) (words : List ℕ) (z : Sizes k words) where
       let h = hold (codeTests k words) e in
       let limits = h .1 .1 .1 in
       let lists = limits .1 .1 .1 in
-      let lines = lists .1 .1 in
+      let lines = lists .1 .1 .1 in
       let len : k .len ≤ maxItems = leb-true (k .len) 512 (limits .0) in
       let few : k .n ≤ maxLines = leb-true (k .n) 8 (h .1 .0) in
       let most : k .len ≤ k .initial + totalOf (λ v. v .inserts) k = leb-true (k .len) (k .initial + totalOf (λ v. v .inserts) k) (limits .1 .1 .0) in
@@ -275,8 +285,11 @@ module _ (k : Counts) (words : List ℕ) (z : Sizes k words) where
               (
                 lists .1 .0,
                 (
-                  and-right (model.soundLines (k .n) (ranksIn k) (taken-all k words) 1 vs) (allFrom (tidyAt k words) 0 (k .n)) each,
-                  (and-right (model.soundMakers (k .n) 1 vs oss) (allFrom (bareAt k words) 0 (k .n)) makers, (lines .1 .1 .0, tt)),
+                  sym (total-alike len (lists .0)) ∙ lists .1 .1 .0,
+                  (
+                    and-right (model.soundLines (k .n) (ranksIn k) (taken-all k words) 1 vs) (allFrom (tidyAt k words) 0 (k .n)) each,
+                    (and-right (model.soundMakers (k .n) 1 vs oss) (allFrom (bareAt k words) 0 (k .n)) makers, (lines .1 .1 .0, tt)),
+                  ),
                 ),
               ),
             ),
@@ -290,7 +303,7 @@ module _ (k : Counts) (words : List ℕ) (z : Sizes k words) where
       let t = hold (soundTests s) e in
       let m = hold (model.serverTests (view s)) (t .0) in
       let lists = t .1 .1 .1 in
-      let slots = lists .1 .1 in
+      let slots = lists .1 .1 .1 in
       let modeled = m .1 .1 .1 .1 .1 .1 in
       let len : k .len ≤ maxItems = leb-true (k .len) 512 (t .1 .0) in
       let few : k .n ≤ maxLines = leb-true (k .n) 8 (and-right (leb 1 (k .n)) (leb (k .n) 8) (m .0)) in
@@ -318,11 +331,14 @@ module _ (k : Counts) (words : List ℕ) (z : Sizes k words) where
                     (
                       lists .1 .0,
                       (
-                        right,
+                        total-alike len (lists .0) ∙ lists .1 .1 .0,
                         (
-                          makers-parts k words (z .words) few right
-                              ∙ both (model.soundMakers (k .n) 1 vs oss) (allFrom (bareAt k words) 0 (k .n)) (modeled .1 .0) (slots .1 .0),
-                          (slots .1 .1 .0, tt),
+                          right,
+                          (
+                            makers-parts k words (z .words) few right
+                                ∙ both (model.soundMakers (k .n) 1 vs oss) (allFrom (bareAt k words) 0 (k .n)) (modeled .1 .0) (slots .1 .0),
+                            (slots .1 .1 .0, tt),
+                          ),
                         ),
                       ),
                     ),
@@ -344,6 +360,7 @@ module _ (k : Counts) (words : List ℕ) (z : Sizes k words) where
       ∷ leb (k .len) (k .initial + totalOf (λ v. v .inserts) k)
       ∷ allZero (drop (k .len) (itemsIn words))
       ∷ allZero (drop (k .len) (originsIn words))
+      ∷ eqb (k .total) (totalSeconds (itemsIn words))
       ∷ allFrom (soundAt k (totalOf (λ v. v .taken) k) words) 0 (k .n)
       ∷ allFrom (makersSoundAt k words) 0 (k .n)
       ∷ allFrom (emptyAt k words) (k .n) (maxLines - k .n)
@@ -360,26 +377,27 @@ module _ (k : Counts) (words : List ℕ) (z : Sizes k words) where
   sound-no t = in-parts false t
 
   -- the tests of the code, one after the other
-  pub sound-yes : (most taken : ℕ) (ranked tidied lined : Bool) → inLimits k ≡ true → most ≡ totalOf (λ v. v .inserts) k
-      → taken ≡ totalOf (λ v. v .taken) k → ranked ≡ soundRanks (k .n) (k .ranks) → tidied ≡ listTidy (k .len) words
+  pub sound-yes : (most taken : ℕ) (ranked listed lined : Bool) → inLimits k ≡ true → most ≡ totalOf (λ v. v .inserts) k
+      → taken ≡ totalOf (λ v. v .taken) k → ranked ≡ soundRanks (k .n) (k .ranks) → listed ≡ listRight (k .len) (k .total) words
       → lined ≡ allFrom (lineSoundAt k taken words) 0 maxLines
-      → (((ranked && leb (k .len) (k .initial + most)) && tidied) && lined) ≡ sound (serverOf k words)
-  sound-yes most taken ranked tidied lined t m n r z′ u =
+      → (((ranked && leb (k .len) (k .initial + most)) && listed) && lined) ≡ sound (serverOf k words)
+  sound-yes most taken ranked listed lined t m n r z′ u =
       let right = soundRanks (k .n) (k .ranks) in
       let all = totalOf (λ v. v .inserts) k in
       let sum = totalOf (λ v. v .taken) k in
       let lines : lined ≡ ((allFrom (soundAt k sum words) 0 (k .n) && allFrom (makersSoundAt k words) 0 (k .n)) && allFrom (emptyAt k words) (k .n) (maxLines - k .n)) =
       u ∙ ap (λ (j : ℕ). allFrom (lineSoundAt k j words) 0 maxLines) n ∙ lines-code k words sum (limits-few k t) in
-      ap (λ (b : Bool). ((b && leb (k .len) (k .initial + most)) && tidied) && lined) r
-      ∙ ap (λ (j : ℕ). ((right && leb (k .len) (k .initial + j)) && tidied) && lined) m
+      ap (λ (b : Bool). ((b && leb (k .len) (k .initial + most)) && listed) && lined) r
+      ∙ ap (λ (j : ℕ). ((right && leb (k .len) (k .initial + j)) && listed) && lined) m
       ∙ ap (λ (b : Bool). ((right && leb (k .len) (k .initial + all)) && b) && lined) z′
-      ∙ ap (λ (b : Bool). ((right && leb (k .len) (k .initial + all)) && listTidy (k .len) words) && b) lines
+      ∙ ap (λ (b : Bool). ((right && leb (k .len) (k .initial + all)) && listRight (k .len) (k .total) words) && b) lines
       ∙ group right (leb (k .len) (k .initial + all)) (allZero (drop (k .len) (itemsIn words))) (allZero (drop (k .len) (originsIn words)))
+      (eqb (k .total) (totalSeconds (itemsIn words)))
       (allFrom (soundAt k sum words) 0 (k .n)) (allFrom (makersSoundAt k words) 0 (k .n)) (allFrom (emptyAt k words) (k .n) (maxLines - k .n))
       ∙ in-parts true t
     where
-      group : (a b c d e f g : Bool) → (((a && b) && (c && d)) && ((e && f) && g)) ≡ every (a ∷ b ∷ c ∷ d ∷ e ∷ f ∷ g ∷ [])
-      group a b c d e f g = simp (and-assoc, and-true)
+      group : (a b c d t e f g : Bool) → (((a && b) && ((c && d) && t)) && ((e && f) && g)) ≡ every (a ∷ b ∷ c ∷ d ∷ t ∷ e ∷ f ∷ g ∷ [])
+      group a b c d t e f g = simp (and-assoc, and-true)
 
   -- ---- a struct that passes
 
@@ -391,17 +409,17 @@ module _ (k : Counts) (words : List ℕ) (z : Sizes k words) where
     few = leb-true (k .n) 8 (hold (codeTests k words) tests .1 .0)
 
     lines-right : allFrom (soundAt k (totalOf (λ v. v .taken) k) words) 0 (k .n) ≡ true
-    lines-right = hold (codeTests k words) tests .1 .1 .1 .1 .1 .1 .1 .1 .0
+    lines-right = hold (codeTests k words) tests .1 .1 .1 .1 .1 .1 .1 .1 .1 .0
 
     bare-at : (i : ℕ) → i < k .n → bareAt k words i ≡ true
     unfolding sound
-    bare-at i h = each-first (bareAt k words) (k .n) (hold (soundTests s) e .1 .1 .1 .1 .1 .1 .0) i h
+    bare-at i h = each-first (bareAt k words) (k .n) (hold (soundTests s) e .1 .1 .1 .1 .1 .1 .1 .0) i h
 
     -- a line that is not in use: its counts and words, and its origins
     module _ (i : ℕ) (h : k .n ≤ i) (lt : i < maxLines) where
       both-empty : emptyAt k words i ≡ true
       unfolding sound
-      both-empty = each-last (emptyAt k words) (k .n) maxLines (hold (soundTests s) e .1 .1 .1 .1 .1 .1 .1 .0) i h lt
+      both-empty = each-last (emptyAt k words) (k .n) maxLines (hold (soundTests s) e .1 .1 .1 .1 .1 .1 .1 .1 .0) i h lt
 
       empty-at : emptyLine (countsAt k i) (slotsAt i words) ≡ true
       empty-at = and-left (emptyLine (countsAt k i) (slotsAt i words)) (allZero (makersAt i words)) both-empty
@@ -450,6 +468,7 @@ module _ (k : Counts) (words : List ℕ) (z : Sizes k words) where
           n = refl;
           initial = refl;
           len = sym (items-length len);
+          total = eqb-true (k .total) (runningTime places) (t .1 .1 .1 .1 .1 .0);
           ranks = sound-stored (k .n) (k .ranks) (hold (codeTests k words) tests .1 .1 .1 .1 .0) (z .ranks) few;
           items = items-stored len (t .1 .1 .1 .0);
           origins = origins-stored len (t .1 .1 .1 .1 .0);

@@ -19,9 +19,9 @@ abbrev pub openAsked : ℕ → List ℕ → ℕ → ℕ
 openAsked n ranks items = cond ((leb 1 n && leb n maxLines) && leb items maxInitial) (cond (ranking n ranks) 0 16) 1
 
 -- over whose lines nothing has come
-abbrev pub freshCounts : ℕ → List ℕ → ℕ → Counts
-freshCounts n ranks len =
-    record { n = n; initial = len; len = len; ranks = ranks; lines = replicate maxLines (countsOf line.noLine) }
+abbrev pub freshCounts : ℕ → List ℕ → ℕ → ℕ → Counts
+freshCounts n ranks len total =
+    record { n = n; initial = len; len = len; total = total; ranks = ranks; lines = replicate maxLines (countsOf line.noLine) }
 
 abbrev pub OpenWords : List ℕ → List ℕ → Type 0
 OpenWords items words =

@@ -94,6 +94,7 @@ pub record KeptBy (most at : ℕ) (e : Edit) (word : ℕ) (k : Counts) (before :
   pub n : r .n ≡ k .n
   pub initial : r .initial ≡ k .initial
   pub len : r .len ≡ k .len
+  pub total : r .total ≡ k .total
   pub ranks : r .ranks ≡ k .ranks
   pub lines : length (r .lines) ≡ length (k .lines)
   pub counts : (i : ℕ) → i < maxLines → countsAt r i ≡ cond (keeps most at i) (withKept (countsAt k i) (countsAt k i .inserts)) (countsAt k i)
@@ -107,8 +108,8 @@ pub record KeptBy (most at : ℕ) (e : Edit) (word : ℕ) (k : Counts) (before :
 abbrev pub makersLeft : Line → ℕ → List ℕ → List ℕ
 makersLeft v seen makers = padded 0 maxPending (take (v .made - seen) (drop (seen - v .acked) makers))
 
-abbrev pub withLine : Counts → ℕ → Line → ℕ → Counts
-withLine k at v len = record { n = k .n; initial = k .initial; len = len; ranks = k .ranks; lines = set (k .lines) at v }
+abbrev pub withLine : Counts → ℕ → Line → ℕ → ℕ → Counts
+withLine k at v len total = record { n = k .n; initial = k .initial; len = len; total = total; ranks = k .ranks; lines = set (k .lines) at v }
 
 -- ---- the server
 

@@ -12,6 +12,7 @@ use Rattle.list.specs.Items.{padded, stored, allZero, edited}
 use Rattle.list.specs.declared.Origin.{Origin}
 use Rattle.list.specs.Places.{Place, placesOf, itemsOf, originsOf, wordOf, originAt}
 use Rattle.list.specs.Parts.{part}
+use Rattle.list.specs.Seconds.{runningTime}
 use Rattle.model.specs.Questions.{every}
 use Rattle.model.specs.Line as line
 use Rattle.model.specs.Server as model
@@ -111,6 +112,7 @@ counts m =
       n = m .n;
       initial = m .initial;
       len = length (m .items);
+      total = runningTime (m .items);
       ranks = ranks.stored (m .ranks);
       lines = map countsOf (allLines m);
     }
@@ -139,6 +141,7 @@ soundTests s =
     ∷ allZero (drop (s .counts .n) (s .counts .ranks))
     ∷ allZero (drop (s .counts .len) (itemsIn (s .words)))
     ∷ allZero (drop (s .counts .len) (originsIn (s .words)))
+    ∷ eqb (s .counts .total) (runningTime (view s .items))
     ∷ allFrom (tidyAt (s .counts) (s .words)) 0 (s .counts .n)
     ∷ allFrom (bareAt (s .counts) (s .words)) 0 (s .counts .n)
     ∷ allFrom (emptyAt (s .counts) (s .words)) (s .counts .n) (maxLines - s .counts .n)

@@ -6,19 +6,18 @@ pub mod taking;
 
 ghost use mathlib.Core.Path.{_≡_};
 ghost use mathlib.Core.Bool.{true};
-ghost use Prim.Native.Nat.{_-_, _≤_, _<_};
+ghost use Prim.Native.Nat.{_≤_, _<_};
 ghost use lib.ListN.{length, replicate};
-ghost use Rattle.limits.specs.Limits.{maxLines, maxPending, maxInitial};
+ghost use Rattle.limits.specs.Limits.{maxLines, maxInitial};
 ghost use Rattle.ot.specs.Edit.{edit};
 ghost use Rattle.list.specs.Items.{capacity, Room};
 ghost use Rattle.model.specs.Ranks.{rankOf};
 ghost use Rattle.ranks.specs.Stored.{soundRanks};
 ghost use Rattle.pending.specs.Slots.{allFrom};
-ghost use Rattle.line.specs.Line.{Kept};
-ghost use Rattle.server.specs.View.{size, slotsAt, makersAt, countsAt, serverOf, emptyAt, sound, Sound, Sizes, Applied};
+ghost use Rattle.server.specs.View.{size, slotsAt, makersAt, countsAt, serverOf, sound, Sound, Sizes, Applied};
 ghost use Rattle.server.specs.Answers.{opened, refusedCounts, answerOf};
 ghost use Rattle.server.specs.Opening.{openAsked, freshCounts, OpenWords};
-ghost use Rattle.server.specs.Totals.{inLimits, listTidy, soundAt, makersSoundAt, lineSoundAt, Totaled};
+ghost use Rattle.server.specs.Totals.{inLimits, listRight, soundUsed, soundMakers, emptyUnused, soundEither, lineSoundAt, Totaled};
 use line::Line;
 use line::taking::Report;
 use line::taking::no_report;
@@ -32,6 +31,8 @@ pub struct Counts {
     // how many items it was opened with, and how many the list has
     pub initial: u16,
     pub len: u16,
+    // the seconds of its items together
+    pub total: u32,
     // the rank of line l at place l - 1, zeros past n
     pub ranks: [u8; ranks::PLACES],
     // line l at place l - 1
@@ -143,52 +144,41 @@ fn add_up(k: Counts) -> Totals
     Totals { taken, inserts }
 }
 
-// A line in use by its counts and pending edits, where all lines took so many edits.
-fn pending_sound(k: Counts, words: &[u32], at: usize, taken: u32) -> bool
-    requires { ⌜ ((at < k .n) × (k .n ≤ maxLines)) × Sizes k (now words) ⌝ }
-    ensures answer { λ r. ⌜ r ≡ soundAt k taken (now (words .entry)) at ⌝ }
-    ensures facts { λ r. ⌜ (r ≡ true → Kept (countsAt k at) (slotsAt at (now (words .entry)))) ⌝ }
+// A line in use by its counts and pending edits, where all lines took so many edits. It is handed its own counts and rank: the server's, by value, would
+// be copied for each line.
+fn pending_sound(v: Line, n: u8, rank: u8, words: &[u32], at: usize, taken: u32) -> bool
+    requires { ⌜ (length (now words) ≡ size) × (at < maxLines) ⌝ }
+    ensures { λ r. ⌜ r ≡ soundUsed n rank v taken (now (words .entry)) at ⌝ }
 {
-    let v = line_at(k, at);
-    let rank = rank_of(k, at as u8 + 1);
     let others = v.made as u32 + v.taken as u32 == taken;
-    others & line_sound::is_sound(v.taken, v, slots_at(words, at), k.n, rank, false)
+    others & line_sound::is_sound(v.taken, v, slots_at(words, at), n, rank, false)
 }
 
 // The origins of its pending edits.
-fn makers_sound(k: Counts, words: &[u32], at: usize) -> bool
-    requires { ⌜ ((at < k .n) × (k .n ≤ maxLines)) × (Sizes k (now words) × (countsAt k at .made - countsAt k at .acked ≤ maxPending)) ⌝ }
-    ensures { λ r. ⌜ r ≡ makersSoundAt k (now (words .entry)) at ⌝ }
+fn makers_sound(v: Line, n: u8, words: &[u32], at: usize) -> bool
+    requires { ⌜ (length (now words) ≡ size) × (at < maxLines) ⌝ }
+    ensures { λ r. ⌜ r ≡ soundMakers n v (now (words .entry)) at ⌝ }
 {
-    let v = line_at(k, at);
-    line_sound::makers_sound(
-        makers_at(words, at),
-        v.pending() as usize,
-        k.n,
-        at as u8 + 1,
-    )
+    let count = v.pending() as usize;
+    line_sound::makers_sound(makers_at(words, at), count, n, at as u8 + 1)
 }
 
 // A line that is not in use.
-fn unused_empty(k: Counts, words: &[u32], at: usize) -> bool
-    requires { ⌜ (at < maxLines) × Sizes k (now words) ⌝ }
-    ensures { λ r. ⌜ r ≡ emptyAt k (now (words .entry)) at ⌝ }
+fn unused_empty(v: Line, words: &[u32], at: usize) -> bool
+    requires { ⌜ (length (now words) ≡ size) × (at < maxLines) ⌝ }
+    ensures { λ r. ⌜ r ≡ emptyUnused v (now (words .entry)) at ⌝ }
 {
-    line_sound::is_empty(line_at(k, at), slots_at(words, at))
-        & list::zero_from(makers_at(words, at), 0)
+    line_sound::is_empty(v, slots_at(words, at)) & list::zero_from(makers_at(words, at), 0)
 }
 
-fn is_line_sound(k: Counts, words: &[u32], at: usize, taken: u32) -> bool
-    requires { ⌜ (at < maxLines) × ((k .n ≤ maxLines) × Sizes k (now words)) ⌝ }
-    ensures { λ r. ⌜ r ≡ lineSoundAt k taken (now (words .entry)) at ⌝ }
+fn is_line_sound(v: Line, n: u8, rank: u8, words: &[u32], at: usize, taken: u32) -> bool
+    requires { ⌜ (length (now words) ≡ size) × (at < maxLines) ⌝ }
+    ensures { λ r. ⌜ r ≡ soundEither n rank v taken (now (words .entry)) at ⌝ }
 {
-    if at < k.n as usize {
-        if pending_sound(k, words, at, taken) {
-            return makers_sound(k, words, at);
-        }
-        return false;
+    if at < n as usize {
+        return pending_sound(v, n, rank, words, at, taken) & makers_sound(v, n, words, at);
     }
-    unused_empty(k, words, at)
+    unused_empty(v, words, at)
 }
 
 // All lines, where those in use took so many edits together.
@@ -198,18 +188,22 @@ fn lines_sound(k: Counts, words: &[u32], taken: u32) -> bool
 {
     let mut well = true;
     for i in 0..Server::LINES {
-        well = well & is_line_sound(k, words, i, taken);
+        let rank = ranks::of_line(&k.ranks, i as u8 + 1);
+        well = well & is_line_sound(k.lines[i], k.n, rank, words, i, taken);
     }
     well
 }
 
-// Behind the list all places are zero, items and origins.
-fn list_sound(len: u16, words: &[u32]) -> bool
+// Behind the list all places are zero, items and origins, and the total is the sum over the items.
+fn list_sound(len: u16, total: u32, words: &[u32]) -> bool
     requires { ⌜ length (now words) ≡ size ⌝ }
-    ensures { λ r. ⌜ r ≡ listTidy len (now (words .entry)) ⌝ }
+    ensures { λ r. ⌜ r ≡ listRight len total (now (words .entry)) ⌝ }
 {
-    let items = list::zero_from(&words[0..Server::ITEMS], len as usize);
-    items & list::zero_from(&words[Server::ORIGINS..Server::MAKERS], len as usize)
+    let items = &words[0..Server::ITEMS];
+    let sum = list::total(items);
+    let unused = list::zero_from(items, len as usize);
+    let origins = list::zero_from(&words[Server::ORIGINS..Server::MAKERS], len as usize);
+    unused & origins & (total == sum)
 }
 
 fn ranks_sound(k: Counts) -> bool
@@ -237,7 +231,7 @@ fn is_sound(k: Counts, words: &[u32]) -> bool
         let all = add_up(k);
         let right = ranks_sound(k);
         let few = k.len as u32 <= k.initial as u32 + all.inserts;
-        return right & few & list_sound(k.len, words) & lines_sound(k, words, all.taken);
+        return right & few & list_sound(k.len, k.total, words) & lines_sound(k, words, all.taken);
     }
     false
 }
@@ -270,8 +264,8 @@ fn ask_open(n: u8, ranks: &[u8], items: usize) -> u8
 }
 
 // The numbers of a server over whose lines nothing has come.
-fn fresh(n: u8, ranks: [u8; ranks::PLACES], len: u16) -> Counts
-    ensures { λ r. ⌜ r ≡ freshCounts n ranks len ⌝ }
+fn fresh(n: u8, ranks: [u8; ranks::PLACES], len: u16, total: u32) -> Counts
+    ensures { λ r. ⌜ r ≡ freshCounts n ranks len total ⌝ }
 {
     let none = Line {
         made: 0,
@@ -284,6 +278,7 @@ fn fresh(n: u8, ranks: [u8; ranks::PLACES], len: u16) -> Counts
         n,
         initial: len,
         len,
+        total,
         ranks,
         lines,
     }
@@ -305,10 +300,11 @@ pub fn open_lent(n: u8, ranks: &[u8], items: &[u32], words: &mut [u32]) -> Chang
 {
     let refusal = ask_open(n, ranks, items.len());
     if refusal != 0 {
-        return refused(refusal, fresh(0, [0u8; ranks::PLACES], 0));
+        return refused(refusal, fresh(0, [0u8; ranks::PLACES], 0, 0));
     }
     open_list(items, words);
-    let counts = fresh(n, ranks::store(ranks), items.len() as u16);
+    let total = list::total(items);
+    let counts = fresh(n, ranks::store(ranks), items.len() as u16, total);
     Changed {
         refusal: 0,
         report: no_report(),

@@ -216,14 +216,15 @@ fn drop_makers(words: &mut [u32], at: usize, v: Line, seen: u16)
     );
 }
 
-// The counts with those of one line and the length of the list.
-fn with_line(k: Counts, at: usize, v: Line, len: u16) -> Counts
+// The counts with those of one line, and the length and the total of the list.
+fn with_line(k: Counts, at: usize, v: Line, len: u16, total: u32) -> Counts
     requires { ⌜ at < maxLines ⌝ }
-    ensures { λ r. ⌜ r ≡ withLine k at v len ⌝ }
+    ensures { λ r. ⌜ r ≡ withLine k at v len total ⌝ }
 {
     let mut counts = k;
     counts.lines[at] = v;
     counts.len = len;
+    counts.total = total;
     counts
 }
 
@@ -233,6 +234,7 @@ fn change(k: Counts, words: &mut [u32], a: Arrival, d: Decision, later: &[u32]) 
     ensures { λ r. ⌜ serverOf r (now (words .exit)) ≡ store (serverThen (view (serverOf k (now (words .entry)))) a) ⌝ }
 {
     let f = d.form;
+    let total = list::total_after(&words[0..k.len as usize], k.total, f, a.item);
     let counts = pass_on(k, words, a, f);
     let at = (a.line - 1) as usize;
     let v = crate::line_at(k, at);
@@ -241,7 +243,7 @@ fn change(k: Counts, words: &mut [u32], a: Arrival, d: Decision, later: &[u32]) 
     let origin = a.origin;
     let len = crate::apply(words, k.len, f, a.item, origin);
     let then = d.line;
-    with_line(counts, at, then, len)
+    with_line(counts, at, then, len, total)
 }
 
 // Takes a message that was read, at a server that question 2 found sound: the decision, then what an accepted message changes.

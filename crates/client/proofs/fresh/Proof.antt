@@ -13,7 +13,7 @@ no-report-requires c κs = search needs
 returns : tie.Need-returns
 returns c =
     let a = c .before .args in
-    ap {B = Changed} (λ (q : Report). record { refusal = a .refusal; report = q; counts = freshCounts 0 (a .n) (a .line) (a .len) (a .ranks) .counts })
+    ap {B = Changed} (λ (q : Report). record { refusal = a .refusal; report = q; counts = freshCounts 0 (a .n) (a .line) (a .len) (a .total) (a .ranks) .counts })
     (c .no-report .ensures)
 
 pub fresh-spec : {M : Type 1} → statement M

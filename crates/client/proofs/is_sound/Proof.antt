@@ -15,16 +15,16 @@ start c = c .before
 abbrev end : tie.After-shared-slice-known → Client
 end c = clientOf (start c .args .t1) (start c .args .words .now)
 
--- ---- 1 to 8 lines: the ranks, the unused places, the own rank, the line
+-- ---- 1 to 8 lines: the ranks, the list, the own rank, the line
 
 abbrev lines : tie.After-is-sound → tie.Then1
 lines c = c .before .before .before .before
 
-abbrev ranked : tie.After-unused-zero → tie.After-is-sound
+abbrev ranked : tie.After-list-sound → tie.After-is-sound
 ranked c = c .before
 
-abbrev unused : tie.After-rank → tie.After-unused-zero
-unused c = c .before .before .before
+abbrev listed : tie.After-rank → tie.After-list-sound
+listed c = c .before .before .before
 
 cast-counts : tie.Need-cast-counts
 cast-counts c = search needs
@@ -35,11 +35,11 @@ is-sound-requires c κs =
     let s = start (t .before) in
     (omega (arith, between-true 1 maxLines (s .args .t1 .n) (t .if1 .taken)), s .pre .ranks)
 
-cast-unused-zero : tie.Need-cast-unused-zero
-cast-unused-zero c = search needs
+cast-list-sound : tie.Need-cast-list-sound
+cast-list-sound c = search needs
 
-unused-zero-requires : tie.Need-unused-zero-requires
-unused-zero-requires c κs = start (lines c .before) .pre .words
+list-sound-requires : tie.Need-list-sound-requires
+list-sound-requires c κs = start (lines c .before) .pre .words
 
 sub-slots : tie.Need-sub-slots
 sub-slots c = search needs
@@ -59,12 +59,12 @@ is-sound-requires-2 c κs = search needs
 returns : tie.Need-returns
 returns c =
     let o = c .before in
-    let z = unused o in
-    let r = ranked z in
+    let l = listed o in
+    let r = ranked l in
     let t = lines r in
     answers (end (t .before)) (start (t .before) .pre) (t .if1 .taken)
-    (r .is-sound .result) (z .unused-zero .result) (c .is-sound2 .result) (o .rank .result)
-    (r .is-sound .ensures) (o .rank .ensures) (z .unused-zero .ensures) (c .is-sound2 .ensures .0)
+    (r .is-sound .result) (l .list-sound .result) (c .is-sound2 .result) (o .rank .result)
+    (r .is-sound .ensures) (o .rank .ensures) (l .list-sound .ensures) (c .is-sound2 .ensures .0)
 
 -- ---- no lines, or too many
 
@@ -77,8 +77,8 @@ is-sound-spec =
     (tie.spec
     cast-counts
     is-sound-requires
-    cast-unused-zero
-    unused-zero-requires
+    cast-list-sound
+    list-sound-requires
     sub-slots
     part-slots-start
     part-slots-end

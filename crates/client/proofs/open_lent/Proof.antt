@@ -83,8 +83,11 @@ initial-requires c κs =
     let o = numbered (c .before) in
     wrote o .before 0 maxItems (omega arith) ∙ ap itemsIn (start (asked (yes o)) .pre)
 
+total-requires : tie.Need-total-requires
+total-requires c κs = omega (arith, short (yes (numbered (filled c .before .before))))
+
 cast-fresh : tie.Need-cast-fresh
-cast-fresh c = omega (arith, short (yes (numbered (filled c .before .before))))
+cast-fresh c = omega (arith, short (yes (numbered (filled (c .before) .before .before))))
 
 store-requires : tie.Need-store-requires
 store-requires c κs = search needs
@@ -98,7 +101,8 @@ same-length c = search needs
 returns : tie.Need-returns
 returns c =
     let p = c .before in
-    let f = filled (p .before) in
+    let t = p .before in
+    let f = filled (t .before) in
     let o = numbered (f .before .before) in
     let y = yes o in
     let r = asked y in
@@ -106,8 +110,8 @@ returns c =
     let a = s .args in
     ap (λ (q : Changed). answerOf q (withPlaces (a .words .now) (o .initial-origins .last .1 .0) (f .initial .last .1 .0))) (c .fresh .ensures)
     ∙ open-yes (a .n) (a .line) (a .ranks .now) (a .items .now) (r .is-ranking .result) (r .is-ranking .ensures)
-    (a .words .now) (o .initial-origins .last .1 .0) (f .initial .last .1 .0) (p .store .result) (y .if1 .taken) (s .pre)
-    (o .initial-origins .ensures (a .items .now) refl) (f .initial .ensures) (p .store .ensures)
+    (a .words .now) (o .initial-origins .last .1 .0) (f .initial .last .1 .0) (p .store .result) (t .total .result) (y .if1 .taken) (s .pre)
+    (o .initial-origins .ensures (a .items .now) refl) (f .initial .ensures) (p .store .ensures) (t .total .ensures)
 
 -- ---- question 16 said no, or question 1
 
@@ -149,6 +153,7 @@ open-lent-spec =
     part-initial-start
     part-initial-end
     initial-requires
+    total-requires
     cast-fresh
     store-requires
     fresh-requires

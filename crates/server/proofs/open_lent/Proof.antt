@@ -11,14 +11,14 @@ use borrow.Author.Needs.{needs}
 use Rattle.server.proofs.open_lent.Statement.{statement}
 use Rattle.server.proofs.open_lent.Tie as tie
 
--- the questions were asked; both said yes; and the list was written
+-- the questions were asked; both said yes; the list was written; and its total found
 abbrev start : tie.After-ask-open → tie.Start
 start c = c .before .before .before .before
 
 abbrev asked : tie.Else1 → tie.After-ask-open
 asked c = c .before
 
-abbrev written : tie.After-store → tie.After-open-list
+abbrev written : tie.After-total → tie.After-open-list
 written c = c .before .before .before
 
 abbrev yes : tie.After-open-list → tie.Else1
@@ -50,11 +50,14 @@ returns c =
 open-list-requires : tie.Need-open-list-requires
 open-list-requires c κs = let e = c .before in (short e, start (asked e) .pre)
 
+total-requires : tie.Need-total-requires
+total-requires c κs = omega (arith, short (yes (c .before .before)))
+
 store-requires : tie.Need-store-requires
 store-requires c κs = search needs
 
 cast-fresh : tie.Need-cast-fresh
-cast-fresh c = omega (arith, short (yes (written c)))
+cast-fresh c = omega (arith, short (yes (written (c .before))))
 
 fresh-requires-2 : tie.Need-fresh-requires-2
 fresh-requires-2 c κs = search needs
@@ -69,13 +72,15 @@ returns-2 : tie.Need-returns-2
 returns-2 c =
     let n = c .before in
     let p = n .before in
-    let w = written p in
+    let t = p .before in
+    let w = written t in
     let e = yes w in
     let q = asked e in
     let s = start q in
     ap (λ (k : Report). answerOf (record { refusal = 0; report = k; counts = n .fresh2 .result }) (w .open-list .last .1 .0)) (c .no-report .ensures)
-    ∙ open-done (s .args .n) (now (s .args .ranks)) (now (s .args .items)) (q .ask-open .result) (p .store .result) (w .open-list .last .1 .0) (n .fresh2 .result)
-    (q .ask-open .ensures) (e .if1 .left) (w .open-list .ensures) (p .store .ensures) (n .fresh2 .ensures)
+    ∙ open-done (s .args .n) (now (s .args .ranks)) (now (s .args .items)) (q .ask-open .result) (p .store .result) (w .open-list .last .1 .0) (t .total .result)
+    (n .fresh2 .result)
+    (q .ask-open .ensures) (e .if1 .left) (w .open-list .ensures) (p .store .ensures) (t .total .ensures) (n .fresh2 .ensures)
 
 pub open-lent-spec : {M : Type 1} → statement M
 open-lent-spec =
@@ -86,6 +91,7 @@ open-lent-spec =
     refused-requires
     returns
     open-list-requires
+    total-requires
     store-requires
     cast-fresh
     fresh-requires-2

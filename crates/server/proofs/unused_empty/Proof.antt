@@ -6,15 +6,8 @@ use Rattle.server.proofs.Loops.{slots-long, empty-answers}
 use Rattle.server.proofs.unused_empty.Statement.{statement}
 use Rattle.server.proofs.unused_empty.Tie as tie
 
--- the call, and where the counts of the line were read
-abbrev read : tie.After-slots-at → tie.After-line-at
-read c = c .before
-
 abbrev start : tie.After-slots-at → tie.Start
-start c = read c .before .before
-
-line-at-requires : tie.Need-line-at-requires
-line-at-requires c κs = search needs
+start c = c .before .before
 
 slots-at-requires : tie.Need-slots-at-requires
 slots-at-requires c κs = search needs
@@ -22,7 +15,7 @@ slots-at-requires c κs = search needs
 is-empty-requires : tie.Need-is-empty-requires
 is-empty-requires c κs =
     let s = start c in
-    ap length (c .slots-at .ensures) ∙ slots-long (now (s .args .words)) (s .pre .1 .words) (s .args .at) (s .pre .0)
+    ap length (c .slots-at .ensures) ∙ slots-long (now (s .args .words)) (s .pre .0) (s .args .at) (s .pre .1)
 
 makers-at-requires : tie.Need-makers-at-requires
 makers-at-requires c κs = search needs
@@ -35,18 +28,10 @@ returns c =
     let makers = c .before in
     let slots = makers .before .before in
     let a = start slots .args in
-    let v = read slots .line-at in
-    empty-answers (a .k) (now (a .words)) (a .at) (v .result) (v .ensures) (now (slots .slots-at .result)) (now (makers .makers-at .result))
-    (makers .before .is-empty .result) (c .zero-from .result) (slots .slots-at .ensures) (makers .makers-at .ensures) (makers .before .is-empty .ensures .0)
-    (c .zero-from .ensures)
+    empty-answers (now (a .words)) (a .at) (a .v) (now (slots .slots-at .result)) (now (makers .makers-at .result)) (makers .before .is-empty .result)
+    (c .zero-from .result) (slots .slots-at .ensures) (makers .makers-at .ensures) (makers .before .is-empty .ensures .0) (c .zero-from .ensures)
 
 pub unused-empty-spec : {M : Type 1} → statement M
 unused-empty-spec =
     tie.close
-    (tie.spec
-    line-at-requires
-    slots-at-requires
-    is-empty-requires
-    makers-at-requires
-    zero-from-requires
-    returns)
+    (tie.spec slots-at-requires is-empty-requires makers-at-requires zero-from-requires returns)

@@ -30,15 +30,21 @@ allowed c =
     let s = start a in
     edit-allowed (end a) (s .args .f) (s .args .x) (a .ask .result) (a .ask .ensures .1) (a .ask .ensures .0 (s .args .x)) (s .pre .0 .words) (c .if1 .left)
 
--- ---- the edit is kept, then applied
+-- ---- the total is found, the edit is kept, then applied
+
+abbrev lent : tie.After-words → tie.Else1
+lent c = c .before .before
+
+abbrev summing : tie.After-keep → tie.After-total-after
+summing c = c .before .before
 
 abbrev yes : tie.After-keep → tie.Else1
-yes c = c .before .before
+yes c = lent (summing c .before .before)
 
 abbrev slots : tie.After-keep → List ℕ
 slots c = c .keep .last .0
 
-abbrev keeping : tie.After-struct-known → tie.After-keep
+abbrev keeping : tie.After-struct-known2 → tie.After-keep
 keeping c = c .before .before .before
 
 abbrev applying : tie.After-inserts-of → tie.After-apply
@@ -63,6 +69,23 @@ returns c =
     ap (λ (q : Changed). answerOf q (s .args .words .now)) (c .refused .ensures)
     ∙ edit-not-allowed (end a) (s .args .f) (s .args .x) (a .ask .result) (a .ask .ensures .1) (a .ask .ensures .0 (s .args .x)) (c .before .if1 .taken)
 
+cast-total-after : tie.Need-cast-total-after
+cast-total-after c = search needs
+
+sub-total-after : tie.Need-sub-total-after
+sub-total-after c = search needs
+
+part-total-after-start : tie.Need-part-total-after-start
+part-total-after-start c = search needs
+
+part-total-after-end : tie.Need-part-total-after-end
+part-total-after-end c =
+    let e = lent c in
+    omega (arith, allowed e .room .before, start (asked e) .pre .0 .words)
+
+total-after-requires : tie.Need-total-after-requires
+total-after-requires c κs = allowed (lent (c .before)) .summed
+
 sub-keep : tie.Need-sub-keep
 sub-keep c = search needs
 
@@ -74,7 +97,7 @@ part-keep-end c = search needs
 
 keep-requires : tie.Need-keep-requires
 keep-requires c κs =
-    let e = c .before in
+    let e = lent (c .before .before .before) in
     ((allowed e .kept, allowed e .pending), start (asked e) .pre .1)
 
 add-kept : tie.Need-add-kept
@@ -114,10 +137,11 @@ returns-2 c =
     let i = v .before .before in
     let p = applying i in
     let k = kept p in
+    let t = summing k in
     ap (λ (q : Changed). answerOf q (p .apply .last .0))
-    (c .done .ensures ∙ ap (λ (q : Report). doneCounts (start (asked (yes k)) .args .k) q (v .kept .result) (p .apply .result)) (n .no-report .ensures))
-    ∙ allowed (yes k) .done (v .kept .result) (i .inserts-of .result) (p .apply .result) (slots k) (p .apply .last .0) (k .keep .ensures)
-    (i .inserts-of .ensures (start (asked (yes k)) .args .x)) (v .kept .ensures) (p .apply .ensures)
+    (c .done .ensures ∙ ap (λ (q : Report). doneCounts (start (asked (yes k)) .args .k) q (v .kept .result) (p .apply .result) (t .total-after .result)) (n .no-report .ensures))
+    ∙ allowed (yes k) .done (v .kept .result) (i .inserts-of .result) (p .apply .result) (t .total-after .result) (slots k) (p .apply .last .0) (k .keep .ensures)
+    (i .inserts-of .ensures (start (asked (yes k)) .args .x)) (v .kept .ensures) (t .total-after .ensures) (p .apply .ensures)
 
 pub edit-spec : {M : Type 1} → statement M
 edit-spec =
@@ -127,6 +151,11 @@ edit-spec =
     refused-requires
     same-length
     returns
+    cast-total-after
+    sub-total-after
+    part-total-after-start
+    part-total-after-end
+    total-after-requires
     sub-keep
     part-keep-start
     part-keep-end

@@ -52,8 +52,14 @@ accepted c =
     accepts (end s) (sound s) (s .args .a) (a .comes-down .result) (a .comes-down .ensures) (t .if1 .taken) (d .decide .result) (later d)
     (d .decide .ensures) (c .if2 .left) (s .pre .1 .0 .words)
 
+abbrev lent : tie.After-words2 → tie.Else2
+lent c = c .before .before
+
+abbrev summing : tie.After-later2 → tie.After-total-after
+summing c = c .before .before
+
 abbrev passed : tie.After-later2 → tie.Else2
-passed c = c .before .before
+passed c = lent (summing c .before .before)
 
 abbrev accepting : tie.After-apply-arg → tie.After-accept
 accepting c = c .before .before .before
@@ -91,6 +97,23 @@ returns c =
     ∙ refuses (end s) (sound s) (s .args .a) (a .comes-down .result) (a .comes-down .ensures) (t .if1 .taken) (d .decide .result) (later d)
     (d .decide .ensures) (c .before .if2 .taken)
 
+cast-total-after : tie.Need-cast-total-after
+cast-total-after c = search needs
+
+sub-total-after : tie.Need-sub-total-after
+sub-total-after c = search needs
+
+part-total-after-start : tie.Need-part-total-after-start
+part-total-after-start c = search needs
+
+part-total-after-end : tie.Need-part-total-after-end
+part-total-after-end c =
+    let e = lent c in
+    omega (arith, accepted e .room .before, start (asked (yes (decided e))) .pre .1 .0 .words)
+
+total-after-requires : tie.Need-total-after-requires
+total-after-requires c κs = accepted (lent (c .before)) .summed
+
 sub-accept : tie.Need-sub-accept
 sub-accept c = search needs
 
@@ -98,7 +121,7 @@ part-accept-start : tie.Need-part-accept-start
 part-accept-start c = search needs
 
 part-accept-end : tie.Need-part-accept-end
-part-accept-end c = search needs
+part-accept-end c = omega (arith, start (asked (yes (decided (lent (c .before .before))))) .pre .1 .0 .words)
 
 slice-aggregate-accept : tie.Need-slice-aggregate-accept
 slice-aggregate-accept c = sym (accepted (passed c) .places)
@@ -125,8 +148,10 @@ returns-2 : tie.Need-returns-2
 returns-2 c =
     let l = c .before .before .before in
     let p = accepting (l .before) in
+    let t = summing (p .before) in
     ap (λ (q : Changed). answerOf q (l .apply .last .0)) (c .done .ensures)
-    ∙ accepted (passed (p .before)) .done (l .apply .result) (p .accept .last .0) (l .apply .last .0) (p .accept .ensures) (l .apply .ensures)
+    ∙ accepted (passed (p .before)) .done (l .apply .result) (t .total-after .result) (p .accept .last .0) (l .apply .last .0) (p .accept .ensures)
+    (t .total-after .ensures) (l .apply .ensures)
 
 refused-requires-2 : tie.Need-refused-requires-2
 refused-requires-2 c κs = search needs
@@ -150,6 +175,11 @@ take-arrival-spec =
     refused-requires
     same-length
     returns
+    cast-total-after
+    sub-total-after
+    part-total-after-start
+    part-total-after-end
+    total-after-requires
     sub-accept
     part-accept-start
     part-accept-end
