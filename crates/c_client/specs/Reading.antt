@@ -6,7 +6,14 @@ use Rattle.c_layout.specs.Numbers.{capped, cappedLine}
 
 abbrev pub cappedCounts : Counts → Counts
 cappedCounts k =
-    record { own = cappedLine (k .own); len = capped 65535 (k .len); n = capped 255 (k .n); line = capped 255 (k .line); ranks = k .ranks }
+    record {
+      own = cappedLine (k .own);
+      len = capped 65535 (k .len);
+      total = k .total;
+      n = capped 255 (k .n);
+      line = capped 255 (k .line);
+      ranks = k .ranks;
+    }
 
 abbrev pub cappedEnd : Client → Client
 cappedEnd c = clientOf (cappedCounts (c .counts)) (c .words)

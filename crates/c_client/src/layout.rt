@@ -29,7 +29,9 @@ const RANKS: usize = 3;
 
 const OWN: usize = RANKS + ranks::WORDS;
 
-const WORDS: usize = OWN + LINE;
+const TOTAL: usize = OWN + LINE;
+
+const WORDS: usize = TOTAL + 1;
 
 // The bytes of a client.
 pub const SIZE: usize = 4 * (WORDS + Client::WORDS);
@@ -42,9 +44,11 @@ fn counts(bytes: &[u8]) -> Counts
     get(bytes, N, &mut numbers);
     let own = line_at(&numbers, OWN);
     let ranks = ranks::read(bytes);
+    let total = numbers[TOTAL];
     Counts {
         own,
         len: in_16(numbers[LEN]),
+        total,
         n: in_8(numbers[N]),
         line: in_8(numbers[OF]),
         ranks,
@@ -69,6 +73,7 @@ pub fn write(bytes: &mut [u8], k: Counts, words: &[u32])
     numbers[N] = k.n as u32;
     numbers[OF] = k.line as u32;
     numbers[LEN] = k.len as u32;
+    numbers[TOTAL] = k.total;
     let own = k.own;
     put_line(&mut numbers, OWN, own);
     put(bytes, N, &numbers);

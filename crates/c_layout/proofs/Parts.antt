@@ -104,5 +104,16 @@ put-front a b x l h e =
     let long : length (take a l ++ x) ≡ b = omega (arith, length-append (take a l) x, length-take-le a l h) in
     ap (take b) (sym (append-assoc (take a l) x rest)) ∙ take-at (take a l ++ x) rest b long
 
+-- and what stands behind it
+pub put-behind : (a b : ℕ) (x l : List ℕ) → a ≤ length l → a + length x ≤ b → drop b (putAt a x l) ≡ drop b l
+put-behind a b x l h t =
+    let c : ℕ = a + length x in
+    let far : b ≡ c + (b - c) = omega arith in
+    let long : length (take a l ++ x) ≡ c = omega (arith, length-append (take a l) x, length-take-le a l h) in
+    let here : drop c (putAt a x l) ≡ drop c l =
+    ap (drop c) (sym (append-assoc (take a l) x (drop c l))) ∙ drop-at (take a l ++ x) (drop c l) c long in
+    ap (λ (k : ℕ). drop k (putAt a x l)) far ∙ sym (drop-drop (b - c) c (putAt a x l)) ∙ ap (drop (b - c)) here
+    ∙ drop-drop (b - c) c l ∙ ap (λ (k : ℕ). drop k l) (sym far)
+
 pub put-length : (a : ℕ) (x l : List ℕ) → a + length x ≤ length l → length (putAt a x l) ≡ length l
 put-length a x l h = simp (length-append, length-take, length-drop) (omega arith)

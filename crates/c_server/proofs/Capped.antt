@@ -54,7 +54,7 @@ module _ (s : Server) (yes′ : sound s ≡ true) where
   small-unused : (i : ℕ) → s .counts .n ≤ i → i < maxLines → Small (countsAt (s .counts) i)
   unfolding sound
   small-unused i l h =
-      let all-empty = hold (soundTests s) yes′ .1 .1 .1 .1 .1 .1 .1 .0 in
+      let all-empty = hold (soundTests s) yes′ .1 .1 .1 .1 .1 .1 .1 .1 .0 in
       let empty = each-last (emptyAt (s .counts) (s .words)) (s .counts .n) maxLines all-empty i l h in
       let unmade = and-left (emptyLine (countsAt (s .counts) i) (slotsAt i (s .words))) (allZero (makersAt i (s .words))) empty in
       subst Small (sym (empty-counts (countsAt (s .counts) i) (slotsAt i (s .words)) unmade))
@@ -77,7 +77,7 @@ module _ (s : Server) (yes′ : sound s ≡ true) where
 module _ (s : Server) (eight : length (s .counts .lines) ≡ maxLines) where
   same : capped 255 (s .counts .n) ≡ s .counts .n → capped 65535 (s .counts .initial) ≡ s .counts .initial → capped 65535 (s .counts .len) ≡ s .counts .len
       → map cappedLine (s .counts .lines) ≡ s .counts .lines → cappedEnd s ≡ s
-  same n initial len lines = λ i. serverOf (record { n = n i; initial = initial i; len = len i; ranks = s .counts .ranks; lines = lines i }) (s .words)
+  same n initial len lines = λ i. serverOf (record { n = n i; initial = initial i; len = len i; total = s .counts .total; ranks = s .counts .ranks; lines = lines i }) (s .words)
 
   pub sound-same : sound s ≡ true → cappedEnd s ≡ s
   sound-same yes′ =

@@ -13,18 +13,19 @@ use Rattle.c_layout.specs.Words.{wordsOf, Bytes}
 use Rattle.c_layout.specs.Numbers.{linesAt, linesWords}
 use Rattle.c_layout.specs.Ranks.{ranksIn, ranked}
 
--- the bytes of the server: 2,597 words
+-- the bytes of the server: 2,598 words
 abbrev pub size : ℕ
-size = 10388
+size = 10392
 
 -- how many words are its numbers, the ranks among them
 abbrev pub numbers : ℕ
-numbers = 37
+numbers = 38
 
--- Words 0 to 2 are n, how many items it was opened with, and the length of its list. Then come the ranks, eight bytes, and from word 5 on the
--- counts of eight lines, four words each; then the words of the server.
+-- Words 0 to 2 are n, how many items it was opened with, and the length of its list. Then come the ranks, eight bytes, from word 5 on the
+-- counts of eight lines, four words each, and in word 37 the total; then the words of the server.
 abbrev pub countsOf : List ℕ → List ℕ → Counts
-countsOf ranks ws = record { n = getD ws 0 0; initial = getD ws 1 0; len = getD ws 2 0; ranks = ranks; lines = linesAt ws 5 maxLines }
+countsOf ranks ws =
+    record { n = getD ws 0 0; initial = getD ws 1 0; len = getD ws 2 0; total = getD ws 37 0; ranks = ranks; lines = linesAt ws 5 maxLines }
 
 abbrev pub countsIn : List ℕ → Counts
 countsIn bytes = countsOf (ranksIn bytes) (wordsOf bytes)
@@ -33,7 +34,7 @@ abbrev pub firstIn : Counts → List ℕ
 firstIn k = k .n ∷ k .initial ∷ k .len ∷ []
 
 abbrev pub restIn : Server → List ℕ
-restIn s = linesWords (s .counts .lines) ++ s .words
+restIn s = linesWords (s .counts .lines) ++ (s .counts .total ∷ s .words)
 
 -- the bytes of an end, and the end that bytes are; those past the layout do not matter
 unfoldable pub bytesIn : Server → List ℕ

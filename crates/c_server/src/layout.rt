@@ -30,7 +30,9 @@ const RANKS: usize = 3;
 
 const LINES: usize = RANKS + ranks::WORDS;
 
-pub const WORDS: usize = LINES + LINE * Server::LINES;
+const TOTAL: usize = LINES + LINE * Server::LINES;
+
+pub const WORDS: usize = TOTAL + 1;
 
 // The bytes of the server.
 pub const SIZE: usize = 4 * (WORDS + Server::WORDS);
@@ -58,6 +60,7 @@ pub fn counts(bytes: &[u8]) -> Counts
         n: in_8(numbers[N]),
         initial: in_16(numbers[INITIAL]),
         len: in_16(numbers[LEN]),
+        total: numbers[TOTAL],
         ranks,
         lines,
     }
@@ -71,6 +74,7 @@ fn put_counts(k: Counts, words: &mut [u32])
     words[N] = k.n as u32;
     words[INITIAL] = k.initial as u32;
     words[LEN] = k.len as u32;
+    words[TOTAL] = k.total;
     for i in 0..Server::LINES {
         let v = k.lines[i];
         let at = LINES + LINE * i;

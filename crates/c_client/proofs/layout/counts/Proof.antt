@@ -1,3 +1,5 @@
+use mathlib.Core.Path.{refl}
+use lib.ListN.{getD}
 use denote.Ref.{now}
 use Rattle.c_client.proofs.Ends.{counts-read}
 use borrow.Author.Needs.{needs}
@@ -31,6 +33,9 @@ line-at-requires c κs = search needs
 read-requires : tie.Need-read-requires
 read-requires c κs = search needs
 
+array-read-total : tie.Need-array-read-total
+array-read-total c = search needs
+
 array-read-in-16 : tie.Need-array-read-in-16
 array-read-in-16 c = search needs
 
@@ -56,8 +61,9 @@ returns c =
     let r = ranked len in
     let o = own r in
     let g = got o in
-    counts-read (now (start g .args .bytes)) (g .get .last .1 .1 .0) (o .line-at .result) (len .in-16 .result) (n .in-8 .result)
-    (c .in-82 .result) (r .read .result) (g .get .ensures) (o .line-at .ensures) (len .in-16 .ensures) (n .in-8 .ensures) (c .in-82 .ensures) (r .read .ensures)
+    let ns = g .get .last .1 .1 .0 in
+    counts-read (now (start g .args .bytes)) ns (o .line-at .result) (len .in-16 .result) (getD ns 9 0) (n .in-8 .result) (c .in-82 .result) (r .read .result)
+    (g .get .ensures) (o .line-at .ensures) (len .in-16 .ensures) refl (n .in-8 .ensures) (c .in-82 .ensures) (r .read .ensures)
 
 pub counts-spec : {M : Type 1} → statement M
 counts-spec =
@@ -68,6 +74,7 @@ counts-spec =
     slice-aggregate-line-at
     line-at-requires
     read-requires
+    array-read-total
     array-read-in-16
     in-16-requires
     array-read-in-8

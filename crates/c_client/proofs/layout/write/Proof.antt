@@ -43,6 +43,9 @@ cast-numbers-3 c = search needs
 array-write-numbers-3 : tie.Need-array-write-numbers-3
 array-write-numbers-3 c = search needs
 
+array-write-numbers-4 : tie.Need-array-write-numbers-4
+array-write-numbers-4 c = search needs
+
 slice-aggregate-put-line : tie.Need-slice-aggregate-put-line
 slice-aggregate-put-line c = search needs
 
@@ -85,6 +88,7 @@ write-spec =
     array-write-numbers-2
     cast-numbers-3
     array-write-numbers-3
+    array-write-numbers-4
     slice-aggregate-put-line
     put-line-requires
     slice-aggregate-put

@@ -83,6 +83,9 @@ array-read-in-16-2 c = search needs
 in-16-requires-2 : tie.Need-in-16-requires-2 Inv-loop μ-loop
 in-16-requires-2 c κs = search needs
 
+array-read-t32 : tie.Need-array-read-t32 Inv-loop μ-loop
+array-read-t32 c = search needs
+
 returns : tie.Need-returns Inv-loop μ-loop
 returns c =
     let i = c .before in
@@ -90,8 +93,8 @@ returns c =
     let r = n .before in
     let l = r .before .before in
     let g = got l in
-    counts-read (now (start g .args .bytes)) (g .get .last .1 .1 .0) (n .in-8 .result) (i .in-16 .result) (c .in-162 .result) (r .read .result) (l .loop .lines)
-    (g .get .ensures) (n .in-8 .ensures) (i .in-16 .ensures) (c .in-162 .ensures) (r .read .ensures) (reading-end (g .get .last .1 .1 .0) (l .loop .lines) (l .loop .i) (omega arith) (l .loop .inv))
+    counts-read (now (start g .args .bytes)) (g .get .last .1 .1 .0) (n .in-8 .result) (i .in-16 .result) (c .in-162 .result) _ (r .read .result) (l .loop .lines)
+    (g .get .ensures) (n .in-8 .ensures) (i .in-16 .ensures) (c .in-162 .ensures) refl (r .read .ensures) (reading-end (g .get .last .1 .1 .0) (l .loop .lines) (l .loop .i) (omega arith) (l .loop .inv))
 
 pub counts-spec : {M : Type 1} → statement M
 counts-spec =
@@ -118,4 +121,5 @@ counts-spec =
     in-16-requires
     array-read-in-16-2
     in-16-requires-2
+    array-read-t32
     returns)

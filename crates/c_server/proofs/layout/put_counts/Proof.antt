@@ -45,6 +45,9 @@ cast-words-3 c = search needs
 slice-write-words-3 : tie.Need-slice-write-words-3 Inv-loop μ-loop
 slice-write-words-3 c = simp length-set (omega (arith, long (c .before)))
 
+slice-write-words-4 : tie.Need-slice-write-words-4 Inv-loop μ-loop
+slice-write-words-4 c = simp length-set (omega (arith, long (c .before)))
+
 loop-holds : tie.Need-loop-holds Inv-loop μ-loop
 loop-holds c = writing-start (c .before .args .t1) (now (c .before .args .words)) (search (needs, counted)) (c .before .pre)
 
@@ -96,6 +99,7 @@ put-counts-spec =
     slice-write-words-2
     cast-words-3
     slice-write-words-3
+    slice-write-words-4
     loop-holds
     mul-v
     element-copy-out-v
