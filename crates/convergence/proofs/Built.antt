@@ -3,6 +3,7 @@ use mathlib.Core.Path.{_≡_, refl, ap, _∙_}
 use mathlib.Core.Bool.{Bool, true, false, cond}
 use Prim.Native.Nat.{ℕ, _-_}
 use lib.ListN.{List·getD-map}
+use Rattle.list.specs.Seconds.{runningTime}
 use Rattle.list.proofs.Pad.{pad-getD}
 use Rattle.model.specs.Questions.{Answer}
 use Rattle.model.specs.Line.{noLine}
@@ -75,6 +76,7 @@ client-follows : ClientFollows clientCalls ours.clientCalls (Stands clients)
 client-follows =
     record {
       items = λ c m r. ap (λ (x : Client). clientView.view x .items) (r .0) ∙ ap (λ (v : model.Client). v .items) (clientStored.client-view m (r .1));
+      total = λ c m r. ap (λ (x : Client). x .counts .total) (r .0);
       made = λ c m r. ap (λ (x : Client). x .counts .own .made) (r .0);
       taken = λ c m r. ap (λ (x : Client). x .counts .own .taken) (r .0);
       opens-refusal = λ n l ranks xs. refl;
@@ -133,11 +135,16 @@ server-line s m r l =
     ap (λ (x : Server). serverView.countsAt (x .counts) (l - 1)) (r .0)
     ∙ List·getD-map countsOf (serverView.allLines m) (l - 1) noLine ∙ ap countsOf (pad-getD 8 noLine (m .lines) (l - 1))
 
+server-total : (s : Server) (m : models.Server) → Stands servers s m → s .counts .total ≡ runningTime (m .items)
+unfolding serverView.store
+server-total s m r = ap (λ (x : Server). x .counts .total) (r .0)
+
 server-follows : ServerFollows serverCalls ours.serverCalls (Stands servers)
 unfolding serverView.view
 server-follows =
     record {
       items = λ s m r. ap (λ (x : Server). serverView.view x .items) (r .0) ∙ ap (λ (v : models.Server). v .items) (serverStored.view-store m (r .1));
+      total = λ s m r. server-total s m r;
       made = λ s m r l. ap (λ v. v .made) (server-line s m r l);
       taken = λ s m r l. ap (λ v. v .taken) (server-line s m r l);
       opens-refusal = λ n ranks xs. refl;

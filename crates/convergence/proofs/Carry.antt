@@ -30,6 +30,7 @@ pub record Alike {A B : Type 0} (R : A → B → Type 0) (a : Answer A) (b : Ans
 module _ (S T : Sheet) (R : S .End → T .End → Type 0) where
   pub record Follows : Type 0 where
     pub items : (a : S .End) (b : T .End) → R a b → S .items a ≡ T .items b
+    pub total : (a : S .End) (b : T .End) → R a b → S .total a ≡ T .total b
     pub made : (a : S .End) (b : T .End) → R a b → (l : ℕ) → S .made a l ≡ T .made b l
     pub taken : (a : S .End) (b : T .End) → R a b → (l : ℕ) → S .taken a l ≡ T .taken b l
     pub server-refusal : (n : ℕ) (ranks xs : List ℕ) → S .openServer n ranks xs .refusal ≡ T .openServer n ranks xs .refusal
@@ -176,6 +177,7 @@ module _ (S T : Sheet) (R : S .End → T .End → Type 0) where
       holds-beside o =
           record {
             lists = λ a h. f .items (ends a) (t .ends a) (related a h) ∙ o .lists a h;
+            totals = λ a h. f .total (ends a) (t .ends a) (related a h) ∙ o .totals a h;
             origins = λ a h. subst (λ (l : List Place). Once (map (λ p. nameOf (p .origin)) l)) (sym (f .items (ends a) (t .ends a) (related a h))) (o .origins a h);
             messages = o .messages;
             read-back = o .read-back;

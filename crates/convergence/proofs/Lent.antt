@@ -88,6 +88,7 @@ unfolding client.openedIn client.insertedIn client.deletedIn client.takenIn clie
 client-follows b h =
     record {
       items = λ e c r. ap (clientCalls .items) (r .0);
+      total = λ e c r. ap (clientCalls .total) (r .0);
       made = λ e c r. ap (clientCalls .made) (r .0);
       taken = λ e c r. ap (clientCalls .taken) (r .0);
       opens-refusal = λ n l ranks xs.
@@ -155,6 +156,7 @@ unfolding server.openedIn server.takenIn server.answered server.sentIn server.ac
 server-follows b h =
     record {
       items = λ e s r. ap (serverCalls .items) (r .0);
+      total = λ e s r. ap (serverCalls .total) (r .0);
       made = λ e s r l. ap (λ (t : Server). serverCalls .made t l) (r .0);
       taken = λ e s r l. ap (λ (t : Server). serverCalls .taken t l) (r .0);
       opens-refusal = λ n ranks xs.

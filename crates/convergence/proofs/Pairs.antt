@@ -9,6 +9,7 @@ use Rattle.convergence.proofs.Carry.{Alike, Follows}
 
 pub record ClientFollows (c d : ClientCalls) (R : c .Client → d .Client → Type 0) : Type 0 where
   pub items : (a : c .Client) (b : d .Client) → R a b → c .items a ≡ d .items b
+  pub total : (a : c .Client) (b : d .Client) → R a b → c .total a ≡ d .total b
   pub made : (a : c .Client) (b : d .Client) → R a b → c .made a ≡ d .made b
   pub taken : (a : c .Client) (b : d .Client) → R a b → c .taken a ≡ d .taken b
   pub opens-refusal : (n l : ℕ) (ranks xs : List ℕ) → c .opens n l ranks xs .refusal ≡ d .opens n l ranks xs .refusal
@@ -22,6 +23,7 @@ pub record ClientFollows (c d : ClientCalls) (R : c .Client → d .Client → Ty
 
 pub record ServerFollows (v w : ServerCalls) (R : v .Server → w .Server → Type 0) : Type 0 where
   pub items : (a : v .Server) (b : w .Server) → R a b → v .items a ≡ w .items b
+  pub total : (a : v .Server) (b : w .Server) → R a b → v .total a ≡ w .total b
   pub made : (a : v .Server) (b : w .Server) → R a b → (l : ℕ) → v .made a l ≡ w .made b l
   pub taken : (a : v .Server) (b : w .Server) → R a b → (l : ℕ) → v .taken a l ≡ w .taken b l
   pub opens-refusal : (n : ℕ) (ranks xs : List ℕ) → v .opens n ranks xs .refusal ≡ w .opens n ranks xs .refusal
@@ -56,6 +58,7 @@ module _ (c d : ClientCalls) (v w : ServerCalls) (P : c .Client → d .Client �
   follows f g =
       record {
         items = either (λ a b r. sheetOf c v .items a ≡ sheetOf d w .items b) (f .items) (g .items);
+        total = either (λ a b r. sheetOf c v .total a ≡ sheetOf d w .total b) (f .total) (g .total);
         made = either (λ a b r. (l : ℕ) → sheetOf c v .made a l ≡ sheetOf d w .made b l) (λ a b r l. f .made a b r) (g .made);
         taken = either (λ a b r. (l : ℕ) → sheetOf c v .taken a l ≡ sheetOf d w .taken b l) (λ a b r l. f .taken a b r) (g .taken);
         server-refusal = g .opens-refusal;

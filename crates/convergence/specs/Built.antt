@@ -37,6 +37,7 @@ clientCalls =
     record {
       Client = Client;
       items = λ c. clientView.listIn (c .counts .len) (c .words);
+      total = λ c. c .counts .total;
       made = λ c. c .counts .own .made;
       taken = λ c. c .counts .own .taken;
       opens = λ n l ranks items. clientAnswer (client.opened n l ranks items);
@@ -52,6 +53,7 @@ serverCalls =
     record {
       Server = Server;
       items = λ s. serverView.listIn (s .counts .len) (s .words);
+      total = λ s. s .counts .total;
       made = λ s l. serverView.countsAt (s .counts) (l - 1) .made;
       taken = λ s l. serverView.countsAt (s .counts) (l - 1) .taken;
       opens = λ n ranks items. serverAnswer (server.opened n ranks items);

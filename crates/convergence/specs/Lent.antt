@@ -32,6 +32,7 @@ clientsLent lent =
     record {
       Client = List ℕ;
       items = λ b. clientCalls .items (clients.endIn b);
+      total = λ b. clientCalls .total (clients.endIn b);
       made = λ b. clientCalls .made (clients.endIn b);
       taken = λ b. clientCalls .taken (clients.endIn b);
       opens = λ n l ranks items. answerOf (client.openedIn (lent l) n l ranks (itemBytes items));
@@ -47,6 +48,7 @@ serverLent lent =
     record {
       Server = List ℕ;
       items = λ b. serverCalls .items (servers.endIn b);
+      total = λ b. serverCalls .total (servers.endIn b);
       made = λ b. serverCalls .made (servers.endIn b);
       taken = λ b. serverCalls .taken (servers.endIn b);
       opens = λ n ranks items. answerOf (server.openedIn lent n ranks (itemBytes items));

@@ -23,7 +23,7 @@ allSize = 9216
 
 -- past the last place
 abbrev pub noCounts : Counts
-noCounts = record { own = countsOf noLine; len = 0; n = 0; line = 0; ranks = [] }
+noCounts = record { own = countsOf noLine; len = 0; total = 0; n = 0; line = 0; ranks = [] }
 
 -- the client at place i, counted from 0
 abbrev pub clientAt : List Counts → List ℕ → ℕ → Client

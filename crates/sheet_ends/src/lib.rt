@@ -61,6 +61,7 @@ pub fn open_clients(
     let none = Counts {
         own,
         len: 0,
+        total: 0,
         n: 0,
         line: 0,
         ranks: zeros,
