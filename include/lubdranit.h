@@ -13,6 +13,7 @@
  *     lub_client_open(end, sizeof end, 3, 1, ranks, sizeof ranks, steps, sizeof steps);
  *     lub_client_insert(end, sizeof end, 1, 201);               step 201 at the front, shown at once
  *     lub_client_maker(end, 1);                                 1: client 1 put it there; 0 for a step of the opening list
+ *     lub_client_total(end);                                    404: the seconds of the three steps
  *     answer = lub_client_send(end, sizeof end, 1, 1, message, sizeof message);
  *     if (lub_refusal(answer) == 0)
  *         carry(message, lub_count(answer));                    to the server, which takes it
@@ -50,8 +51,8 @@ extern "C" {
 #define LUB_ITEMS 512u          /* items of a list */
 #define LUB_INITIAL 128u        /* items at opening */
 
-#define LUB_CLIENT_BYTES 4644u  /* a client's end */
-#define LUB_SERVER_BYTES 10388u /* the server's end */
+#define LUB_CLIENT_BYTES 4648u  /* a client's end */
+#define LUB_SERVER_BYTES 10392u /* the server's end */
 #define LUB_MESSAGE_BYTES 17u   /* the longest message: an insert has 17 bytes, a delete 12, an edit that became nothing 10 */
 #define LUB_RUN_BYTES 262144u   /* room for any output of lub_run */
 
@@ -173,13 +174,16 @@ static inline unsigned lub_server_rank(const uint8_t *end, unsigned line) { retu
  * edit. An item of the opening list has line 0 and its place in that list as number. */
 static inline unsigned lub_client_length(const uint8_t *end) { return (unsigned)lub_word(end, 2); }
 
-static inline uint32_t lub_client_item(const uint8_t *end, unsigned position) { return lub_place(end, 9, position); }
+static inline uint32_t lub_client_item(const uint8_t *end, unsigned position) { return lub_place(end, 10, position); }
 
-static inline unsigned lub_client_maker(const uint8_t *end, unsigned position) { return (unsigned)(lub_place(end, 649, position) >> 16); }
+static inline unsigned lub_client_maker(const uint8_t *end, unsigned position) { return (unsigned)(lub_place(end, 650, position) >> 16); }
 
 static inline unsigned lub_client_maker_number(const uint8_t *end, unsigned position) {
-    return (unsigned)(lub_place(end, 649, position) & 0xffff);
+    return (unsigned)(lub_place(end, 650, position) & 0xffff);
 }
+
+/* The running time of the list: the seconds of its items together. An item's seconds are its low 12 bits; the other 20 are its code. */
+static inline uint32_t lub_client_total(const uint8_t *end) { return lub_word(end, 9); }
 
 /* Edits made here, edits taken, and how many of those made the server has acknowledged: numbers acked + 1 to made are pending. */
 static inline unsigned lub_client_made(const uint8_t *end) { return (unsigned)lub_word(end, 5); }
@@ -190,13 +194,15 @@ static inline unsigned lub_client_acked(const uint8_t *end) { return (unsigned)l
 
 static inline unsigned lub_server_length(const uint8_t *end) { return (unsigned)lub_word(end, 2); }
 
-static inline uint32_t lub_server_item(const uint8_t *end, unsigned position) { return lub_place(end, 37, position); }
+static inline uint32_t lub_server_item(const uint8_t *end, unsigned position) { return lub_place(end, 38, position); }
 
-static inline unsigned lub_server_maker(const uint8_t *end, unsigned position) { return (unsigned)(lub_place(end, 1573, position) >> 16); }
+static inline unsigned lub_server_maker(const uint8_t *end, unsigned position) { return (unsigned)(lub_place(end, 1574, position) >> 16); }
 
 static inline unsigned lub_server_maker_number(const uint8_t *end, unsigned position) {
-    return (unsigned)(lub_place(end, 1573, position) & 0xffff);
+    return (unsigned)(lub_place(end, 1574, position) & 0xffff);
 }
+
+static inline uint32_t lub_server_total(const uint8_t *end) { return lub_word(end, 37); }
 
 /* Of a line from 1 to 8: edits made for it, edits taken on it, and how many of those made its client has acknowledged. */
 static inline unsigned lub_server_count(const uint8_t *end, unsigned line, size_t which) {

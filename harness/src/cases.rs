@@ -321,7 +321,7 @@ fn on(subject: &dyn Calls) -> bool {
         ("opening items' origins", opening_origins(subject)),
         ("inserts", script(&inserts.0, &inserts.1)),
         ("pending", script(&pending.0, &pending.1)),
-        ("the layouts' lengths", equal((4644, 10388), (subject.client_bytes(), subject.server_bytes()))),
+        ("the layouts' lengths", equal((4648, 10392), (subject.client_bytes(), subject.server_bytes()))),
         ("ranks", ranks(subject)),
         ("client 5 with rank 1", lead(subject)),
         ("ties", ties(subject)),

@@ -135,13 +135,15 @@ pub fn poked(slot: u8, bytes: &[u8]) -> Vec<Call> {
     bytes.iter().enumerate().map(|(at, &byte)| Call::poke(slot, at as u16, byte, bytes.len() as u8)).collect()
 }
 
-/// The items past the first 128 of a long list, each with an origin.
+/// The items past the first 128 of a long list, each with an origin, and the total with them.
 fn items(end: u8, length: u16) -> Vec<Call> {
     let place = |index: u16| {
         let origin = layout::origin_word((index as u8 % 8 + 1, index / 8));
         [Call::field(end, 0, Field::Item(index), 1000 + index as u32), Call::field(end, 0, Field::Origin(index), origin)]
     };
-    (128..length).flat_map(place).collect()
+    let all: Vec<u32> = (0..length).map(|index| if index < 128 { index as u32 + 1 } else { 1000 + index as u32 }).collect();
+    let total = Call::field(end, 1, Field::Total, layout::seconds(&all));
+    (128..length).flat_map(place).chain([total]).collect()
 }
 
 /// Pending edits all over the list, inserts and deletes in turn; inserts have the priority given.

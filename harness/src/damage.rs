@@ -13,8 +13,8 @@ pub fn ranks(seed: u64) -> Vec<u8> {
     all[seed as usize % all.len()].clone()
 }
 
-/// A short run whose slots hold real messages of all kinds, and the slots. Neighbouring seeds rank the lines differently.
-pub fn furnished(seed: u64) -> (List, Vec<(u8, Vec<u8>)>) {
+/// A short run, and where it leads: its slots hold real messages of all kinds. Neighbouring seeds rank the lines differently.
+pub fn furnished(seed: u64) -> (List, World<'static, Plain>) {
     let initial = (1..=20).collect();
     let mut list = List::ranked(&ranks(seed), initial);
     let mut rng = Rng::new(seed);
@@ -49,8 +49,7 @@ pub fn furnished(seed: u64) -> (List, Vec<(u8, Vec<u8>)>) {
     let mut world = World::unwatched(&Plain);
     let mut unread = Vec::new();
     list.calls.iter().for_each(|call| world.perform(call, &list.initial, &mut unread));
-    let messages = (0..13).map(|slot| (slot, world.message(slot).to_vec())).collect();
-    (list, messages)
+    (list, world)
 }
 
 fn meant_for(bytes: &[u8]) -> u8 {
@@ -71,27 +70,28 @@ fn tried(prefix: &List, slot: u8, pokes: &[Call], end: u8) -> List {
 /// Every single-bit change of one real message, every value of every byte of it, every shorter or longer length,
 /// and lengths that are its own in 8 or 16 bits.
 pub fn bytes(seed: u64) -> Vec<List> {
-    let (prefix, messages) = furnished(seed);
-    let (slot, message) = &messages[seed as usize % messages.len()];
+    let (prefix, world) = furnished(seed);
+    let slot = (seed % 13) as u8;
+    let message = world.message(slot);
     let end = meant_for(message);
     let length = message.len() as u8;
     let mut lists = Vec::new();
     for (at, &byte) in message.iter().enumerate() {
         for value in (0..=255).filter(|&value| value != byte) {
-            let poke = [Call::poke(*slot, at as u16, value, length)];
-            lists.push(tried(&prefix, *slot, &poke, end));
+            let poke = [Call::poke(slot, at as u16, value, length)];
+            lists.push(tried(&prefix, slot, &poke, end));
             if (value ^ byte).count_ones() == 1 {
                 let other = Rng::new(seed ^ value as u64).below(9) as u8;
-                lists.push(tried(&prefix, *slot, &poke, other));
+                lists.push(tried(&prefix, slot, &poke, other));
             }
         }
     }
     for wrong in (0..=SLOT as u8).filter(|&wrong| wrong != length) {
-        lists.push(tried(&prefix, *slot, &[Call::poke(*slot, 0, message[0], wrong)], end));
+        lists.push(tried(&prefix, slot, &[Call::poke(slot, 0, message[0], wrong)], end));
     }
     for tail in [1, 2, TAIL as u16] {
         let mut list = prefix.clone();
-        list.calls.extend([Call::dump(end), Call { number: tail, ..Call::take(end, *slot) }, Call::dump(end)]);
+        list.calls.extend([Call::dump(end), Call { number: tail, ..Call::take(end, slot) }, Call::dump(end)]);
         lists.push(list);
     }
     lists

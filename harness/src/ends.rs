@@ -5,7 +5,9 @@ use crate::generate::Run;
 use crate::layout::{self, Field, NUMBERS};
 use crate::limits::LINES;
 use crate::list::*;
+use crate::plain::slip::Plain;
 use crate::rng::Rng;
+use crate::world::World;
 
 /// The edge values of a number.
 fn edge_values(field: Field) -> &'static [u32] {
@@ -17,6 +19,7 @@ fn edge_values(field: Field) -> &'static [u32] {
         Field::Taken => &[0, 1, 2, 399, 400, 401, 2799, 2800, 2801, 65_535],
         Field::Acked => &[0, 1, 2, 3, 64, 65, 400, 401, 2800, 65_535],
         Field::Inserts => &[0, 1, 2, 47, 48, 49, 255],
+        Field::Total => &[0, 1, 4095, 4096, 65_535, 512 * 4095, 512 * 4095 + 1],
         _ => &[0, 1, u32::MAX],
     }
 }
@@ -75,7 +78,7 @@ fn probes(end: u8, list: &mut List) {
 
 /// Every field of both kinds of end set to each of its edge values and to wider ones; then every kind of call.
 pub fn ends(seed: u64) -> Vec<List> {
-    let (prefix, _) = furnished(seed);
+    let (prefix, world) = furnished(seed);
     let mut lists = Vec::new();
     let mut add = |sets: &[Call], end: u8| {
         let mut list = prefix.clone();
@@ -96,7 +99,10 @@ pub fn ends(seed: u64) -> Vec<List> {
         }
         for index in [0, 17, 18, 19, 20, 21, 127, 128, 300, 511] {
             for &value in edge_values(Field::Item(index)) {
-                add(&[Call::field(end, 0, Field::Item(index), value)], end);
+                let item = Call::field(end, 0, Field::Item(index), value);
+                add(&[item], end);
+                // and with the total that it then has
+                add(&[item, total_with(&world, end, index, value)], end);
             }
             for value in ORIGINS {
                 add(&[Call::field(end, 0, Field::Origin(index), value)], end);
@@ -112,6 +118,10 @@ pub fn ends(seed: u64) -> Vec<List> {
                 }
             }
         }
+        let total = layout::seconds(&world.items(end as usize));
+        for change in [u32::MAX, 1, 4096, 65_536] {
+            add(&[Call::field(end, 1, Field::Total, total.wrapping_add(change))], end);
+        }
         for (field, value) in rank_words(&damage::ranks(seed)) {
             add(&[Call::field(end, 0, field, value)], end);
         }
@@ -120,6 +130,15 @@ pub fn ends(seed: u64) -> Vec<List> {
         }
     }
     [several(seed), lists].concat()
+}
+
+/// The total of an end's list with another item at an index; past the list's end it is the list's own.
+fn total_with(world: &World<Plain>, end: u8, index: u16, value: u32) -> Call {
+    let mut items = world.items(end as usize);
+    if let Some(item) = items.get_mut(index as usize) {
+        *item = value;
+    }
+    Call::field(end, 1, Field::Total, layout::seconds(&items))
 }
 
 /// The same with several fields of an end at once.

@@ -33,7 +33,8 @@ impl Run {
         let count = self.rng.pick(&[0, 1, 63, 64, 65, 399, 400, 401, 511, 512, 513, 2799, 2800, 2801, 65_535]);
         let place = self.rng.pick(&[0, 1, 2, 511, 512, 513, 65_535]) << 8 | self.rng.below(10) as u32;
         let origin = layout::origin_word((self.rng.between(0, 9) as u8, self.rng.pick(&[0, 1, 2, 399, 400, 401, 65_535])));
-        let (field, value) = match self.rng.below(15) {
+        let total = layout::seconds(&self.world.items(end as usize));
+        let (field, value) = match self.rng.below(16) {
             0 => (Field::N, self.rng.below(10) as u32),
             1 => (Field::Line, self.rng.below(10) as u32),
             2 => (Field::Length, count),
@@ -48,6 +49,7 @@ impl Run {
             11 => self.other_ranks(),
             12 => (Field::Origin(index), origin),
             13 => (Field::PendingOrigin(index), origin),
+            14 => (Field::Total, total.wrapping_add(self.rng.pick(&[u32::MAX, 0, 1, 2, 4096, 65_536]))),
             _ => return self.overwrite_all(end),
         };
         let value = if self.rng.once_in(6) { value | 1 << self.rng.between(8, 31) } else { value };

@@ -6,8 +6,8 @@ use crate::limits::*;
 
 /// Words before the counts: n, the line or the count of opening items, the length, and eight ranks in two words.
 const HEAD: u16 = 5;
-pub const CLIENT_WORDS: usize = HEAD as usize + 4 + ITEMS + 2 * PENDING + ITEMS;
-pub const SERVER_WORDS: usize = HEAD as usize + 4 * LINES + ITEMS + 2 * LINES * PENDING + ITEMS + LINES * PENDING;
+pub const CLIENT_WORDS: usize = HEAD as usize + 4 + 1 + ITEMS + 2 * PENDING + ITEMS;
+pub const SERVER_WORDS: usize = HEAD as usize + 4 * LINES + 1 + ITEMS + 2 * LINES * PENDING + ITEMS + LINES * PENDING;
 
 /// Words of an end.
 pub fn words(end: u8) -> usize {
@@ -38,6 +38,8 @@ pub enum Field {
     Taken,
     Acked,
     Inserts,
+    /// The seconds of the list's items together.
+    Total,
     Item(u16),
     /// Position * 256 + priority of a pending edit.
     Place(u16),
@@ -50,14 +52,15 @@ pub enum Field {
 }
 
 /// The numbers of an end, without its ranks and arrays.
-pub const NUMBERS: [Field; 8] =
-    [Field::N, Field::Line, Field::Length, Field::Initial, Field::Made, Field::Taken, Field::Acked, Field::Inserts];
+pub const NUMBERS: [Field; 9] =
+    [Field::N, Field::Line, Field::Length, Field::Initial, Field::Made, Field::Taken, Field::Acked, Field::Inserts, Field::Total];
 
 /// The word of a field, of line `line` where the server has one for each; none if the end has no such field.
 pub fn word(end: u8, line: u8, field: Field) -> Option<u16> {
     let lines = if end == 0 { LINES as u16 } else { 1 };
     let at = if end == 0 { (line as u16).wrapping_sub(1) } else { 0 };
-    let items = HEAD + 4 * lines;
+    let total = HEAD + 4 * lines;
+    let items = total + 1;
     let places = items + ITEMS as u16;
     let pending = PENDING as u16;
     let origins = places + 2 * pending * lines;
@@ -67,6 +70,7 @@ pub fn word(end: u8, line: u8, field: Field) -> Option<u16> {
         Field::Initial => (end == 0).then_some(1),
         Field::Length => Some(2),
         Field::Ranks(half) => (half < 2).then_some(3 + half),
+        Field::Total => Some(total),
         Field::Item(index) => (index < ITEMS as u16).then_some(items + index),
         Field::Origin(index) => (index < ITEMS as u16).then_some(origins + index),
         _ if at >= lines => None,
@@ -91,6 +95,11 @@ pub fn origin_word((maker, number): Origin) -> u32 {
     (maker as u32) << 16 | number as u32
 }
 
+/// The seconds of items together: the low 12 bits of each.
+pub fn seconds(items: &[u32]) -> u32 {
+    items.iter().map(|item| item & 4095).sum()
+}
+
 /// A word of an end's bytes.
 pub fn read(bytes: &[u8], word: u16) -> u32 {
     let at = 4 * word as usize;
@@ -100,7 +109,8 @@ pub fn read(bytes: &[u8], word: u16) -> u32 {
 /// What stands in a word, for a report.
 pub fn name(end: u8, index: u16) -> String {
     let lines = if end == 0 { LINES as u16 } else { 1 };
-    let items = HEAD + 4 * lines;
+    let total = HEAD + 4 * lines;
+    let items = total + 1;
     let places = items + ITEMS as u16;
     let origins = places + 2 * PENDING as u16 * lines;
     let of = |line: u16| if end == 0 { format!(" of line {line}") } else { String::new() };
@@ -109,10 +119,12 @@ pub fn name(end: u8, index: u16) -> String {
         names[index as usize].to_string()
     } else if index < HEAD {
         ["ranks of lines 1 to 4", "ranks of lines 5 to 8"][index as usize - 3].to_string()
-    } else if index < items {
+    } else if index < total {
         let (line, which) = ((index - HEAD) / 4 + 1, (index - HEAD) % 4);
         let name = ["made", "taken", "acked", "inserts"][which as usize];
         format!("{name}{}", of(line))
+    } else if index == total {
+        "total".to_string()
     } else if index < places {
         format!("items[{}]", index - items)
     } else if index < origins {
@@ -135,31 +147,33 @@ mod tests {
     /// The words that the layout names.
     #[test]
     fn named_words() {
-        assert_eq!((CLIENT_WORDS, SERVER_WORDS), (1161, 2597));
+        assert_eq!((CLIENT_WORDS, SERVER_WORDS), (1162, 2598));
         for (end, line, field, at) in [
             (1, 1, Field::Ranks(0), 3),
             (1, 1, Field::Inserts, 8),
-            (1, 1, Field::Item(511), 520),
-            (1, 1, Field::Place(0), 521),
-            (1, 1, Field::Brought(63), 648),
-            (1, 1, Field::Origin(0), 649),
-            (1, 1, Field::Origin(511), 1160),
+            (1, 1, Field::Total, 9),
+            (1, 1, Field::Item(511), 521),
+            (1, 1, Field::Place(0), 522),
+            (1, 1, Field::Brought(63), 649),
+            (1, 1, Field::Origin(0), 650),
+            (1, 1, Field::Origin(511), 1161),
             (0, 0, Field::Initial, 1),
             (0, 0, Field::Ranks(1), 4),
             (0, 1, Field::Made, 5),
             (0, 1, Field::Inserts, 8),
             (0, 2, Field::Taken, 10),
             (0, 8, Field::Acked, 35),
-            (0, 0, Field::Item(0), 37),
-            (0, 1, Field::Place(0), 549),
-            (0, 1, Field::Brought(0), 613),
-            (0, 2, Field::Place(63), 740),
-            (0, 8, Field::Brought(63), 1572),
-            (0, 0, Field::Origin(0), 1573),
-            (0, 0, Field::Origin(511), 2084),
-            (0, 1, Field::PendingOrigin(0), 2085),
-            (0, 2, Field::PendingOrigin(63), 2212),
-            (0, 8, Field::PendingOrigin(63), 2596),
+            (0, 0, Field::Total, 37),
+            (0, 0, Field::Item(0), 38),
+            (0, 1, Field::Place(0), 550),
+            (0, 1, Field::Brought(0), 614),
+            (0, 2, Field::Place(63), 741),
+            (0, 8, Field::Brought(63), 1573),
+            (0, 0, Field::Origin(0), 1574),
+            (0, 0, Field::Origin(511), 2085),
+            (0, 1, Field::PendingOrigin(0), 2086),
+            (0, 2, Field::PendingOrigin(63), 2213),
+            (0, 8, Field::PendingOrigin(63), 2597),
         ] {
             assert_eq!(word(end, line, field), Some(at), "{end} {line} {field:?}");
         }
@@ -168,12 +182,13 @@ mod tests {
         assert_eq!(word(1, 1, Field::Ranks(2)), None);
         assert_eq!(word(1, 1, Field::PendingOrigin(0)), None);
         assert_eq!(word(0, 1, Field::PendingOrigin(64)), None);
-        assert_eq!(name(0, 1571), "item of pending edit 62 of line 8");
-        assert_eq!(name(1, 584), "place of pending edit 63");
+        assert_eq!(name(0, 1572), "item of pending edit 62 of line 8");
+        assert_eq!(name(1, 585), "place of pending edit 63");
         assert_eq!(name(1, 4), "ranks of lines 5 to 8");
-        assert_eq!(name(1, 1160), "origin of items[511]");
-        assert_eq!(name(0, 2084), "origin of items[511]");
-        assert_eq!(name(0, 2149), "origin of pending edit 0 of line 2");
+        assert_eq!((name(1, 9), name(0, 37)), ("total".to_string(), "total".to_string()));
+        assert_eq!(name(1, 1161), "origin of items[511]");
+        assert_eq!(name(0, 2085), "origin of items[511]");
+        assert_eq!(name(0, 2150), "origin of pending edit 0 of line 2");
         assert_eq!(origin_word((3, 400)), 196_608 + 400);
         assert_eq!(rank_words(&[2, 3, 4, 5, 1]), [0x0504_0302, 1]);
     }

@@ -75,6 +75,12 @@ fn unused_places_are_zero(places: &[(u64, (u64, u64))], length: u64) -> bool {
     places.iter().skip(length as usize).all(|&place| place == (0, (0, 0)))
 }
 
+/// The total is the sum of the items' seconds, the low 12 bits of each, over the list from the front.
+fn is_running_time(view: &View, length: u64) -> bool {
+    let seconds = |index: u16| view.number(0, Field::Item(index)) % 4096;
+    view.number(1, Field::Total) == (0..length as u16).map(seconds).sum::<u64>()
+}
+
 /// The pending edits are exactly acked + 1 to made, at most 64, with positions 1 to 512, and the rest is zero.
 fn sound_pending(line: &Line, priority_allowed: impl Fn(u64) -> bool) -> bool {
     if line.acked > line.made || line.made - line.acked > PENDING as u64 {
@@ -109,6 +115,7 @@ fn sound_client(dump: &[u8]) -> bool {
         && own.inserts <= 48
         && own.inserts <= own.made
         && unused_places_are_zero(&view.places(), length)
+        && is_running_time(&view, length)
 }
 
 fn sound_server(dump: &[u8]) -> bool {
@@ -137,6 +144,7 @@ fn sound_server(dump: &[u8]) -> bool {
     }) && length <= initial + all_inserts
         && unused.iter().all(zero)
         && unused_places_are_zero(&view.places(), length)
+        && is_running_time(&view, length)
 }
 
 /// Question 2 of a dump.
@@ -156,6 +164,7 @@ fn opened(call: &Call, initial: &[u32]) -> Vec<u8> {
     words[1] = if call.end == 0 { items.len() as u32 } else { call.line as u32 };
     words[2] = items.len() as u32;
     words[3..5].copy_from_slice(&layout::rank_words(&call.ranks()));
+    words[layout::word(call.end, 1, Field::Total).unwrap() as usize] = layout::seconds(items);
     let first = layout::word(call.end, 1, Field::Item(0)).unwrap() as usize;
     words[first..first + items.len()].copy_from_slice(items);
     let first = layout::word(call.end, 1, Field::Origin(0)).unwrap() as usize;

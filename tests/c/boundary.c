@@ -1,6 +1,6 @@
-/* The exported calls from C: the marked cases of the rule book, its edges, ranks, origins, the positions that a taking reports, and the
- * refusals 1, 2, 3, 4, 14, 16 and 18, with every lent byte compared before and after. Prints what differs and returns 1, or prints how
- * many comparisons were made. */
+/* The exported calls from C: the marked cases of the rule book, its edges, ranks, origins, running times, the positions that a taking
+ * reports, and the refusals 1, 2, 3, 4, 14, 16 and 18, with every lent byte compared before and after. Prints what differs and returns 1,
+ * or prints how many comparisons were made. */
 #include <stdio.h>
 #include <string.h>
 
@@ -130,10 +130,20 @@ struct place {
     unsigned number;
 };
 
-/* The list, and zeros behind it. */
+/* The running time of places: the low 12 bits of each item. */
+static uint32_t seconds(const struct place *places, unsigned count) {
+    uint32_t total = 0;
+    unsigned i;
+    for (i = 0; i < count; i++)
+        total += places[i].item & 0xfffu;
+    return total;
+}
+
+/* The list with its running time, and zeros behind it. */
 static void client_shows(const char *what, unsigned line, const struct place *places, unsigned count) {
     unsigned i;
     same(what, count, lub_client_length(client(line)));
+    same(what, seconds(places, count), lub_client_total(client(line)));
     for (i = 0; i <= LUB_ITEMS; i++) {
         same(what, i < count ? places[i].item : 0, lub_client_item(client(line), i + 1));
         same(what, i < count ? places[i].maker : 0, lub_client_maker(client(line), i + 1));
@@ -144,6 +154,7 @@ static void client_shows(const char *what, unsigned line, const struct place *pl
 static void server_shows(const char *what, const struct place *places, unsigned count) {
     unsigned i;
     same(what, count, lub_server_length(server));
+    same(what, seconds(places, count), lub_server_total(server));
     for (i = 0; i <= LUB_ITEMS; i++) {
         same(what, i < count ? places[i].item : 0, lub_server_item(server, i + 1));
         same(what, i < count ? places[i].maker : 0, lub_server_maker(server, i + 1));
@@ -794,7 +805,7 @@ static void client_word(const char *what, size_t word, uint32_t value, unsigned 
 /* Question 2 of origins: those of the server's pending edits, of nothings too; on the lists, zeros past the end. */
 static void damaged_origins(void) {
     static const uint32_t opening[2] = {10, 20};
-    const size_t line_2 = 2085 + LUB_PENDING;
+    const size_t line_2 = 2086 + LUB_PENDING;
     size_t slot;
     unsigned line;
     open_sheet(3, opening, 2);
@@ -826,12 +837,12 @@ static void damaged_origins(void) {
     for (slot = 3; slot < LUB_PENDING; slot++)
         server_word("an origin past the pending edits", line_2 + slot, ORIGIN(1, 1), 2);
     for (line = 4; line <= LUB_LINES; line++)
-        server_word("an origin of a line past n", 2085 + LUB_PENDING * (size_t)(line - 1), ORIGIN(1, 1), 2);
-    server_word("any origin on the list", 1573, 0xffffffffu, 0);
-    client_word("any origin on the list", 649, 0xffffffffu, 0);
+        server_word("an origin of a line past n", 2086 + LUB_PENDING * (size_t)(line - 1), ORIGIN(1, 1), 2);
+    server_word("any origin on the list", 1574, 0xffffffffu, 0);
+    client_word("any origin on the list", 650, 0xffffffffu, 0);
     for (slot = 2; slot < LUB_ITEMS; slot++) {
-        server_word("an origin past the list's end", 1573 + slot, ORIGIN(0, slot + 1), 2);
-        client_word("an origin past the list's end", 649 + slot, ORIGIN(0, slot + 1), 2);
+        server_word("an origin past the list's end", 1574 + slot, ORIGIN(0, slot + 1), 2);
+        client_word("an origin past the list's end", 650 + slot, ORIGIN(0, slot + 1), 2);
     }
     same("as it was", 0, down(2, 1));
     same("client 2 acknowledges", 0, acknowledge_up(2));
@@ -870,13 +881,13 @@ static void damaged(void) {
     for (at = 0; at < LUB_CLIENT_BYTES; at++) {
         if (at % 4 < 2 && (at < 12 || (at >= 20 && at < 36)))
             continue; /* the low bytes of a number may make another sound end */
-        if (at >= 36 && at < 48)
-            continue; /* the three items of the list may be anything */
-        if (at >= 2084 && at < 2088)
+        if (at >= 40 && at < 52 && at % 4 > 0)
+            continue; /* the codes of the list's three items may be anything; bit 7 of an item's first byte is among its seconds */
+        if (at >= 2088 && at < 2092)
             continue; /* the pending place: another position is sound too */
-        if (at >= 2340 && at < 2344)
+        if (at >= 2344 && at < 2348)
             continue; /* the pending item */
-        if (at >= 2596 && at < 2608)
+        if (at >= 2600 && at < 2612)
             continue; /* nothing is asked of the three items' origins */
         client(1)[at] ^= 0x80;
         remember(1);
@@ -886,9 +897,9 @@ static void damaged(void) {
     for (at = 0; at < LUB_SERVER_BYTES; at++) {
         if (at % 4 < 2 && (at < 12 || (at >= 20 && at < 148)))
             continue;
-        if (at >= 148 && at < 156)
+        if (at >= 152 && at < 160 && at % 4 > 0)
             continue;
-        if (at >= 6292 && at < 6300)
+        if (at >= 6296 && at < 6304)
             continue;
         server[at] ^= 0x80;
         remember(1);
@@ -896,6 +907,193 @@ static void damaged(void) {
         server[at] ^= 0x80;
     }
     same("as it was, it is taken", edit_taken(0, 1, 1), lub_server_take(server, sizeof server, first, sizeof first));
+}
+
+/* ---- running times */
+
+/* The total of an end, 0 for the server's, is this number and the sum over the list that the end shows. */
+static void total_is(const char *what, unsigned line, uint32_t expected) {
+    unsigned length = line == 0 ? lub_server_length(server) : lub_client_length(client(line));
+    uint32_t sum = 0;
+    unsigned at;
+    for (at = 1; at <= length; at++)
+        sum += (line == 0 ? lub_server_item(server, at) : lub_client_item(client(line), at)) & 0xfffu;
+    same(what, expected, line == 0 ? lub_server_total(server) : lub_client_total(client(line)));
+    same(what, expected, sum);
+}
+
+/* Seconds of 4,095, 0, 1 and 4,094 under codes of all kinds. Both clients edit, and delete one item both. */
+static void totals_made(void) {
+    static const uint32_t opening[4] = {0x12345fffu, 0xfffff000u, 0x00000001u, 0xfffffffeu};
+    unsigned line;
+    open_sheet(2, opening, 4);
+    for (line = 0; line <= 2; line++)
+        total_is("after opening", line, 8190);
+    same("client 1 inserts 4,095 s", 0, insert(1, 2, 0x80000fffu));
+    total_is("an insert adds", 1, 12285);
+    same("client 1 inserts 0 s", 0, insert(1, 6, 0x00001000u));
+    total_is("a code adds nothing", 1, 12285);
+    same("client 1 deletes 4,094 s", 0, delete_at(1, 5));
+    total_is("a delete subtracts", 1, 8191);
+    same("client 2 deletes 4,095 s", 0, delete_at(2, 1));
+    total_is("a delete subtracts", 2, 4095);
+    same("client 2 deletes 4,094 s", 0, delete_at(2, 3));
+    total_is("a delete subtracts", 2, 1);
+    same("client 2 inserts 2,048 s", 0, insert(2, 1, 0xabcde800u));
+    total_is("an insert adds", 2, 2049);
+}
+
+/* They are taken: each end counts what it applies. */
+static void totals_taken(void) {
+    unsigned line, number;
+    same("up: 4,095 s more", 0, up(1, 1));
+    total_is("the server adds", 0, 12285);
+    same("up: 4,095 s less", 0, up(2, 1));
+    total_is("the server subtracts", 0, 8190);
+    same("up: a code", 0, up(1, 2));
+    same("up: 4,094 s less", 0, up(1, 3));
+    total_is("the server subtracts", 0, 4096);
+    same("up: gone", 0, up(2, 2));
+    total_is("what is gone counts once", 0, 4096);
+    same("up: 2,048 s more", 0, up(2, 3));
+    total_is("the server adds", 0, 6144);
+    same("down: 4,095 s less", 0, down(1, 1));
+    total_is("client 1 subtracts", 1, 4096);
+    same("down: nothing", 0, down(1, 2));
+    total_is("nothing stays", 1, 4096);
+    same("down: 2,048 s more", 0, down(1, 3));
+    for (number = 1; number <= 3; number++)
+        same("client 2 takes all", 0, down(2, number));
+    same("client 1 acknowledges", 0, acknowledge_up(1));
+    same("client 1 is acknowledged", 0, acknowledge_down(1));
+    for (line = 0; line <= 2; line++)
+        total_is("all agree", line, 6144);
+}
+
+/* Edit `number` of client `line` goes up, and all eight take and acknowledge it. */
+static void spread(unsigned line, unsigned number) {
+    unsigned other;
+    same("an edit goes up", 0, up(line, number));
+    for (other = 1; other <= LUB_LINES; other++) {
+        if (other == line) {
+            same("it is acknowledged", 0, acknowledge_down(line));
+            continue;
+        }
+        same("another takes it", 0, down(other, lub_server_made(server, other)));
+        same("and acknowledges", 0, acknowledge_up(other));
+    }
+}
+
+/* 512 items of 4,095 seconds at all nine ends, and three of them deleted: in front, in the middle and behind. */
+static void longest_total(void) {
+    static const unsigned deleted[3] = {1, 256, 510};
+    static uint32_t opening[LUB_INITIAL];
+    unsigned line, i;
+    for (i = 0; i < LUB_INITIAL; i++)
+        opening[i] = 0xffffffffu;
+    open_sheet(LUB_LINES, opening, LUB_INITIAL);
+    for (line = 1; line <= LUB_LINES; line++)
+        for (i = 1; i <= LUB_INSERTS; i++) {
+            same("an insert", 0, insert(line, 3 * i, 0xffffffffu));
+            spread(line, i);
+        }
+    for (line = 0; line <= LUB_LINES; line++)
+        total_is("512 times 4,095 s", line, 2096640);
+    remember(1);
+    refused("an item too many", 1, LUB_REFUSED_POSITION, insert(1, 1, 1));
+    for (i = 0; i < 3; i++) {
+        same("a delete", 0, delete_at(8, deleted[i]));
+        total_is("client 8 subtracts", 8, 4095 * (511 - i));
+        spread(8, LUB_INSERTS + 1 + i);
+    }
+    for (line = 0; line <= LUB_LINES; line++)
+        total_is("509 times 4,095 s", line, 2084355);
+}
+
+/* One word of an end with another value: every call but opening refuses it and changes nothing, whether it takes a message or none. */
+static void client_refuses(const char *what, size_t word, uint32_t value, const uint8_t *message, size_t length) {
+    uint32_t right = lub_word(client(1), word);
+    put_word(client(1), word, value);
+    remember(1);
+    refused(what, 1, LUB_REFUSED_UNSOUND, insert(1, 1, 7));
+    refused(what, 1, LUB_REFUSED_UNSOUND, delete_at(1, 1));
+    refused(what, 1, LUB_REFUSED_UNSOUND, lub_client_send(client(1), sizeof clients[0], 1, 1, out, sizeof out));
+    refused(what, 1, LUB_REFUSED_UNSOUND, lub_client_acknowledge(client(1), sizeof clients[0], 1, out, sizeof out));
+    refused(what, 1, LUB_REFUSED_UNSOUND, lub_client_take(client(1), sizeof clients[0], message, length));
+    refused(what, 1, LUB_REFUSED_UNSOUND, lub_client_take(client(1), sizeof clients[0], message, 0));
+    put_word(client(1), word, right);
+}
+
+static void server_refuses(const char *what, size_t word, uint32_t value, const uint8_t *message, size_t length) {
+    uint32_t right = lub_word(server, word);
+    put_word(server, word, value);
+    remember(1);
+    refused(what, 1, LUB_REFUSED_UNSOUND, lub_server_send(server, sizeof server, 1, 1, out, sizeof out));
+    refused(what, 1, LUB_REFUSED_UNSOUND, lub_server_acknowledge(server, sizeof server, 1, out, sizeof out));
+    refused(what, 1, LUB_REFUSED_UNSOUND, lub_server_take(server, sizeof server, message, length));
+    refused(what, 1, LUB_REFUSED_UNSOUND, lub_server_take(server, sizeof server, message, 0));
+    put_word(server, word, right);
+}
+
+/* Question 2 of the total, word 9 of a client and word 37 of the server. Here they are 4,386 and 4,390. All other values of each of its four
+ * bytes are refused, and one up and one down. */
+static void every_other_total(const uint8_t *to_client, size_t down_length, const uint8_t *to_server, size_t up_length) {
+    uint32_t change;
+    unsigned byte;
+    same("the total's word", 4386, lub_word(client(1), 9));
+    same("the total's word", 4390, lub_word(server, 37));
+    for (byte = 0; byte < 4; byte++)
+        for (change = 1; change < 256; change++) {
+            client_refuses("a byte of a client's total", 9, 4386u ^ change << 8 * byte, to_client, down_length);
+            server_refuses("a byte of the server's total", 37, 4390u ^ change << 8 * byte, to_server, up_length);
+        }
+    client_refuses("one up", 9, 4387, to_client, down_length);
+    client_refuses("one down", 9, 4385, to_client, down_length);
+    server_refuses("one up", 37, 4391, to_server, up_length);
+    server_refuses("one down", 37, 4389, to_server, up_length);
+}
+
+/* An item's seconds count and its code does not. An item and the total changed together make another sound end. */
+static void damaged_totals(void) {
+    static const uint32_t opening[2] = {0x00001ffeu, 0x70000123u};
+    uint8_t to_server[LUB_MESSAGE_BYTES], to_client[LUB_MESSAGE_BYTES];
+    size_t up_length, down_length;
+    unsigned bit;
+    open_sheet(2, opening, 2);
+    same("client 2 inserts", 0, insert(2, 1, 5));
+    same("up", 0, up(2, 1));
+    same("client 1 inserts", 0, insert(1, 1, 0x00002001u));
+    up_length = lub_count(lub_client_send(client(1), sizeof clients[0], 1, 1, to_server, sizeof to_server));
+    down_length = lub_count(lub_server_send(server, sizeof server, 1, 1, to_client, sizeof to_client));
+    total_is("client 1", 1, 4386);
+    total_is("the server", 0, 4390);
+    every_other_total(to_client, down_length, to_server, up_length);
+    for (bit = 0; bit < 32; bit++) {
+        client_word("an item's seconds and code", 11, lub_word(client(1), 11) ^ 1u << bit, bit < 12 ? LUB_REFUSED_UNSOUND : 0);
+        server_word("an item's seconds and code", 39, lub_word(server, 39) ^ 1u << bit, bit < 12 ? LUB_REFUSED_UNSOUND : 0);
+    }
+    put_word(client(1), 9, 4387);
+    put_word(client(1), 11, 0x00001fffu);
+    put_word(server, 37, 4391);
+    put_word(server, 39, 0x00001fffu);
+    same("an item and the total", edit_taken(1, 1, 2), lub_client_take(client(1), sizeof clients[0], to_client, down_length));
+    same("an item and the total", edit_taken(1, 1, 1), lub_server_take(server, sizeof server, to_server, up_length));
+    total_is("a second more", 1, 4392);
+    total_is("a second more", 0, 4392);
+}
+
+/* The total of an empty list is 0 alone. */
+static void empty_total(void) {
+    unsigned bit;
+    open_sheet(2, NULL, 0);
+    for (bit = 0; bit < 32; bit++) {
+        client_word("no seconds", 9, 1u << bit, LUB_REFUSED_UNSOUND);
+        server_word("no seconds", 37, 1u << bit, LUB_REFUSED_UNSOUND);
+    }
+    same("4,095 s", 0, insert(1, 1, 0xffffffffu));
+    total_is("4,095 s", 1, 4095);
+    same("and less", 0, delete_at(1, 1));
+    total_is("none", 1, 0);
 }
 
 static void short_ends(void) {
@@ -942,6 +1140,11 @@ int main(void) {
     damaged();
     damaged_origins();
     damaged_ranks();
+    totals_made();
+    totals_taken();
+    longest_total();
+    damaged_totals();
+    empty_total();
     short_ends();
     printf("boundary: %u comparisons, %u wrong\n", compared, wrong);
     return wrong == 0 ? 0 : 1;

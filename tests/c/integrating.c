@@ -239,15 +239,34 @@ static void stored_before_it_was_sent(void) {
     holds("counts and lists are equal", counts_equal(1) && lists_equal(1));
 }
 
+/* The byte in which the first item of a bay's list begins: where a change of it shows. */
+static unsigned first_item(unsigned line) {
+    uint32_t item = lub_client_item(bays[line], 1);
+    unsigned at;
+    for (at = 0; at < LUB_CLIENT_BYTES; at += 4) {
+        bays[line][at + 3] ^= 1;
+        if (lub_client_item(bays[line], 1) != item) {
+            bays[line][at + 3] ^= 1;
+            return at;
+        }
+        bays[line][at + 3] ^= 1;
+    }
+    return 0;
+}
+
 static void damaged(void) {
     uint8_t zeros[LUB_CLIENT_BYTES] = {0};
+    unsigned at;
     open_all(opening, sizeof opening);
     holds("bytes that were never opened: 2",
           lub_refusal(lub_client_acknowledge(zeros, sizeof zeros, 1, message, sizeof message)) == LUB_REFUSED_UNSOUND);
     bays[1][LUB_CLIENT_BYTES - 1] = 1; /* behind the list, where zeros belong */
     holds("a damaged byte: 2, to an acknowledgement too", bay_acknowledges(1) == LUB_REFUSED_UNSOUND);
-    bays[2][36] ^= 1; /* an item of the list */
-    holds("a damaged item is another end, not 2", bay_acknowledges(2) == 0);
+    at = first_item(2);
+    bays[2][at + 3] ^= 1; /* the code of the first item */
+    holds("a damaged code is another end, not 2", bay_acknowledges(2) == 0);
+    bays[2][at] ^= 1; /* its seconds */
+    holds("damaged seconds: 2, since the total is another", bay_acknowledges(2) == LUB_REFUSED_UNSOUND);
 }
 
 /* ---- two slots of flash, and power that goes at any byte of a write */

@@ -48,6 +48,7 @@ impl Oracle {
         let places = if end == 0 { &self.shown } else { &self.lines[end - 1].shown };
         put(0, Field::N, self.n as u32);
         put(0, Field::Length, places.len() as u32);
+        put(0, Field::Total, layout::seconds(&places.iter().map(|place| place.item).collect::<Vec<u32>>()));
         for (half, word) in layout::rank_words(&self.ranks).into_iter().enumerate() {
             put(0, Field::Ranks(half as u16), word);
         }

@@ -90,7 +90,11 @@ impl Client {
         }
         let number = self.own.made + !R::slips(Slip::OwnNumberBefore) as u16;
         if !R::slips(Slip::ListLeft) {
+            let total = self.list.total;
             self.list.apply::<R>(edit, origins::word(self.line, number));
+            if R::slips(Slip::TotalTakenAlone) {
+                self.list.total = total;
+            }
         }
         self.own.keep(edit);
         self.own.inserts += (edit.kind() == INSERT) as u16;
@@ -191,7 +195,11 @@ impl Client {
         if !R::slips(Slip::ListLeft) {
             let maker = if R::slips(Slip::MakerOfLine) { message.line } else { origins::maker(message.origin) };
             let number = if R::slips(Slip::NumberOfMessage) { message.number } else { origins::number(message.origin) };
+            let total = self.list.total;
             self.list.apply::<R>(crossed.edit, origins::word(maker, number));
+            if R::slips(Slip::TotalMadeAlone) {
+                self.list.total = total;
+            }
         }
         answer
     }

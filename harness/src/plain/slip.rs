@@ -185,6 +185,16 @@ slips! {
     PositionsEarly History "the positions begin at bits 16 and 32, over the count's upper half",
     Positions8 History "positions are cut to 8 bits",
     Positions9 History "positions are cut to 9 bits: 512 is 0",
+    // the total of a list's seconds
+    TotalUnsubtracted History "a delete does not subtract from the total",
+    TotalUnadded History "an insert does not add to the total",
+    TotalBehind History "a delete subtracts the seconds of the item behind it",
+    TotalUnopened History "an opening leaves the total zero",
+    TotalMadeAlone History "a taking leaves the total as it was",
+    TotalTakenAlone History "an edit made leaves the total as it was",
+    Seconds13 History "an item's seconds are its low 13 bits",
+    Seconds11 History "an item's seconds are its low 11 bits",
+    SecondsHigh History "an item's seconds are its high 12 bits",
     // limits and order of the questions
     Insert49 History "a client makes insert 49",
     Edit401 History "a client makes edit 401",
@@ -256,6 +266,10 @@ slips! {
     SoundOriginsPastN End "the origins of lines past n are not asked",
     TwoListMakers End "question 2 asks that the makers on the list are at most n",
     TwoMakersRank End "question 2 asks that a pending insert's priority is its maker's rank",
+    SoundTotal End "the total is not asked",
+    SoundTotal16 End "the low 16 bits of the total are asked",
+    SoundTotalLow End "the total is asked to be at most the sum",
+    TotalLastUnseen History "question 2 adds up without the last item",
     // opening
     Open129 Opening "129 items open",
     OpenNine Opening "n = 9 opens a server",

@@ -74,7 +74,7 @@ fn read_pending<R: Rules>(pending: &mut Pending, places: &[Word], items: &[Word]
 }
 
 impl End for Client {
-    const WORDS: usize = 1161;
+    const WORDS: usize = 1162;
     const ZERO: Client = Client::ZERO;
 
     #[inline]
@@ -86,9 +86,10 @@ impl End for Client {
         read_ranks(&mut self.ranks, &words[3..]);
         let own = &mut self.own;
         (own.made, own.taken, own.acked, own.inserts) = (small(5), small(6), small(7), small(8));
-        read_all(&mut self.list.items, &words[9..521]);
-        read_pending::<R>(&mut own.pending, &words[521..585], &words[585..649]);
-        read_all(&mut self.list.origins, &words[649..1161]);
+        self.list.total = number(words[9]);
+        read_all(&mut self.list.items, &words[10..522]);
+        read_pending::<R>(&mut own.pending, &words[522..586], &words[586..650]);
+        read_all(&mut self.list.origins, &words[650..1162]);
         !is_wide::<R>(gathered(&words[..2]), number(words[2]) | gathered(&words[5..9]))
     }
 
@@ -98,10 +99,11 @@ impl End for Client {
         write_all(&mut words[..3], &[self.n as u32, self.line as u32, self.list.length as u32]);
         write_ranks(&mut words[3..], &self.ranks);
         write_all(&mut words[5..9], &[own.made, own.taken, own.acked, own.inserts].map(u32::from));
-        write_all(&mut words[9..521], &self.list.items);
-        write_all(&mut words[521..585], &own.pending.places);
-        write_all(&mut words[585..649], &own.pending.items);
-        write_all(&mut words[649..1161], &self.list.origins);
+        words[9] = self.list.total.to_le_bytes();
+        write_all(&mut words[10..522], &self.list.items);
+        write_all(&mut words[522..586], &own.pending.places);
+        write_all(&mut words[586..650], &own.pending.items);
+        write_all(&mut words[650..1162], &self.list.origins);
     }
 
     fn shown(&mut self) -> (u16, &mut Places) {
@@ -110,7 +112,7 @@ impl End for Client {
 }
 
 impl End for Server {
-    const WORDS: usize = 2597;
+    const WORDS: usize = 2598;
     const ZERO: Server = Server::ZERO;
 
     #[inline]
@@ -123,12 +125,13 @@ impl End for Server {
         for (at, line) in self.lines.iter_mut().enumerate() {
             let count = 5 + 4 * at;
             (line.made, line.taken, line.acked, line.inserts) = (small(count), small(count + 1), small(count + 2), small(count + 3));
-            let (places, items) = words[549 + 2 * PENDING * at..][..2 * PENDING].split_at(PENDING);
+            let (places, items) = words[550 + 2 * PENDING * at..][..2 * PENDING].split_at(PENDING);
             read_pending::<R>(&mut line.pending, places, items);
         }
-        read_all(&mut self.list.items, &words[37..549]);
-        read_all(&mut self.list.origins, &words[1573..2085]);
-        read_all(self.origins.as_flattened_mut(), &words[2085..2597]);
+        self.list.total = number(words[37]);
+        read_all(&mut self.list.items, &words[38..550]);
+        read_all(&mut self.list.origins, &words[1574..2086]);
+        read_all(self.origins.as_flattened_mut(), &words[2086..2598]);
         !is_wide::<R>(number(words[0]), gathered(&words[1..3]) | gathered(&words[5..37]))
     }
 
@@ -138,13 +141,14 @@ impl End for Server {
         write_ranks(&mut words[3..], &self.ranks);
         for (at, line) in self.lines.iter().enumerate() {
             write_all(&mut words[5 + 4 * at..][..4], &[line.made, line.taken, line.acked, line.inserts].map(u32::from));
-            let (places, items) = words[549 + 2 * PENDING * at..][..2 * PENDING].split_at_mut(PENDING);
+            let (places, items) = words[550 + 2 * PENDING * at..][..2 * PENDING].split_at_mut(PENDING);
             write_all(places, &line.pending.places);
             write_all(items, &line.pending.items);
         }
-        write_all(&mut words[37..549], &self.list.items);
-        write_all(&mut words[1573..2085], &self.list.origins);
-        write_all(&mut words[2085..2597], self.origins.as_flattened());
+        words[37] = self.list.total.to_le_bytes();
+        write_all(&mut words[38..550], &self.list.items);
+        write_all(&mut words[1574..2086], &self.list.origins);
+        write_all(&mut words[2086..2598], self.origins.as_flattened());
     }
 
     fn shown(&mut self) -> (u16, &mut Places) {
