@@ -1,5 +1,5 @@
 -- Laws of places: an origin as a word, the items and the origins of a list, an edit on both, and the initial list.
-use Prim.Native.Nat.{ℕ, zero, suc, _+_, _*_, _/_, _%_, _-_, _≤_, _<_}
+use Prim.Native.Nat.{ℕ, zero, suc, _+_, _*_, _/_, _%_, _≤_, _<_}
 use native.Mathlib.Nat.{div-add-mod', mod-lt, mul-add-div-right, mul-add-mod-self-right, div-eq-of-lt, mod-eq-of-lt, add-zero, le-of-suc-le-suc, not-suc-le-zero}
 use native.Mathlib.Omega.{arith}
 use mathlib.Core.Path.{_≡_, refl, ap, ap₂, sym, _∙_, subst}
@@ -9,8 +9,8 @@ use lib.Dec.{ltb, lit<}
 use lib.ListN.{length, getD, take, set, replicate, length-map, length-replicate}
 use lib.Seq.{take-all}
 use borrow.Author.Tests.{ltb-true, lt-ltb}
-use Rattle.ot.specs.Edit.{Edit, Nothing, Delete, Insert, formOf, edit, insertedAt, deletedAt, appliedAs, applied, fits, sizeAfter}
-use Rattle.ot.proofs.Fits.{and-left, and-right, looked, alike}
+use Rattle.ot.specs.Edit.{Edit, Nothing, Delete, Insert, formOf, edit, applied, fits, sizeAfter}
+use Rattle.ot.proofs.Fits.{and-left, and-right, looked, alike, all-applied}
 use Rattle.list.specs.declared.Origin.{Origin}
 use Rattle.list.specs.Items.{capacity, padded, stored, edited, Room}
 use Rattle.list.specs.Places.{Place, placeOf, initialFrom, initialPlaces, appliedBy, wordOf, originAt, itemsOf, originsOf, placesOf, numbered}
@@ -95,28 +95,10 @@ items-applied o e l = looked (λ (p : Place). p .item) (placeOf o) e l
 pub origins-applied : (o : Origin) (e : Edit) (l : List Place) → originsOf (appliedBy o e l) ≡ applied (edit (formOf e) (wordOf o)) (originsOf l)
 origins-applied o e l = looked (λ (p : Place). wordOf (p .origin)) (placeOf o) e l ∙ alike (wordOf o) e (originsOf l)
 
-numbered-inserted : (i : ℕ) (p : Place) (l : List Place) → ltb (p .origin .number) 65536 ≡ true → numbered l ≡ true → numbered (insertedAt i p l) ≡ true
-unfolding numbered
-numbered-inserted zero p l h k = rw h k
-numbered-inserted (suc i) p [] h k = rw h refl
-numbered-inserted (suc i) p (q ∷ l) h k =
-    let t = ltb (q .origin .number) 65536 in
-    rw (and-left t (numbered l) k) (numbered-inserted i p l h (and-right t (numbered l) k))
-
-numbered-deleted : (i : ℕ) (l : List Place) → numbered l ≡ true → numbered (deletedAt i l) ≡ true
-unfolding numbered
-numbered-deleted zero [] k = refl
-numbered-deleted (suc i) [] k = refl
-numbered-deleted zero (q ∷ l) k = and-right (ltb (q .origin .number) 65536) (numbered l) k
-numbered-deleted (suc i) (q ∷ l) k =
-    let t = ltb (q .origin .number) 65536 in
-    rw (and-left t (numbered l) k) (numbered-deleted i l (and-right t (numbered l) k))
-
 pub numbered-applied : (o : Origin) (e : Edit) (l : List Place) → o .number < 65536 → numbered l ≡ true → numbered (appliedBy o e l) ≡ true
-unfolding appliedAs
-numbered-applied o Nothing l h k = k
-numbered-applied o (Delete p) l h k = numbered-deleted (p - 1) l k
-numbered-applied o (Insert p x r) l h k = numbered-inserted (p - 1) (placeOf o x) l (lt-ltb (o .number) 65536 h) k
+unfolding numbered
+numbered-applied o e l h k =
+    all-applied (λ (p : Place). ltb (p .origin .number) 65536) numbered (λ p ps. refl) (placeOf o) e l (λ p x r z. lt-ltb (o .number) 65536 h) k
 
 -- ---- the two arrays after an edit
 

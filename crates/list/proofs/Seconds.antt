@@ -5,8 +5,8 @@ use native.Mathlib.Omega.{arith}
 use mathlib.Core.Path.{_≡_, refl, ap, sym, _∙_, subst}
 use mathlib.Core.Bool.{true}
 use mathlib.Core.List.{List, [], _∷_, _++_}
-use lib.ListN.{length, getD, drop, replicate, drop-of-length-le}
-use lib.Seq.{drop-cons}
+use lib.ListN.{length, getD, take, drop, replicate, length-take, drop-of-length-le}
+use lib.Seq.{drop-cons, getD-take}
 use Rattle.ot.specs.declared.Form.{Form}
 use Rattle.ot.specs.declared.Form.the-variants as form
 use Rattle.ot.specs.Edit.{Edit, Nothing, Delete, Insert, edit, insertedAt, deletedAt, appliedAs, applied, fits}
@@ -43,6 +43,16 @@ pub total-turn : (l : List ℕ) (i : ℕ) → i < length l → totalSeconds (dro
 unfolding totalSeconds
 total-turn l i h =
     ap totalSeconds (drop-cons l i 0 h) ∙ ap (λ (j : ℕ). secondsOf (getD l i 0) + totalSeconds (drop j l)) (sym (add-one i))
+
+-- the same where it adds up the first n alone
+pub total-part-turn : (n : ℕ) (l : List ℕ) (i : ℕ) → i < n → i < length l
+    → totalSeconds (drop i (take n l)) ≡ secondsOf (getD l i 0) + totalSeconds (drop (i + 1) (take n l))
+total-part-turn n l i a b =
+    total-turn (take n l) i (omega (arith, length-take n l))
+    ∙ ap (λ (x : ℕ). secondsOf x + totalSeconds (drop (i + 1) (take n l))) (getD-take n l i 0 a)
+
+pub total-part-few : (n : ℕ) (l : List ℕ) → totalSeconds (take n l) ≤ 4095 * length l
+total-part-few n l = omega (arith, total-few (take n l), length-take n l)
 
 pub total-end : (l : List ℕ) (i : ℕ) → length l ≤ i → totalSeconds (drop i l) ≡ 0
 unfolding totalSeconds

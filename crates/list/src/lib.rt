@@ -97,14 +97,16 @@ pub fn item_at(items: &[u32], i: usize) -> u32
     if i < items.len() { items[i] } else { 0 }
 }
 
-// The seconds of all items together, the low 12 bits of each. Places that are zero add nothing.
-pub fn total(items: &[u32]) -> u32
+// The seconds of the first len items together, the low 12 bits of each.
+pub fn total(items: &[u32], len: usize) -> u32
     requires { ⌜ length (now items) ≤ capacity ⌝ }
-    ensures { λ r. ⌜ r ≡ totalSeconds (now (items .entry)) ⌝ }
+    ensures { λ r. ⌜ r ≡ totalSeconds (take len (now (items .entry))) ⌝ }
 {
     let mut sum = 0u32;
-    for i in 0..items.len() {
+    let mut i = 0;
+    while (i < len) & (i < items.len()) {
         sum += items[i] % SECONDS;
+        i += 1;
     }
     sum
 }

@@ -194,12 +194,12 @@ module _ (n : ℕ) (rs items : List ℕ) where
   opened-by r = given (store model.noServer) (answer r model.noServer next questions.noReport)
 
   pub open-done : (r : ℕ) (places words : List ℕ) (total : ℕ) (k : Counts) → r ≡ openAsked n rs (length items) → r ≡ 0 → OpenWords items words
-      → places ≡ ranks.stored rs → total ≡ totalSeconds items → k ≡ freshCounts n places (length items) total
+      → places ≡ ranks.stored rs → total ≡ totalSeconds (take (length items) items) → k ≡ freshCounts n places (length items) total
       → answerOf (record { refusal = 0; report = noReport; counts = k }) words ≡ opened n rs items
   unfolding model.openServer answer
   open-done r places words total k e z w p summed ek =
       ap (λ (c : Counts). record { refusal = 0; report = noReport; server = serverOf c words }) ek
-      ∙ ap (λ (s : Server). record { refusal = 0; report = noReport; server = s }) (fresh-is n (asked-few n rs (length items) (sym e ∙ z)) rs places p items words w total summed)
+      ∙ ap (λ (s : Server). record { refusal = 0; report = noReport; server = s }) (fresh-is n (asked-few n rs (length items) (sym e ∙ z)) rs places p items words w total (summed ∙ ap totalSeconds (take-all (length items) items (omega arith))))
       ∙ sym (ap opened-by (asked ∙ sym e ∙ z))
 
   -- a refused server is all zeros

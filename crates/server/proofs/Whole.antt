@@ -16,7 +16,6 @@ use Rattle.list.specs.declared.Origin.{Origin}
 use Rattle.list.specs.Places.{Place, itemsOf, originsOf, originAt}
 use Rattle.list.specs.Seconds.{totalSeconds, runningTime}
 use Rattle.list.proofs.Items.{stored-of}
-use Rattle.list.proofs.Seconds.{total-padded}
 use Rattle.list.proofs.Places.{places-length, places-items, places-origins, places-numbered}
 use Rattle.model.specs.Questions.{every}
 use Rattle.model.specs.Ranks.{rankOf, ranking}
@@ -183,7 +182,7 @@ codeTests k words =
     ∷ leb (k .len) (k .initial + totalOf (λ v. v .inserts) k)
     ∷ allZero (drop (k .len) (itemsIn words))
     ∷ allZero (drop (k .len) (originsIn words))
-    ∷ eqb (k .total) (totalSeconds (itemsIn words))
+    ∷ eqb (k .total) (totalSeconds (take (k .len) (itemsIn words)))
     ∷ allFrom (soundAt k (totalOf (λ v. v .taken) k) words) 0 (k .n)
     ∷ allFrom (makersSoundAt k words) 0 (k .n)
     ∷ allFrom (emptyAt k words) (k .n) (maxLines - k .n)
@@ -226,12 +225,9 @@ module _ (k : Counts) (words : List ℕ) (z : Sizes k words) where
     origins-stored : allZero (drop (k .len) (originsIn words)) ≡ true → originsIn words ≡ stored (originsOf places)
     origins-stored t = stored-of (originsIn words) (k .len) (origins-long words (z .words)) h t ∙ ap stored (sym (places-origins items origins both-taken))
 
-    -- the unused places are zero and add nothing
-    total-is : allZero (drop (k .len) (itemsIn words)) ≡ true → totalSeconds (itemsIn words) ≡ runningTime places
-    total-is t = ap totalSeconds (items-stored t) ∙ total-padded maxItems (itemsOf places)
-
-    total-alike : allZero (drop (k .len) (itemsIn words)) ≡ true → eqb (k .total) (totalSeconds (itemsIn words)) ≡ eqb (k .total) (runningTime places)
-    total-alike t = ap (eqb (k .total)) (total-is t)
+    -- the sum over the first len items is the running time
+    total-alike : eqb (k .total) (totalSeconds items) ≡ eqb (k .total) (runningTime places)
+    total-alike = ap (λ (l : List ℕ). eqb (k .total) (totalSeconds l)) (sym (places-items items origins both-taken))
 
   abbrev oss : List (List Origin)
   oss = makersFrom k words 0 (k .n)
@@ -285,7 +281,7 @@ module _ (k : Counts) (words : List ℕ) (z : Sizes k words) where
               (
                 lists .1 .0,
                 (
-                  sym (total-alike len (lists .0)) ∙ lists .1 .1 .0,
+                  sym (total-alike len) ∙ lists .1 .1 .0,
                   (
                     and-right (model.soundLines (k .n) (ranksIn k) (taken-all k words) 1 vs) (allFrom (tidyAt k words) 0 (k .n)) each,
                     (and-right (model.soundMakers (k .n) 1 vs oss) (allFrom (bareAt k words) 0 (k .n)) makers, (lines .1 .1 .0, tt)),
@@ -331,7 +327,7 @@ module _ (k : Counts) (words : List ℕ) (z : Sizes k words) where
                     (
                       lists .1 .0,
                       (
-                        total-alike len (lists .0) ∙ lists .1 .1 .0,
+                        total-alike len ∙ lists .1 .1 .0,
                         (
                           right,
                           (
@@ -360,7 +356,7 @@ module _ (k : Counts) (words : List ℕ) (z : Sizes k words) where
       ∷ leb (k .len) (k .initial + totalOf (λ v. v .inserts) k)
       ∷ allZero (drop (k .len) (itemsIn words))
       ∷ allZero (drop (k .len) (originsIn words))
-      ∷ eqb (k .total) (totalSeconds (itemsIn words))
+      ∷ eqb (k .total) (totalSeconds (take (k .len) (itemsIn words)))
       ∷ allFrom (soundAt k (totalOf (λ v. v .taken) k) words) 0 (k .n)
       ∷ allFrom (makersSoundAt k words) 0 (k .n)
       ∷ allFrom (emptyAt k words) (k .n) (maxLines - k .n)
@@ -392,7 +388,7 @@ module _ (k : Counts) (words : List ℕ) (z : Sizes k words) where
       ∙ ap (λ (b : Bool). ((right && leb (k .len) (k .initial + all)) && b) && lined) z′
       ∙ ap (λ (b : Bool). ((right && leb (k .len) (k .initial + all)) && listRight (k .len) (k .total) words) && b) lines
       ∙ group right (leb (k .len) (k .initial + all)) (allZero (drop (k .len) (itemsIn words))) (allZero (drop (k .len) (originsIn words)))
-      (eqb (k .total) (totalSeconds (itemsIn words)))
+      (eqb (k .total) (totalSeconds (take (k .len) (itemsIn words))))
       (allFrom (soundAt k sum words) 0 (k .n)) (allFrom (makersSoundAt k words) 0 (k .n)) (allFrom (emptyAt k words) (k .n) (maxLines - k .n))
       ∙ in-parts true t
     where

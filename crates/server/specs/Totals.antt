@@ -4,7 +4,7 @@ use mathlib.Core.Path.{_≡_}
 use mathlib.Core.Bool.{Bool, _&&_, cond}
 use mathlib.Core.List.{List, []}
 use lib.Dec.{leb, ltb, eqb}
-use lib.ListN.{drop}
+use lib.ListN.{take, drop}
 use Rattle.limits.specs.Limits.{maxLines, maxItems, maxInitial}
 use Rattle.list.specs.Items.{allZero}
 use Rattle.list.specs.Seconds.{totalSeconds}
@@ -21,10 +21,10 @@ use Rattle.server.specs.View.{itemsIn, originsIn, slotsAt, makersAt, cou
 abbrev pub inLimits : Counts → Bool
 inLimits k = ((leb 1 (k .n) && leb (k .n) maxLines) && leb (k .initial) maxInitial) && leb (k .len) maxItems
 
--- behind the first len places all is zero, and the total is the sum over the items
+-- behind the first len places all is zero, and the total is the sum over the first len items
 abbrev pub listRight : ℕ → ℕ → List ℕ → Bool
 listRight len total words =
-    (allZero (drop len (itemsIn words)) && allZero (drop len (originsIn words))) && eqb total (totalSeconds (itemsIn words))
+    (allZero (drop len (itemsIn words)) && allZero (drop len (originsIn words))) && eqb total (totalSeconds (take len (itemsIn words)))
 
 -- a number of each of the first n lines, added up
 abbrev pub totalOf : (line.Line → ℕ) → Counts → ℕ

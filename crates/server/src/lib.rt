@@ -200,7 +200,7 @@ fn list_sound(len: u16, total: u32, words: &[u32]) -> bool
     ensures { λ r. ⌜ r ≡ listRight len total (now (words .entry)) ⌝ }
 {
     let items = &words[0..Server::ITEMS];
-    let sum = list::total(items);
+    let sum = list::total(items, len as usize);
     let unused = list::zero_from(items, len as usize);
     let origins = list::zero_from(&words[Server::ORIGINS..Server::MAKERS], len as usize);
     unused & origins & (total == sum)
@@ -303,7 +303,7 @@ pub fn open_lent(n: u8, ranks: &[u8], items: &[u32], words: &mut [u32]) -> Chang
         return refused(refusal, fresh(0, [0u8; ranks::PLACES], 0, 0));
     }
     open_list(items, words);
-    let total = list::total(items);
+    let total = list::total(items, items.len());
     let counts = fresh(n, ranks::store(ranks), items.len() as u16, total);
     Changed {
         refusal: 0,
