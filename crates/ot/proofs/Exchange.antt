@@ -1,10 +1,10 @@
--- Two changes of a list in two places change places: what the square comes down to. Places count from 0.
+-- Two changes of a list in two places change places: what the square comes down to. Two in one place undo each other. Places count from 0.
 -- Each law is shown by recursion over the list, with the later place written as a successor; the law that is cited takes that by an equation.
 use mathlib.Core.Path.{_≡_, refl, ap, sym, subst}
 use Prim.Native.Nat.{ℕ, zero, suc, _≤_, _<_}
 use native.Mathlib.Nat.{le-of-suc-le-suc, not-suc-le-zero}
 use mathlib.Core.List.{List, [], _∷_}
-use lib.ListN.{length}
+use lib.ListN.{length, getD}
 use Rattle.ot.specs.Edit.{insertedAt, deletedAt}
 
 module _ {A : Type 0} where
@@ -52,3 +52,15 @@ module _ {A : Type 0} where
   pub swap-delete-delete : (i j k : ℕ) (l : List A) → k ≡ suc j → i ≤ j → k < length l → deletedAt i (deletedAt k l) ≡ deletedAt j (deletedAt i l)
   swap-delete-delete i j k l e h b =
       subst (λ (n : ℕ). n < length l → deletedAt i (deletedAt n l) ≡ deletedAt j (deletedAt i l)) (sym e) (delete-delete i j l h) b
+
+  -- what was put in is taken out again
+  pub delete-inserted : (i : ℕ) (x : A) (l : List A) → i ≤ length l → deletedAt i (insertedAt i x l) ≡ l
+  delete-inserted zero x l h = refl
+  delete-inserted (suc i) x [] h = absurd (not-suc-le-zero h)
+  delete-inserted (suc i) x (z ∷ l) h = ap (λ (r : List A). z ∷ r) (delete-inserted i x l (le-of-suc-le-suc h))
+
+  -- what was taken out is put in again
+  pub insert-deleted : (i : ℕ) (d : A) (l : List A) → i < length l → insertedAt i (getD l i d) (deletedAt i l) ≡ l
+  insert-deleted i d [] h = absurd (not-suc-le-zero h)
+  insert-deleted zero d (z ∷ l) h = refl
+  insert-deleted (suc i) d (z ∷ l) h = ap (λ (r : List A). z ∷ r) (insert-deleted i d l (le-of-suc-le-suc h))

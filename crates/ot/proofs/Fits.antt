@@ -1,5 +1,5 @@
 -- Tests of edits as facts about numbers and back; the length of a list after an edit, and what stands on it.
-use mathlib.Core.Path.{_≡_, refl, ap}
+use mathlib.Core.Path.{_≡_, refl, ap, sym, _∙_}
 use mathlib.Core.Bool.{Bool, true, false, _&&_}
 use Prim.Native.Nat.{ℕ, zero, suc, _+_, _-_, _≤_, _<_}
 use native.Mathlib.Omega.{arith}
@@ -87,3 +87,28 @@ unfolding appliedAs
 alike y Nothing l = refl
 alike y (Delete p) l = refl
 alike y (Insert p x r) l = refl
+
+-- Everything on the list passes a test, and what is put in does: so does everything on it after the edit.
+module _ {A : Type 0} (test : A → Bool) (all : List A → Bool) (next : (x : A) (xs : List A) → all (x ∷ xs) ≡ (test x && all xs)) where
+  all-cons : (x : A) (xs : List A) → test x ≡ true → all xs ≡ true → all (x ∷ xs) ≡ true
+  all-cons x xs h k = next x xs ∙ rw h k
+
+  all-tail : (x : A) (xs : List A) → all (x ∷ xs) ≡ true → all xs ≡ true
+  all-tail x xs k = and-right (test x) (all xs) (sym (next x xs) ∙ k)
+
+  all-inserted : (i : ℕ) (x : A) (l : List A) → test x ≡ true → all l ≡ true → all (insertedAt i x l) ≡ true
+  all-inserted zero x l h k = all-cons x l h k
+  all-inserted (suc i) x [] h k = all-cons x [] h k
+  all-inserted (suc i) x (y ∷ l) h k = all-cons y (insertedAt i x l) (and-left (test y) (all l) (sym (next y l) ∙ k)) (all-inserted i x l h (all-tail y l k))
+
+  all-deleted : (i : ℕ) (l : List A) → all l ≡ true → all (deletedAt i l) ≡ true
+  all-deleted zero [] k = k
+  all-deleted (suc i) [] k = k
+  all-deleted zero (y ∷ l) k = all-tail y l k
+  all-deleted (suc i) (y ∷ l) k = all-cons y (deletedAt i l) (and-left (test y) (all l) (sym (next y l) ∙ k)) (all-deleted i l (all-tail y l k))
+
+  pub all-applied : (f : ℕ → A) (e : Edit) (l : List A) → ((p x r : ℕ) → e ≡ Insert p x r → test (f x) ≡ true) → all l ≡ true → all (appliedAs f e l) ≡ true
+  unfolding appliedAs
+  all-applied f Nothing l h k = k
+  all-applied f (Delete p) l h k = all-deleted (p - 1) l k
+  all-applied f (Insert p x r) l h k = all-inserted (p - 1) (f x) l (h p x r refl) k

@@ -7,7 +7,7 @@ use native.Mathlib.Nat.{le-of-suc-le-suc, not-suc-le-zero, suc-add, zero-add}
 use native.Mathlib.Omega.{arith}
 use lib.ListN.{length, getD, set, take, drop, replicate, length-append, length-drop, length-set, length-map, List·getD-append, List·getD-map}
 use lib.Seq.{ext-getD, set-append-left, take-at, drop-append-le, drop-append-add, getD-append-add}
-use Rattle.limits.specs.Limits.{maxPending}
+use Rattle.limits.specs.Limits.{maxItems, maxPending}
 use Rattle.ot.specs.declared.Form.{Form}
 use Rattle.ot.specs.Edit.{Edit, Nothing, edit, formOf, itemOf}
 use Rattle.ot.specs.Laws.{within}
@@ -111,7 +111,7 @@ slots-read-back right es h p q b =
     let inside : i < length es = omega arith in
     edits-at (slotsOf es) 0 (length es) i inside ∙ ap (editIn (slotsOf es)) (zero-add i)
     ∙ ap₂ (λ (n x : ℕ). edit (formAt n) x) (slots-place es h i (omega arith)) (slots-item es h i)
-    ∙ slot-read-back right b (getD es i Nothing) (placed-at es i p) (priority-at right es i q))
+    ∙ slot-read-back maxItems (omega arith) right b (getD es i Nothing) (placed-at es i p) (priority-at right es i q))
 
 -- ---- one more edit, which brings an item only if it is an insert
 

@@ -40,7 +40,7 @@ pub fn place_of(f: Form) -> u32
 }
 
 // What a place means.
-fn form_at(place: u32) -> Form
+pub fn form_at(place: u32) -> Form
     ensures { λ r. ⌜ r ≡ formAt place ⌝ }
 {
     let p = (place / 256 % 65536) as u16;
