@@ -10,7 +10,7 @@ use Rattle.wire.specs.declared.Read.{Read}
 use Rattle.wire.specs.declared.Read.the-variants as read
 use Rattle.wire.specs.Bytes.{bytesOf, parsed}
 use Rattle.model.specs.Questions.{asks, Report, noReport, Answer, answer, Sent, sent}
-use Rattle.model.specs.Client.{Client, ownRank, editClient, clientMessage, sendClientQuestions, sendClient, tellClientQuestions, tellClient, clientTakesEdit, clientTakesAck, clientReads, takeClient}
+use Rattle.model.specs.Client.{Client, ownRank, editClient, takeBackClient, clientMessage, sendClientQuestions, sendClient, tellClientQuestions, tellClient, clientTakesEdit, clientTakesAck, clientReads, takeClient}
 use Rattle.model.specs.Server.{Server, lineOf, serverMessage, sendServerQuestions, sendServer, tellServerQuestions, tellServer, serverTakesEdit, serverTakesAck, serverReads, takeServer}
 use Rattle.model.specs.Claim.{Back, Unwritten, PastStays, LeavesAlone}
 use Rattle.model.specs.SheetOf.{ClientCalls, ServerCalls, End, client, server, answerAs, sheetOf}
@@ -35,6 +35,10 @@ sent-alone r bytes lent = go (sent r bytes lent) (posted r bytes lent)
 pub edit-back : (m : Client) (e : Edit) → Back m (editClient m e)
 unfolding editClient
 edit-back m e = back _ m _ noReport
+
+pub undo-back : (m : Client) → Back m (takeBackClient m)
+unfolding takeBackClient
+undo-back m = back _ m _ noReport
 
 client-reads : (m : Client) (r : Read) → Back m (clientReads m r)
 unfolding clientTakesEdit clientTakesAck
@@ -65,6 +69,7 @@ server-back m bytes = server-reads m (parsed bytes)
 pub record ClientAlone (c : ClientCalls) : Type 0 where
   pub inserts : (e : c .Client) (p x : ℕ) → Back e (c .insert e p x)
   pub deletes : (e : c .Client) (p : ℕ) → Back e (c .delete e p)
+  pub takes-back : (e : c .Client) → Back e (c .takeBack e)
   pub takes : (e : c .Client) (bytes : List ℕ) → Back e (c .take e bytes)
   pub sends : (e : c .Client) (l number : ℕ) (lent : List ℕ) → Unwritten lent (c .send e l number lent) × PastStays lent (c .send e l number lent)
   pub tells : (e : c .Client) (l : ℕ) (lent : List ℕ) → Unwritten lent (c .tell e l lent) × PastStays lent (c .tell e l lent)
@@ -79,7 +84,7 @@ as-end : {A B : Type 0} (f : A → B) (e : A) (a : Answer A) → Back e a → Ba
 as-end f e a b h = (ap f (b h .0), b h .1)
 
 pub both-alone : (c : ClientCalls) (v : ServerCalls) → ClientAlone c → ServerAlone v → LeavesAlone (sheetOf c v)
-both-alone c v f g = record { inserts = inserts; deletes = deletes; takes = takes; sends = sends; tells = tells }
+both-alone c v f g = record { inserts = inserts; deletes = deletes; takes-back = takes-back; takes = takes; sends = sends; tells = tells }
   where
     inserts : (e : End (c .Client) (v .Server)) (p x : ℕ) → Back e (sheetOf c v .insert e p x)
     inserts (client e) p x = as-end client e (c .insert e p x) (f .inserts e p x)
@@ -88,6 +93,10 @@ both-alone c v f g = record { inserts = inserts; deletes = deletes; takes = take
     deletes : (e : End (c .Client) (v .Server)) (p : ℕ) → Back e (sheetOf c v .delete e p)
     deletes (client e) p = as-end client e (c .delete e p) (f .deletes e p)
     deletes (server e) p = λ h. (refl, refl)
+
+    takes-back : (e : End (c .Client) (v .Server)) → Back e (sheetOf c v .takeBack e)
+    takes-back (client e) = as-end client e (c .takeBack e) (f .takes-back e)
+    takes-back (server e) = λ h. (refl, refl)
 
     takes : (e : End (c .Client) (v .Server)) (bytes : List ℕ) → Back e (sheetOf c v .take e bytes)
     takes (client e) bytes = as-end client e (c .take e bytes) (f .takes e bytes)
@@ -109,6 +118,7 @@ client-alone =
     record {
       inserts = λ m p x. edit-back m (Insert p x (ownRank m));
       deletes = λ m p. edit-back m (Delete p);
+      takes-back = undo-back;
       takes = client-back;
       sends = λ m l number lent. sent-alone (asks (sendClientQuestions m l number lent)) (bytesOf (clientMessage m number)) lent;
       tells = λ m l lent. sent-alone (asks (tellClientQuestions m l lent)) (bytesOf (message.Ack (m .line) 0 (m .own .taken))) lent;

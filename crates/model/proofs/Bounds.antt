@@ -53,7 +53,7 @@ module _ (n : ℕ) (items : List Place) {ranks : List ℕ} {from : Moment ranks}
       omega (arith, line-fact S (server-facts S (sim .server-sound)) j a b .line .inserts, ap (λ v. v .inserts) (line-from n (length items) ranks (sim .E .doc) (sim .E .lines) (sim .si) j a b))
 
   pub client-most : (l : ℕ) → 1 ≤ l → l ≤ n → sim .ci l ≤ maxInserts
-  client-most l a b = client-facts (clientFrom n l ranks (sim .E .clients l) (sim .E .docs l) (sim .ci l)) (sim .client-sound l a b) .own .inserts
+  client-most l a b = client-facts (clientFrom n l ranks (sim .E .clients l) (sim .E .docs l) (sim .ci l) (sim .bk l)) (sim .client-sound l a b) .own .inserts
 
   -- a client counts what the server counts of it and what the server has not taken
   pub client-more : (l : ℕ) → sim .ci l ≡ sim .si l + inserts (h .untaken l)

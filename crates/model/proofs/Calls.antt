@@ -35,20 +35,20 @@ use Rattle.model.specs.Limits.{maxEdits, maxItems}
 use Rattle.model.specs.Questions.{ask, asks, noReport, Answer, answer, Sent}
 use Rattle.model.specs.Cross.{priority}
 use Rattle.model.specs.Line.{Line, other, lineMessage, lineReport}
-use Rattle.model.specs.Client.{Client, soundClient, listThen, edited, editQuestions, editClient, clientMessage, sendClientQuestions, sendClient, tellClientQuestions, tellClient, clientTaken, clientAcked, clientEditQuestions, clientTakesEdit, clientAckQuestions, clientTakesAck, clientTakes, clientReads, takeClient}
+use Rattle.model.specs.Client.{Client, soundClient, listThen, edited, makeQuestions, editQuestions, editClient, takeBackQuestions, takeBackClient, clientMessage, sendClientQuestions, sendClient, tellClientQuestions, tellClient, clientTaken, clientAcked, clientEditQuestions, clientTakesEdit, clientAckQuestions, clientTakesAck, clientTakes, clientReads, takeClient}
 use Rattle.model.specs.Server.{Server, lineOf, makersOf, otherMaker, soundServer, makerAt, ownOrigin, serverMessage, sendServerQuestions, sendServer, tellServerQuestions, tellServer, serverTaken, serverAcked, serverEditQuestions, serverTakesEdit, serverAckQuestions, serverTakesAck, serverTakes, serverReads, takeServer}
 use Rattle.model.specs.Ranks.{rankOf}
 use Rattle.model.specs.Edits.{Named, noOrigin, Rule, editsBy, edits}
-use Rattle.model.specs.Sheet.{Call, insert, delete, send, tell, receive, junk}
+use Rattle.model.specs.Sheet.{Call, insert, delete, takeBack, send, tell, receive, junk}
 use Rattle.model.specs.Log as logs
 use Rattle.model.specs.Log.{Log, headerOf, wireMessage, messageBytes, takenAt, editMessage, ackMessage, hears, writes, took, tookUp, tookDown, logged, refusedLog, log}
 use Rattle.model.specs.Run.{State, answered, written, handed, call, callable, unreadable, areBytes}
 use Rattle.model.specs.Ours.{End, client, server, answerAs, ours}
-use Rattle.model.proofs.Tests.{never, both, four, and-left, and-right, yes-all, between-true, true-between}
+use Rattle.model.proofs.Tests.{never, both, four, and-left, and-right, Yes, yes-all, between-true, true-between}
 use Rattle.model.proofs.SoundLine.{Asked, asked}
-use Rattle.model.proofs.SoundClient.{ClientFacts, client-facts}
+use Rattle.model.proofs.SoundClient.{ClientFacts, client-facts, carryQuestions}
 use Rattle.model.proofs.SoundServer.{ServerFacts, server-facts, ServerLine, line-fact, makers-fact, maker-at, made-most, takenSum, lastQuestions}
-use Rattle.model.proofs.Sound.{three, edits-sound, client-takes-edit, client-takes-ack, server-takes-edit, server-takes-ack}
+use Rattle.model.proofs.Sound.{three, edits-sound, takes-back, client-takes-edit, client-takes-ack, server-takes-edit, server-takes-ack}
 use Rattle.model.proofs.Instance.{makersIn}
 use Rattle.model.proofs.Origins.{up-origin}
 use Rattle.model.proofs.Small.{Small}
@@ -129,19 +129,20 @@ module _ (n : ℕ) (items : List Place) {ranks : List ℕ} {from : Moment ranks}
   -- ---- at client l
   module _ (l : ℕ) (lo : 1 ≤ l) (hi : l ≤ n) where
     abbrev C : Client
-    C = clientFrom n l ranks (E .clients l) (E .docs l) (sim .ci l)
+    C = clientFrom n l ranks (E .clients l) (E .docs l) (sim .ci l) (sim .bk l)
 
     abbrev sound : soundClient C ≡ true
     sound = sim .client-sound l lo hi
 
-    edit-call : (c : Call) (e : Edit) → priority (eqb (rankOf ranks l)) e ≡ true → Small e → logged w c ≡ logs.edited w l e → refusedLog w c ≡ hears w (w .heard)
-        → (a : Answer Client) → Outcome (asks (editQuestions C e)) C (edited C e) noReport a → soundClient (a .end) ≡ true
+    -- an edit that some questions let through, 9 to 12 among them
+    edit-call : (c : Call) (e : Edit) (k : ℕ) → priority (eqb (rankOf ranks l)) e ≡ true → Small e → (k ≡ 0 → Yes (makeQuestions C e))
+        → logged w c ≡ logs.edited w l e → refusedLog w c ≡ hears w (w .heard)
+        → (a : Answer Client) → Outcome k C (edited C e) noReport a → soundClient (a .end) ≡ true
         → Sim n items from (answered ours s l c (answerAs client a))
     unfolding log
-    edit-call c e pr sm made quiet a (outcomes.Outcome.no r) ok = turned-down l c (asks (editQuestions C e)) (client C) r (sim .client-is l lo hi) quiet
-    edit-call c e pr sm made quiet a (outcomes.Outcome.yes r) ok =
-        let y = yes-all (editQuestions C e) (omega arith) r in
-        let q9 = and-left (fits e (length (E .docs l))) (leb (length (listThen C e)) maxItems) (y .1 .0) in
+    edit-call c e k pr sm asked made quiet a (outcomes.Outcome.no r) ok = turned-down l c k (client C) r (sim .client-is l lo hi) quiet
+    edit-call c e k pr sm asked made quiet a (outcomes.Outcome.yes r) ok =
+        let q9 = and-left (fits e (length (E .docs l))) (leb (length (listThen C e)) maxItems) (asked r .0) in
         subst (λ (z : Log ranks). Sim n items from (record { ends = at l (client (edited C e)) (s .ends); messages = s .messages; reports = s .reports ++ (noReport ∷ []); recorded = z })) (sym made)
         (edits-on n items s sim l lo hi e pr sm q9 ok)
 
@@ -161,11 +162,11 @@ module _ (n : ℕ) (items : List Place) {ranks : List ℕ} {from : Moment ranks}
         let q4 = four (eqb direction 1) (eqb k l) (priority (other n (rankOf ranks l)) (m .edit .edit)) (other n l (m .edit .origin .line)) (y .1 .0) in
         let down-way : direction ≡ 1 = eqb-true direction 1 (q4 .0) in
         let mine-way : k ≡ l = eqb-true k l (q4 .1) in
-        let q = asked (C .own) (E .docs l) hd (m .edit .edit) [] (y .1 .1) in
+        let q = asked (C .own) (E .docs l) hd (m .edit .edit) (carryQuestions C hd (m .edit .edit)) (y .1 .1) in
         subst (λ (z : Log ranks). Sim n items from (record { ends = at l (client (clientTaken C (m .edit .origin) (m .seen) (m .edit .edit))) (s .ends); messages = s .messages; reports = s .reports ++ (lineReport (C .own) (m .seen) (m .edit .edit) ∷ []); recorded = z }))
         (sym (made down-way ∙ ap (λ (i : ℕ). cond (eqb l i) (tookDown w i m) (hears w (w .heard))) mine-way ∙ rw (eq-eqb l l refl)))
         (takes-down n items s sim l lo hi m (subst (λ (i : ℕ). DownMessage items E h i m) mine-way (fine down-way)) (q .next ∙ add-one (E .clients l .taken)) (q .low)
-        (small-range hd (m .edit .edit) range) ok)
+        (small-range hd (m .edit .edit) range) (q .fit) ok)
 
     -- an acknowledgement
     take-ack : (c : Call) (k direction seen : ℕ) → (direction ≡ 1 → seen ≤ E .lines k .taken) → (direction ≡ 1 → logged w c ≡ cond (eqb l k) (hears w (logs.hearing w k k seen)) (hears w (w .heard))) → refusedLog w c ≡ hears w (w .heard)
@@ -296,8 +297,8 @@ module _ (n : ℕ) (items : List Place) {ranks : List ℕ} {from : Moment ranks}
 
   -- client l sends the edit of a number
   module _ (l : ℕ) (lo : 1 ≤ l) (hi : l ≤ n) where
-    abbrev F : ClientFacts (clientFrom n l ranks (E .clients l) (E .docs l) (sim .ci l))
-    F = client-facts (clientFrom n l ranks (E .clients l) (E .docs l) (sim .ci l)) (sim .client-sound l lo hi)
+    abbrev F : ClientFacts (clientFrom n l ranks (E .clients l) (E .docs l) (sim .ci l) (sim .bk l))
+    F = client-facts (clientFrom n l ranks (E .clients l) (E .docs l) (sim .ci l) (sim .bk l)) (sim .client-sound l lo hi)
 
     module _ (number : ℕ) (low : E .clients l .acked < number) (high : number ≤ E .clients l .made) where
       pub up-is : (line : ℕ) → editMessage h l line number ≡ up l (ends.message number (E .clients l))
@@ -311,7 +312,7 @@ module _ (n : ℕ) (items : List Place) {ranks : List ℕ} {from : Moment ranks}
       up-made : record { line = l; number = number } ≡ ends.message number (E .clients l) .edit .origin
       up-made = sym (up-origin ranks items E h (sim .inv) l (ends.message number (E .clients l)) (up-message items E h (sim .inv) l number low high))
 
-      pub up-bytes : bytesOf (clientMessage (clientFrom n l ranks (E .clients l) (E .docs l) (sim .ci l)) number) ≡ messageBytes (up l (ends.message number (E .clients l)))
+      pub up-bytes : bytesOf (clientMessage (clientFrom n l ranks (E .clients l) (E .docs l) (sim .ci l) (sim .bk l)) number) ≡ messageBytes (up l (ends.message number (E .clients l)))
       up-bytes = line-bytes (E .clients l) (sim .ci l) number l 0 (record { line = l; number = number }) up-made
 
       pub up-ok : MessageOk n ranks items E h (up l (ends.message number (E .clients l)))
@@ -328,10 +329,10 @@ module _ (n : ℕ) (items : List Place) {ranks : List ℕ} {from : Moment ranks}
             (lo, hi, line-priority (E .clients l) (sim .ci l) number (E .clients l .made) (eqb (rankOf ranks l)) (F .own) low high),
           )
 
-    client-sends : (line number : ℕ) (lent : List ℕ) → Sim n items from (written ours s (send l line number lent) (sendClient (clientFrom n l ranks (E .clients l) (E .docs l) (sim .ci l)) line number lent))
+    client-sends : (line number : ℕ) (lent : List ℕ) → Sim n items from (written ours s (send l line number lent) (sendClient (clientFrom n l ranks (E .clients l) (E .docs l) (sim .ci l) (sim .bk l)) line number lent))
     unfolding sendClient logged refusedLog
     client-sends line number lent =
-        let C = clientFrom n l ranks (E .clients l) (E .docs l) (sim .ci l) in
+        let C = clientFrom n l ranks (E .clients l) (E .docs l) (sim .ci l) (sim .bk l) in
         post (send l line number lent) (asks (sendClientQuestions C line number lent)) (bytesOf (clientMessage C number)) lent (editMessage h l line number) refl refl
         (λ z.
         let y = yes-all (sendClientQuestions C line number lent) (omega arith) z in
@@ -340,10 +341,10 @@ module _ (n : ℕ) (items : List Place) {ranks : List ℕ} {from : Moment ranks}
         (subst (MessageOk n ranks items E h) (sym (up-is number low (q13 .1) line)) (up-ok number low (q13 .1)), up-bytes number low (q13 .1) ∙ ap messageBytes (sym (up-is number low (q13 .1) line))))
         (sendClient C line number lent) (posted (asks (sendClientQuestions C line number lent)) (bytesOf (clientMessage C number)) lent)
 
-    client-tells : (line : ℕ) (lent : List ℕ) → Sim n items from (written ours s (tell l line lent) (tellClient (clientFrom n l ranks (E .clients l) (E .docs l) (sim .ci l)) line lent))
+    client-tells : (line : ℕ) (lent : List ℕ) → Sim n items from (written ours s (tell l line lent) (tellClient (clientFrom n l ranks (E .clients l) (E .docs l) (sim .ci l) (sim .bk l)) line lent))
     unfolding tellClient logged refusedLog
     client-tells line lent =
-        let C = clientFrom n l ranks (E .clients l) (E .docs l) (sim .ci l) in
+        let C = clientFrom n l ranks (E .clients l) (E .docs l) (sim .ci l) (sim .bk l) in
         let is = client-ack-message h l line (E .clients l .taken) lo (sim .taken l) in
         post (tell l line lent) (asks (tellClientQuestions C line lent)) (bytesOf (message.Ack l 0 (E .clients l .taken))) lent (ackMessage h l line) refl refl
         (λ z. (
@@ -469,7 +470,7 @@ module _ (n : ℕ) (items : List Place) {ranks : List ℕ} {from : Moment ranks}
           (subst (λ (r : Read). Sim n items from (answered ours s 0 (receive 0 i) (answerAs server (serverReads S r)))) (sym (ap parsed same ∙ codec .written-read (wireMessage x) (ok .1)))
           (serve-message n items s sim (receive 0 i) x ok (ap (took (s .recorded) 0) is) refl))
       go (suc a) hi x is same ok =
-          let C = clientFrom n (suc a) ranks (sim .E .clients (suc a)) (sim .E .docs (suc a)) (sim .ci (suc a)) in
+          let C = clientFrom n (suc a) ranks (sim .E .clients (suc a)) (sim .E .docs (suc a)) (sim .ci (suc a)) (sim .bk (suc a)) in
           subst (λ (e : End). Sim n items from (answered ours s (suc a) (receive (suc a) i) (ours .take e b))) (sym (sim .client-is (suc a) (omega arith) hi))
           (subst (λ (r : Read). Sim n items from (answered ours s (suc a) (receive (suc a) i) (answerAs client (clientReads C r)))) (sym (ap parsed same ∙ codec .written-read (wireMessage x) (ok .1)))
           (take-message n items s sim (suc a) (omega arith) hi (receive (suc a) i) x ok (ap (took (s .recorded) (suc a)) is) refl))
@@ -482,7 +483,7 @@ module _ (n : ℕ) (items : List Place) {ranks : List ℕ} {from : Moment ranks}
       (subst (λ (r : Read). Sim n items from (answered ours s 0 (junk 0 bytes) (answerAs server (serverReads S r)))) (sym e)
       (serve-junk n items s sim (junk 0 bytes) (answer (asks (ask 2 (soundServer S) ∷ ask 3 false ∷ [])) S S noReport) (outcome (asks (ask 2 (soundServer S) ∷ ask 3 false ∷ [])) S S noReport) refl))
   junks-at (suc a) bytes hi e =
-      let C = clientFrom n (suc a) ranks (sim .E .clients (suc a)) (sim .E .docs (suc a)) (sim .ci (suc a)) in
+      let C = clientFrom n (suc a) ranks (sim .E .clients (suc a)) (sim .E .docs (suc a)) (sim .ci (suc a)) (sim .bk (suc a)) in
       subst (λ (d : End). Sim n items from (answered ours s (suc a) (junk (suc a) bytes) (ours .take d bytes))) (sym (sim .client-is (suc a) (omega arith) hi))
       (subst (λ (r : Read). Sim n items from (answered ours s (suc a) (junk (suc a) bytes) (answerAs client (clientReads C r)))) (sym e)
       (take-junk n items s sim (suc a) (omega arith) hi (junk (suc a) bytes) (answer (asks (ask 2 (soundClient C) ∷ ask 3 false ∷ [])) C C noReport)
@@ -502,11 +503,23 @@ module _ (n : ℕ) (items : List Place) {ranks : List ℕ} {from : Moment ranks}
 
   edits-at : (c : Call) (l : ℕ) (e : Edit) → 1 ≤ l → l ≤ n → priority (eqb (rankOf ranks l)) e ≡ true → Small e → logged (s .recorded) c ≡ logs.edited (s .recorded) l e
       → refusedLog (s .recorded) c ≡ hears (s .recorded) (s .recorded .heard)
-      → Sim n items from (answered ours s l c (answerAs client (editClient (clientFrom n l ranks (sim .E .clients l) (sim .E .docs l) (sim .ci l)) e)))
+      → Sim n items from (answered ours s l c (answerAs client (editClient (clientFrom n l ranks (sim .E .clients l) (sim .E .docs l) (sim .ci l) (sim .bk l)) e)))
   unfolding editClient
   edits-at c l e lo hi pr sm made quiet =
-      let C = clientFrom n l ranks (sim .E .clients l) (sim .E .docs l) (sim .ci l) in
-      edit-call n items s sim l lo hi c e pr sm made quiet (editClient C e) (outcome (asks (editQuestions C e)) C (edited C e) noReport) (edits-sound C e pr (sim .client-sound l lo hi))
+      let C = clientFrom n l ranks (sim .E .clients l) (sim .E .docs l) (sim .ci l) (sim .bk l) in
+      edit-call n items s sim l lo hi c e (asks (editQuestions C e)) pr sm (λ z. yes-all (editQuestions C e) (omega arith) z .1) made quiet (editClient C e)
+      (outcome (asks (editQuestions C e)) C (edited C e) noReport) (edits-sound C e pr (sim .client-sound l lo hi))
+
+  -- the inverse that the client stores is what the log says that taking back makes
+  takes-back-at : (l : ℕ) → 1 ≤ l → l ≤ n
+      → Sim n items from (answered ours s l (takeBack l) (answerAs client (takeBackClient (clientFrom n l ranks (sim .E .clients l) (sim .E .docs l) (sim .ci l) (sim .bk l)))))
+  unfolding takeBackClient logged refusedLog
+  takes-back-at l lo hi =
+      let C = clientFrom n l ranks (sim .E .clients l) (sim .E .docs l) (sim .ci l) (sim .bk l) in
+      let sound = sim .client-sound l lo hi in
+      edit-call n items s sim l lo hi (takeBack l) (sim .bk l) (asks (takeBackQuestions C)) (client-facts C sound .inverse .rank) (sim .back-small l)
+      (λ z. yes-all (takeBackQuestions C) (omega arith) z .1 .1) (ap (logs.edited (s .recorded) l) (sym (sim .back-is l))) refl (takeBackClient C)
+      (outcome (asks (takeBackQuestions C)) C (edited C (sim .bk l)) noReport) (takes-back C sound)
 
   pub called : (c : Call) → callable n c ≡ true → Sim n items from (call ours s c)
   unfolding call callable handed logged refusedLog
@@ -519,6 +532,9 @@ module _ (n : ℕ) (items : List Place) {ranks : List ℕ} {from : Moment ranks}
       let at-l = between-true 1 n l (and-left (between 1 n l) (ltb p 65536) ok) in
       subst (λ (e : End). Sim n items from (answered ours s l (delete l p) (ours .delete e p))) (sym (sim .client-is l (at-l .0) (at-l .1)))
       (edits-at (delete l p) l (Delete p) (at-l .0) (at-l .1) refl refl refl refl)
+  called (takeBack l) ok =
+      let at-l = between-true 1 n l ok in
+      subst (λ (e : End). Sim n items from (answered ours s l (takeBack l) (ours .takeBack e))) (sym (sim .client-is l (at-l .0) (at-l .1))) (takes-back-at l (at-l .0) (at-l .1))
   called (send a l number lent) ok =
       sends-at a l number lent (leb-true a n (three (leb a n) (ltb l 256) (ltb number 65536) (and-left (leb a n && ltb l 256 && ltb number 65536) (areBytes lent) ok) .0))
   called (tell a l lent) ok = tells-at a l lent (leb-true a n (three (leb a n) (ltb l 256) (areBytes lent) ok .0))

@@ -2,11 +2,12 @@
 use mathlib.Core.Path.{_≡_, refl, ap, ap₂, sym, _∙_, subst}
 use mathlib.Core.Bool.{Bool, true, false, cond}
 use mathlib.Core.Option.{Option, none, some}
-use mathlib.Core.List.{List, [], _∷_, map}
+use mathlib.Core.List.{List, [], _∷_, _++_, map}
 use Prim.Native.Nat.{ℕ, zero, suc, _≤_}
 use lib.ListN.{getElem?}
-use borrow.Author.Tests.{le-leb}
-use Rattle.list.specs.Places.{Place, initialPlaces}
+use borrow.Author.Tests.{eq-eqb, le-leb}
+use Rattle.ot.specs.Edit.{Edit}
+use Rattle.list.specs.Places.{Place, initialPlaces, appliedBy, itemsOf}
 use Rattle.list.specs.Seconds.{runningTime}
 use Rattle.jupiter.specs.Ends.{Ends}
 use Rattle.jupiter.specs.Run as theory
@@ -20,16 +21,20 @@ use Rattle.jupiter.proofs.Start.{whole, whole-none}
 use Rattle.jupiter.proofs.Runs.{Onward}
 use Rattle.jupiter.proofs.Consistency as theorem
 use Rattle.model.specs.Questions.{Question, asks}
-use Rattle.model.specs.Ranks.{among}
+use Rattle.model.specs.Ranks.{rankOf, among}
 use Rattle.model.specs.Edits.{edits}
-use Rattle.model.specs.Sheet.{Sheet, Call, insert, delete, send, tell, receive, junk}
-use Rattle.model.specs.Log.{Log, log, madeAt, takenAt, messageBytes}
+use Rattle.model.specs.Sheet.{Sheet, Call, insert, delete, takeBack, send, tell, receive, junk}
+use Rattle.model.specs.Log as logs
+use Rattle.model.specs.Log.{Log, namedBy, edited, log, madeAt, takenAt, messageBytes}
 use Rattle.model.specs.Numbers.{taking, handing, number}
 use Rattle.model.specs.Run.{State, callable, handed, handedNumber, call, numberOf, run, start}
 use Rattle.model.specs.Claim.{Holds, Opened, Converges}
 use Rattle.model.specs.Ours.{server, ours}
 use Rattle.model.specs.Order.{SameOrder}
-use Rattle.model.specs.Consequences.{appliedAt, after, Consistent, OneOrder, TakingRefusals, Agree, Consequences}
+use Rattle.model.specs.Consequences.{appliedAt, after, editOf, sparedBy, Consistent, OneOrder, TakingRefusals, TakesBack, Agree, Consequences}
+use Rattle.model.proofs.Tests.{true-between}
+use Rattle.model.proofs.Inverse.{takes-it-back}
+use Rattle.model.proofs.Logs.{edited-shows, edited-undo, Makes, makes, edits-line, edit-logs, Spared, run-spares}
 use Rattle.model.proofs.Places.{namesOf, edit-origins, may-open, shown-order}
 use Rattle.model.proofs.Orders.{places-order}
 use Rattle.model.proofs.Sim.{Moment, Sim, present, from-here, laws}
@@ -69,6 +74,7 @@ module _ (S T : Sheet) (n : ℕ) {ranks : List ℕ} where
     unfolding call numberOf
     same-call (insert l p x) q = ap₂ (λ (w : Log ranks) (r : ℕ). log w (insert l p x) r) e q
     same-call (delete l p) q = ap₂ (λ (w : Log ranks) (r : ℕ). log w (delete l p) r) e q
+    same-call (takeBack l) q = ap₂ (λ (w : Log ranks) (r : ℕ). log w (takeBack l) r) e q
     same-call (send a l k lent) q = ap₂ (λ (w : Log ranks) (r : ℕ). log w (send a l k lent) r) e q
     same-call (tell a l lent) q = ap₂ (λ (w : Log ranks) (r : ℕ). log w (tell a l lent) r) e q
     same-call (receive a i) q =
@@ -215,7 +221,7 @@ module _ (S : Sheet) (c : Converges S) (n : ℕ) (ranks items : List ℕ) (o : O
   led : Sim n (initialPlaces items) (opening items) there
   led =
       let asked = server-asked n ranks items (ours-open .server) in
-      runs n (initialPlaces items) calls (start ours n ranks items) (starts n ranks items (asked .0) (asked .1) (asked .2) (asked .3))
+      runs n (initialPlaces items) calls (start ours n ranks items) (starts n ranks items (asked .0) (asked .1) (asked .2) (asked .3) (o .numbers))
 
   -- where S is led, and that it shows what ours shows there and after more calls
   abbrev here : State S ranks
@@ -271,5 +277,71 @@ consistent S c =
 pub order : (S : Sheet) → Converges S → OneOrder S
 order S c n ranks items o calls more a b = in-order S c n ranks items o calls more a b
 
+-- ---- taking back
+
+run-append : (S : Sheet) (n : ℕ) {ranks : List ℕ} (xs ys : List Call) (s : State S ranks) → run S n s (xs ++ ys) ≡ run S n (run S n s xs) ys
+unfolding run
+run-append S n [] ys s = refl
+run-append S n (c ∷ xs) ys s = run-append S n xs ys (cond (callable n c) (call S s c) s)
+
+run-call : (S : Sheet) (n : ℕ) {ranks : List ℕ} (s : State S ranks) (c : Call) (more : List Call) → callable n c ≡ true → run S n s (c ∷ more) ≡ run S n (call S s c) more
+unfolding run
+run-call S n {ranks} s c more ok = ap (λ (b : Bool). run S n (cond {A = State S ranks} b (call S s c) s) more) ok
+
+-- client l makes an edit, or takes one back, and then makes and takes nothing
+module _ (S : Sheet) (n : ℕ) {ranks : List ℕ} (s : State S ranks) (good : Good S n s) (l : ℕ) (lo : 1 ≤ l) (hi : l ≤ n) (c : Call) (between : List Call)
+    (mine : editOf l c ≡ true) (ok : callable n c ≡ true) (spared : sparedBy l between ≡ true) (z : numberOf S s c ≡ 0) where
+  abbrev w : Log ranks
+  w = s .recorded
+
+  -- where this leads
+  abbrev t : State S ranks
+  t = run S n s (c ∷ between)
+
+  made : Makes n w l c
+  made = makes n w l c mine (sym (good-now S n s good .numbers c ok) ∙ z)
+
+  abbrev e : Edit
+  e = made .edit
+
+  abbrev list : List Place
+  list = w .shown l
+
+  logged : call S s c .recorded ≡ edited w l e
+  logged = edit-logs S s l c mine ∙ ap (log w c) z ∙ made .leaves
+
+  -- the log there still has the edit's inverse, and the list that the edit left
+  still : Spared l (edited w l e) (t .recorded)
+  still =
+      subst (λ (u : Log ranks). Spared l u (t .recorded)) logged
+      (subst (λ (u : State S ranks). Spared l (call S s c .recorded) (u .recorded)) (sym (run-call S n s c between ok)) (run-spares S n l between (call S s c) spared))
+
+  module _ (y : numberOf S t (takeBack l) ≡ 0) where
+    abbrev undone : State S ranks
+    undone = run S n t (takeBack l ∷ [])
+
+    back-logged : undone .recorded ≡ edited (t .recorded) l (t .recorded .undo l)
+    unfolding run callable log logs.logged
+    back-logged =
+        ap (λ (u : State S ranks). u .recorded) (run-call S n t (takeBack l) [] (true-between 1 n l lo hi))
+        ∙ edit-logs S t l (takeBack l) (eq-eqb l l refl) ∙ ap (log (t .recorded) (takeBack l)) y
+
+    pub as-before : itemsOf (S .items (undone .ends l)) ≡ itemsOf (S .items (s .ends l))
+    as-before =
+        let o = namedBy (t .recorded) l (t .recorded .undo l) .origin in
+        ap itemsOf (good-on S n s good (c ∷ between) (takeBack l ∷ []) .lists l hi)
+        ∙ ap (λ (u : Log ranks). itemsOf (u .shown l)) back-logged
+        ∙ ap itemsOf (edited-shows (t .recorded) l (t .recorded .undo l) lo)
+        ∙ ap₂ (λ (d : Edit) (shown : List Place). itemsOf (appliedBy o d shown)) (still .undo ∙ edited-undo w l e) (still .shown ∙ edited-shows w l e lo)
+        ∙ takes-it-back (rankOf ranks l) (namedBy w l e .origin) o e list (made .fit)
+        ∙ ap itemsOf (sym (good-now S n s good .lists l hi))
+
+pub takes-back : (S : Sheet) → Converges S → TakesBack S
+takes-back S c n ranks items o calls between l e mine ok spared z y =
+    let s = after S n ranks items calls in
+    let on-line = edits-line n l e mine ok in
+    ap (λ (u : State S ranks). itemsOf (S .items (u .ends l))) (run-append S n (e ∷ between) (takeBack l ∷ []) s)
+    ∙ as-before S n s (good-on S n (start S n ranks items) (c .holds n ranks items o) calls) l (on-line .0) (on-line .1) e between mine ok spared z y
+
 pub consequences : Consequences
-consequences = record { consistent = consistent; order = order; refusals = refusals; agree = agree }
+consequences = record { consistent = consistent; order = order; refusals = refusals; takes-back = takes-back; agree = agree }

@@ -7,10 +7,11 @@ use native.Mathlib.Omega.{arith}
 use lib.Dec.{leb}
 use lib.ListN.{length}
 use borrow.Author.Tests.{leb-true}
+use Rattle.ot.specs.Edit.{Nothing, fits}
 use Rattle.list.specs.declared.Origin.{Origin}
 use Rattle.list.specs.Places.{Place, initialPlaces}
 use Rattle.list.specs.Seconds.{runningTime}
-use Rattle.list.proofs.Places.{initial-length}
+use Rattle.list.proofs.Places.{initial-length, initial-items}
 use Rattle.jupiter.specs.Made.{select, reject}
 use Rattle.jupiter.specs.Form.{replay}
 use Rattle.jupiter.specs.History.{History, noHistory, order, missing}
@@ -28,7 +29,7 @@ use Rattle.model.specs.Ranks.{ranking}
 use Rattle.model.specs.Edits.{edits}
 use Rattle.model.specs.Sheet.{Call}
 use Rattle.model.specs.Log.{editMessage, messageBytes}
-use Rattle.model.specs.Run.{State, callable, call, run, start}
+use Rattle.model.specs.Run.{State, areItems, callable, call, run, start}
 use Rattle.model.specs.Claim.{Delivered, Full, OnLine, Holds, Converges}
 use Rattle.model.specs.Ours.{End, client, server, ours}
 use Rattle.model.proofs.Tests.{hold, yes-all, between-true}
@@ -69,7 +70,7 @@ module _ (n : ℕ) (items : List Place) {ranks : List ℕ} {from : Moment ranks}
   -- the claim on line l, at ends a and b that are what the theory says
   on-line : (l : ℕ) → 1 ≤ l → l ≤ n → OnLine ours n s l
   on-line l lo hi =
-      let C = clientFrom n l ranks (E .clients l) (E .docs l) (sim .ci l) in
+      let C = clientFrom n l ranks (E .clients l) (E .docs l) (sim .ci l) (sim .bk l) in
       let line : LineClaim items h l 0 (E .clients l) (E .lines l) (E .docs l) (E .doc) = counts.line n items s sim l in
       let same = line-from n (length items) ranks (E .doc) (E .lines) (sim .si) l lo hi in
       let here : s .ends l ≡ client C = sim .client-is l lo hi in
@@ -130,7 +131,7 @@ module _ (n : ℕ) (items : List Place) {ranks : List ℕ} {from : Moment ranks}
 abbrev pub opening : {ranks : List ℕ} → List ℕ → Moment ranks
 opening items = record { ends = ends.opened (initialPlaces items); history = noHistory }
 
-module _ (n : ℕ) (ranks items : List ℕ) (lo : 1 ≤ n) (hi : n ≤ maxLines) (few : length items ≤ maxInitial) (good : ranking n ranks ≡ true) where
+module _ (n : ℕ) (ranks items : List ℕ) (lo : 1 ≤ n) (hi : n ≤ maxLines) (few : length items ≤ maxInitial) (good : ranking n ranks ≡ true) (numbers : areItems items ≡ true) where
   abbrev fresh : ends.End (edits ranks)
   fresh = record { made = 0; taken = 0; acked = 0; pending = [] }
 
@@ -150,16 +151,17 @@ module _ (n : ℕ) (ranks items : List ℕ) (lo : 1 ≤ n) (hi : n ≤ maxLines)
         makers = table-replicate {A = List Origin} [] 1 n i;
       })
 
-  client-starts : (l : ℕ) → 1 ≤ l → l ≤ n → openClient n l ranks items .end ≡ clientFrom n l ranks fresh places 0
+  client-starts : (l : ℕ) → 1 ≤ l → l ≤ n → openClient n l ranks items .end ≡ clientFrom n l ranks fresh places 0 Nothing
   client-starts l a b = ap (λ (r : Answer Client). r .end) (client-opens n l ranks items lo hi a b few good)
 
   pub starts : Sim n places (opening items) (start ours n ranks items)
-  unfolding select reject inserts
+  unfolding select reject inserts fits
   starts =
       record {
         E = ends.opened places;
         ci = λ l. 0;
         si = λ l. 0;
+        bk = λ l. Nothing;
         inv = opens places;
         later = later-refl (ends.opened places) noHistory;
         server-is = ap server server-starts;
@@ -179,9 +181,13 @@ module _ (n : ℕ) (ranks items : List ℕ) (lo : 1 ≤ n) (hi : n ≤ maxLines)
         si-is = λ l. refl;
         client-small = λ l. tt;
         server-small = λ l. tt;
+        back-is = λ l. refl;
+        back-fits = λ l. refl;
+        back-small = λ l. refl;
+        docs-small = λ l. ap areItems (initial-items items) ∙ numbers;
       }
     where
-      opened : (l : ℕ) → 1 ≤ l → l ≤ n → Rattle.model.specs.Run.opened ours n ranks items l ≡ client (clientFrom n l ranks fresh places 0)
+      opened : (l : ℕ) → 1 ≤ l → l ≤ n → Rattle.model.specs.Run.opened ours n ranks items l ≡ client (clientFrom n l ranks fresh places 0 Nothing)
       opened zero a b = absurd (omega arith)
       opened (suc l) a b = ap client (client-starts (suc l) a b)
 
@@ -215,6 +221,6 @@ converges =
       holds = λ n ranks items opened calls.
           let asked = server-asked n ranks items (opened .server) in
           let places = initialPlaces items in
-          holds n places (run ours n (start ours n ranks items) calls) (runs n places calls (start ours n ranks items) (starts n ranks items (asked .0) (asked .1) (asked .2) (asked .3)))
+          holds n places (run ours n (start ours n ranks items) calls) (runs n places calls (start ours n ranks items) (starts n ranks items (asked .0) (asked .1) (asked .2) (asked .3) (opened .numbers)))
           (subst (λ (k : ℕ). k ≤ maxInitial) (sym (initial-length items)) (asked .2)) (may-open ranks items);
     }

@@ -8,10 +8,10 @@ use lib.Dec.{eqb}
 use lib.ListN.{length, getD, drop, length-append}
 use lib.Seq.{getD-append-seam}
 use borrow.Author.Tests.{eqb-true, ne-eqb, eq-eqb}
-use Rattle.ot.specs.Edit.{Edit, fits}
-use Rattle.list.specs.Places.{Place}
+use Rattle.ot.specs.Edit.{Edit, fits, transformed}
+use Rattle.list.specs.Places.{Place, itemsOf}
 use Rattle.jupiter.specs.Algebra.{Algebra}
-use Rattle.jupiter.specs.Made.{Made, holds, select, reject, isBy, mine, others}
+use Rattle.jupiter.specs.Made.{Made, select, reject, isBy, mine, others}
 use Rattle.jupiter.specs.Form.{form, inOrder}
 use Rattle.jupiter.specs.Point.{blank, own, oth, point}
 use Rattle.jupiter.specs.History.{History, at, order, madeBy, missing, newEdit, afterEdit, serves, applies, afterDown}
@@ -21,7 +21,6 @@ use Rattle.jupiter.specs.Run.{Message}
 use Rattle.jupiter.specs.Claims.{inserts}
 use Rattle.jupiter.proofs.Lists as L
 use Rattle.jupiter.proofs.Lists.{All, all-append, all-map}
-use Rattle.jupiter.proofs.Forms.{form-made}
 use Rattle.jupiter.proofs.Line.{LineAt, set-is, down-made, down-arrives}
 use Rattle.jupiter.proofs.World.{Inv, arrives, first-missing, first-untaken, mine-served, others-served}
 use Rattle.jupiter.proofs.Step.{Later, later-trans, Step, step-edit, step-up, step-down, step-ack-up, step-ack-down, UpMessage, DownMessage}
@@ -29,34 +28,21 @@ use Rattle.jupiter.proofs.Size.{inserts-append, form-grows}
 use Rattle.jupiter.proofs.Runs.{fine-later}
 use Rattle.model.specs.Questions.{Report, noReport}
 use Rattle.model.specs.Cross.{priority, insertsOf}
-use Rattle.model.specs.Line.{lineReport}
+use Rattle.model.specs.Inverse.{inverseOf}
+use Rattle.model.specs.Line.{carried, lineReport}
 use Rattle.model.specs.Client.{Client, soundClient, edited, clientTaken, clientAcked}
 use Rattle.model.specs.Server.{Server, soundServer, serverTaken, serverAcked}
 use Rattle.model.specs.Ranks.{rankOf}
 use Rattle.model.specs.Edits.{Named, appliedNamed, Rule, editsBy, edits}
 use Rattle.model.specs.Log as logs
 use Rattle.model.specs.Log.{Log, messageBytes, namedBy, setOf, madeAt, hears, tookUp, tookDown, writes}
-use Rattle.model.specs.Run.{State}
+use Rattle.model.specs.Run.{State, areItems}
 use Rattle.model.specs.Ours.{client, server, ours}
 use Rattle.model.proofs.Instance.{to-T, by-rank, editsOf, map-drop, past-same, over-same}
-use Rattle.model.proofs.Small.{Small, small-past, small-over, all-drop}
-use Rattle.model.proofs.Sim.{lineFrom, clientFrom, serverFrom, MessageOk, OfLines, Moment, Sim, ranked, laws, at-line, at-other, report-from, edited-from, taken-from, acked-from, server-taken-from, server-acked-from}
-
--- what passes a test, passes it
-selected : {𝓐 : Algebra} (p : Made 𝓐 → Bool) (xs : List (Made 𝓐)) → All (λ x. p x ≡ true) (select p xs)
-unfolding select
-selected p [] = tt
-selected p (x ∷ xs) = go (p x) refl (selected p xs)
-  where
-    go : (b : Bool) → p x ≡ b → All (λ y. p y ≡ true) (select p xs) → All (λ y. p y ≡ true) (cond b (x ∷ select p xs) (select p xs))
-    go true e ih = (e, ih)
-    go false e ih = ih
-
--- the set of a client: what it has applied, in order
-client-set : {𝓐 : Algebra} (h : History 𝓐) (k : ℕ) (e : Made 𝓐) (x : 𝓐 .Edit) → 1 ≤ k → form e (inOrder (order h k) (h .applied k)) ≡ x → form e (setOf h k) ≡ x
-unfolding setOf
-client-set h zero e x a q = absurd (omega arith)
-client-set h (suc k) e x a q = q
+use Rattle.model.proofs.Inverse.{inverse-fits, carried-fits}
+use Rattle.model.proofs.Logs.{made-form, client-set}
+use Rattle.model.proofs.Small.{Small, small-transformed, small-past, small-over, all-drop, items-small, inverse-small}
+use Rattle.model.proofs.Sim.{lineFrom, clientFrom, serverFrom, MessageOk, OfLines, Moment, Sim, ranked, laws, at-lines, at-line, at-other, report-from, edited-from, taken-from, acked-from, server-taken-from, server-acked-from}
 
 -- one edit more of line l
 inserts-one-more : {by : Rule} (l : ℕ) (xs : List (Made (editsBy by))) (o : Made (editsBy by)) → isBy l o ≡ true → inserts (mine l (xs ++ (o ∷ []))) ≡ inserts (mine l xs) + insertsOf (o .edit .edit)
@@ -99,6 +85,11 @@ small-taken x v a =
     let k : ℕ = x .seen - v .acked in
     subst (All Small) (over-same _ (x .edit) k (v .pending)) (small-over (x .edit .edit) (drop k (editsOf (v .pending))) (all-drop Small k (editsOf (v .pending)) a))
 
+small-arrived : {by : Rule} (x : EditMessage (editsBy by)) (v : ends.End (editsBy by)) → Small (x .edit .edit) → Small (arrived x v .edit)
+small-arrived x v sm =
+    let k : ℕ = x .seen - v .acked in
+    subst Small (past-same _ (x .edit) k (v .pending)) (small-past (x .edit .edit) (drop k (editsOf (v .pending))) sm)
+
 -- what was heard, at the line where it was and at another end
 at-here : (l k : ℕ) (f : ℕ → ℕ) → at l k f l ≡ k
 at-here l k f = rw (eq-eqb l l refl)
@@ -128,6 +119,7 @@ module _ (n : ℕ) (items : List Place) {ranks : List ℕ} {from : Moment ranks}
         E = sim .E;
         ci = sim .ci;
         si = sim .si;
+        bk = sim .bk;
         inv = sim .inv;
         later = sim .later;
         server-is = same 0 ∙ sim .server-is;
@@ -147,6 +139,10 @@ module _ (n : ℕ) (items : List Place) {ranks : List ℕ} {from : Moment ranks}
         si-is = sim .si-is;
         client-small = sim .client-small;
         server-small = sim .server-small;
+        back-is = sim .back-is;
+        back-fits = sim .back-fits;
+        back-small = sim .back-small;
+        docs-small = sim .docs-small;
       }
     where
       same : (j : ℕ) → at a (s .ends a) (s .ends) j ≡ s .ends j
@@ -163,7 +159,7 @@ module _ (n : ℕ) (items : List Place) {ranks : List ℕ} {from : Moment ranks}
     E = sim .E
 
     abbrev C : Client
-    C = clientFrom n l ranks (E .clients l) (E .docs l) (sim .ci l)
+    C = clientFrom n l ranks (E .clients l) (E .docs l) (sim .ci l) (sim .bk l)
 
     abbrev line : LineAt items l (order h l) (h .served) (h .applied l) (E .clients l) (E .lines l) (E .docs l)
     line = sim .inv .lines l .line
@@ -179,16 +175,15 @@ module _ (n : ℕ) (items : List Place) {ranks : List ℕ} {from : Moment ranks}
       step : Step items E h (editing l named E) (afterEdit l named h)
       step = step-edit items (laws sim) E h (sim .inv) l named (by-rank (ranked sim) (named .origin) lo hi e pr) (to-T (fits e (length (E .docs l))) ok)
 
-      is-edited : edited C e ≡ clientFrom n l ranks (keeps named (E .clients l)) (appliedNamed named (E .docs l)) (sim .ci l + insertsOf e)
-      is-edited = edited-from n l ranks (E .clients l) (E .docs l) (sim .ci l) named (ap (λ (k : ℕ). record { line = l; number = suc k }) (sym made-is))
+      -- its inverse
+      abbrev back : Edit
+      back = inverseOf (rankOf ranks l) (E .docs l) e
+
+      is-edited : edited C e ≡ clientFrom n l ranks (keeps named (E .clients l)) (appliedNamed named (E .docs l)) (sim .ci l + insertsOf e) back
+      is-edited = edited-from n l ranks (E .clients l) (E .docs l) (sim .ci l) (sim .bk l) named (ap (λ (k : ℕ). record { line = l; number = suc k }) (sym made-is))
 
       abbrev o : Made (edits ranks)
       o = newEdit h l named
-
-      -- an edit is made in its form at what its client has applied: all of that is in its context
-      made-form : form o (inOrder (order h l) (h .applied l)) ≡ named
-      unfolding inOrder
-      made-form = form-made o (inOrder (order h l) (h .applied l)) (selected (λ x. holds (o .context) (x .name)) (order h l))
 
       pub edits-on : Sim n items from (record { ends = at l (client (edited C e)) (s .ends); messages = s .messages; reports = s .reports ++ (noReport ∷ []); recorded = logs.edited w l e })
       unfolding afterEdit
@@ -197,21 +192,22 @@ module _ (n : ℕ) (items : List Place) {ranks : List ℕ} {from : Moment ranks}
             E = editing l named E;
             ci = at l (sim .ci l + insertsOf e) (sim .ci);
             si = sim .si;
+            bk = at l back (sim .bk);
             inv = step .inv;
             later = later-trans _ _ _ _ _ _ (sim .later) (step .later);
             server-is = at-other l (client (edited C e)) (s .ends) 0 (λ z. omega arith) ∙ sim .server-is;
             client-is = λ j a b.
-                at-line (λ i x v d k. x ≡ client (clientFrom n i ranks v d k)) l (client (edited C e)) (keeps named (E .clients l)) (appliedNamed named (E .docs l)) (sim .ci l + insertsOf e)
-                (s .ends) (E .clients) (E .docs) (sim .ci) j (ap client is-edited) (sim .client-is j a b);
+                at-lines (λ i x v d k u. x ≡ client (clientFrom n i ranks v d k u)) l (client (edited C e)) (keeps named (E .clients l)) (appliedNamed named (E .docs l)) (sim .ci l + insertsOf e) back
+                (s .ends) (E .clients) (E .docs) (sim .ci) (sim .bk) j (ap client is-edited) (sim .client-is j a b);
             server-sound = sim .server-sound;
             client-sound = λ j a b.
-                at-line (λ i (x : Unit {0}) v d k. soundClient (clientFrom n i ranks v d k) ≡ true) l tt (keeps named (E .clients l)) (appliedNamed named (E .docs l)) (sim .ci l + insertsOf e)
-                (λ i. tt) (E .clients) (E .docs) (sim .ci) j (ap soundClient (sym is-edited) ∙ sound) (sim .client-sound j a b);
+                at-line (λ i v d k u. soundClient (clientFrom n i ranks v d k u) ≡ true) l (keeps named (E .clients l)) (appliedNamed named (E .docs l)) (sim .ci l + insertsOf e) back
+                (E .clients) (E .docs) (sim .ci) (sim .bk) j (ap soundClient (sym is-edited) ∙ sound) (sim .client-sound j a b);
             server-shown = at-other l (appliedNamed (form o (setOf h l)) (w .shown l)) (w .shown) 0 (λ z. omega arith) ∙ sim .server-shown;
             client-shown = λ j a b.
                 at-line (λ i x d (y : Unit {0}) (z : Unit {0}). x ≡ d) l (appliedNamed (form o (setOf h l)) (w .shown l)) (appliedNamed named (E .docs l)) tt tt
                 (w .shown) (E .docs) (λ i. tt) (λ i. tt) j
-                (ap₂ appliedNamed (client-set h l o named lo made-form) (sim .client-shown l lo hi)) (sim .client-shown j a b);
+                (ap₂ appliedNamed (client-set h l o named lo (made-form h l named)) (sim .client-shown l lo hi)) (sim .client-shown j a b);
             server-heard = sim .server-heard;
             client-heard = λ j a.
                 at-line (λ i v (x : Unit {0}) (y : Unit {0}) (z : Unit {0}). w .heard i i ≡ v .acked) l (keeps named (E .clients l)) tt tt tt
@@ -233,12 +229,24 @@ module _ (n : ℕ) (items : List Place) {ranks : List ℕ} {from : Moment ranks}
                 at-line (λ i v (x : Unit {0}) (y : Unit {0}) (z : Unit {0}). All Small (editsOf (v .pending))) l (keeps named (E .clients l)) tt tt tt
                 (E .clients) (λ i. tt) (λ i. tt) (λ i. tt) j (small-kept named (E .clients l) (sim .client-small l) sm) (sim .client-small j);
             server-small = sim .server-small;
+            back-is = λ j.
+                at-line (λ i u v (y : Unit {0}) (z : Unit {0}). u ≡ v) l back (inverseOf (rankOf ranks l) (w .shown l) e) tt tt (sim .bk) (w .undo) (λ i. tt) (λ i. tt) j
+                (ap (λ (d : List Place). inverseOf (rankOf ranks l) d e) (sym (sim .client-shown l lo hi))) (sim .back-is j);
+            back-fits = λ j.
+                at-line (λ i u d (y : Unit {0}) (z : Unit {0}). fits u (length d) ≡ true) l back (appliedNamed named (E .docs l)) tt tt (sim .bk) (E .docs) (λ i. tt) (λ i. tt) j
+                (inverse-fits (rankOf ranks l) (named .origin) e (E .docs l) ok) (sim .back-fits j);
+            back-small = λ j.
+                at-line (λ i u (x : Unit {0}) (y : Unit {0}) (z : Unit {0}). Small u) l back tt tt tt (sim .bk) (λ i. tt) (λ i. tt) (λ i. tt) j
+                (inverse-small (rankOf ranks l) (E .docs l) e (sim .docs-small l)) (sim .back-small j);
+            docs-small = λ j.
+                at-line (λ i d (x : Unit {0}) (y : Unit {0}) (z : Unit {0}). areItems (itemsOf d) ≡ true) l (appliedNamed named (E .docs l)) tt tt tt
+                (E .docs) (λ i. tt) (λ i. tt) (λ i. tt) j (items-small (named .origin) e (E .docs l) sm (sim .docs-small l)) (sim .docs-small j);
           }
 
     -- ---- a client takes its next edit
 
     module _ (x : EditMessage (edits ranks)) (ok : DownMessage items E h l x) (next : x .number ≡ suc (E .clients l .taken)) (cur : E .clients l .acked ≤ x .seen) (sm : Small (x .edit .edit))
-        (sound : soundClient (clientTaken C (x .edit .origin) (x .seen) (x .edit .edit)) ≡ true) where
+        (fit : fits (carried (C .own) (x .seen) (x .edit .edit)) (length (E .docs l)) ≡ true) (sound : soundClient (clientTaken C (x .edit .origin) (x .seen) (x .edit .edit)) ≡ true) where
       down-step : Step items E h (takingDown l x E) (afterDown l h)
       down-step = step-down items E h (sim .inv) l x ok next cur
 
@@ -260,6 +268,19 @@ module _ (n : ℕ) (items : List Place) {ranks : List ℕ} {from : Moment ranks}
       g-other : isBy l g ≡ false
       g-other = L.reject-fails (isBy l) blank (order h l) (E .clients l .taken) (down-made items l (order h l) (h .served) (h .applied l) (E .clients l) (E .lines l) (E .docs l) line x ok next cur)
 
+      -- the edit as it is applied, and the inverse past it
+      abbrev came : Named
+      came = arrived x (E .clients l)
+
+      abbrev carried-back : Edit
+      carried-back = transformed (sim .bk l) (came .edit)
+
+      came-fits : fits (came .edit) (length (E .docs l)) ≡ true
+      came-fits = ap (λ (e : Edit). fits e (length (E .docs l))) (sym (past-same _ (x .edit) (x .seen - E .clients l .acked) (E .clients l .pending))) ∙ fit
+
+      is-taken : clientTaken C (x .edit .origin) (x .seen) (x .edit .edit) ≡ clientFrom n l ranks (takes x (E .clients l)) (appliedNamed came (E .docs l)) (sim .ci l) carried-back
+      is-taken = taken-from n l ranks (E .clients l) (E .docs l) (sim .ci l) (sim .bk l) x
+
       pub takes-down : Sim n items from (record {
         ends = at l (client (clientTaken C (x .edit .origin) (x .seen) (x .edit .edit))) (s .ends);
         messages = s .messages;
@@ -272,22 +293,21 @@ module _ (n : ℕ) (items : List Place) {ranks : List ℕ} {from : Moment ranks}
             E = takingDown l x E;
             ci = sim .ci;
             si = sim .si;
+            bk = at l carried-back (sim .bk);
             inv = down-step .inv;
             later = later-trans _ _ _ _ _ _ (sim .later) (down-step .later);
             server-is = at-other l (client (clientTaken C (x .edit .origin) (x .seen) (x .edit .edit))) (s .ends) 0 (λ z. omega arith) ∙ sim .server-is;
             client-is = λ j a b.
-                at-line (λ i y v d (k : Unit {0}). y ≡ client (clientFrom n i ranks v d (sim .ci i))) l (client (clientTaken C (x .edit .origin) (x .seen) (x .edit .edit))) (takes x (E .clients l))
-                (appliedNamed (arrived x (E .clients l)) (E .docs l)) tt (s .ends) (E .clients) (E .docs) (λ i. tt) j
-                (ap client (taken-from n l ranks (E .clients l) (E .docs l) (sim .ci l) x)) (sim .client-is j a b);
+                at-line (λ i y v d u. y ≡ client (clientFrom n i ranks v d (sim .ci i) u)) l (client (clientTaken C (x .edit .origin) (x .seen) (x .edit .edit))) (takes x (E .clients l))
+                (appliedNamed came (E .docs l)) carried-back (s .ends) (E .clients) (E .docs) (sim .bk) j (ap client is-taken) (sim .client-is j a b);
             server-sound = sim .server-sound;
             client-sound = λ j a b.
-                at-line (λ i (y : Unit {0}) v d (k : Unit {0}). soundClient (clientFrom n i ranks v d (sim .ci i)) ≡ true) l tt (takes x (E .clients l))
-                (appliedNamed (arrived x (E .clients l)) (E .docs l)) tt (λ i. tt) (E .clients) (E .docs) (λ i. tt) j
-                (ap soundClient (sym (taken-from n l ranks (E .clients l) (E .docs l) (sim .ci l) x)) ∙ sound) (sim .client-sound j a b);
+                at-line (λ i (y : Unit {0}) v d u. soundClient (clientFrom n i ranks v d (sim .ci i) u) ≡ true) l tt (takes x (E .clients l))
+                (appliedNamed came (E .docs l)) carried-back (λ i. tt) (E .clients) (E .docs) (sim .bk) j (ap soundClient (sym is-taken) ∙ sound) (sim .client-sound j a b);
             server-shown = at-other l (appliedNamed (form (logs.first (missing h l)) (setOf h l)) (w .shown l)) (w .shown) 0 (λ z. omega arith) ∙ sim .server-shown;
             client-shown = λ j a b.
                 at-line (λ i y d (u : Unit {0}) (z : Unit {0}). y ≡ d) l (appliedNamed (form (logs.first (missing h l)) (setOf h l)) (w .shown l))
-                (appliedNamed (arrived x (E .clients l)) (E .docs l)) tt tt (w .shown) (E .docs) (λ i. tt) (λ i. tt) j
+                (appliedNamed came (E .docs l)) tt tt (w .shown) (E .docs) (λ i. tt) (λ i. tt) j
                 (ap₂ appliedNamed down-applied (sim .client-shown l lo hi)) (sim .client-shown j a b);
             server-heard = λ j. unheard l (at l (x .seen) (w .heard l)) (w .heard) 0 j (λ z. omega arith) ∙ sim .server-heard j;
             client-heard = λ j a.
@@ -310,6 +330,18 @@ module _ (n : ℕ) (items : List Place) {ranks : List ℕ} {from : Moment ranks}
                 at-line (λ i v (y : Unit {0}) (z : Unit {0}) (k : Unit {0}). All Small (editsOf (v .pending))) l (takes x (E .clients l)) tt tt tt
                 (E .clients) (λ i. tt) (λ i. tt) (λ i. tt) j (small-taken x (E .clients l) (sim .client-small l)) (sim .client-small j);
             server-small = sim .server-small;
+            back-is = λ j.
+                at-line (λ i u v (y : Unit {0}) (z : Unit {0}). u ≡ v) l carried-back (transformed (w .undo l) (form (logs.first (missing h l)) (setOf h l) .edit)) tt tt
+                (sim .bk) (w .undo) (λ i. tt) (λ i. tt) j (ap₂ transformed (sim .back-is l) (ap (λ (e : Named). e .edit) (sym down-applied))) (sim .back-is j);
+            back-fits = λ j.
+                at-line (λ i u d (y : Unit {0}) (z : Unit {0}). fits u (length d) ≡ true) l carried-back (appliedNamed came (E .docs l)) tt tt (sim .bk) (E .docs) (λ i. tt) (λ i. tt) j
+                (carried-fits (came .origin) (sim .bk l) (came .edit) (E .docs l) (sim .back-fits l) came-fits) (sim .back-fits j);
+            back-small = λ j.
+                at-line (λ i u (v : Unit {0}) (y : Unit {0}) (z : Unit {0}). Small u) l carried-back tt tt tt (sim .bk) (λ i. tt) (λ i. tt) (λ i. tt) j
+                (small-transformed (sim .bk l) (came .edit) ∙ sim .back-small l) (sim .back-small j);
+            docs-small = λ j.
+                at-line (λ i d (v : Unit {0}) (y : Unit {0}) (z : Unit {0}). areItems (itemsOf d) ≡ true) l (appliedNamed came (E .docs l)) tt tt tt
+                (E .docs) (λ i. tt) (λ i. tt) (λ i. tt) j (items-small (came .origin) (came .edit) (E .docs l) (small-arrived x (E .clients l) sm) (sim .docs-small l)) (sim .docs-small j);
           }
 
     -- ---- the server takes a client's next edit
@@ -337,11 +369,6 @@ module _ (n : ℕ) (items : List Place) {ranks : List ℕ} {from : Moment ranks}
       abbrev lines′ : ℕ → ends.End (edits ranks)
       lines′ = at l (takes x (E .lines l)) (λ k. keeps a (E .lines k))
 
-      a-small : Small (a .edit)
-      a-small =
-          let k : ℕ = x .seen - E .lines l .acked in
-          subst Small (past-same _ (x .edit) k (E .lines l .pending)) (small-past (x .edit .edit) (drop k (editsOf (E .lines l .pending))) sm)
-
       module _ (o : Made (edits ranks)) (us : List (Made (edits ranks))) (split : h .untaken l ≡ o ∷ us) where
         up-step : Step items E h (takingUp l x E) (serves l (o ∷ us) h)
         up-step = subst (λ (r : List (Made (edits ranks))). Step items E h (takingUp l x E) (serves l r h)) split (step-up items (laws sim) E h (sim .inv) l x ok next cur)
@@ -365,6 +392,7 @@ module _ (n : ℕ) (items : List Place) {ranks : List ℕ} {from : Moment ranks}
           recorded = record {
             history = serves l (o ∷ us) h;
             shown = logs.shows w 0 (logs.first (o ∷ us));
+            undo = w .undo;
             heard = logs.hearing w 0 l (x .seen);
             messages = w .messages;
             reports = w .reports ++ (logs.reported w 0 l x (logs.first (o ∷ us)) ∷ []);
@@ -376,6 +404,7 @@ module _ (n : ℕ) (items : List Place) {ranks : List ℕ} {from : Moment ranks}
               E = takingUp l x E;
               ci = sim .ci;
               si = at l (sim .si l + insertsOf (x .edit .edit)) (sim .si);
+              bk = sim .bk;
               inv = up-step .inv;
               later = later-trans _ _ _ _ _ _ (sim .later) (up-step .later);
               server-is = ap server (server-taken-from n (length items) ranks (E .doc) (E .lines) (sim .si) l lo hi x);
@@ -404,7 +433,11 @@ module _ (n : ℕ) (items : List Place) {ranks : List ℕ} {from : Moment ranks}
               server-small = λ j.
                   at-line (λ i v (y : Unit {0}) (z : Unit {0}) (k : Unit {0}). All Small (editsOf (v .pending))) l (takes x (E .lines l)) tt tt tt
                   (λ k. keeps a (E .lines k)) (λ i. tt) (λ i. tt) (λ i. tt) j (small-taken x (E .lines l) (sim .server-small l))
-                  (small-kept a (E .lines j) (sim .server-small j) a-small);
+                  (small-kept a (E .lines j) (sim .server-small j) (small-arrived x (E .lines l) sm));
+              back-is = sim .back-is;
+              back-fits = sim .back-fits;
+              back-small = sim .back-small;
+              docs-small = sim .docs-small;
             }
           where
             client-inserts : (j : ℕ) (b : Bool) → eqb l j ≡ b → sim .ci j ≡ inserts (mine j ((h .served ++ (o ∷ [])) ++ cond b us (h .untaken j)))
@@ -439,6 +472,7 @@ module _ (n : ℕ) (items : List Place) {ranks : List ℕ} {from : Moment ranks}
             recorded = record {
               history = serves l r h;
               shown = logs.shows w 0 (logs.first r);
+              undo = w .undo;
               heard = logs.hearing w 0 l (x .seen);
               messages = w .messages;
               reports = w .reports ++ (logs.reported w 0 l x (logs.first r) ∷ []);
@@ -452,8 +486,8 @@ module _ (n : ℕ) (items : List Place) {ranks : List ℕ} {from : Moment ranks}
       acked-down : Step items E h (ackingDown l seen E) h
       acked-down = step-ack-down items E h (sim .inv) l seen low made
 
-      is-acked : clientAcked C seen ≡ clientFrom n l ranks (acks seen (E .clients l)) (E .docs l) (sim .ci l)
-      is-acked = acked-from n l ranks (E .clients l) (E .docs l) (sim .ci l) seen
+      is-acked : clientAcked C seen ≡ clientFrom n l ranks (acks seen (E .clients l)) (E .docs l) (sim .ci l) (sim .bk l)
+      is-acked = acked-from n l ranks (E .clients l) (E .docs l) (sim .ci l) (sim .bk l) seen
 
       pub acks-down : Sim n items from (record {
         ends = at l (client (clientAcked C seen)) (s .ends);
@@ -466,15 +500,16 @@ module _ (n : ℕ) (items : List Place) {ranks : List ℕ} {from : Moment ranks}
             E = ackingDown l seen E;
             ci = sim .ci;
             si = sim .si;
+            bk = sim .bk;
             inv = acked-down .inv;
             later = later-trans _ _ _ _ _ _ (sim .later) (acked-down .later);
             server-is = at-other l (client (clientAcked C seen)) (s .ends) 0 (λ z. omega arith) ∙ sim .server-is;
             client-is = λ j b c.
-                at-line (λ i y v (d : Unit {0}) (k : Unit {0}). y ≡ client (clientFrom n i ranks v (E .docs i) (sim .ci i))) l (client (clientAcked C seen)) (acks seen (E .clients l)) tt tt
+                at-line (λ i y v (d : Unit {0}) (k : Unit {0}). y ≡ client (clientFrom n i ranks v (E .docs i) (sim .ci i) (sim .bk i))) l (client (clientAcked C seen)) (acks seen (E .clients l)) tt tt
                 (s .ends) (E .clients) (λ i. tt) (λ i. tt) j (ap client is-acked) (sim .client-is j b c);
             server-sound = sim .server-sound;
             client-sound = λ j b c.
-                at-line (λ i v (y : Unit {0}) (d : Unit {0}) (k : Unit {0}). soundClient (clientFrom n i ranks v (E .docs i) (sim .ci i)) ≡ true) l (acks seen (E .clients l)) tt tt tt
+                at-line (λ i v (y : Unit {0}) (d : Unit {0}) (k : Unit {0}). soundClient (clientFrom n i ranks v (E .docs i) (sim .ci i) (sim .bk i)) ≡ true) l (acks seen (E .clients l)) tt tt tt
                 (E .clients) (λ i. tt) (λ i. tt) (λ i. tt) j (ap soundClient (sym is-acked) ∙ sound) (sim .client-sound j b c);
             server-shown = sim .server-shown;
             client-shown = sim .client-shown;
@@ -495,6 +530,10 @@ module _ (n : ℕ) (items : List Place) {ranks : List ℕ} {from : Moment ranks}
                 at-line (λ i v (y : Unit {0}) (d : Unit {0}) (k : Unit {0}). All Small (editsOf (v .pending))) l (acks seen (E .clients l)) tt tt tt
                 (E .clients) (λ i. tt) (λ i. tt) (λ i. tt) j (small-unacked seen (E .clients l) (sim .client-small l)) (sim .client-small j);
             server-small = sim .server-small;
+            back-is = sim .back-is;
+            back-fits = sim .back-fits;
+            back-small = sim .back-small;
+            docs-small = sim .docs-small;
           }
 
     module _ (seen : ℕ) (low : E .lines l .acked ≤ seen) (made : seen ≤ E .clients l .taken) (sound : soundServer (serverAcked S l seen) ≡ true) where
@@ -512,6 +551,7 @@ module _ (n : ℕ) (items : List Place) {ranks : List ℕ} {from : Moment ranks}
             E = ackingUp l seen E;
             ci = sim .ci;
             si = sim .si;
+            bk = sim .bk;
             inv = acked-up .inv;
             later = later-trans _ _ _ _ _ _ (sim .later) (acked-up .later);
             server-is = ap server (server-acked-from n (length items) ranks (E .doc) (E .lines) (sim .si) l lo hi seen);
@@ -534,6 +574,10 @@ module _ (n : ℕ) (items : List Place) {ranks : List ℕ} {from : Moment ranks}
             server-small = λ j.
                 at-line (λ i v (y : Unit {0}) (d : Unit {0}) (k : Unit {0}). All Small (editsOf (v .pending))) l (acks seen (E .lines l)) tt tt tt
                 (E .lines) (λ i. tt) (λ i. tt) (λ i. tt) j (small-unacked seen (E .lines l) (sim .server-small l)) (sim .server-small j);
+            back-is = sim .back-is;
+            back-fits = sim .back-fits;
+            back-small = sim .back-small;
+            docs-small = sim .docs-small;
           }
 
   -- ---- a message is written
@@ -544,6 +588,7 @@ module _ (n : ℕ) (items : List Place) {ranks : List ℕ} {from : Moment ranks}
         E = sim .E;
         ci = sim .ci;
         si = sim .si;
+        bk = sim .bk;
         inv = sim .inv;
         later = sim .later;
         server-is = sim .server-is;
@@ -563,4 +608,8 @@ module _ (n : ℕ) (items : List Place) {ranks : List ℕ} {from : Moment ranks}
         si-is = sim .si-is;
         client-small = sim .client-small;
         server-small = sim .server-small;
+        back-is = sim .back-is;
+        back-fits = sim .back-fits;
+        back-small = sim .back-small;
+        docs-small = sim .docs-small;
       }

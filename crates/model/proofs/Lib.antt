@@ -1,6 +1,7 @@
 pub mod Tests
 pub mod Ranks
 pub mod Cross
+pub mod Inverse
 pub mod Moves
 pub mod SoundLine
 pub mod SoundClient
@@ -8,6 +9,7 @@ pub mod SoundServer
 pub mod Sound
 pub mod Opens
 pub mod Table
+pub mod Logs
 pub mod Instance
 pub mod Origins
 pub mod Places

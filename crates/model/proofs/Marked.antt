@@ -17,4 +17,7 @@ marked =
       lead-first = refl;
       ranked = refl;
       one-first = (refl, refl);
+      taken-back = refl;
+      nothing-to-take-back = refl;
+      stands = refl;
     }

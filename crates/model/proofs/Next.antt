@@ -9,8 +9,8 @@ use lib.Dec.{eqb, leb}
 use lib.ListN.{length, take, drop}
 use lib.Seq.{take-append-seam}
 use borrow.Author.Tests.{eq-eqb, le-leb, lt-ltb}
-use Rattle.ot.specs.Edit.{Edit, fits}
-use Rattle.list.specs.Places.{Place}
+use Rattle.ot.specs.Edit.{Edit, fits, transformed}
+use Rattle.list.specs.Places.{Place, appliedBy}
 use Rattle.wire.specs.declared.Header.{Header}
 use Rattle.wire.specs.declared.Message as message
 use Rattle.wire.specs.Message.{between}
@@ -31,9 +31,10 @@ use Rattle.model.specs.Limits.{maxInserts, maxPending, maxItems}
 use Rattle.model.specs.Questions.{asks, Answer, Sent, sent}
 use Rattle.model.specs.Cross.{allPlaced, priority, insertsOf}
 use Rattle.model.specs.Line.{Line, other, sendQuestions, carried, lineReport}
-use Rattle.model.specs.Client.{Client, clientMessage, sendClientQuestions, sendClient, clientTaken, clientEditQuestions, clientTakesEdit, clientReads, takeClient}
+use Rattle.model.specs.Client.{Client, clientMessage, sendClientQuestions, sendClient, inverseThen, clientTaken, clientEditQuestions, clientTakesEdit, clientReads, takeClient}
 use Rattle.model.specs.Server.{Server, lineOf, serverMessage, sendServerQuestions, sendServer, serverTaken, othersRoomy, ownOrigin, serverEditQuestions, serverTakesEdit, serverReads, takeServer}
 use Rattle.model.specs.Ranks.{rankOf}
+use Rattle.model.specs.Inverse.{inverseStands}
 use Rattle.model.specs.Edits.{appliedNamed, Rule, editsBy, edits}
 use Rattle.model.specs.Log.{headerOf, wireMessage, messageBytes, editMessage}
 use Rattle.model.specs.Run.{State}
@@ -41,8 +42,10 @@ use Rattle.model.specs.Ours.{client, server, ours}
 use Rattle.model.specs.Claim.{Delivered}
 use Rattle.model.proofs.Tests.{both, Yes, all-yes, true-between}
 use Rattle.model.proofs.SoundLine.{Asked, yes-asked}
+use Rattle.model.proofs.SoundClient.{carryQuestions}
 use Rattle.model.proofs.SoundServer.{lastQuestions}
 use Rattle.model.proofs.Sound.{new-end}
+use Rattle.model.proofs.Inverse.{carried-fits, fits-stands}
 use Rattle.model.proofs.Table.{table-roomy}
 use Rattle.model.proofs.Instance.{from-T, editsOf, past-same, over-same}
 use Rattle.model.proofs.Origins.{own-origin, up-origin}
@@ -91,7 +94,7 @@ module _ (n : ℕ) (items : List Place) {ranks : List ℕ} {from : Moment ranks}
   v = E .lines l
 
   abbrev C : Client
-  C = clientFrom n l ranks c (E .docs l) (sim .ci l)
+  C = clientFrom n l ranks c (E .docs l) (sim .ci l) (sim .bk l)
 
   abbrev S : Server
   S = serverFrom n (length items) ranks (E .doc) (E .lines) (sim .si)
@@ -120,6 +123,13 @@ module _ (n : ℕ) (items : List Place) {ranks : List ℕ} {from : Moment ranks}
         (from-T (fits (arrived x c .edit) (length (E .docs l))) (down-fits items E h (sim .inv) l x ok next cur))
         (client-placed (laws sim) items l (order h l) (h .served) (h .applied l ++ (oth l (order h l) (c .taken) ∷ [])) (takes x c) v (appliedNamed (arrived x c) (E .docs l)) after room)
         (subst (λ (d : List Place). length d ≤ maxItems) (sym (after .c-doc)) (doc-most (laws sim) items (order h l) room l (length (mine l (order h l))) (suc (c .taken))))
+
+    -- and the further test of 9: the inverse, past the edit, fits the list with that applied
+    pub down-stands : inverseStands (inverseThen C (x .seen) (x .edit .edit)) ≡ true
+    down-stands =
+        let form : Edit = carried (C .own) (x .seen) (x .edit .edit) in
+        fits-stands (transformed (sim .bk l) form) (length (appliedBy (x .edit .origin) form (E .docs l))) (down-asked .size)
+        (carried-fits (x .edit .origin) (sim .bk l) form (E .docs l) (sim .back-fits l) (down-asked .fit))
 
   -- ---- the next edit going down
   module _ (more : c .taken < v .made) (lent : List ℕ) (long : length (messageBytes (editMessage h 0 l (suc (c .taken)))) ≤ length lent) where
@@ -166,7 +176,7 @@ module _ (n : ℕ) (items : List Place) {ranks : List ℕ} {from : Moment ranks}
           (
             both (eqb l l && priority (other n (rankOf ranks l)) (x .edit .edit)) (other n l (x .edit .origin .line))
                 (both (eqb l l) (priority (other n (rankOf ranks l)) (x .edit .edit)) (eq-eqb l l refl) (lined .2)) (lined .3),
-            yes-asked (C .own) (E .docs l) hd (x .edit .edit) [] (down-asked x ok refl (line .c-acked)) tt,
+            yes-asked (C .own) (E .docs l) hd (x .edit .edit) (carryQuestions C hd (x .edit .edit)) (down-asked x ok refl (line .c-acked)) (down-stands x ok refl (line .c-acked), tt),
           ),
         )
 

@@ -1,6 +1,6 @@
 -- Every call of a list is answered with the number that the questions give, asked of the log.
 use mathlib.Core.Path.{_≡_, refl, ap, ap₂, sym, _∙_, subst}
-use mathlib.Core.Bool.{Bool, true, false, _&&_, cond}
+use mathlib.Core.Bool.{Bool, true, false, not, _&&_, cond}
 use mathlib.Core.List.{List, [], _∷_, _++_, map}
 use Prim.Native.Nat.{ℕ, zero, suc, _+_, _-_, _≤_, _<_}
 use native.Mathlib.Numerals.{add-one}
@@ -30,23 +30,25 @@ use Rattle.model.specs.Limits.{maxInserts, maxEdits, maxPending, maxItem
 use Rattle.model.specs.Questions.{Question, ask, asks, Report, noReport, Answer, answer, Sent, sent}
 use Rattle.model.specs.Cross.{priority, insertsOf}
 use Rattle.model.specs.Line.{Line, other, takeQuestions, lineReport}
-use Rattle.model.specs.Client.{Client, soundClient, originHere, edited, editQuestions, editClient, clientMessage, sendClientQuestions, sendClient, tellClientQuestions, tellClient, clientTaken, clientAcked, clientEditQuestions, clientTakesEdit, clientAckQuestions, clientTakesAck, clientTakes, clientReads, takeClient}
+use Rattle.model.specs.Client.{Client, soundClient, originHere, edited, makeQuestions, editQuestions, editClient, takeBackQuestions, takeBackClient, clientMessage, sendClientQuestions, sendClient, tellClientQuestions, tellClient, clientTaken, clientAcked, clientEditQuestions, clientTakesEdit, clientAckQuestions, clientTakesAck, clientTakes, clientReads, takeClient}
 use Rattle.model.specs.Server.{Server, lineOf, soundServer, serverMessage, sendServerQuestions, sendServer, tellServerQuestions, tellServer, serverTaken, serverAcked, othersRoomy, serverEditQuestions, serverTakesEdit, serverAckQuestions, serverTakesAck, serverTakes, serverReads, takeServer}
 use Rattle.model.specs.Ranks.{rankOf}
+use Rattle.model.specs.Inverse.{isNothing}
 use Rattle.model.specs.Edits.{edits}
-use Rattle.model.specs.Sheet.{Call, insert, delete, send, tell, receive, junk}
+use Rattle.model.specs.Sheet.{Call, insert, delete, takeBack, send, tell, receive, junk}
 use Rattle.model.specs.Log.{Log, headerOf, wireMessage, messageBytes, namedBy, madeAt, takenAt}
-use Rattle.model.specs.Numbers.{roomOn, allBut, editing, sending, telling, next, taking, handing, number}
+use Rattle.model.specs.Numbers.{roomOn, allBut, editing, undoing, sending, telling, next, taking, handing, number}
 use Rattle.model.specs.Run.{State, callable, areBytes, unreadable, handedNumber, numberOf}
 use Rattle.model.specs.Ours.{End, ours}
 use Rattle.model.proofs.Tests.{Alike, alike, never, both, three, and-left, between-true, true-between}
 use Rattle.model.proofs.SoundLine.{Asked, yes-asked}
+use Rattle.model.proofs.SoundClient.{carryQuestions}
 use Rattle.model.proofs.SoundServer.{lastQuestions}
 use Rattle.model.proofs.Sim.{clientFrom, serverFrom, lineFrom, line-from, Lined, MessageOk, Moment, Sim}
 use Rattle.model.proofs.Counts.{client-made, client-taken, server-made, server-taken}
 use Rattle.model.proofs.Rooms.{same-room}
 use Rattle.model.proofs.Calls.{client-message, server-message, unread, up-is, up-bytes, down-is, down-bytes}
-use Rattle.model.proofs.Next.{up-4, down-asked, up-asked, up-10}
+use Rattle.model.proofs.Next.{up-4, down-asked, down-stands, up-asked, up-10}
 
 -- the number of an answer
 pub refusal-is : {E : Type 0} (r : ℕ) (old new : E) (k : Report) → answer r old new k .refusal ≡ r
@@ -96,7 +98,7 @@ module _ (n : ℕ) (items : List Place) {ranks : List ℕ} {from : Moment ranks}
     c = E .clients l
 
     abbrev C : Client
-    C = clientFrom n l ranks c (E .docs l) (sim .ci l)
+    C = clientFrom n l ranks c (E .docs l) (sim .ci l) (sim .bk l)
 
     lo : 1 ≤ l
     lo = omega arith
@@ -110,16 +112,27 @@ module _ (n : ℕ) (items : List Place) {ranks : List ℕ} {from : Moment ranks}
     acked-is : c .acked ≡ w .heard l l
     acked-is = sym (sim .client-heard l lo)
 
-    edit-number : (e : Edit) → asks (editQuestions C e) ≡ asks (editing w l e)
+    -- 9 to 12
+    make-alike : (e : Edit) → Alike (makeQuestions C e) (editing w l e)
     unfolding madeAt
-    edit-number e =
+    make-alike e =
         let shown : E .docs l ≡ w .shown l = sym (sim .client-shown l lo hi) in
         let origin : originHere C (c .made + 1) ≡ namedBy w l e .origin = ap (originHere C) (add-one (c .made) ∙ ap suc made-is) in
         let count : sim .ci l ≡ inserts (mine l (order h l)) = sim .ci-is l in
-        alike (editQuestions C e) (editing w l e) (Alike.over (sim .client-sound l lo hi) (Alike.same (ap₂ (λ (o : Origin) (d : List Place). fits e (length d) && leb (length (appliedBy o e d)) maxItems) origin shown)
+        Alike.same (ap₂ (λ (o : Origin) (d : List Place). fits e (length d) && leb (length (appliedBy o e d)) maxItems) origin shown)
         (λ y9. Alike.same (ap (λ (i : ℕ). leb (i + insertsOf e) maxInserts) count)
         (λ y10. Alike.same (ap (λ (m : ℕ). ltb m maxEdits) made-is)
-        (λ y11. Alike.same (λ i. ltb (made-is i - acked-is i) maxPending) (λ y12. Alike.done))))))
+        (λ y11. Alike.same (λ i. ltb (made-is i - acked-is i) maxPending) (λ y12. Alike.done))))
+
+    edit-number : (e : Edit) → asks (editQuestions C e) ≡ asks (editing w l e)
+    edit-number e = alike (editQuestions C e) (editing w l e) (Alike.over (sim .client-sound l lo hi) (make-alike e))
+
+    -- the inverse is the log's
+    undo-number : asks (takeBackQuestions C) ≡ asks (undoing w l)
+    undo-number =
+        alike (takeBackQuestions C) (ask 17 (not (isNothing (sim .bk l))) ∷ editing w l (sim .bk l))
+        (Alike.over (sim .client-sound l lo hi) (Alike.same refl (λ y17. make-alike (sim .bk l))))
+        ∙ ap (λ (e : Edit). asks (ask 17 (not (isNothing e)) ∷ editing w l e)) (sim .back-is l)
 
     -- a line that is this client's own
     heard-on : (k : ℕ) → k ≡ l → c .acked ≡ w .heard l k
@@ -161,11 +174,11 @@ module _ (n : ℕ) (items : List Place) {ranks : List ℕ} {from : Moment ranks}
         ap (λ (r : Answer Client). r .refusal) (client-message C hd (m .edit .edit)) ∙ refusal-is (asks (clientEditQuestions C hd (m .edit .edit))) C (clientTaken C (m .edit .origin) (m .seen) (m .edit .edit)) (lineReport (C .own) (m .seen) (m .edit .edit))
         ∙ alike (clientEditQuestions C hd (m .edit .edit)) (taking n w l (down k m)) (Alike.over (sim .client-sound l lo hi) (Alike.same (own-edit k m (ok .2)) (λ y4.
         let own : k ≡ l = eqb-true k l (three (eqb k l) (priority (other n (rankOf ranks l)) (m .edit .edit)) (other n l (m .edit .origin .line)) y4 .0) in
-        asks-next l k 1 (C .own) (E .docs l) m [] [] taken-is (heard-on k own)
+        let message : DownMessage items E h l m = subst (λ (i : ℕ). DownMessage items E h i m) own (ok .0) in
+        asks-next l k 1 (C .own) (E .docs l) m (carryQuestions C hd (m .edit .edit)) [] taken-is (heard-on k own)
         (λ next cur. (
-          subst (λ (i : ℕ). Asked (C .own) (E .docs l) (headerOf i 1 m) (m .edit .edit)) (sym own)
-              (down-asked n items s sim few l lo hi m (subst (λ (i : ℕ). DownMessage items E h i m) own (ok .0)) next cur),
-          Alike.done,
+          subst (λ (i : ℕ). Asked (C .own) (E .docs l) (headerOf i 1 m) (m .edit .edit)) (sym own) (down-asked n items s sim few l lo hi m message next cur),
+          Alike.over (down-stands n items s sim few l lo hi m message next cur) Alike.done,
         )))))
     client-takes (upAck k seen) ok = refusal-is (asks (clientAckQuestions C k 0 seen)) C (clientAcked C seen) noReport ∙ alike (clientAckQuestions C k 0 seen) (taking n w l (upAck k seen)) (Alike.over (sim .client-sound l lo hi) (Alike.same refl (λ y4. never y4)))
     client-takes (downAck k seen) ok =
@@ -246,10 +259,15 @@ module _ (n : ℕ) (items : List Place) {ranks : List ℕ} {from : Moment ranks}
   server-takes (downAck k seen) ok = refusal-is (asks (serverAckQuestions S k 1 seen)) S (serverAcked S k seen) noReport ∙ alike (serverAckQuestions S k 1 seen) (taking n w 0 (downAck k seen)) (Alike.over (sim .server-sound) (Alike.same refl (λ y4. never y4)))
 
   -- ---- at any end
-  edits-at : (l : ℕ) → 1 ≤ l → l ≤ n → (e : Edit) → editClient (clientFrom n l ranks (E .clients l) (E .docs l) (sim .ci l)) e .refusal ≡ asks (editing w l e)
+  edits-at : (l : ℕ) → 1 ≤ l → l ≤ n → (e : Edit) → editClient (clientFrom n l ranks (E .clients l) (E .docs l) (sim .ci l) (sim .bk l)) e .refusal ≡ asks (editing w l e)
   unfolding editClient
   edits-at zero lo hi e = absurd (omega arith)
   edits-at (suc a) lo hi e = refusal-is (asks (editQuestions (C a hi) e)) (C a hi) (edited (C a hi) e) noReport ∙ edit-number a hi e
+
+  undoes-at : (l : ℕ) → 1 ≤ l → l ≤ n → takeBackClient (clientFrom n l ranks (E .clients l) (E .docs l) (sim .ci l) (sim .bk l)) .refusal ≡ asks (undoing w l)
+  unfolding takeBackClient
+  undoes-at zero lo hi = absurd (omega arith)
+  undoes-at (suc a) lo hi = refusal-is (asks (takeBackQuestions (C a hi))) (C a hi) (edited (C a hi) (sim .bk (suc a))) noReport ∙ undo-number a hi
 
   sends-at : (a l k : ℕ) (lent : List ℕ) → a ≤ n → ours .send (s .ends a) l k lent .refusal ≡ asks (sending n w a l k lent)
   unfolding sendClient sendServer
@@ -302,6 +320,9 @@ module _ (n : ℕ) (items : List Place) {ranks : List ℕ} {from : Moment ranks}
   numbered (delete l p) ok =
       let there = between-true 1 n l (and-left (between 1 n l) (ltb p 65536) ok) in
       ap (λ (e : End). ours .delete e p .refusal) (sim .client-is l (there .0) (there .1)) ∙ edits-at l (there .0) (there .1) (Delete p)
+  numbered (takeBack l) ok =
+      let there = between-true 1 n l ok in
+      ap (λ (e : End). ours .takeBack e .refusal) (sim .client-is l (there .0) (there .1)) ∙ undoes-at l (there .0) (there .1)
   numbered (send a l k lent) ok =
       sends-at a l k lent (leb-true a n (three (leb a n) (ltb l 256) (ltb k 65536) (and-left (leb a n && ltb l 256 && ltb k 65536) (areBytes lent) ok) .0))
   numbered (tell a l lent) ok = tells-at a l lent (leb-true a n (three (leb a n) (ltb l 256) (areBytes lent) ok .0))

@@ -6,6 +6,7 @@ use Prim.Native.Nat.{ℕ, _≤_}
 use lib.Dec.{leb}
 use lib.ListN.{length, replicate}
 use borrow.Author.Tests.{le-leb}
+use Rattle.ot.specs.Edit.{Nothing}
 use Rattle.list.specs.Places.{initialPlaces}
 use Rattle.model.specs.Limits.{maxLines, maxInitial}
 use Rattle.model.specs.Questions.{asks, between, noReport}
@@ -17,7 +18,7 @@ use Rattle.model.proofs.Tests.{held, all-yes, true-between}
 use Rattle.model.proofs.Sound.{new-end}
 
 abbrev pub freshClient : ℕ → ℕ → List ℕ → List ℕ → Client
-freshClient n l ranks items = record { n = n; line = l; ranks = ranks; items = initialPlaces items; own = noLine }
+freshClient n l ranks items = record { n = n; line = l; ranks = ranks; items = initialPlaces items; own = noLine; inverse = Nothing }
 
 abbrev pub freshServer : ℕ → List ℕ → List ℕ → Server
 freshServer n ranks items = record { n = n; initial = length items; ranks = ranks; items = initialPlaces items; lines = replicate n noLine; makers = replicate n [] }

@@ -8,9 +8,9 @@ use native.Mathlib.Omega.{arith}
 use lib.Dec.{eqb}
 use lib.ListN.{length, drop}
 use borrow.Author.Tests.{eqb-true}
-use Rattle.ot.specs.Edit.{Edit}
+use Rattle.ot.specs.Edit.{Edit, fits, transformed}
 use Rattle.list.specs.declared.Origin.{Origin}
-use Rattle.list.specs.Places.{Place, appliedBy}
+use Rattle.list.specs.Places.{Place, itemsOf, appliedBy}
 use Rattle.wire.specs.Message.{inRange}
 use Rattle.jupiter.specs.Algebra.{Algebra, Laws}
 use Rattle.jupiter.specs.Made.{Made, mine, others}
@@ -26,12 +26,13 @@ use Rattle.jupiter.proofs.Runs.{Fine}
 use Rattle.model.specs.Questions.{Report}
 use Rattle.model.specs.Cross.{past, priority, insertsOf}
 use Rattle.model.specs.Line.{Line, noLine, other, lineKeeps, unacked, lineAcked, lineTaken, carried, positionAt, lineReport}
+use Rattle.model.specs.Inverse.{inverseOf}
 use Rattle.model.specs.Client.{Client, soundClient, with, edited, clientTaken, clientAcked}
 use Rattle.model.specs.Server.{Server, lineOf, makersOf, soundServer, atPlace, unackedMakers, serverTaken, serverAcked}
 use Rattle.model.specs.Ranks.{rankOf}
 use Rattle.model.specs.Edits.{Named, appliedNamed, Rule, editsBy, edits}
 use Rattle.model.specs.Log.{wireMessage, messageBytes}
-use Rattle.model.specs.Run.{State}
+use Rattle.model.specs.Run.{State, areItems}
 use Rattle.model.specs.Ours.{client, server, ours}
 use Rattle.model.proofs.Table.{table, table-cong, table-get, table-at, cond-ne}
 use Rattle.model.proofs.Ranks.{Ranking, ranking-facts}
@@ -43,8 +44,8 @@ use Rattle.model.proofs.Small.{Small}
 abbrev pub lineFrom : {by : Rule} → ends.End (editsBy by) → ℕ → Line
 lineFrom v i = record { made = v .made; taken = v .taken; acked = v .acked; inserts = i; pending = editsOf (v .pending) }
 
-abbrev pub clientFrom : {by : Rule} → ℕ → ℕ → List ℕ → ends.End (editsBy by) → List Place → ℕ → Client
-clientFrom n l ranks v items i = record { n = n; line = l; ranks = ranks; items = items; own = lineFrom v i }
+abbrev pub clientFrom : {by : Rule} → ℕ → ℕ → List ℕ → ends.End (editsBy by) → List Place → ℕ → Edit → Client
+clientFrom n l ranks v items i b = record { n = n; line = l; ranks = ranks; items = items; own = lineFrom v i; inverse = b }
 
 -- the server's end, with the origins of the pending edits beside the lines
 abbrev pub serverFrom : {by : Rule} → ℕ → ℕ → List ℕ → List Place → (ℕ → ends.End (editsBy by)) → (ℕ → ℕ) → Server
@@ -80,16 +81,17 @@ pub record Moment (ranks : List ℕ) : Type 0 where
 
 -- where the calls since the moment `from` have led; `items` are the places that the ends were opened with
 pub record Sim (n : ℕ) (items : List Place) {ranks : List ℕ} (from : Moment ranks) (s : State ours ranks) : Type 0 where
-  -- the theory's ends, and the inserts that the client and the server count on each line
+  -- the theory's ends, the inserts that the client and the server count on each line, and the inverse that the client stores
   pub E : Ends (edits ranks)
   pub ci : ℕ → ℕ
   pub si : ℕ → ℕ
+  pub bk : ℕ → Edit
   pub inv : Inv items E (s .recorded .history)
   pub later : Later (from .ends) (from .history) E (s .recorded .history)
   pub server-is : s .ends 0 ≡ server (serverFrom n (length items) ranks (E .doc) (E .lines) si)
-  pub client-is : (l : ℕ) → 1 ≤ l → l ≤ n → s .ends l ≡ client (clientFrom n l ranks (E .clients l) (E .docs l) (ci l))
+  pub client-is : (l : ℕ) → 1 ≤ l → l ≤ n → s .ends l ≡ client (clientFrom n l ranks (E .clients l) (E .docs l) (ci l) (bk l))
   pub server-sound : soundServer (serverFrom n (length items) ranks (E .doc) (E .lines) si) ≡ true
-  pub client-sound : (l : ℕ) → 1 ≤ l → l ≤ n → soundClient (clientFrom n l ranks (E .clients l) (E .docs l) (ci l)) ≡ true
+  pub client-sound : (l : ℕ) → 1 ≤ l → l ≤ n → soundClient (clientFrom n l ranks (E .clients l) (E .docs l) (ci l) (bk l)) ≡ true
   pub server-shown : s .recorded .shown 0 ≡ E .doc
   pub client-shown : (l : ℕ) → 1 ≤ l → l ≤ n → s .recorded .shown l ≡ E .docs l
   pub server-heard : (l : ℕ) → s .recorded .heard 0 l ≡ E .lines l .acked
@@ -103,6 +105,11 @@ pub record Sim (n : ℕ) (items : List Place) {ranks : List ℕ} (from : Moment 
   pub si-is : (l : ℕ) → si l ≡ inserts (mine l (s .recorded .history .served))
   pub client-small : (l : ℕ) → All Small (editsOf (E .clients l .pending))
   pub server-small : (l : ℕ) → All Small (editsOf (E .lines l .pending))
+  -- the inverse is the log's, and fits the client's list; an item that it brings back fits 32 bits, as every item on the list does
+  pub back-is : (l : ℕ) → bk l ≡ s .recorded .undo l
+  pub back-fits : (l : ℕ) → fits (bk l) (length (E .docs l)) ≡ true
+  pub back-small : (l : ℕ) → Small (bk l)
+  pub docs-small : (l : ℕ) → areItems (itemsOf (E .docs l)) ≡ true
 
 -- the moment that a simulation has come to, and from which it may go on
 abbrev pub present : {n : ℕ} {items : List Place} {ranks : List ℕ} {from : Moment ranks} {s : State ours ranks} → Sim n items from s → Moment ranks
@@ -114,6 +121,7 @@ from-here {s = s} sim =
       E = sim .E;
       ci = sim .ci;
       si = sim .si;
+      bk = sim .bk;
       inv = sim .inv;
       later = later-refl (sim .E) (s .recorded .history);
       server-is = sim .server-is;
@@ -133,6 +141,10 @@ from-here {s = s} sim =
       si-is = sim .si-is;
       client-small = sim .client-small;
       server-small = sim .server-small;
+      back-is = sim .back-is;
+      back-fits = sim .back-fits;
+      back-small = sim .back-small;
+      docs-small = sim .docs-small;
     }
 
 -- question 2 has found a ranking, and so the edits have the theory's laws
@@ -144,13 +156,19 @@ pub laws : {n : ℕ} {items : List Place} {ranks : List ℕ} {from : Moment rank
 laws sim = edit-laws (ranked sim)
 
 -- ---- one line changed, the others as they were
+module _ {A B C D F : Type 0} (R : ℕ → A → B → C → D → F → Type 0) (l : ℕ) (v : A) (w : B) (x : C) (y : D) (z : F)
+    (f : ℕ → A) (g : ℕ → B) (h : ℕ → C) (k : ℕ → D) (m : ℕ → F) where
+  pub at-lines : (j : ℕ) → R l v w x y z → R j (f j) (g j) (h j) (k j) (m j) → R j (at l v f j) (at l w g j) (at l x h j) (at l y k j) (at l z m j)
+  at-lines j here there = go (eqb l j) refl
+    where
+      go : (b : Bool) → eqb l j ≡ b → R j (cond b v (f j)) (cond b w (g j)) (cond b x (h j)) (cond b y (k j)) (cond b z (m j))
+      go true e = subst (λ (i : ℕ). R i v w x y z) (eqb-true l j e) here
+      go false e = there
+
+-- of four families
 module _ {A B C D : Type 0} (R : ℕ → A → B → C → D → Type 0) (l : ℕ) (v : A) (w : B) (x : C) (y : D) (f : ℕ → A) (g : ℕ → B) (h : ℕ → C) (k : ℕ → D) where
   pub at-line : (j : ℕ) → R l v w x y → R j (f j) (g j) (h j) (k j) → R j (at l v f j) (at l w g j) (at l x h j) (at l y k j)
-  at-line j here there = go (eqb l j) refl
-    where
-      go : (b : Bool) → eqb l j ≡ b → R j (cond b v (f j)) (cond b w (g j)) (cond b x (h j)) (cond b y (k j))
-      go true e = subst (λ (i : ℕ). R i v w x y) (eqb-true l j e) here
-      go false e = there
+  at-line = at-lines (λ i a b c d (u : Unit {0}). R i a b c d) l v w x y tt f g h k (λ i. tt)
 
 pub at-other : {A : Type 0} (l : ℕ) (v : A) (f : ℕ → A) (j : ℕ) → (l ≡ j → ⊥) → at l v f j ≡ f j
 at-other l v f j h = cond-ne l j v (f j) h
@@ -181,23 +199,29 @@ report-from v i x made f same applied =
     reportOf m e = record { passed = m - x .seen; arrived = positionAt (x .edit .edit); applied = positionAt e }
 
 -- an edit that client l makes: its origin is the line and the next number
-pub edited-from : {by : Rule} (n l : ℕ) (ranks : List ℕ) (v : ends.End (editsBy by)) (items : List Place) (i : ℕ) (e : Named) → e .origin ≡ record { line = l; number = suc (v .made) }
-    → edited (clientFrom n l ranks v items i) (e .edit) ≡ clientFrom n l ranks (keeps e v) (appliedNamed e items) (i + insertsOf (e .edit))
-edited-from n l ranks v items i e own =
+pub edited-from : {by : Rule} (n l : ℕ) (ranks : List ℕ) (v : ends.End (editsBy by)) (items : List Place) (i : ℕ) (b : Edit) (e : Named) → e .origin ≡ record { line = l; number = suc (v .made) }
+    → edited (clientFrom n l ranks v items i b) (e .edit)
+    ≡ clientFrom n l ranks (keeps e v) (appliedNamed e items) (i + insertsOf (e .edit)) (inverseOf (rankOf ranks l) items (e .edit))
+edited-from n l ranks v items i b e own =
     let here : originOf (v .made + 1) ≡ e .origin = ap originOf (add-one (v .made)) ∙ sym own in
-    ap₂ (λ (o : Origin) (w : Line). with (clientFrom n l ranks v items i) (appliedBy o (e .edit) items) w) here (kept-line-from v i (i + insertsOf (e .edit)) e)
+    ap₂ (λ (o : Origin) (w : Line). with (clientFrom n l ranks v items i b) (appliedBy o (e .edit) items) w (inverseOf (rankOf ranks l) items (e .edit))) here
+    (kept-line-from v i (i + insertsOf (e .edit)) e)
   where
     originOf : ℕ → Origin
     originOf number = record { line = l; number = number }
 
-pub taken-from : {by : Rule} (n l : ℕ) (ranks : List ℕ) (v : ends.End (editsBy by)) (items : List Place) (i : ℕ) (x : EditMessage (editsBy by))
-    → clientTaken (clientFrom n l ranks v items i) (x .edit .origin) (x .seen) (x .edit .edit) ≡ clientFrom n l ranks (takes x v) (appliedNamed (arrived x v) items) i
-taken-from n l ranks v items i x =
-    ap₂ (with (clientFrom n l ranks v items i)) (arrived-list v items x (carried (lineFrom v i) (x .seen) (x .edit .edit)) (past-same _ (x .edit) (x .seen - v .acked) (v .pending)))
-    (taken-line-from v i i x)
+pub taken-from : {by : Rule} (n l : ℕ) (ranks : List ℕ) (v : ends.End (editsBy by)) (items : List Place) (i : ℕ) (b : Edit) (x : EditMessage (editsBy by))
+    → clientTaken (clientFrom n l ranks v items i b) (x .edit .origin) (x .seen) (x .edit .edit)
+    ≡ clientFrom n l ranks (takes x v) (appliedNamed (arrived x v) items) i (transformed b (arrived x v .edit))
+taken-from n l ranks v items i b x =
+    let applied = past-same _ (x .edit) (x .seen - v .acked) (v .pending) in
+    ap₂ (λ (d : List Place) (w : Line). with (clientFrom n l ranks v items i b) d w (transformed b (carried (lineFrom v i) (x .seen) (x .edit .edit))))
+    (arrived-list v items x (carried (lineFrom v i) (x .seen) (x .edit .edit)) applied) (taken-line-from v i i x)
+    ∙ ap (λ (e : Edit). clientFrom n l ranks (takes x v) (appliedNamed (arrived x v) items) i (transformed b e)) applied
 
-pub acked-from : {by : Rule} (n l : ℕ) (ranks : List ℕ) (v : ends.End (editsBy by)) (items : List Place) (i seen : ℕ) → clientAcked (clientFrom n l ranks v items i) seen ≡ clientFrom n l ranks (acks seen v) items i
-acked-from n l ranks v items i seen = ap (with (clientFrom n l ranks v items i) items) (acked-line-from v i seen)
+pub acked-from : {by : Rule} (n l : ℕ) (ranks : List ℕ) (v : ends.End (editsBy by)) (items : List Place) (i : ℕ) (b : Edit) (seen : ℕ)
+    → clientAcked (clientFrom n l ranks v items i b) seen ≡ clientFrom n l ranks (acks seen v) items i b
+acked-from n l ranks v items i b seen = ap (λ (w : Line). with (clientFrom n l ranks v items i b) items w b) (acked-line-from v i seen)
 
 module _ {by : Rule} (n initial : ℕ) (ranks : List ℕ) (items : List Place) (vs : ℕ → ends.End (editsBy by)) (is : ℕ → ℕ) (l : ℕ) (lo : 1 ≤ l) (hi : l ≤ n) where
   abbrev S : Server

@@ -8,6 +8,7 @@ use lib.Dec.{leb, eqb}
 use lib.ListN.{length, replicate, length-replicate}
 use borrow.Author.Tests.{leb-true, ltb-true, eq-eqb, eqb-true}
 use Rattle.ot.specs.Edit.{Edit, Nothing, Delete, Insert, fits}
+use Rattle.ot.specs.Laws.{within}
 use Rattle.list.specs.Places.{initialPlaces}
 use Rattle.list.proofs.Places.{initial-length, initial-numbered}
 use Rattle.wire.specs.declared.Header.{Header}
@@ -24,13 +25,13 @@ use Rattle.model.specs.Questions.{ask, asks, between, Report, noReport, 
 use Rattle.model.specs.Cross.{priority, insertsOf}
 use Rattle.model.specs.Ranks.{rankOf}
 use Rattle.model.specs.Line.{Line, noLine, other, lineReport}
-use Rattle.model.specs.Client.{Client, ownRank, noClient, soundClient, openClientQuestions, openClient, listThen, edited, editQuestions, editClient, clientTaken, clientAcked, clientEditQuestions, clientTakesEdit, clientAckQuestions, clientTakesAck, clientReads, takeClient}
+use Rattle.model.specs.Client.{Client, ownRank, noClient, soundClient, openClientQuestions, openClient, listThen, edited, makeQuestions, editQuestions, editClient, takeBackQuestions, takeBackClient, clientTaken, clientAcked, clientEditQuestions, clientTakesEdit, clientAckQuestions, clientTakesAck, clientReads, takeClient}
 use Rattle.model.specs.Server.{Server, noServer, lineOf, total, otherMakers, ownOrigin, soundServer, openServerQuestions, openServer, serverTaken, serverAcked, serverEditQuestions, serverTakesEdit, serverAckQuestions, serverTakesAck, serverReads, takeServer}
 use Rattle.model.specs.Sound.{KeepsSound}
 pub use Rattle.model.proofs.Tests.{three}
 use Rattle.model.proofs.Tests.{four, and-left, and-right, hold, Yes, yes-all, answer-keeps, between-true}
 use Rattle.model.proofs.SoundLine.{no-line, asked}
-use Rattle.model.proofs.SoundClient.{client-facts, facts-client, edited-sound, taken-sound, acked-sound}
+use Rattle.model.proofs.SoundClient.{client-facts, facts-client, carryQuestions, edited-sound, taken-sound, acked-sound}
 use Rattle.model.proofs.SoundServer.{LinesFacts, MakersFacts, server-facts, facts-server, inserts-one, lastQuestions, server-taken-sound, server-acked-sound}
 
 -- An answer with refusal 0 hands out the new end.
@@ -47,9 +48,9 @@ unfolding answer
 new-end r old new k e = rw e
 
 pub opens-client : (n line : ℕ) (ranks items : List ℕ) → openClient n line ranks items .refusal ≡ 0 → soundClient (openClient n line ranks items .end) ≡ true
-unfolding openClient
+unfolding openClient within
 opens-client n line ranks items e =
-    let c : Client = record { n = n; line = line; ranks = ranks; items = initialPlaces items; own = noLine } in
+    let c : Client = record { n = n; line = line; ranks = ranks; items = initialPlaces items; own = noLine; inverse = Nothing } in
     let r = asks (openClientQuestions n line ranks items) in
     let z : r ≡ 0 = accepted r noClient c noReport e in
     let y = yes-all (openClientQuestions n line ranks items) (omega arith) z in
@@ -64,25 +65,34 @@ opens-client n line ranks items e =
       items = omega (arith, most, initial-length items);
       numbers = initial-numbered items most;
       taken = omega arith;
+      inverse = record { stands = refl; rank = refl; none = λ z. refl };
       own = no-line (eqb (ownRank c));
     }))
 
--- An edit of the client's own: its priority, where it has one, is the client's rank.
-pub edits-sound : (c : Client) (e : Edit) → priority (eqb (ownRank c)) e ≡ true → soundClient c ≡ true → soundClient (editClient c e .end) ≡ true
-unfolding editClient
-edits-sound c e p s =
-    answer-keeps (λ d. soundClient d ≡ true) (asks (editQuestions c e)) c (edited c e) noReport s
-    (λ z.
-    let y = yes-all (editQuestions c e) (omega arith) z in
-    let q9 = y .1 .0 in
+-- An edit of the client's own, where 9 to 12 said yes: its priority, where it has one, is the client's rank.
+made-sound : (c : Client) (e : Edit) → priority (eqb (ownRank c)) e ≡ true → soundClient c ≡ true → Yes (makeQuestions c e) → soundClient (edited c e) ≡ true
+made-sound c e p s y =
+    let q9 = y .0 in
     facts-client (edited c e)
     (edited-sound c e (client-facts c s) p
     (and-left (fits e (length (c .items))) (leb (length (listThen c e)) maxItems) q9)
     (leb-true (length (listThen c e)) maxItems (and-right (fits e (length (c .items))) (leb (length (listThen c e)) maxItems) q9))
-    (omega (arith, leb-true (c .own .inserts + insertsOf e) _ (y .1 .1 .0)))
-    (omega (arith, ltb-true (c .own .made) _ (y .1 .1 .1 .0)))
-    (ltb-true (c .own .made - c .own .acked) maxPending (y .1 .1 .1 .1 .0))
-    (inserts-one e)))
+    (omega (arith, leb-true (c .own .inserts + insertsOf e) _ (y .1 .0)))
+    (omega (arith, ltb-true (c .own .made) _ (y .1 .1 .0)))
+    (ltb-true (c .own .made - c .own .acked) maxPending (y .1 .1 .1 .0))
+    (inserts-one e))
+
+pub edits-sound : (c : Client) (e : Edit) → priority (eqb (ownRank c)) e ≡ true → soundClient c ≡ true → soundClient (editClient c e .end) ≡ true
+unfolding editClient
+edits-sound c e p s =
+    answer-keeps (λ d. soundClient d ≡ true) (asks (editQuestions c e)) c (edited c e) noReport s
+    (λ z. made-sound c e p s (yes-all (editQuestions c e) (omega arith) z .1))
+
+pub takes-back : (c : Client) → soundClient c ≡ true → soundClient (takeBackClient c .end) ≡ true
+unfolding takeBackClient
+takes-back c s =
+    answer-keeps (λ d. soundClient d ≡ true) (asks (takeBackQuestions c)) c (edited c (c .inverse)) noReport s
+    (λ z. made-sound c (c .inverse) (client-facts c s .inverse .rank) s (yes-all (takeBackQuestions c) (omega arith) z .1 .1))
 
 pub client-takes-edit : (c : Client) (h : Header) (e : Edit) → headerInRange h ≡ true → soundClient c ≡ true → soundClient (clientTakesEdit c h e .end) ≡ true
 unfolding clientTakesEdit
@@ -90,10 +100,10 @@ client-takes-edit c h e range s =
     answer-keeps (λ d. soundClient d ≡ true) (asks (clientEditQuestions c h e)) c (clientTaken c (h .origin) (h .seen) e) _ s
     (λ z.
     let y = yes-all (clientEditQuestions c h e) (omega arith) z in
-    let q = asked (c .own) (c .items) h e [] (y .1 .1) in
+    let q = asked (c .own) (c .items) h e (carryQuestions c h e) (y .1 .1) in
     let bounds = header-bounds h range in
     facts-client (clientTaken c (h .origin) (h .seen) e)
-    (taken-sound c h e (client-facts c s) q (omega (arith, q .next, bounds .number-high)) (bounds .made-high)))
+    (taken-sound c h e (client-facts c s) q (omega (arith, q .next, bounds .number-high)) (bounds .made-high) (y .1 .1 .1 .1 .1 .1 .1 .0)))
 
 pub client-takes-ack : (c : Client) (l d seen : ℕ) → soundClient c ≡ true → soundClient (clientTakesAck c l d seen .end) ≡ true
 unfolding clientTakesAck
@@ -216,6 +226,7 @@ keeps-sound =
       opens-client = opens-client;
       inserts = λ c p x s. edits-sound c (Insert p x (ownRank c)) (eq-eqb (ownRank c) (ownRank c) refl) s;
       deletes = λ c p s. edits-sound c (Delete p) refl s;
+      takes-back = takes-back;
       client-takes = client-takes;
       opens-server = opens-server;
       server-takes = server-takes;

@@ -1,6 +1,7 @@
 -- Every call keeps a sound client sound.
 use mathlib.Core.Path.{_≡_}
 use mathlib.Core.Bool.{true}
+use mathlib.Core.List.{List, [], _∷_}
 use Prim.Native.Nat.{ℕ, _+_, _-_, _≤_, _<_}
 use native.Mathlib.Omega.{arith}
 use lib.Dec.{eqb}
@@ -11,12 +12,15 @@ use Rattle.list.specs.Places.{placeOf, numbered}
 use Rattle.list.proofs.Places.{numbered-applied}
 use Rattle.wire.specs.declared.Header.{Header}
 use Rattle.model.specs.Limits.{maxLines, maxInserts, maxEdits, maxOthers, maxPending, maxItems}
+use Rattle.model.specs.Questions.{Question, ask}
 use Rattle.model.specs.Cross.{priority, insertsOf}
 use Rattle.model.specs.Ranks.{ranking}
+use Rattle.model.specs.Inverse.{inverseStands}
 use Rattle.model.specs.Line.{carried}
-use Rattle.model.specs.Client.{Client, ownRank, clientTests, soundClient, originHere, listThen, edited, clientTaken, clientAcked}
+use Rattle.model.specs.Client.{Client, ownRank, clientTests, soundClient, originHere, listThen, edited, inverseThen, clientTaken, clientAcked}
 use Rattle.model.proofs.Tests.{hold, held, between-true, true-between}
 use Rattle.model.proofs.Cross.{fits-placed}
+use Rattle.model.proofs.Inverse.{InverseFacts, inverse-facts, facts-inverse, made-inverse, carried-inverse}
 use Rattle.model.proofs.SoundLine.{LineFacts, line-facts, facts-line, Asked, kept-line, taken-line, acked-line}
 
 -- question 2 as facts
@@ -27,6 +31,7 @@ pub record ClientFacts (c : Client) : Type 0 where
   pub items : length (c .items) ≤ maxItems
   pub numbers : numbered (c .items) ≡ true
   pub taken : c .own .taken ≤ maxOthers
+  pub inverse : InverseFacts (ownRank c) (c .own .made) (c .inverse)
   pub own : LineFacts (c .own .made) (eqb (ownRank c)) (c .own)
 
 pub client-facts : (c : Client) → soundClient c ≡ true → ClientFacts c
@@ -40,7 +45,8 @@ client-facts c s =
       items = leb-true (length (c .items)) maxItems (h .1 .1 .1 .0);
       numbers = h .1 .1 .1 .1 .0;
       taken = leb-true (c .own .taken) maxOthers (h .1 .1 .1 .1 .1 .0);
-      own = line-facts (c .own .made) (eqb (ownRank c)) (c .own) (h .1 .1 .1 .1 .1 .1);
+      inverse = inverse-facts (ownRank c) (c .own .made) (c .inverse) (h .1 .1 .1 .1 .1 .1 .0);
+      own = line-facts (c .own .made) (eqb (ownRank c)) (c .own) (h .1 .1 .1 .1 .1 .1 .1);
     }
 
 pub facts-client : (c : Client) → ClientFacts c → soundClient c ≡ true
@@ -54,7 +60,13 @@ facts-client c f =
           f .ranked,
           (
             le-leb (length (c .items)) maxItems (f .items),
-            (f .numbers, (le-leb (c .own .taken) maxOthers (f .taken), facts-line (c .own .made) (eqb (ownRank c)) (c .own) (f .own))),
+            (
+              f .numbers,
+              (
+                le-leb (c .own .taken) maxOthers (f .taken),
+                (facts-inverse (ownRank c) (c .own .made) (c .inverse) (f .inverse), facts-line (c .own .made) (eqb (ownRank c)) (c .own) (f .own)),
+              ),
+            ),
           ),
         ),
       ),
@@ -73,15 +85,20 @@ edited-sound c e f p q9 q9′ q10 q11 q12 one =
       items = omega (arith, q9′, f .items);
       numbers = numbered-applied here e (c .items) (omega arith) (f .numbers);
       taken = f .taken;
+      inverse = made-inverse (ownRank c) (c .own .made + 1) here e (c .items) (omega arith) q9 q9′;
       own =
           kept-line (c .own .made) (c .own .made + 1) (eqb (ownRank c)) (c .own .inserts + insertsOf e) e (c .own) (f .own)
           (omega arith) q10 (omega (arith, f .own .inserts-edits)) q12 (fits-placed (placeOf here) e (c .items) (f .items) q9 q9′) p;
     }
 
+-- what else a client asks of an edit that it takes
+abbrev pub carryQuestions : Client → Header → Edit → List Question
+carryQuestions c h e = ask 9 (inverseStands (inverseThen c (h .seen) e)) ∷ []
+
 -- Another client's edit taken, where no question said no.
 pub taken-sound : (c : Client) (h : Header) (e : Edit) → ClientFacts c → Asked (c .own) (c .items) h e → c .own .taken < maxOthers → h .origin .number ≤ maxEdits
-    → ClientFacts (clientTaken c (h .origin) (h .seen) e)
-taken-sound c h e f q t m =
+    → inverseStands (inverseThen c (h .seen) e) ≡ true → ClientFacts (clientTaken c (h .origin) (h .seen) e)
+taken-sound c h e f q t m stands =
     record {
       lines = f .lines;
       line = f .line;
@@ -89,6 +106,7 @@ taken-sound c h e f q t m =
       items = q .size;
       numbers = numbered-applied (h .origin) (carried (c .own) (h .seen) e) (c .items) (omega arith) (f .numbers);
       taken = omega arith;
+      inverse = carried-inverse (ownRank c) (c .own .made) (c .inverse) _ stands (f .inverse);
       own =
           taken-line (c .own .made) (c .own .made) (eqb (ownRank c)) (c .own .inserts) (c .own) (c .items) h e (f .own) q
           (f .own .edits) (f .own .inserts) (f .own .inserts-edits);
@@ -103,5 +121,6 @@ acked-sound c seen f q7 q8 =
       items = f .items;
       numbers = f .numbers;
       taken = f .taken;
+      inverse = f .inverse;
       own = acked-line (c .own .made) (eqb (ownRank c)) seen (c .own) (f .own) q7 q8;
     }

@@ -1,7 +1,7 @@
 -- The wrong sheets are refuted, each by a list of calls that antt runs.
 use mathlib.Core.Path.{_≡_, refl, ap, sym, _∙_, subst}
 use mathlib.Core.Bool.{true, true≢false}
-use mathlib.Core.List.{List, [], _∷_, reverse}
+use mathlib.Core.List.{List, [], _∷_, _++_, reverse}
 use Prim.Native.Nat.{ℕ, zero, suc, _+_, _≤_}
 use native.Mathlib.Omega.{arith}
 use lib.Dec.{ltb}
@@ -14,12 +14,12 @@ use Rattle.model.specs.Client.{Client}
 use Rattle.model.specs.Server.{Server}
 use Rattle.model.specs.Ranks.{ranking, lineRanks}
 use Rattle.model.specs.Log.{wireMessage, editMessage}
-use Rattle.model.specs.Sheet.{Sheet, Call, insert, delete, send, tell, receive, junk}
+use Rattle.model.specs.Sheet.{Sheet, Call, insert, delete, takeBack, send, tell, receive, junk}
 use Rattle.model.specs.Run.{State, run, start}
 use Rattle.model.specs.Claim.{Delivered, Enough, Opened, Holds, Converges, Full}
 use Rattle.model.specs.Consequences.{OneOrder}
 use Rattle.model.specs.Marked.{lent}
-use Rattle.model.specs.Wrong.{leaving, repeating, unsubtracted, firstOnly, refusing, miscounting, forgiving, listening, early, frozen, byLine, otherRanks, bySender, byMessage, arrivedTwice, goneShown, showingAs, turning, mirroring, Refuted}
+use Rattle.model.specs.Wrong.{leaving, repeating, unsubtracted, firstOnly, refusing, miscounting, forgiving, listening, early, frozen, byLine, otherRanks, bySender, byMessage, arrivedTwice, goneShown, uncarried, carriedPastArrived, showingAs, turning, mirroring, Refuted}
 use Rattle.model.proofs.Ranks.{line-ranking}
 use Rattle.model.proofs.Ranges.{short}
 use Rattle.model.proofs.Opens.{client-asks, server-asks, client-opens, server-opens}
@@ -262,6 +262,21 @@ gone-shown-fails : Converges goneShown → ⊥
 unfolding deletedTwice computing
 gone-shown-fails c = differ 0 1 refl (sym (applied-at 6 (two goneShown c deletedTwice .reports)))
 
+-- Client 1 then takes its insert back: client 2's step is left.
+takenBack : List Call
+unfolding tied
+takenBack = tied ++ (takeBack 1 ∷ [])
+
+-- Where client 2's step stands before client 1's, that has moved: at its old place client 2's is deleted.
+uncarried-fails : Converges uncarried → ⊥
+unfolding takenBack computing
+uncarried-fails c = differ 7 8 refl (items (two-turned uncarried c takenBack .lists 1 (omega arith)))
+
+-- Client 2's step arrives in position 1, and stands behind client 1's: that has not moved.
+carried-past-arrived-fails : Converges carriedPastArrived → ⊥
+unfolding takenBack computing
+carried-past-arrived-fails c = differ 7 8 refl (items (two carriedPastArrived c takenBack .lists 1 (omega arith)))
+
 -- one client, whatever it shows
 showing-open : (usual : List Place → List Place) (inserted : List Place → List Place → List Place) → Opened (showingAs usual inserted) 1 (lineRanks 1) []
 showing-open usual inserted =
@@ -311,6 +326,8 @@ refuted =
       by-message-fails = by-message-fails;
       arrived-twice-fails = arrived-twice-fails;
       gone-shown-fails = gone-shown-fails;
+      uncarried-fails = uncarried-fails;
+      carried-past-arrived-fails = carried-past-arrived-fails;
       turning-fails = turning-fails;
       mirroring-fails = mirroring-fails;
     }

@@ -94,6 +94,7 @@ module _ (S : Sheet) where
   pub record LeavesAlone : Type 0 where
     pub inserts : (e : S .End) (p x : ℕ) → Back e (S .insert e p x)
     pub deletes : (e : S .End) (p : ℕ) → Back e (S .delete e p)
+    pub takes-back : (e : S .End) → Back e (S .takeBack e)
     pub takes : (e : S .End) (bytes : List ℕ) → Back e (S .take e bytes)
     pub sends : (e : S .End) (l number : ℕ) (lent : List ℕ) → Unwritten lent (S .send e l number lent) × PastStays lent (S .send e l number lent)
     pub tells : (e : S .End) (l : ℕ) (lent : List ℕ) → Unwritten lent (S .tell e l lent) × PastStays lent (S .tell e l lent)

@@ -1,10 +1,10 @@
 -- The client's end (01: the bay end) as a record over lists, question 2, and its calls.
-use Prim.Native.Nat.{ℕ, _+_, _-_}
-use mathlib.Core.Bool.{Bool, false, _&&_}
+use Prim.Native.Nat.{ℕ, _+_}
+use mathlib.Core.Bool.{Bool, false, not, _&&_}
 use mathlib.Core.List.{List, [], _∷_}
 use lib.Dec.{leb, ltb, eqb}
 use lib.ListN.{length}
-use Rattle.ot.specs.Edit.{Edit, Nothing, Delete, Insert, fits}
+use Rattle.ot.specs.Edit.{Edit, Nothing, Delete, Insert, fits, transformed}
 use Rattle.list.specs.declared.Origin.{Origin}
 use Rattle.list.specs.Places.{Place, initialPlaces, appliedBy, numbered}
 use Rattle.wire.specs.declared.Header.{Header}
@@ -17,6 +17,7 @@ use Rattle.model.specs.Limits.{maxLines, maxInserts, maxEdits, maxOthers
 use Rattle.model.specs.Questions.{Question, ask, asks, every, between, noReport, Answer, answer, Sent, sent}
 use Rattle.model.specs.Cross.{priority, insertsOf}
 use Rattle.model.specs.Ranks.{rankOf, ranking}
+use Rattle.model.specs.Inverse.{inverseOf, isNothing, inverseStands, soundInverse}
 use Rattle.model.specs.Line.{Line, noLine, other, lineTests, roomy, lineKeeps, lineMessage, sendQuestions, lineAcked, lineTaken, carried, lineReport, seenQuestions, takeQuestions}
 
 pub record Client : Type 0 where
@@ -28,6 +29,8 @@ pub record Client : Type 0 where
   pub items : List Place
   -- what it keeps of its line
   pub own : Line
+  -- the inverse of its latest edit, past each edit that it took since (02: N7); nothing before its first edit
+  pub inverse : Edit
 
 -- the rank of its own line
 abbrev pub ownRank : Client → ℕ
@@ -35,7 +38,7 @@ ownRank c = rankOf (c .ranks) (c .line)
 
 -- what a refused opening returns
 abbrev pub noClient : Client
-noClient = record { n = 0; line = 0; ranks = []; items = []; own = noLine }
+noClient = record { n = 0; line = 0; ranks = []; items = []; own = noLine; inverse = Nothing }
 
 -- question 2, test by test
 abbrev pub clientTests : Client → List Bool
@@ -46,6 +49,7 @@ clientTests c =
     ∷ leb (length (c .items)) maxItems
     ∷ numbered (c .items)
     ∷ leb (c .own .taken) maxOthers
+    ∷ soundInverse (ownRank c) (c .own .made) (c .inverse)
     ∷ lineTests (c .own .made) (eqb (ownRank c)) (c .own)
 
 unfoldable pub soundClient : Client → Bool
@@ -60,12 +64,12 @@ openClient n line ranks items =
     answer
     (asks (openClientQuestions n line ranks items))
     noClient
-    (record { n = n; line = line; ranks = ranks; items = initialPlaces items; own = noLine })
+    (record { n = n; line = line; ranks = ranks; items = initialPlaces items; own = noLine; inverse = Nothing })
     noReport
 
--- the client with another list and line
-abbrev pub with : Client → List Place → Line → Client
-with c items v = record { n = c .n; line = c .line; ranks = c .ranks; items = items; own = v }
+-- the client with another list, line and inverse
+abbrev pub with : Client → List Place → Line → Edit → Client
+with c items v e = record { n = c .n; line = c .line; ranks = c .ranks; items = items; own = v; inverse = e }
 
 -- the origin of its edit of a number
 abbrev pub originHere : Client → ℕ → Origin
@@ -75,18 +79,21 @@ originHere c number = record { line = c .line; number = number }
 abbrev pub listThen : Client → Edit → List Place
 listThen c e = appliedBy (originHere c (c .own .made + 1)) e (c .items)
 
--- An edit made here: applied, counted and kept.
+-- An edit made here: applied, counted and kept, and its inverse is stored.
 abbrev pub edited : Client → Edit → Client
-edited c e = with c (listThen c e) (lineKeeps (c .own .inserts + insertsOf e) e (c .own))
+edited c e = with c (listThen c e) (lineKeeps (c .own .inserts + insertsOf e) e (c .own)) (inverseOf (ownRank c) (c .items) e)
 
-abbrev pub editQuestions : Client → Edit → List Question
-editQuestions c e =
-    ask 2 (soundClient c)
-    ∷ ask 9 (fits e (length (c .items)) && leb (length (listThen c e)) maxItems)
+-- 9 to 12
+abbrev pub makeQuestions : Client → Edit → List Question
+makeQuestions c e =
+    ask 9 (fits e (length (c .items)) && leb (length (listThen c e)) maxItems)
     ∷ ask 10 (leb (c .own .inserts + insertsOf e) maxInserts)
     ∷ ask 11 (ltb (c .own .made) maxEdits)
     ∷ ask 12 (roomy (c .own))
     ∷ []
+
+abbrev pub editQuestions : Client → Edit → List Question
+editQuestions c e = ask 2 (soundClient c) ∷ makeQuestions c e
 
 unfoldable pub editClient : Client → Edit → Answer Client
 editClient c e =
@@ -102,6 +109,18 @@ insertClient c p x = editClient c (Insert p x (ownRank c))
 
 abbrev pub deleteClient : Client → ℕ → Answer Client
 deleteClient c p = editClient c (Delete p)
+
+-- Taking back: the inverse is made as an ordinary edit, if there is one.
+abbrev pub takeBackQuestions : Client → List Question
+takeBackQuestions c = ask 2 (soundClient c) ∷ ask 17 (not (isNothing (c .inverse))) ∷ makeQuestions c (c .inverse)
+
+unfoldable pub takeBackClient : Client → Answer Client
+takeBackClient c =
+    answer
+    (asks (takeBackQuestions c))
+    c
+    (edited c (c .inverse))
+    noReport
 
 abbrev pub clientMessage : Client → ℕ → Message
 clientMessage c number = lineMessage (c .line) 0 (originHere c number) (c .own) number
@@ -129,17 +148,22 @@ tellClient c line lent =
     lent
 
 abbrev pub clientAcked : Client → ℕ → Client
-clientAcked c seen = with c (c .items) (lineAcked seen (c .own))
+clientAcked c seen = with c (c .items) (lineAcked seen (c .own)) (c .inverse)
+
+-- the inverse once an edit is taken: past the form in which that is applied
+abbrev pub inverseThen : Client → ℕ → Edit → Edit
+inverseThen c seen e = transformed (c .inverse) (carried (c .own) seen e)
 
 abbrev pub clientTaken : Client → Origin → ℕ → Edit → Client
-clientTaken c o seen e = with c (appliedBy o (carried (c .own) seen e) (c .items)) (lineTaken (c .own .inserts) seen e (c .own))
+clientTaken c o seen e =
+    with c (appliedBy o (carried (c .own) seen e) (c .items)) (lineTaken (c .own .inserts) seen e (c .own)) (inverseThen c seen e)
 
 abbrev pub clientEditQuestions : Client → Header → Edit → List Question
 clientEditQuestions c h e =
     ask 2 (soundClient c)
     ∷ ask 4
     (eqb (h .direction) 1 && eqb (h .line) (c .line) && priority (other (c .n) (ownRank c)) e && other (c .n) (c .line) (h .origin .line))
-    ∷ takeQuestions (c .own) (c .items) h e []
+    ∷ takeQuestions (c .own) (c .items) h e (ask 9 (inverseStands (inverseThen c (h .seen) e)) ∷ [])
 
 unfoldable pub clientTakesEdit : Client → Header → Edit → Answer Client
 clientTakesEdit c h e =

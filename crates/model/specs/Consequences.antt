@@ -1,14 +1,16 @@
 -- What every sheet that converges has with it: the claim alone gives it.
 use Prim.Native.Nat.{ℕ, zero, suc, _≤_}
 use mathlib.Core.Path.{_≡_}
-use mathlib.Core.Bool.{true}
-use mathlib.Core.List.{List, [], _∷_}
+use mathlib.Core.Bool.{Bool, true, false, not, _&&_}
+use mathlib.Core.List.{List, [], _∷_, _++_}
+use lib.Dec.{eqb}
 use Rattle.jupiter.specs.Algebra.{Algebra}
 use Rattle.jupiter.specs.Made.{Made}
 use Rattle.jupiter.specs.History.{History}
 use Rattle.jupiter.specs.Claims.{SameSet}
 use Rattle.model.specs.Ranks.{among}
-use Rattle.model.specs.Sheet.{Sheet, Call, receive}
+use Rattle.list.specs.Places.{itemsOf}
+use Rattle.model.specs.Sheet.{Sheet, Call, insert, delete, takeBack, send, tell, receive, junk}
 use Rattle.model.specs.Run.{State, areItems, callable, numberOf, run, start}
 use Rattle.model.specs.Claim.{Opened, Converges}
 use Rattle.model.specs.Order.{SameOrder}
@@ -21,6 +23,27 @@ appliedAt h (suc a) = h .applied (suc a)
 -- where a list of calls leads
 abbrev pub after : (S : Sheet) → ℕ → (ranks : List ℕ) → List ℕ → List Call → State S ranks
 after S n ranks items calls = run S n (start S n ranks items) calls
+
+-- client l makes an edit, or takes one back
+abbrev pub editOf : ℕ → Call → Bool
+editOf l (insert j p x) = eqb j l
+editOf l (delete j p) = eqb j l
+editOf l (takeBack j) = eqb j l
+editOf l (send a j number lent) = false
+editOf l (tell a j lent) = false
+editOf l (receive a i) = false
+editOf l (junk a bytes) = false
+
+-- client l makes and takes nothing by any of the calls
+unfoldable pub sparedBy : ℕ → List Call → Bool
+sparedBy l [] = true
+sparedBy l (receive a i ∷ cs) = not (eqb a l) && sparedBy l cs
+sparedBy l (junk a bytes ∷ cs) = sparedBy l cs
+sparedBy l (insert j p x ∷ cs) = not (eqb j l) && sparedBy l cs
+sparedBy l (delete j p ∷ cs) = not (eqb j l) && sparedBy l cs
+sparedBy l (takeBack j ∷ cs) = not (eqb j l) && sparedBy l cs
+sparedBy l (send a j number lent ∷ cs) = sparedBy l cs
+sparedBy l (tell a j lent ∷ cs) = sparedBy l cs
 
 module _ (S : Sheet) where
   -- nothing is outstanding on line l: the server has taken what its client has made, and the client what the server has for it
@@ -49,6 +72,17 @@ module _ (S : Sheet) where
       (n : ℕ) (ranks items : List ℕ) → Opened S n ranks items → (calls : List Call) (a i : ℕ) → a ≤ n
       → among (0 ∷ 4 ∷ 5 ∷ 6 ∷ 7 ∷ 12 ∷ []) (numberOf S (after S n ranks items calls) (receive a i)) ≡ true
 
+  -- Taking back (02: N7): client l makes an edit, or takes one back, and then takes that back, both not refused; in between it makes and takes
+  -- nothing. Its items and their order are then as before the edit.
+  abbrev pub TakesBack : Type 0
+  TakesBack =
+      (n : ℕ) (ranks items : List ℕ) → Opened S n ranks items → (calls between : List Call) (l : ℕ) (e : Call)
+      → editOf l e ≡ true → callable n e ≡ true → sparedBy l between ≡ true
+      → numberOf S (after S n ranks items calls) e ≡ 0
+      → numberOf S (run S n (after S n ranks items calls) (e ∷ between)) (takeBack l) ≡ 0
+      → itemsOf (S .items (run S n (after S n ranks items calls) (e ∷ (between ++ (takeBack l ∷ []))) .ends l))
+      ≡ itemsOf (S .items (after S n ranks items calls .ends l))
+
   -- No list of calls tells two sheets apart that converge: by what opening says, by lists, totals, counts of edits, messages and reports, or
   -- by the number that the next call gets.
   pub record Agree (T : Sheet) : Type 0 where
@@ -73,4 +107,5 @@ pub record Consequences : Type 1 where
   pub consistent : (S : Sheet) → Converges S → Consistent S
   pub order : (S : Sheet) → Converges S → OneOrder S
   pub refusals : (S : Sheet) → Converges S → TakingRefusals S
+  pub takes-back : (S : Sheet) → Converges S → TakesBack S
   pub agree : (S T : Sheet) → Converges S → Converges T → Agree S T

@@ -2,6 +2,7 @@ pub mod Limits
 pub mod Questions
 pub mod Cross
 pub mod Ranks
+pub mod Inverse
 pub mod Line
 pub mod Client
 pub mod Server

@@ -7,7 +7,7 @@ use mathlib.Core.List.{List, [], _∷_, _++_}
 use lib.Dec.{eqb}
 use lib.ListN.{length, getD, getElem?}
 use Rattle.ot.specs.Edit as edit
-use Rattle.ot.specs.Edit.{Edit}
+use Rattle.ot.specs.Edit.{Edit, transformed}
 use Rattle.list.specs.Places.{Place, initialPlaces}
 use Rattle.wire.specs.declared.Header.{Header}
 use Rattle.wire.specs.declared.Message as wire
@@ -23,9 +23,10 @@ use Rattle.jupiter.specs.Run.{Message, up, down, upAck, downAck}
 use Rattle.jupiter.specs.History.{History, noHistory, at, order, madeBy, missing, afterEdit, afterUp, afterDown, newEdit}
 use Rattle.model.specs.Questions.{Report, noReport}
 use Rattle.model.specs.Ranks.{rankOf}
+use Rattle.model.specs.Inverse.{inverseOf}
 use Rattle.model.specs.Line.{positionAt}
 use Rattle.model.specs.Edits.{Named, Rule, editsBy, edits, appliedNamed}
-use Rattle.model.specs.Sheet.{Call, insert, delete, send, tell, receive, junk}
+use Rattle.model.specs.Sheet.{Call, insert, delete, takeBack, send, tell, receive, junk}
 
 abbrev pub headerOf : {by : Rule} → ℕ → ℕ → EditMessage (editsBy by) → Header
 headerOf l direction m = record { line = l; direction = direction; number = m .number; seen = m .seen; origin = m .edit .origin }
@@ -45,6 +46,9 @@ pub record Log (ranks : List ℕ) : Type 0 where
   pub history : History (edits ranks)
   -- the list of each end: the initial list with each edit applied in its form at what the end had applied (0: the server's)
   pub shown : ℕ → List Place
+  -- what taking back makes at client l: the inverse of its latest edit on the list that it showed then, past the form of each edit that it has
+  -- applied since; nothing before its first edit
+  pub undo : ℕ → Edit
   -- the last seen that end a took on line l, 0 before any
   pub heard : ℕ → ℕ → ℕ
   -- the messages written, and the report that each editing and taking owes
@@ -52,7 +56,7 @@ pub record Log (ranks : List ℕ) : Type 0 where
   pub reports : List Report
 
 abbrev pub noLog : {ranks : List ℕ} → List ℕ → Log ranks
-noLog initial = record { history = noHistory; shown = λ a. initialPlaces initial; heard = λ a l. 0; messages = []; reports = [] }
+noLog initial = record { history = noHistory; shown = λ a. initialPlaces initial; undo = λ l. edit.Nothing; heard = λ a l. 0; messages = []; reports = [] }
 
 -- the edits that end a has applied, in the order of the definition
 unfoldable pub setOf : {𝓐 : Algebra} → History 𝓐 → ℕ → List (Made 𝓐)
@@ -88,7 +92,7 @@ shows w a e = at a (appliedNamed (form e (setOf (w .history) a)) (w .shown a)) (
 
 abbrev pub writes : {ranks : List ℕ} → Log ranks → Message (edits ranks) → Log ranks
 writes w m =
-    record { history = w .history; shown = w .shown; heard = w .heard; messages = w .messages ++ (m ∷ []); reports = w .reports }
+    record { history = w .history; shown = w .shown; undo = w .undo; heard = w .heard; messages = w .messages ++ (m ∷ []); reports = w .reports }
 
 -- end a took a message with this seen on line l
 abbrev pub hearing : {ranks : List ℕ} → Log ranks → ℕ → ℕ → ℕ → ℕ → ℕ → ℕ
@@ -97,17 +101,18 @@ hearing w a l seen = at a (at l seen (w .heard a)) (w .heard)
 -- an editing or taking that changes nothing, or only what was heard
 abbrev pub hears : {ranks : List ℕ} → Log ranks → (ℕ → ℕ → ℕ) → Log ranks
 hears w heard =
-    record { history = w .history; shown = w .shown; heard = heard; messages = w .messages; reports = w .reports ++ (noReport ∷ []) }
+    record { history = w .history; shown = w .shown; undo = w .undo; heard = heard; messages = w .messages; reports = w .reports ++ (noReport ∷ []) }
 
 -- the next edit of client l, with its origin
 abbrev pub namedBy : {ranks : List ℕ} → Log ranks → ℕ → Edit → Named
 namedBy w l e = record { origin = record { line = l; number = suc (madeBy (w .history) l) }; edit = e }
 
 abbrev pub edited : {ranks : List ℕ} → Log ranks → ℕ → Edit → Log ranks
-edited w l e =
+edited {ranks} w l e =
     record {
       history = afterEdit l (namedBy w l e) (w .history);
       shown = shows w l (newEdit (w .history) l (namedBy w l e));
+      undo = at l (inverseOf (rankOf ranks l) (w .shown l) e) (w .undo);
       heard = w .heard;
       messages = w .messages;
       reports = w .reports ++ (noReport ∷ []);
@@ -133,6 +138,7 @@ tookUp w l m =
     record {
       history = afterUp l (w .history);
       shown = shows w 0 (first (w .history .untaken l));
+      undo = w .undo;
       heard = hearing w 0 l (m .seen);
       messages = w .messages;
       reports = w .reports ++ (reported w 0 l m (first (w .history .untaken l)) ∷ []);
@@ -143,6 +149,7 @@ tookDown w l m =
     record {
       history = afterDown l (w .history);
       shown = shows w l (first (missing (w .history) l));
+      undo = at l (transformed (w .undo l) (form (first (missing (w .history) l)) (setOf (w .history) l) .edit)) (w .undo);
       heard = hearing w l l (m .seen);
       messages = w .messages;
       reports = w .reports ++ (reported w l l m (first (missing (w .history) l)) ∷ []);
@@ -161,6 +168,7 @@ took w a (some (downAck l seen)) = cond (eqb a l) (hears w (hearing w l l seen))
 unfoldable pub logged : {ranks : List ℕ} → Log ranks → Call → Log ranks
 logged {ranks} w (insert l p x) = edited w l (edit.Insert p x (rankOf ranks l))
 logged w (delete l p) = edited w l (edit.Delete p)
+logged w (takeBack l) = edited w l (w .undo l)
 logged w (send a l number lent) = writes w (editMessage (w .history) a l number)
 logged w (tell a l lent) = writes w (ackMessage (w .history) a l)
 logged w (receive a i) = took w a (getElem? (w .messages) i)
@@ -170,6 +178,7 @@ logged w (junk a bytes) = hears w (w .heard)
 unfoldable pub refusedLog : {ranks : List ℕ} → Log ranks → Call → Log ranks
 refusedLog w (insert l p x) = hears w (w .heard)
 refusedLog w (delete l p) = hears w (w .heard)
+refusedLog w (takeBack l) = hears w (w .heard)
 refusedLog w (send a l number lent) = w
 refusedLog w (tell a l lent) = w
 refusedLog w (receive a i) = hears w (w .heard)

@@ -1,16 +1,19 @@
--- The marked cases of 01 and ours for ranks, as one statement about the definitions.
+-- The marked cases of 01 and ours for ranks and for taking back, as one statement about the definitions.
 use Prim.Native.Nat.{ℕ}
 use mathlib.Core.Path.{_≡_}
+use mathlib.Core.Bool.{true, false}
 use mathlib.Core.List.{List, [], _∷_, map}
 use lib.ListN.{replicate}
+use Rattle.ot.specs.Edit.{Delete}
 use Rattle.ot.specs.Cases.{TransformCases}
 use Rattle.wire.specs.Cases as bytes
 use Rattle.list.specs.Places.{Place, placeOf}
 use Rattle.model.specs.Ranks.{lineRanks}
+use Rattle.model.specs.Inverse.{inverseStands}
 use Rattle.model.specs.Client.{openClient}
 use Rattle.model.specs.Server.{openServer}
-use Rattle.model.specs.Sheet.{Call, insert, delete, send, receive}
-use Rattle.model.specs.Run.{run, start}
+use Rattle.model.specs.Sheet.{Call, insert, delete, takeBack, send, receive}
+use Rattle.model.specs.Run.{numberOf, run, start}
 use Rattle.model.specs.Ours.{ours}
 
 -- 17 bytes, enough for any message
@@ -84,6 +87,25 @@ tie =
 abbrev pub tieAfter : List ℕ → List (List Place)
 tieAfter ranks = listsAfter 5 ranks (10 ∷ []) (0 ∷ 1 ∷ 5 ∷ []) tie
 
+-- Client 2 deletes the item that client 1 has put there, and client 1 takes that.
+abbrev pub gone : List Call
+gone =
+    insert 1 1 30
+    ∷ send 1 1 1 lent
+    ∷ receive 0 0
+    ∷ send 0 2 1 lent
+    ∷ receive 2 1
+    ∷ delete 2 1
+    ∷ send 2 2 1 lent
+    ∷ receive 0 2
+    ∷ send 0 1 1 lent
+    ∷ receive 1 3
+    ∷ []
+
+-- what taking back is answered at client 1 after these calls
+abbrev pub takingBack : List Call → ℕ
+takingBack calls = numberOf ours (run ours 2 (start ours 2 (lineRanks 2) []) calls) (takeBack 1)
+
 pub record MarkedCases : Type 0 where
   pub p1-p8 : TransformCases
   pub p9-p10 : bytes.Cases
@@ -97,3 +119,10 @@ pub record MarkedCases : Type 0 where
       ≡ 16 ∷ 16 ∷ 16 ∷ 16 ∷ 16 ∷ 0 ∷ []
   -- question 1 comes first
   pub one-first : (openServer 9 [] [] .refusal ≡ 1) × (openClient 2 3 [] [] .refusal ≡ 1)
+  -- a delete is taken back, which brings the item as a new step of client 1, and that is taken back
+  pub taken-back : map (λ calls. listsAfter 1 (lineRanks 1) (10 ∷ 20 ∷ []) (1 ∷ []) (delete 1 1 ∷ calls)) ((takeBack 1 ∷ []) ∷ (takeBack 1 ∷ takeBack 1 ∷ []) ∷ [])
+      ≡ ((step 10 1 2 ∷ step 20 0 2 ∷ []) ∷ []) ∷ ((step 20 0 2 ∷ []) ∷ []) ∷ []
+  -- nothing was made; an insert was; the inserted item is gone
+  pub nothing-to-take-back : map takingBack ([] ∷ (insert 1 1 30 ∷ []) ∷ gone ∷ []) ≡ 17 ∷ 0 ∷ 17 ∷ []
+  -- a stored inverse stands at 1 to 513
+  pub stands : map (λ p. inverseStands (Delete p)) (0 ∷ 1 ∷ 513 ∷ 514 ∷ []) ≡ false ∷ true ∷ true ∷ false ∷ []

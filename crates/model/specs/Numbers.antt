@@ -1,7 +1,7 @@
 -- The number that each call of a list is answered with (01: "The questions, in order"): the questions, asked of what the accepted calls
 -- before it left. Question 2 says yes to every end of such a list, and 8 to 10 to every message that 4 to 7 let through, so they are not here.
 use Prim.Native.Nat.{ℕ, zero, suc, _+_, _-_}
-use mathlib.Core.Bool.{Bool, true, false, _&&_, _||_}
+use mathlib.Core.Bool.{Bool, true, false, not, _&&_, _||_}
 use mathlib.Core.Option.{Option, none, some}
 use mathlib.Core.List.{List, [], _∷_}
 use lib.Dec.{leb, ltb, eqb}
@@ -17,8 +17,9 @@ use Rattle.model.specs.Limits.{maxInserts, maxEdits, maxPending, maxItem
 use Rattle.model.specs.Questions.{Question, ask, asks, between}
 use Rattle.model.specs.Cross.{insertsOf}
 use Rattle.model.specs.Ranks.{rankOf}
+use Rattle.model.specs.Inverse.{isNothing}
 use Rattle.model.specs.Edits.{edits, appliedNamed}
-use Rattle.model.specs.Sheet.{Call, insert, delete, send, tell, receive, junk}
+use Rattle.model.specs.Sheet.{Call, insert, delete, takeBack, send, tell, receive, junk}
 use Rattle.model.specs.Log.{Log, namedBy, madeAt, takenAt, editMessage, messageBytes}
 
 -- Line l is end a's own: the server has lines 1 to n.
@@ -46,6 +47,10 @@ editing w l e =
     ∷ ask 11 (ltb (madeAt (w .history) l l) maxEdits)
     ∷ ask 12 (ltb (pendingAt w l l) maxPending)
     ∷ []
+
+-- 17, and then the inverse as an edit
+abbrev pub undoing : {ranks : List ℕ} → Log ranks → ℕ → List Question
+undoing w l = ask 17 (not (isNothing (w .undo l))) ∷ editing w l (w .undo l)
 
 abbrev pub sending : {ranks : List ℕ} → ℕ → Log ranks → ℕ → ℕ → ℕ → List ℕ → List Question
 sending n w a l number lent =
@@ -89,6 +94,7 @@ handing n w a (some x) = asks (taking n w a x)
 unfoldable pub number : {ranks : List ℕ} → ℕ → Log ranks → Call → ℕ
 number {ranks} n w (insert l p x) = asks (editing w l (edit.Insert p x (rankOf ranks l)))
 number n w (delete l p) = asks (editing w l (edit.Delete p))
+number n w (takeBack l) = asks (undoing w l)
 number n w (send a l k lent) = asks (sending n w a l k lent)
 number n w (tell a l lent) = asks (telling n a l lent)
 number n w (receive a i) = handing n w a (getElem? (w .messages) i)

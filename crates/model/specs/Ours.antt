@@ -23,6 +23,7 @@ clientCalls =
       opens = clients.openClient;
       insert = clients.insertClient;
       delete = clients.deleteClient;
+      takeBack = clients.takeBackClient;
       send = clients.sendClient;
       tell = clients.tellClient;
       take = clients.takeClient;

@@ -10,7 +10,7 @@ use Rattle.wire.specs.declared.Read.the-variants as read
 use Rattle.wire.specs.Bytes.{parsed}
 use Rattle.jupiter.specs.History.{at}
 use Rattle.model.specs.Questions.{Answer, Report, Sent, between}
-use Rattle.model.specs.Sheet.{Sheet, Call, insert, delete, send, tell, receive, junk}
+use Rattle.model.specs.Sheet.{Sheet, Call, insert, delete, takeBack, send, tell, receive, junk}
 use Rattle.model.specs.Log.{Log, noLog, log}
 
 -- the bytes of a list are bytes
@@ -32,6 +32,7 @@ unreadable (read.Message m) = false
 unfoldable pub callable : ℕ → Call → Bool
 callable n (insert l p x) = between 1 n l && ltb p 65536 && ltb x 4294967296
 callable n (delete l p) = between 1 n l && ltb p 65536
+callable n (takeBack l) = between 1 n l
 callable n (send a l number lent) = leb a n && ltb l 256 && ltb number 65536 && areBytes lent
 callable n (tell a l lent) = leb a n && ltb l 256 && areBytes lent
 callable n (receive a i) = leb a n
@@ -73,6 +74,7 @@ module _ (S : Sheet) where
   unfoldable pub call : {ranks : List ℕ} → State ranks → Call → State ranks
   call s (insert l p x) = answered s l (insert l p x) (S .insert (s .ends l) p x)
   call s (delete l p) = answered s l (delete l p) (S .delete (s .ends l) p)
+  call s (takeBack l) = answered s l (takeBack l) (S .takeBack (s .ends l))
   call s (send a l number lent) = written s (send a l number lent) (S .send (s .ends a) l number lent)
   call s (tell a l lent) = written s (tell a l lent) (S .tell (s .ends a) l lent)
   call s (receive a i) = handed s a (receive a i) (getElem? (s .messages) i)
@@ -86,6 +88,7 @@ module _ (S : Sheet) where
   unfoldable pub numberOf : {ranks : List ℕ} → State ranks → Call → ℕ
   numberOf s (insert l p x) = S .insert (s .ends l) p x .refusal
   numberOf s (delete l p) = S .delete (s .ends l) p .refusal
+  numberOf s (takeBack l) = S .takeBack (s .ends l) .refusal
   numberOf s (send a l number lent) = S .send (s .ends a) l number lent .refusal
   numberOf s (tell a l lent) = S .tell (s .ends a) l lent .refusal
   numberOf s (receive a i) = handedNumber s a (getElem? (s .messages) i)

@@ -19,6 +19,8 @@ pub record Sheet : Type 1 where
   -- position, item; position
   pub insert : End → ℕ → ℕ → Answer End
   pub delete : End → ℕ → Answer End
+  -- takes its latest edit back
+  pub takeBack : End → Answer End
   -- line, number, lent bytes; line, lent bytes (an acknowledgement)
   pub send : End → ℕ → ℕ → List ℕ → Sent
   pub tell : End → ℕ → List ℕ → Sent
@@ -31,6 +33,8 @@ pub data Call : Type 0 where
   -- client l inserts an item at a position, or deletes the one there
   insert : (l p x : ℕ) → Call
   delete : (l p : ℕ) → Call
+  -- client l takes its latest edit back
+  takeBack : (l : ℕ) → Call
   -- end a sends on line l the edit of a number, or an acknowledgement, with these bytes lent
   send : (a l number : ℕ) (lent : List ℕ) → Call
   tell : (a l : ℕ) (lent : List ℕ) → Call

@@ -16,6 +16,7 @@ pub record ClientCalls : Type 1 where
   pub opens : ℕ → ℕ → List ℕ → List ℕ → Answer Client
   pub insert : Client → ℕ → ℕ → Answer Client
   pub delete : Client → ℕ → Answer Client
+  pub takeBack : Client → Answer Client
   pub send : Client → ℕ → ℕ → List ℕ → Sent
   pub tell : Client → ℕ → List ℕ → Sent
   pub take : Client → List ℕ → Answer Client
@@ -72,6 +73,10 @@ module _ (c : ClientCalls) (v : ServerCalls) where
   delete (client e) p = answerAs client (c .delete e p)
   delete (server e) p = refusedHere (server e)
 
+  abbrev takeBack : Ends → Answer Ends
+  takeBack (client e) = answerAs client (c .takeBack e)
+  takeBack (server e) = refusedHere (server e)
+
   abbrev send : Ends → ℕ → ℕ → List ℕ → Sent
   send (client e) l number lent = c .send e l number lent
   send (server e) l number lent = v .send e l number lent
@@ -96,6 +101,7 @@ module _ (c : ClientCalls) (v : ServerCalls) where
         openClient = λ n l ranks xs. answerAs client (c .opens n l ranks xs);
         insert = insert;
         delete = delete;
+        takeBack = takeBack;
         send = send;
         tell = tell;
         take = take;

@@ -14,7 +14,7 @@ use Rattle.wire.specs.Bytes.{parsed}
 use Rattle.model.specs.Questions.{asks, Report, noReport, Answer, answer}
 use Rattle.model.specs.Ranks.{lineRanks}
 use Rattle.model.specs.Line.{unacked, lineReport}
-use Rattle.model.specs.Client.{Client, with, insertClient, clientAcked, clientTaken, clientTakesAck, clientEditQuestions, clientReads, takeClient}
+use Rattle.model.specs.Client.{Client, with, insertClient, clientAcked, clientTaken, clientTakesAck, clientEditQuestions, inverseThen, clientReads, takeClient}
 use Rattle.model.specs.Server.{Server, lineOf, serverReads, takeServer}
 use Rattle.model.specs.Numbers.{allBut}
 use Rattle.model.specs.Sheet.{Sheet}
@@ -35,6 +35,7 @@ clientAs insert take =
       opens = clientCalls .opens;
       insert = insert;
       delete = clientCalls .delete;
+      takeBack = clientCalls .takeBack;
       send = clientCalls .send;
       tell = clientCalls .tell;
       take = take;
@@ -68,7 +69,7 @@ abbrev pub leaving : Sheet
 leaving = insertingAs (λ c p x. answerAs (showing (c .items)) (insertClient c p x))
   where
     showing : List Place → Client → Client
-    showing l c = with c l (c .own)
+    showing l c = with c l (c .own) (c .inverse)
 
 -- A client with something beside it.
 pub record Beside (A : Type 0) : Type 0 where
@@ -96,6 +97,7 @@ besideAs {A} right inserted deleted items total =
       opens = λ n l ranks xs. answerAs (having right) (clientCalls .opens n l ranks xs);
       insert = λ e p x. becoming e (λ c. record { now = c; beside = inserted (e .beside) c }) (insertClient (e .now) p x);
       delete = λ e p. becoming e (λ c. record { now = c; beside = deleted (e .beside) c }) (clientCalls .delete (e .now) p);
+      takeBack = λ e. becoming e (having right) (clientCalls .takeBack (e .now));
       send = λ e. clientCalls .send (e .now);
       tell = λ e. clientCalls .tell (e .now);
       take = λ e bytes. becoming e (having right) (takeClient (e .now) bytes);
@@ -147,7 +149,8 @@ takesFirst c h e =
       acked = h .seen;
       inserts = c .own .inserts;
       pending = overFirst e (unacked (c .own) (h .seen));
-    }))
+    })
+    (inverseThen c (h .seen) e))
     (lineReport (c .own) (h .seen) e)
 
 abbrev pub readsFirst : Client → Read → Answer Client
@@ -236,7 +239,7 @@ frozen = insertingAs (λ c p x. record { refusal = 9; end = c; report = noReport
 
 -- An opening that is let through gives other ranks: to the clients, and to the server.
 abbrev pub clientRanked : (Client → List ℕ) → Client → Client
-clientRanked ranks c = record { n = c .n; line = c .line; ranks = ranks c; items = c .items; own = c .own }
+clientRanked ranks c = record { n = c .n; line = c .line; ranks = ranks c; items = c .items; own = c .own; inverse = c .inverse }
 
 abbrev pub serverRanked : (Server → List ℕ) → Server → Server
 serverRanked ranks s = record { n = s .n; initial = s .initial; ranks = ranks s; items = s .items; lines = s .lines; makers = s .makers }
@@ -253,6 +256,7 @@ rankingAs clientRanks serverRanks =
       opens = λ n l ranks items. answerAs (clientRanked clientRanks) (clientCalls .opens n l ranks items);
       insert = clientCalls .insert;
       delete = clientCalls .delete;
+      takeBack = clientCalls .takeBack;
       send = clientCalls .send;
       tell = clientCalls .tell;
       take = clientCalls .take;
@@ -301,6 +305,32 @@ bySender = originAs (λ h. record { line = h .line; number = h .origin .number }
 abbrev pub byMessage : Sheet
 byMessage = originAs (λ h. record { line = h .origin .line; number = h .number })
 
+-- ---- taking back
+
+-- A taking leaves another inverse, by the one stored, the client as it was, and the message's seen and edit.
+abbrev pub carryingAs : (Client → ℕ → Edit → Edit) → Sheet
+carryingAs inverse = takingAs (λ c bytes. reads c (parsed bytes)) takeServer
+  where
+    takes : Client → Header → Edit → Answer Client
+    takes c h e =
+        let then = clientTaken c (h .origin) (h .seen) e in
+        answer (asks (clientEditQuestions c h e)) c (with then (then .items) (then .own) (inverse c (h .seen) e)) (lineReport (c .own) (h .seen) e)
+
+    reads : Client → Read → Answer Client
+    reads c read.Refused = clientReads c read.Refused
+    reads c (read.Message (message.Insert h p x r)) = takes c h (Insert p x r)
+    reads c (read.Message (message.Delete h p)) = takes c h (Delete p)
+    reads c (read.Message (message.Nothing h)) = takes c h Nothing
+    reads c (read.Message (message.Ack l d s)) = clientTakesAck c l d s
+
+-- The inverse is not carried.
+abbrev pub uncarried : Sheet
+uncarried = carryingAs (λ c seen e. c .inverse)
+
+-- It is carried past the form that arrived.
+abbrev pub carriedPastArrived : Sheet
+carriedPastArrived = carryingAs (λ c seen e. transformed (c .inverse) e)
+
 -- None of them has what is claimed.
 pub record Refuted : Type 0 where
   pub leaving-fails : Converges leaving → ⊥
@@ -325,6 +355,8 @@ pub record Refuted : Type 0 where
   pub by-message-fails : Converges byMessage → ⊥
   pub arrived-twice-fails : Converges arrivedTwice → ⊥
   pub gone-shown-fails : Converges goneShown → ⊥
+  pub uncarried-fails : Converges uncarried → ⊥
+  pub carried-past-arrived-fails : Converges carriedPastArrived → ⊥
   -- not what is said of the order of steps
   pub turning-fails : OneOrder turning → ⊥
   pub mirroring-fails : OneOrder mirroring → ⊥
