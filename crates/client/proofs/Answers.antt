@@ -5,10 +5,11 @@ use mathlib.Core.Path.{_≡_, refl, ap, _∙_, sym}
 use mathlib.Core.Bool.{Bool, true, false, _&&_, and-true, and-assoc}
 use mathlib.Core.List.{List, [], _∷_}
 use lib.Dec.{leb}
-use lib.ListN.{length, replicate}
+use lib.ListN.{length, take, replicate}
 use lib.Seq.{take-all}
 use borrow.Author.Tests.{ne-eqb, leb-true}
 use Rattle.limits.specs.Limits.{maxLines, maxItems, maxInitial}
+use Rattle.ot.specs.Edit.{Nothing}
 use Rattle.list.specs.Items.{stored, initialItems}
 use Rattle.list.specs.Places.{initialPlaces, itemsOf, originsOf}
 use Rattle.list.specs.Seconds.{totalSeconds, runningTime}
@@ -49,7 +50,7 @@ openTests n line items = (model.between 1 maxLines n && model.between 1 n line) 
 
 -- the client that opens
 abbrev opening : ℕ → ℕ → List ℕ → List ℕ → client.Client
-opening n line rs items = record { n = n; line = line; ranks = rs; items = initialPlaces items; own = noLine }
+opening n line rs items = record { n = n; line = line; ranks = rs; items = initialPlaces items; own = noLine; inverse = Nothing }
 
 module _ (n line : ℕ) (rs items : List ℕ) where
   abbrev asked : Bool → Bool → Answer
@@ -73,7 +74,7 @@ module _ (n line : ℕ) (rs items : List ℕ) where
     -- the initial list goes into words that are zero, and so do its origins
     pub open-yes : (words origins list places : List ℕ) (total : ℕ) → (openTests n line items && ranked) ≡ true → words ≡ replicate size 0
         → origins ≡ stored (originsOf (initialPlaces items)) → list ≡ initialItems items → places ≡ ranks.stored rs
-        → total ≡ totalSeconds items → answerOf (freshCounts 0 n line (length items) total places) (withPlaces words origins list) ≡ opened n line rs items
+        → total ≡ totalSeconds (take (length items) items) → answerOf (freshCounts 0 n line (length items) total places) (withPlaces words origins list) ≡ opened n line rs items
     unfolding model.answer
     open-yes words origins list places total h ew eo el ep et =
         let start : client.Client = opening n line rs items in
@@ -89,7 +90,8 @@ module _ (n line : ℕ) (rs items : List ℕ) where
         (places-items words long origins list names-long list-long ∙ held)
         (places-slots words long origins list names-long list-long ∙ ap slotsIn ew ∙ zero-slots)
         (places-origins words long origins list names-long list-long ∙ eo) in
-        let seconds : total ≡ runningTime (initialPlaces items) = et ∙ sym (total-initial items) in
+        let seconds : total ≡ runningTime (initialPlaces items) =
+        et ∙ ap totalSeconds (take-all (length items) items (omega arith)) ∙ sym (total-initial items) in
         (λ i. answerOf (freshCounts 0 n line (sym (initial-length items) i) (seconds i) (ep i)) (written i))
         ∙ asked-is true true (and-left (openTests n line items) ranked h) (sym er ∙ and-right (openTests n line items) ranked h)
 

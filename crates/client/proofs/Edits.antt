@@ -2,39 +2,43 @@
 use Prim.Native.Nat.{ℕ, _+_, _-_, _≤_, _<_}
 use native.Mathlib.Omega.{arith}
 use mathlib.Core.Path.{_≡_, refl, ap, _∙_, sym}
-use mathlib.Core.Bool.{Bool, true, false, _&&_, cond}
+use mathlib.Core.Bool.{Bool, true, false, not, _&&_}
 use mathlib.Core.List.{List, [], _∷_, _++_}
-use lib.Dec.{leb, ltb}
+use lib.Dec.{eqb, leb, ltb}
 use lib.ListN.{length, length-append}
-use borrow.Author.Tests.{eqb-false, ltb-true, leb-true, le-leb, lt-leb, lt-ltb, le-ltb}
+use borrow.Author.Tests.{eq-eqb, ne-eqb, eqb-false, ltb-true, leb-true, le-leb, lt-leb, lt-ltb, le-ltb}
 use Rattle.limits.specs.Limits.{maxInserts, maxEdits, maxPending, maxItems}
 use Rattle.ot.specs.declared.Form.{Form}
-use Rattle.ot.specs.Edit.{Edit, Insert, edit, applied, fits}
+use Rattle.ot.specs.Edit.{Edit, Insert, edit, itemOf, applied, fits}
 use Rattle.list.specs.declared.Origin.{Origin}
 use Rattle.list.specs.Items.{Room}
 use Rattle.list.specs.Places.{appliedBy}
 use Rattle.list.specs.Seconds.{totalSeconds}
 use Rattle.model.specs.Cross.{insertsOf}
-use Rattle.model.specs.Questions.{Question, ask, asks, noReport, answer}
+use Rattle.model.specs.Questions.{Question, ask, asks, noReport, Answer, answer}
+use Rattle.model.specs.Inverse.{inverseOf, isNothing}
 use Rattle.line.specs.Taking as lines
 use Rattle.model.specs.Ranks.{rankOf}
 use Rattle.model.specs.Line as line
 use Rattle.model.specs.Client.{editClient}
 use Rattle.model.specs.Client as client
 use Rattle.model.proofs.Tests.{Yes, yes-all}
-use Rattle.pending.specs.Slots.{slotsOf}
+use Rattle.pending.specs.Slots.{slotsOf, formAt}
 use Rattle.line.specs.declared.Line.{Line}
 use Rattle.line.specs.Line.{Kept}
 use Rattle.line.specs.Keeping.{fitsList, withKept}
 use Rattle.line.proofs.Room.{fits-model, fits-room}
 use Rattle.client.specs.declared.Counts.{Counts}
 use Rattle.client.specs.declared.Client.{Client}
-use Rattle.client.specs.View.{size, slotsIn, view, sound, Sound, Applied}
-use Rattle.client.specs.Answers.{refusedWith, answerOf, doneCounts, guarded, edited, inserted, editAsked}
+use Rattle.client.specs.declared.Inverse.{Inverse}
+use Rattle.client.specs.View.{size, slotsIn, inverseStored, view, sound, Sound, Applied}
+use Rattle.client.specs.Undo.{inverseMade}
+use Rattle.client.specs.Answers.{refusedWith, answerOf, doneCounts, guarded, edited, inserted, takenBack, editAsked}
 use Rattle.client.proofs.Words.{withSlots}
 use Rattle.client.proofs.Answers.{unsound, refused, done}
-use Rattle.client.proofs.Sound.{sound-rank}
-use Rattle.client.proofs.Written.{Summed, listed, facts, len-few, summed, kept-long, becomes}
+use Rattle.client.proofs.Inverses.{tidy-item, tidy-none, made-is, fits-form}
+use Rattle.client.proofs.Sound.{sound-rank, sound-tidy}
+use Rattle.client.proofs.Written.{Summed, listed, listed-is, facts, len-few, summed, kept-long, becomes}
 
 -- ---- questions 9 to 12 as the code asks them
 
@@ -72,13 +76,15 @@ pub record Allowed (c : Client) (f : Form) (x : ℕ) : Type 0 where
   pub pending : c .counts .own .made - c .counts .own .acked < maxPending
   pub room : Room (edit f x) (c .counts .len) maxItems
   pub summed : Summed c f x
+  pub fitting : fits (edit f 0) (length (listed c)) ≡ true
   pub inserts : c .counts .own .inserts + insertsOf (edit f x) ≤ maxInserts
   pub made : c .counts .own .made < maxEdits
   pub words : (slots : List ℕ) → slots ≡ slotsOf (view c .own .pending ++ (edit f x ∷ [])) → length (withSlots (c .words) slots) ≡ size
-  pub done : (own : Line) (i len total : ℕ) (slots after : List ℕ) → slots ≡ slotsOf (view c .own .pending ++ (edit f x ∷ [])) → i ≡ insertsOf (edit f x)
-      → own ≡ withKept (c .counts .own) (c .counts .own .inserts + i) → total ≡ totalSeconds (applied (edit f x) (listed c))
+  pub done : (own : Line) (i len total rank : ℕ) (inverse : Inverse) (slots after : List ℕ) → slots ≡ slotsOf (view c .own .pending ++ (edit f x ∷ []))
+      → i ≡ insertsOf (edit f x) → own ≡ withKept (c .counts .own) (c .counts .own .inserts + i) → total ≡ totalSeconds (applied (edit f x) (listed c))
+      → rank ≡ rankOf (c .counts .ranks) (c .counts .line) → inverse ≡ inverseMade rank (listed c) f
       → Applied f x (client.originHere (view c) (c .counts .own .made + 1)) (c .counts .len) (withSlots (c .words) slots) after len
-      → answerOf (doneCounts (c .counts) lines.noReport own len total) after ≡ edited c (edit f x)
+      → answerOf (doneCounts (c .counts) lines.noReport own len total inverse) after ≡ edited c (edit f x)
 
 module _ (c : Client) (s : Sound c) (f : Form) (x : ℕ) where
   abbrev e : Edit
@@ -104,7 +110,7 @@ module _ (c : Client) (s : Sound c) (f : Form) (x : ℕ) where
       ∙ ap (λ (b : Bool). asks (ask 9 b ∷ later))
       (sym (fits-model here e (view c .items) (facts c s .items)) ∙ ap (fitsList e) (s .listed))
 
-  edit-refused : (r : ℕ) → r ≡ asks (editAsked (c .counts) e) → (r ≡ 0 → ⊥) → refusedWith r c ≡ edited c e
+  pub edit-refused : (r : ℕ) → r ≡ asks (editAsked (c .counts) e) → (r ≡ 0 → ⊥) → refusedWith r c ≡ edited c e
   unfolding editClient
   edit-refused r er n =
       refused c r noReport (client.edited (view c) e) (s .yes) n
@@ -129,48 +135,70 @@ module _ (c : Client) (s : Sound c) (f : Form) (x : ℕ) where
     kept-few : length (kept .pending) ≤ maxPending
     kept-few = omega (arith, length-append (view c .own .pending) (e ∷ []), facts c s .own .count, edit-pending)
 
-    edit-done : length (c .words) ≡ size → (own : Line) (i len total : ℕ) (slots after : List ℕ) → slots ≡ slotsOf (kept .pending) → i ≡ insertsOf e
-        → own ≡ withKept (c .counts .own) (c .counts .own .inserts + i) → total ≡ totalSeconds (applied e (listed c)) → Applied f x here (c .counts .len) (withSlots (c .words) slots) after len
-        → answerOf (doneCounts (c .counts) lines.noReport own len total) after ≡ edited c e
+    -- the inverse that the code makes is the model's
+    abbrev inverse : Edit
+    inverse = inverseOf (client.ownRank (view c)) (view c .items) e
+
+    edit-inverse : (rank : ℕ) → rank ≡ rankOf (c .counts .ranks) (c .counts .line) → inverseMade rank (listed c) f ≡ inverseStored inverse
+    edit-inverse rank er =
+        (λ i. inverseMade ((er ∙ sym (sound-rank c (s .yes))) i) (listed-is c s i) f) ∙ made-is (client.ownRank (view c)) (view c .items) f x
+
+    edit-done : length (c .words) ≡ size → (own : Line) (i len total rank : ℕ) (inverse′ : Inverse) (slots after : List ℕ) → slots ≡ slotsOf (kept .pending)
+        → i ≡ insertsOf e → own ≡ withKept (c .counts .own) (c .counts .own .inserts + i) → total ≡ totalSeconds (applied e (listed c))
+        → rank ≡ rankOf (c .counts .ranks) (c .counts .line) → inverse′ ≡ inverseMade rank (listed c) f
+        → Applied f x here (c .counts .len) (withSlots (c .words) slots) after len
+        → answerOf (doneCounts (c .counts) lines.noReport own len total inverse′) after ≡ edited c e
     unfolding editClient
-    edit-done long own i len total slots after es ei eo et a =
+    edit-done long own i len total rank inverse′ slots after es ei eo et er eb a =
         ap (λ (d : Client). record { refusal = 0; report = lines.noReport; client = d })
-        (becomes c s long kept kept-few slots es f x here edit-room own len total lines.noReport after
-        (eo ∙ ap (λ (j : ℕ). withKept (c .counts .own) (c .counts .own .inserts + j)) ei) et a)
+        (becomes c s long kept kept-few slots es f x here edit-room own len total inverse′ lines.noReport after inverse
+        (eo ∙ ap (λ (j : ℕ). withKept (c .counts .own) (c .counts .own .inserts + j)) ei) et (eb ∙ edit-inverse rank er) a)
         ∙ done c (asks (client.editQuestions (view c) e)) noReport (client.edited (view c) e) (s .yes) (same-questions ∙ z)
 
-    edit-allowing : length (c .words) ≡ size → Allowed c f x
-    edit-allowing long =
+    pub edit-allowed : length (c .words) ≡ size → Allowed c f x
+    edit-allowed long =
         record {
           kept = s .kept;
           pending = edit-pending;
           room = edit-room;
           summed = summed c s f x edit-room;
+          fitting = fits-form f 0 x (length (listed c)) ∙ summed c s f x edit-room .1 .0;
           inserts = leb-true (c .counts .own .inserts + insertsOf e) maxInserts (answered-yes .1 .0);
           made = ltb-true (c .counts .own .made) maxEdits (answered-yes .1 .1 .0);
           words = λ slots es. kept-long c s long kept kept-few slots es;
           done = edit-done long;
         }
 
--- What the answer of questions 2 and 9 to 12 tells.
-module _ (c : Client) (f : Form) (x r : ℕ) (known : sound c ≡ true → Sound c)
-    (er : r ≡ cond (sound c) (asks (editAsked (c .counts) (edit f x))) 2) where
-  answer-is : (b : Bool) → sound c ≡ b → r ≡ cond b (asks (editAsked (c .counts) (edit f x))) 2
-  answer-is b t = er ∙ ap (λ (y : Bool). cond y (asks (editAsked (c .counts) (edit f x))) 2) t
+-- ---- taking back
 
-  pub edit-allowed : length (c .words) ≡ size → r ≡ 0 → Allowed c f x
-  edit-allowed long z = go (sound c) refl
-    where
-      go : (b : Bool) → sound c ≡ b → Allowed c f x
-      go true t = edit-allowing c (known t) f x (sym (answer-is true t) ∙ z) long
-      go false t = absurd (eqb-false 2 0 refl (sym (answer-is false t) ∙ z))
+module _ (c : Client) (s : Sound c) where
+  abbrev back : Edit
+  back = view c .inverse
 
-  pub edit-not-allowed : (r ≡ 0 → ⊥) → refusedWith r c ≡ edited c (edit f x)
-  edit-not-allowed n = go (sound c) refl
-    where
-      go : (b : Bool) → sound c ≡ b → refusedWith r c ≡ edited c (edit f x)
-      go true t = edit-refused c (known t) f x r (answer-is true t) n
-      go false t = ap (λ (k : ℕ). refusedWith k c) (answer-is false t) ∙ unsound c (editClient (view c) (edit f x)) t
+  abbrev backAnswer : Bool → Bool → client.Client → Answer client.Client
+  backAnswer sound some new = answer (asks (ask 2 sound ∷ ask 17 some ∷ client.makeQuestions (view c) back)) (view c) new noReport
+
+  -- there is something to take back where the stored place is not 0
+  some-back : (b : Bool) → eqb (c .counts .inverse .place) 0 ≡ b → not b ≡ not (isNothing back)
+  some-back b e = ap not (sym e ∙ tidy-none (c .counts .inverse) (sound-tidy c (s .yes)))
+
+  pub back-refused : c .counts .inverse .place ≡ 0 → refusedWith 17 c ≡ takenBack c
+  unfolding client.takeBackClient
+  back-refused z =
+      refused c 17 noReport (client.edited (view c) back) (s .yes) (eqb-false 17 0 refl)
+      ∙ (λ i. guarded c (backAnswer (sym (s .model) i) (some-back true (eq-eqb (c .counts .inverse .place) 0 z) i) (client.edited (view c) back)))
+
+  -- its form and its item are the edit that is made
+  module _ (f : Form) (ef : f ≡ formAt (c .counts .inverse .place)) where
+    pub back-item : c .counts .inverse .item ≡ itemOf (edit f (c .counts .inverse .item))
+    back-item =
+        tidy-item (c .counts .inverse) (sound-tidy c (s .yes)) ∙ ap (λ (g : Form). itemOf (edit g (c .counts .inverse .item))) (sym ef)
+
+    pub back-made : (c .counts .inverse .place ≡ 0 → ⊥) → edited c (edit f (c .counts .inverse .item)) ≡ takenBack c
+    unfolding client.takeBackClient editClient
+    back-made z =
+        ap (λ (g : Form). edited c (edit g (c .counts .inverse .item))) ef
+        ∙ (λ i. guarded c (backAnswer (client.soundClient (view c)) (some-back false (ne-eqb (c .counts .inverse .place) 0 z) i) (client.edited (view c) back)))
 
 -- ---- an insert
 

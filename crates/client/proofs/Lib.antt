@@ -1,5 +1,6 @@
 pub mod Words
 pub mod Answers
+pub mod Inverses
 pub mod Sound
 pub mod Stored
 pub mod Written

@@ -1,5 +1,5 @@
 -- A sound client of the model: the struct for it is sound, and means that client.
-use Prim.Native.Nat.{ℕ, zero, suc, _-_, _≤_}
+use Prim.Native.Nat.{ℕ, zero, suc, _+_, _-_, _≤_}
 use native.Mathlib.Omega.{arith}
 use mathlib.Core.Path.{_≡_, refl, ap, _∙_, sym}
 use mathlib.Core.Bool.{true}
@@ -20,14 +20,15 @@ use Rattle.model.proofs.Tests.{held, both, and-right}
 use Rattle.model.proofs.SoundLine.{facts-line}
 use Rattle.model.proofs.SoundClient.{ClientFacts, client-facts}
 use Rattle.ranks.specs.Stored as ranks
-use Rattle.ranks.proofs.Laws.{ranking-facts, stored-length, stored-take, stored-sound, sound-zero}
+use Rattle.ranks.proofs.Laws.{stored-length, stored-take, stored-sound, sound-zero}
 use Rattle.pending.specs.Slots.{slotsOf}
 use Rattle.line.specs.Line.{lineOf, countsOf}
 use Rattle.line_sound.specs.Sound.{soundLine, tidy}
 use Rattle.line_sound.proofs.Stored as lines
 use Rattle.client.specs.declared.Client.{Client}
-use Rattle.client.specs.View.{size, itemsIn, slotsIn, originsIn, listIn, view, store, unusedZero, soundTests, sound, Sizes}
+use Rattle.client.specs.View.{size, itemsIn, slotsIn, originsIn, listIn, inverseIn, inverseStored, view, store, unusedZero, soundTests, sound, Sizes}
 use Rattle.client.proofs.Words.{stored-items, stored-slots, stored-origins, stored-long}
+use Rattle.client.proofs.Inverses.{ranks-fit, inverse-read, inverse-tidy}
 use Rattle.client.proofs.Sound.{sound-facts}
 
 -- ---- unused places
@@ -50,11 +51,8 @@ module _ (m : model.Client) (s : model.soundClient m ≡ true) where
   slots-are : slotsIn words ≡ slotsOf (m .own .pending)
   slots-are = stored-slots m (f .items) few
 
-  -- its own rank fits a slot
   own-ranks : lines.Ranks (eqb (model.ownRank m))
-  own-ranks =
-      let r = ranking-facts (m .n) (m .ranks) (f .ranked) .each (m .line) (f .line .0) (f .line .1) in
-      lines.own-ranks (m .n) (model.ownRank m) (r .0) (omega (arith, r, f .lines))
+  own-ranks = ranks-fit m f
 
   tests : every (line.lineTests (m .own .made) (eqb (model.ownRank m)) (m .own)) ≡ true
   tests =
@@ -87,8 +85,11 @@ module _ (m : model.Client) (s : model.soundClient m ≡ true) where
     part-unused : allZero (drop (length (m .items)) part) ≡ true
     part-unused = ap allZero ((λ i. drop (sym n i) (e i)) ∙ pad-drop maxItems 0 l (length l) (omega arith)) ∙ zeros (maxItems - length l)
 
+  inverse-back : inverseIn (inverseStored (m .inverse)) ≡ m .inverse
+  inverse-back = inverse-read (model.ownRank m) (maxItems + 1) own-ranks (omega arith) (m .inverse) (f .inverse .stands) (f .inverse .rank)
+
   pub client-view : view (store m) ≡ m
-  client-view = λ i. record { n = m .n; line = m .line; ranks = ranks-read i; items = read i; own = line-read i }
+  client-view = λ i. record { n = m .n; line = m .line; ranks = ranks-read i; items = read i; own = line-read i; inverse = inverse-back i }
     where
       read : listIn (length (m .items)) words ≡ m .items
       read =
@@ -103,7 +104,19 @@ module _ (m : model.Client) (s : model.soundClient m ≡ true) where
         ap model.soundClient client-view ∙ s,
         (
           le-leb (length (m .items)) maxItems (f .items),
-          (sound-zero (m .n) (ranks.stored (m .ranks)) (stored-sound (m .n) (m .ranks) (f .lines .1) (f .ranked)), (unused, (seconds, (slots-tidy, tt)))),
+          (
+            sound-zero (m .n) (ranks.stored (m .ranks)) (stored-sound (m .n) (m .ranks) (f .lines .1) (f .ranked)),
+            (
+              unused,
+              (
+                seconds,
+                (
+                  inverse-tidy (model.ownRank m) (maxItems + 1) own-ranks (omega arith) (m .inverse) (f .inverse .stands) (f .inverse .rank),
+                  (slots-tidy, tt),
+                ),
+              ),
+            ),
+          ),
         ),
       )
     where

@@ -9,7 +9,7 @@ use lib.ListN.{length, take}
 use lib.Seq.{take-take}
 use Rattle.limits.specs.Limits.{maxItems, maxPending}
 use Rattle.ot.specs.declared.Form.{Form}
-use Rattle.ot.specs.Edit.{edit, applied, fits}
+use Rattle.ot.specs.Edit.{Edit, edit, applied, fits}
 use Rattle.list.specs.declared.Origin.{Origin}
 use Rattle.list.specs.Items.{stored, edited, Room, Edited}
 use Rattle.list.specs.Places.{Place, appliedBy, wordOf, itemsOf, originsOf}
@@ -31,7 +31,8 @@ use Rattle.line.specs.declared.taking.Report.{Report}
 use Rattle.line.specs.Line.{countsOf}
 use Rattle.line.proofs.Room.{room-items, room-origins, room-length}
 use Rattle.client.specs.declared.Client.{Client}
-use Rattle.client.specs.View.{size, itemsIn, slotsIn, originsIn, origins as from, clientOf, view, store, Sound, Applied}
+use Rattle.client.specs.declared.Inverse.{Inverse}
+use Rattle.client.specs.View.{size, itemsIn, slotsIn, originsIn, origins as from, inverseStored, clientOf, view, store, Sound, Applied}
 use Rattle.client.specs.Answers.{doneCounts}
 use Rattle.client.proofs.Words.{items-long, origins-long, parts-are, stored-items, stored-origins, withSlots, withOrigins, withPlaces, slots-wrote, origins-wrote, places-long, places-items, places-slots, places-origins}
 
@@ -78,7 +79,7 @@ module _ (c : Client) (s : Sound c) where
   origins-stored : originsIn (c .words) ≡ stored (originsOf (view c .items))
   origins-stored = ap (λ (d : Client). originsIn (d .words)) (s .whole) ∙ stored-origins (view c) (facts .items) pending-few
 
-  listed-is : listed c ≡ itemsOf (view c .items)
+  pub listed-is : listed c ≡ itemsOf (view c .items)
   listed-is =
       let from-0 : c .counts .len - 0 ≡ c .counts .len = omega arith in
       ap (λ (n : ℕ). part 0 n (c .words)) from-0 ∙ sym (take-take (c .counts .len) maxItems (c .words) len-few) ∙ ap (take (c .counts .len)) items-stored
@@ -111,21 +112,21 @@ module _ (c : Client) (s : Sound c) (long : length (c .words) ≡ size) (v : lin
     abbrev list : List Place
     list = appliedBy o (edit f x) (view c .items)
 
-    pub becomes : (own : Line) (len total : ℕ) (report : Report) (after : List ℕ) → own ≡ countsOf v
-        → total ≡ totalSeconds (applied (edit f x) (listed c)) → Applied f x o (c .counts .len) kept after len
-        → clientOf (doneCounts (c .counts) report own len total .counts) after ≡ store (client.with (view c) list v)
-    becomes own len total report after eo et a =
+    pub becomes : (own : Line) (len total : ℕ) (inverse : Inverse) (report : Report) (after : List ℕ) (e : Edit) → own ≡ countsOf v
+        → total ≡ totalSeconds (applied (edit f x) (listed c)) → inverse ≡ inverseStored e → Applied f x o (c .counts .len) kept after len
+        → clientOf (doneCounts (c .counts) report own len total inverse .counts) after ≡ store (client.with (view c) list v e)
+    becomes own len total inverse report after e eo et ei a =
         let n : ℕ = c .counts .len in
         let items : itemsIn after ≡ stored (itemsOf list) =
         a .items ∙ room-items o f x n (view c .items) (s .listed) room (itemsIn kept) (wrote .before 0 maxItems (omega arith) ∙ items-stored c s) in
         let origins : originsIn after ≡ stored (originsOf list) =
         a .origins
         ∙ room-origins o f x n (view c .items) (s .listed) room (originsIn kept) (wrote .behind from maxItems (omega arith) ∙ origins-stored c s) in
-        let words : after ≡ store (client.with (view c) list v) .words =
+        let words : after ≡ store (client.with (view c) list v e) .words =
         parts-are after (a .words ∙ kept-long) (stored (itemsOf list)) (slotsOf (v .pending)) (stored (originsOf list)) items
         (a .slots ∙ wrote .here ∙ es) origins in
         let size′ : len ≡ length list = a .len ∙ room-length o f x n (view c .items) (s .listed) room in
         let seconds : total ≡ runningTime list =
         et ∙ ap (λ (l : List ℕ). totalSeconds (applied (edit f x) l)) (listed-is c s) ∙ sym (total-items o (edit f x) (view c .items)) in
         let places : c .counts .ranks ≡ ranks.stored (view c .ranks) = ap (λ (d : Client). d .counts .ranks) (s .whole) in
-        λ i. clientOf (record { own = eo i; len = size′ i; total = seconds i; n = c .counts .n; line = c .counts .line; ranks = places i }) (words i)
+        λ i. clientOf (record { own = eo i; len = size′ i; total = seconds i; inverse = ei i; n = c .counts .n; line = c .counts .line; ranks = places i }) (words i)

@@ -4,7 +4,7 @@ use mathlib.Core.Bool.{cond}
 use mathlib.Core.List.{List, [], _∷_}
 use lib.Dec.{eqb, leb, ltb}
 use Rattle.limits.specs.Limits.{maxInserts, maxEdits, maxPending}
-use Rattle.ot.specs.Edit.{Edit}
+use Rattle.ot.specs.Edit.{Edit, Nothing}
 use Rattle.model.specs.Questions as model
 use Rattle.model.specs.Cross.{insertsOf}
 use Rattle.model.specs.Line.{noLine}
@@ -15,10 +15,11 @@ use Rattle.line.specs.Keeping.{fitsList}
 use Rattle.line.specs.declared.taking.Report.{Report}
 use Rattle.line.specs.Taking.{noReport, reportIn}
 use Rattle.client.specs.declared.Counts.{Counts}
+use Rattle.client.specs.declared.Inverse.{Inverse}
 use Rattle.client.specs.declared.Client.{Client}
 use Rattle.client.specs.declared.Answer.{Answer}
 use Rattle.client.specs.declared.Changed.{Changed}
-use Rattle.client.specs.View.{clientOf, view, store, sound}
+use Rattle.client.specs.View.{inverseStored, clientOf, view, store, sound}
 
 abbrev pub refusedWith : ℕ → Client → Answer
 refusedWith r c = record { refusal = r; report = noReport; client = c }
@@ -30,13 +31,13 @@ answerOf r words = record { refusal = r .refusal; report = r .report; client = c
 abbrev pub refusedCounts : ℕ → Counts → Changed
 refusedCounts r k = record { refusal = r; report = noReport; counts = k }
 
--- a call that is done: the numbers with another line, another length and another total
-abbrev pub doneCounts : Counts → Report → Line → ℕ → ℕ → Changed
-doneCounts k report own len total =
+-- a call that is done: the numbers with another line, another length, another total and another inverse
+abbrev pub doneCounts : Counts → Report → Line → ℕ → ℕ → Inverse → Changed
+doneCounts k report own len total inverse =
     record {
       refusal = 0;
       report = report;
-      counts = record { own = own; len = len; total = total; n = k .n; line = k .line; ranks = k .ranks };
+      counts = record { own = own; len = len; total = total; inverse = inverse; n = k .n; line = k .line; ranks = k .ranks };
     }
 
 -- an opening: nothing is made or taken
@@ -45,7 +46,8 @@ freshCounts r n line len total ranks =
     record {
       refusal = r;
       report = noReport;
-      counts = record { own = countsOf noLine; len = len; total = total; n = n; line = line; ranks = ranks };
+      counts =
+          record { own = countsOf noLine; len = len; total = total; inverse = inverseStored Nothing; n = n; line = line; ranks = ranks };
     }
 
 -- the model's answer in structs: on a refusal the end is the one that came
@@ -68,6 +70,9 @@ inserted c p x = guarded c (client.insertClient (view c) p x)
 
 abbrev pub deleted : Client → ℕ → Answer
 deleted c p = guarded c (client.deleteClient (view c) p)
+
+abbrev pub takenBack : Client → Answer
+takenBack c = guarded c (client.takeBackClient (view c))
 
 -- questions 9 to 12, by the numbers
 abbrev pub editAsked : Counts → Edit → List model.Question

@@ -1,3 +1,4 @@
 pub mod View
+pub mod Undo
 pub mod Answers
 pub mod Taking

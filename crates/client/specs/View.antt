@@ -7,7 +7,7 @@ use lib.Dec.{leb, eqb}
 use lib.ListN.{length, take, drop}
 use Rattle.limits.specs.Limits.{maxLines, maxItems}
 use Rattle.ot.specs.declared.Form.{Form}
-use Rattle.ot.specs.Edit.{edit, sizeAfter}
+use Rattle.ot.specs.Edit.{Edit, edit, formOf, itemOf, sizeAfter}
 use Rattle.list.specs.declared.Origin.{Origin}
 use Rattle.list.specs.Items.{stored, allZero, edited}
 use Rattle.list.specs.Places.{Place, placesOf, itemsOf, originsOf, wordOf}
@@ -17,9 +17,11 @@ use Rattle.model.specs.Questions.{every}
 use Rattle.model.specs.Client as model
 use Rattle.ranks.specs.Stored as ranks
 use Rattle.pending.specs.Slots as pending
+use Rattle.pending.specs.Slots.{placeOf, formAt}
 use Rattle.line.specs.Line.{lineOf, countsOf, Kept}
 use Rattle.line_sound.specs.Sound.{tidy}
 use Rattle.client.specs.declared.Counts.{Counts}
+use Rattle.client.specs.declared.Inverse.{Inverse}
 use Rattle.client.specs.declared.Client.{Client}
 
 -- the words of a client: 512 items, the 128 words of its line, and the origins of the items
@@ -46,6 +48,17 @@ listIn len words = placesOf (take len (itemsIn words)) (take len (originsIn word
 abbrev pub clientOf : Counts → List ℕ → Client
 clientOf k words = record { counts = k; words = words }
 
+-- the stored inverse, and how it is stored: a place as in a slot, and the item
+abbrev pub inverseIn : Inverse → Edit
+inverseIn b = edit (formAt (b .place)) (b .item)
+
+abbrev pub inverseStored : Edit → Inverse
+inverseStored e = record { place = placeOf (formOf e); item = itemOf e }
+
+-- it has no bits that mean nothing
+abbrev pub inverseTidy : Inverse → Bool
+inverseTidy b = eqb (b .place) (placeOf (formAt (b .place))) && eqb (b .item) (itemOf (inverseIn b))
+
 -- what the struct stands for: its first len places, and the edits in its first slots
 abbrev pub view : Client → model.Client
 view c =
@@ -55,6 +68,7 @@ view c =
       ranks = take (c .counts .n) (c .counts .ranks);
       items = listIn (c .counts .len) (c .words);
       own = lineOf (c .counts .own) (slotsIn (c .words));
+      inverse = inverseIn (c .counts .inverse);
     }
 
 -- the one struct for a client: unused places are zero
@@ -64,6 +78,7 @@ counts m =
       own = countsOf (m .own);
       len = length (m .items);
       total = runningTime (m .items);
+      inverse = inverseStored (m .inverse);
       n = m .n;
       line = m .line;
       ranks = ranks.stored (m .ranks);
@@ -77,9 +92,9 @@ store m =
 abbrev pub unusedZero : ℕ → List ℕ → Bool
 unusedZero len words = allZero (drop len (itemsIn words)) && allZero (drop len (originsIn words))
 
--- the list's part of question 2 by its words: unused places are zero, and the total is the sum over the items
+-- the list's part of question 2 by its words: unused places are zero, and the total is the sum over the first len items
 abbrev pub listRight : ℕ → ℕ → List ℕ → Bool
-listRight len total words = unusedZero len words && eqb total (totalSeconds (itemsIn words))
+listRight len total words = unusedZero len words && eqb total (totalSeconds (take len (itemsIn words)))
 
 -- Question 2: the model's, with what only a struct can break.
 abbrev pub soundTests : Client → List Bool
@@ -89,6 +104,7 @@ soundTests c =
     ∷ allZero (drop (c .counts .n) (c .counts .ranks))
     ∷ unusedZero (c .counts .len) (c .words)
     ∷ eqb (c .counts .total) (runningTime (view c .items))
+    ∷ inverseTidy (c .counts .inverse)
     ∷ tidy (c .counts .own .made - c .counts .own .acked) (slotsIn (c .words))
     ∷ []
 

@@ -18,6 +18,13 @@ use ot::Form;
 pub mod editing;
 pub mod sending;
 pub mod taking;
+mod undo;
+
+// An edit that taking back would make, or nothing: its place as in a slot, position * 256 + priority, and the item of an insert.
+pub struct Inverse {
+    pub place: u32,
+    pub item: u32,
+}
 
 // The numbers of a client.
 pub struct Counts {
@@ -25,6 +32,8 @@ pub struct Counts {
     // how many items the list has, and their seconds together
     pub len: u16,
     pub total: u32,
+    // of its latest edit
+    pub inverse: Inverse,
     // how many clients the sheet has, and which this one is
     pub n: u8,
     pub line: u8,
@@ -64,15 +73,16 @@ fn refused(refusal: u8, k: Counts) -> Changed
     }
 }
 
-// A call that is done: the numbers with another line, another length and another total.
-fn done(k: Counts, report: Report, own: Line, len: u16, total: u32) -> Changed
-    ensures { λ r. ⌜ r ≡ doneCounts k report own len total ⌝ }
+// A call that is done: the numbers with another line, another length, another total and another inverse.
+fn done(k: Counts, report: Report, own: Line, len: u16, total: u32, inverse: Inverse) -> Changed
+    ensures { λ r. ⌜ r ≡ doneCounts k report own len total inverse ⌝ }
 {
     let ranks = k.ranks;
     let counts = Counts {
         own,
         len,
         total,
+        inverse,
         n: k.n,
         line: k.line,
         ranks,
@@ -111,7 +121,7 @@ fn list_sound(words: &[u32], len: usize, total: u32) -> bool
     ensures { λ r. ⌜ r ≡ listRight len total (now (words .entry)) ⌝ }
 {
     let items = &words[0..Client::ITEMS];
-    let sum = list::total(items);
+    let sum = list::total(items, len);
     let unused = list::zero_from(items, len);
     let origins = list::zero_from(&words[Client::ORIGINS..Client::WORDS], len);
     unused & origins & (total == sum)
@@ -130,7 +140,8 @@ fn is_sound(k: Counts, words: &[u32]) -> bool
         let listed = list_sound(words, k.len as usize, k.total);
         let slots = &words[Client::ITEMS..Client::ORIGINS];
         let line = line_sound::is_sound(k.own.made, k.own, slots, k.n, rank(k), true);
-        return own & counts & right & listed & line;
+        let back = undo::is_sound(k.inverse, rank(k), k.own.made);
+        return own & counts & right & listed & back & line;
     }
     false
 }
@@ -159,6 +170,7 @@ fn fresh(refusal: u8, n: u8, line: u8, len: u16, total: u32, ranks: [u8; ranks::
         own,
         len,
         total,
+        inverse: Inverse { place: 0, item: 0 },
         n,
         line,
         ranks,
@@ -182,7 +194,7 @@ pub fn open_lent(n: u8, line: u8, ranks: &[u8], items: &[u32], words: &mut [u32]
     if sizes & ranked {
         list::initial_origins(items.len(), &mut words[Client::ORIGINS..Client::WORDS]);
         list::initial(items, &mut words[0..Client::ITEMS]);
-        let total = list::total(items);
+        let total = list::total(items, items.len());
         return fresh(0, n, line, items.len() as u16, total, ranks::store(ranks));
     }
     let zeros = [0u8; ranks::PLACES];

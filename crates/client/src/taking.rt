@@ -10,6 +10,7 @@ use crate::Answer;
 use crate::Changed;
 use crate::Client;
 use crate::Counts;
+use crate::undo;
 use line::taking::Arrival;
 use line::taking::accept;
 use line::taking::decide;
@@ -59,6 +60,10 @@ fn take_arrival(k: Counts, words: &mut [u32], a: Arrival) -> Changed
             return crate::refused(d.refusal, k);
         }
         let f = d.form;
+        let inverse = undo::past(k.inverse, f);
+        if !undo::stands(pending::form_at(inverse.place)) {
+            return crate::refused(9, k);
+        }
         let total = list::total_after(&words[0..k.len as usize], k.total, f, a.item);
         accept(
             &mut words[Client::ITEMS..Client::ORIGINS],
@@ -67,7 +72,7 @@ fn take_arrival(k: Counts, words: &mut [u32], a: Arrival) -> Changed
             &later,
         );
         let len = crate::apply(words, k.len, f, a.item, a.origin);
-        return crate::done(k, d.report, d.line, len, total);
+        return crate::done(k, d.report, d.line, len, total, inverse);
     }
     crate::refused(4, k)
 }

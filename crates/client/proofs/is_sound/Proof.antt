@@ -15,7 +15,7 @@ start c = c .before
 abbrev end : tie.After-shared-slice-known → Client
 end c = clientOf (start c .args .t1) (start c .args .words .now)
 
--- ---- 1 to 8 lines: the ranks, the list, the own rank, the line
+-- ---- 1 to 8 lines: the ranks, the list, the own rank, the line, the inverse
 
 abbrev lines : tie.After-is-sound → tie.Then1
 lines c = c .before .before .before .before
@@ -56,15 +56,23 @@ rank-requires c κs = search needs
 is-sound-requires-2 : tie.Need-is-sound-requires-2
 is-sound-requires-2 c κs = search needs
 
+rank-requires-2 : tie.Need-rank-requires-2
+rank-requires-2 c κs = search needs
+
+is-sound-requires-3 : tie.Need-is-sound-requires-3
+is-sound-requires-3 c κs = search needs
+
 returns : tie.Need-returns
 returns c =
-    let o = c .before in
+    let b = c .before in
+    let w = b .before .before in
+    let o = w .before in
     let l = listed o in
     let r = ranked l in
     let t = lines r in
     answers (end (t .before)) (start (t .before) .pre) (t .if1 .taken)
-    (r .is-sound .result) (l .list-sound .result) (c .is-sound2 .result) (o .rank .result)
-    (r .is-sound .ensures) (o .rank .ensures) (l .list-sound .ensures) (c .is-sound2 .ensures .0)
+    (r .is-sound .result) (l .list-sound .result) (c .is-sound3 .result) (w .is-sound2 .result) (o .rank .result) (b .rank2 .result)
+    (r .is-sound .ensures) (l .list-sound .ensures) (o .rank .ensures) (w .is-sound2 .ensures .0) (b .rank2 .ensures) (c .is-sound3 .ensures)
 
 -- ---- no lines, or too many
 
@@ -84,5 +92,7 @@ is-sound-spec =
     part-slots-end
     rank-requires
     is-sound-requires-2
+    rank-requires-2
+    is-sound-requires-3
     returns
     returns-2)

@@ -1,171 +1,46 @@
--- `edit` meets its contract: refused, or kept, applied and counted (proofs/Edits.antt).
-use native.Mathlib.Omega.{arith}
-use mathlib.Core.Path.{ap, _∙_}
-use mathlib.Core.List.{List}
-use Prim.Native.Nat.{ℕ}
-use Rattle.line.specs.declared.taking.Report.{Report}
-use Rattle.client.specs.declared.Client.{Client}
+-- `editing::edit` meets its contract: question 2 said no, or the edit is made by a sound client.
+use mathlib.Core.Path.{ap, sym, _∙_}
+use Rattle.ot.specs.Edit.{edit}
+use Rattle.model.specs.Client.{editClient}
 use Rattle.client.specs.declared.Changed.{Changed}
-use Rattle.client.specs.View.{clientOf}
-use Rattle.client.specs.Answers.{answerOf, doneCounts}
-use Rattle.client.proofs.Edits.{Allowed, edit-allowed, edit-not-allowed}
+use Rattle.client.specs.View.{clientOf, view}
+use Rattle.client.specs.Answers.{answerOf}
+use Rattle.client.proofs.Answers.{unsound}
 use borrow.Author.Needs.{needs}
 use Rattle.client.proofs.editing.edit.Statement.{statement}
 use Rattle.client.proofs.editing.edit.Tie as tie
 
-abbrev start : tie.After-ask → tie.Start
+abbrev start : tie.After-is-sound → tie.Start
 start c = c .before .before .before
 
-abbrev end : tie.After-ask → Client
-end c = clientOf (start c .args .k) (start c .args .words .now)
+is-sound-requires : tie.Need-is-sound-requires
+is-sound-requires c κs = search needs
 
--- ---- nothing was refused
-
-abbrev asked : tie.Else1 → tie.After-ask
-asked c = c .before
-
-allowed : (c : tie.Else1) → let a = start (asked c) .args in Allowed (end (asked c)) (a .f) (a .x)
-allowed c =
-    let a = asked c in
-    let s = start a in
-    edit-allowed (end a) (s .args .f) (s .args .x) (a .ask .result) (a .ask .ensures .1) (a .ask .ensures .0 (s .args .x)) (s .pre .0 .words) (c .if1 .left)
-
--- ---- the total is found, the edit is kept, then applied
-
-abbrev lent : tie.After-words → tie.Else1
-lent c = c .before .before
-
-abbrev summing : tie.After-keep → tie.After-total-after
-summing c = c .before .before
-
-abbrev yes : tie.After-keep → tie.Else1
-yes c = lent (summing c .before .before)
-
-abbrev slots : tie.After-keep → List ℕ
-slots c = c .keep .last .0
-
-abbrev keeping : tie.After-struct-known2 → tie.After-keep
-keeping c = c .before .before .before
-
-abbrev applying : tie.After-inserts-of → tie.After-apply
-applying c = c .before .before .before
-
-abbrev kept : tie.After-apply → tie.After-keep
-kept c = keeping (c .before .before)
-
-ask-requires : tie.Need-ask-requires
-ask-requires c κs = search needs
-
-refused-requires : tie.Need-refused-requires
-refused-requires c κs = search needs
+make-requires : tie.Need-make-requires
+make-requires c κs =
+    let t = c .before in
+    let s = start (t .before) in
+    ((s .pre .0, t .before .is-sound .ensures .1 (t .if1 .taken)), s .pre .1)
 
 same-length : tie.Need-same-length
 same-length c = search needs
 
 returns : tie.Need-returns
-returns c =
-    let a = c .before .before in
-    let s = start a in
-    ap (λ (q : Changed). answerOf q (s .args .words .now)) (c .refused .ensures)
-    ∙ edit-not-allowed (end a) (s .args .f) (s .args .x) (a .ask .result) (a .ask .ensures .1) (a .ask .ensures .0 (s .args .x)) (c .before .if1 .taken)
+returns c = c .before .before .make .ensures
 
-cast-total-after : tie.Need-cast-total-after
-cast-total-after c = search needs
-
-sub-total-after : tie.Need-sub-total-after
-sub-total-after c = search needs
-
-part-total-after-start : tie.Need-part-total-after-start
-part-total-after-start c = search needs
-
-part-total-after-end : tie.Need-part-total-after-end
-part-total-after-end c =
-    let e = lent c in
-    omega (arith, allowed e .room .before, start (asked e) .pre .0 .words)
-
-total-after-requires : tie.Need-total-after-requires
-total-after-requires c κs = allowed (lent (c .before)) .summed
-
-sub-keep : tie.Need-sub-keep
-sub-keep c = search needs
-
-part-keep-start : tie.Need-part-keep-start
-part-keep-start c = search needs
-
-part-keep-end : tie.Need-part-keep-end
-part-keep-end c = search needs
-
-keep-requires : tie.Need-keep-requires
-keep-requires c κs =
-    let e = lent (c .before .before .before) in
-    ((allowed e .kept, allowed e .pending), start (asked e) .pre .1)
-
-add-kept : tie.Need-add-kept
-add-kept c = omega (arith, allowed (yes (keeping c)) .made)
-
-apply-requires : tie.Need-apply-requires
-apply-requires c κs =
-    let k = keeping (c .before) in
-    (allowed (yes k) .words (slots k) (k .keep .ensures), allowed (yes k) .room)
-
-inserts-of-requires : tie.Need-inserts-of-requires
-inserts-of-requires c κs = search needs
-
-add-kept-2 : tie.Need-add-kept-2
-add-kept-2 c =
-    let e = yes (kept (applying (c .before))) in
-    omega (arith, allowed e .inserts, c .before .inserts-of .ensures (start (asked e) .args .x))
-
-kept-requires : tie.Need-kept-requires
-kept-requires c κs = omega (arith, allowed (yes (kept (applying (c .before)))) .made)
-
-no-report-requires : tie.Need-no-report-requires
-no-report-requires c κs = search needs
-
-done-requires : tie.Need-done-requires
-done-requires c κs = search needs
+refused-requires : tie.Need-refused-requires
+refused-requires c κs = search needs
 
 same-length-2 : tie.Need-same-length-2
-same-length-2 c =
-    let p = applying (c .before .before .before .before) in
-    search (needs, p .apply .last, kept p .keep .last)
+same-length-2 c = search needs
 
 returns-2 : tie.Need-returns-2
 returns-2 c =
-    let n = c .before in
-    let v = n .before in
-    let i = v .before .before in
-    let p = applying i in
-    let k = kept p in
-    let t = summing k in
-    ap (λ (q : Changed). answerOf q (p .apply .last .0))
-    (c .done .ensures ∙ ap (λ (q : Report). doneCounts (start (asked (yes k)) .args .k) q (v .kept .result) (p .apply .result) (t .total-after .result)) (n .no-report .ensures))
-    ∙ allowed (yes k) .done (v .kept .result) (i .inserts-of .result) (p .apply .result) (t .total-after .result) (slots k) (p .apply .last .0) (k .keep .ensures)
-    (i .inserts-of .ensures (start (asked (yes k)) .args .x)) (v .kept .ensures) (t .total-after .ensures) (p .apply .ensures)
+    let a = c .before .before in
+    let s = start a .args in
+    let end = clientOf (s .k) (s .words .now) in
+    ap (λ (q : Changed). answerOf q (s .words .now)) (c .refused .ensures)
+    ∙ unsound end (editClient (view end) (edit (s .f) (s .x))) (sym (a .is-sound .ensures .0) ∙ c .before .if1 .left)
 
 pub edit-spec : {M : Type 1} → statement M
-edit-spec =
-    tie.close
-    (tie.spec
-    ask-requires
-    refused-requires
-    same-length
-    returns
-    cast-total-after
-    sub-total-after
-    part-total-after-start
-    part-total-after-end
-    total-after-requires
-    sub-keep
-    part-keep-start
-    part-keep-end
-    keep-requires
-    add-kept
-    apply-requires
-    inserts-of-requires
-    add-kept-2
-    kept-requires
-    no-report-requires
-    done-requires
-    same-length-2
-    returns-2)
+edit-spec = tie.close (tie.spec is-sound-requires make-requires same-length returns refused-requires same-length-2 returns-2)
