@@ -40,7 +40,7 @@ bounds c s =
 module _ (c : Client) where
   same : cappedLine (c .counts .own) ≡ c .counts .own → capped 65535 (c .counts .len) ≡ c .counts .len → capped 255 (c .counts .n) ≡ c .counts .n
       → capped 255 (c .counts .line) ≡ c .counts .line → cappedEnd c ≡ c
-  same own len n line = λ i. clientOf (record { own = own i; len = len i; total = c .counts .total; n = n i; line = line i; ranks = c .counts .ranks }) (c .words)
+  same own len n line = λ i. clientOf (record { own = own i; len = len i; total = c .counts .total; inverse = c .counts .inverse; n = n i; line = line i; ranks = c .counts .ranks }) (c .words)
 
   pub sound-same : sound c ≡ true → cappedEnd c ≡ c
   sound-same s =

@@ -10,6 +10,7 @@ use Rattle.list.specs.Parts.{part}
 use Rattle.line.specs.declared.Line.{Line}
 use Rattle.client.specs.declared.Counts.{Counts}
 use Rattle.client.specs.declared.Client.{Client}
+use Rattle.client.specs.declared.Inverse.{Inverse}
 use Rattle.client.specs.View as client
 use Rattle.client.specs.View.{clientOf, Sizes}
 use Rattle.c_layout.specs.Words.{lowFirst, wordAt, wordsOf, bytesOf, putAt, Bytes}
@@ -51,9 +52,9 @@ module _ (c : Client) (rest : List ℕ) (z : Sizes (c .counts) (c .words)) where
 
 record Parts (ws : List ℕ) (k : Counts) : Type 0 where
   first : firstIn k ≡ take 3 ws
-  behind : lineWords (k .own) ++ (k .total ∷ part numbers client.size ws) ≡ take 1157 (drop 5 ws)
+  behind : lineWords (k .own) ++ (k .total ∷ k .inverse .place ∷ k .inverse .item ∷ part numbers client.size ws) ≡ take 1159 (drop 5 ws)
 
-parts : (ranks ws : List ℕ) → 1162 ≤ length ws → Parts ws (countsOf ranks ws)
+parts : (ranks ws : List ℕ) → 1164 ≤ length ws → Parts ws (countsOf ranks ws)
 parts ranks [] h = absurd (omega arith)
 parts ranks (a ∷ []) h = absurd (omega arith)
 parts ranks (a ∷ b ∷ []) h = absurd (omega arith)
@@ -64,13 +65,15 @@ parts ranks (a ∷ b ∷ c ∷ d ∷ e ∷ f ∷ []) h = absurd (omega arith)
 parts ranks (a ∷ b ∷ c ∷ d ∷ e ∷ f ∷ g ∷ []) h = absurd (omega arith)
 parts ranks (a ∷ b ∷ c ∷ d ∷ e ∷ f ∷ g ∷ i ∷ []) h = absurd (omega arith)
 parts ranks (a ∷ b ∷ c ∷ d ∷ e ∷ f ∷ g ∷ i ∷ j ∷ []) h = absurd (omega arith)
-parts ranks (a ∷ b ∷ c ∷ d ∷ e ∷ f ∷ g ∷ i ∷ j ∷ t ∷ ws) h = record { first = refl; behind = refl }
+parts ranks (a ∷ b ∷ c ∷ d ∷ e ∷ f ∷ g ∷ i ∷ j ∷ t ∷ []) h = absurd (omega arith)
+parts ranks (a ∷ b ∷ c ∷ d ∷ e ∷ f ∷ g ∷ i ∷ j ∷ t ∷ p ∷ []) h = absurd (omega arith)
+parts ranks (a ∷ b ∷ c ∷ d ∷ e ∷ f ∷ g ∷ i ∷ j ∷ t ∷ p ∷ x ∷ ws) h = record { first = refl; behind = refl }
 
 pub end-written-back : (bytes : List ℕ) → size ≤ length bytes → Bytes bytes → bytesIn (endIn bytes) ++ drop size bytes ≡ bytes
 unfolding bytesIn endIn
 end-written-back bytes h b =
-    let p = parts (ranksIn bytes) (wordsOf bytes) (words-many lowFirst 1162 bytes h) in
-    ranked-again 1157 size (firstIn (countsIn bytes)) (restIn (clientIn (ranksIn bytes) (wordsOf bytes))) bytes refl h b (p .first) (p .behind)
+    let p = parts (ranksIn bytes) (wordsOf bytes) (words-many lowFirst 1164 bytes h) in
+    ranked-again 1159 size (firstIn (countsIn bytes)) (restIn (clientIn (ranksIn bytes) (wordsOf bytes))) bytes refl h b (p .first) (p .behind)
 
 pub round-trips : RoundTrips
 round-trips = record { read-back = end-read-back; written-back = end-written-back }
@@ -91,16 +94,22 @@ module _ (bytes : List ℕ) where
       let total : getD (take numbers ws) 9 0 ≡ getD ws 9 0 = number-front 9 (omega arith) in
       let n : getD (take numbers ws) 0 0 ≡ getD ws 0 0 = number-front 0 (omega arith) in
       let line : getD (take numbers ws) 1 0 ≡ getD ws 1 0 = number-front 1 (omega arith) in
-      λ i. record { own = own i; len = len i; total = total i; n = n i; line = line i; ranks = ranksIn bytes }
+      let place : getD (take numbers ws) 10 0 ≡ getD ws 10 0 = number-front 10 (omega arith) in
+      let item : getD (take numbers ws) 11 0 ≡ getD ws 11 0 = number-front 11 (omega arith) in
+      λ i. record { own = own i; len = len i; total = total i; inverse = record { place = place i; item = item i }; n = n i; line = line i; ranks = ranksIn bytes }
 
   -- the numbers as they were read
-  pub counts-read : (ns : List ℕ) (own : Line) (len total n line : ℕ) (ranks : List ℕ) → ns ≡ part 0 numbers ws → own ≡ cappedLine (lineAt ns 5)
-      → len ≡ capped 65535 (getD ns 2 0) → total ≡ getD ns 9 0 → n ≡ capped 255 (getD ns 0 0) → line ≡ capped 255 (getD ns 1 0)
-      → ranks ≡ ranksIn bytes
-      → _≡_ {A = Counts} (record { own = own; len = len; total = total; n = n; line = line; ranks = ranks }) (cappedCounts (countsIn bytes))
-  counts-read ns own len total n line ranks e eo el et en ei er =
-      let read : _≡_ {A = Counts} (record { own = own; len = len; total = total; n = n; line = line; ranks = ranks }) (cappedCounts (countsOf (ranksIn bytes) ns)) =
-      λ i. record { own = eo i; len = el i; total = et i; n = en i; line = ei i; ranks = er i } in
+  abbrev with : Line → ℕ → ℕ → Inverse → ℕ → ℕ → List ℕ → Counts
+  with own len total inverse n line ranks =
+      record { own = own; len = len; total = total; inverse = inverse; n = n; line = line; ranks = ranks }
+
+  pub counts-read : (ns : List ℕ) (own : Line) (len total place item n line : ℕ) (ranks : List ℕ) → ns ≡ part 0 numbers ws → own ≡ cappedLine (lineAt ns 5)
+      → len ≡ capped 65535 (getD ns 2 0) → total ≡ getD ns 9 0 → place ≡ getD ns 10 0 → item ≡ getD ns 11 0
+      → n ≡ capped 255 (getD ns 0 0) → line ≡ capped 255 (getD ns 1 0) → ranks ≡ ranksIn bytes
+      → with own len total (record { place = place; item = item }) n line ranks ≡ cappedCounts (countsIn bytes)
+  counts-read ns own len total place item n line ranks e eo el et ep ex en ei er =
+      let read : with own len total (record { place = place; item = item }) n line ranks ≡ cappedCounts (countsOf (ranksIn bytes) ns) =
+      λ i. with (eo i) (el i) (et i) (record { place = ep i; item = ex i }) (en i) (ei i) (er i) in
       read ∙ ap (λ (l : List ℕ). cappedCounts (countsOf (ranksIn bytes) l)) e ∙ ap cappedCounts counts-front
 
 -- with words as many as were lent
@@ -115,9 +124,9 @@ end-read bytes words₀ words k e ew ek =
 
 -- the numbers, the words, and then the ranks over two words of the numbers
 pub end-written : (k : Counts) (words s b₁ b₂ b₃ : List ℕ) → length (k .ranks) ≡ maxLines → length words ≡ client.size
-    → b₁ ≡ putAt 0 (bytesOf (k .n ∷ k .line ∷ k .len ∷ 0 ∷ 0 ∷ (lineWords (k .own) ++ (k .total ∷ [])))) s
+    → b₁ ≡ putAt 0 (bytesOf (k .n ∷ k .line ∷ k .len ∷ 0 ∷ 0 ∷ (lineWords (k .own) ++ (k .total ∷ k .inverse .place ∷ k .inverse .item ∷ [])))) s
     → b₂ ≡ putAt (4 * numbers) (bytesOf words) b₁ → b₃ ≡ putAt 12 (k .ranks) b₂
     → b₃ ≡ bytesIn (clientOf k words) ++ drop size s
 unfolding bytesIn
 end-written k words s b₁ b₂ b₃ eight e e₁ e₂ e₃ =
-    ranked-written size (4 * numbers) (k .n) (k .line) (k .len) 0 0 (lineWords (k .own) ++ (k .total ∷ [])) words (k .ranks) s b₁ b₂ b₃ eight (omega arith) (omega arith) e₁ e₂ e₃
+    ranked-written size (4 * numbers) (k .n) (k .line) (k .len) 0 0 (lineWords (k .own) ++ (k .total ∷ k .inverse .place ∷ k .inverse .item ∷ [])) words (k .ranks) s b₁ b₂ b₃ eight (omega arith) (omega arith) e₁ e₂ e₃

@@ -2,7 +2,7 @@
 use Prim.Native.Nat.{ℕ}
 use mathlib.Core.List.{List}
 use Rattle.client.specs.declared.Answer.{Answer}
-use Rattle.client.specs.Answers.{opened, inserted, deleted, taken, sentEdit, sentAck}
+use Rattle.client.specs.Answers.{opened, inserted, deleted, takenBack, taken, sentEdit, sentAck}
 use Rattle.c_layout.specs.Words.{itemsOf}
 use Rattle.c_layout.specs.Called.{Called, laidOut, changing, opening, sending}
 pub use Rattle.c_layout.specs.Called.{returned}
@@ -20,6 +20,9 @@ insertedIn bytes p x = laidOut size bytes bytes (answered (inserted (endIn bytes
 
 unfoldable pub deletedIn : List ℕ → ℕ → Called
 deletedIn bytes p = laidOut size bytes bytes (answered (deleted (endIn bytes) p) bytes)
+
+unfoldable pub takenBackIn : List ℕ → Called
+takenBackIn bytes = laidOut size bytes bytes (answered (takenBack (endIn bytes)) bytes)
 
 unfoldable pub takenIn : List ℕ → List ℕ → Called
 takenIn bytes message = laidOut size bytes bytes (answered (taken (endIn bytes) message) bytes)

@@ -12,19 +12,27 @@ use Rattle.c_layout.specs.Words.{wordsOf, Bytes}
 use Rattle.c_layout.specs.Numbers.{lineAt, lineWords}
 use Rattle.c_layout.specs.Ranks.{ranksIn, ranked}
 
--- the bytes of a client: 1,162 words
+-- the bytes of a client: 1,164 words
 abbrev pub size : ℕ
-size = 4648
+size = 4656
 
 -- how many words are its numbers, the ranks among them
 abbrev pub numbers : ℕ
-numbers = 10
+numbers = 12
 
--- Words 0 to 2 are n, line and the length of the list. Then come the ranks, eight bytes, in words 5 to 8 the counts of its line, and in word 9
--- the total; then the words of the client.
+-- Words 0 to 2 are n, line and the length of the list. Then come the ranks, eight bytes, in words 5 to 8 the counts of its line, in word 9 the
+-- total, and in words 10 and 11 the inverse, its place and its item; then the words of the client.
 abbrev pub countsOf : List ℕ → List ℕ → Counts
 countsOf ranks ws =
-    record { own = lineAt ws 5; len = getD ws 2 0; total = getD ws 9 0; n = getD ws 0 0; line = getD ws 1 0; ranks = ranks }
+    record {
+      own = lineAt ws 5;
+      len = getD ws 2 0;
+      total = getD ws 9 0;
+      inverse = record { place = getD ws 10 0; item = getD ws 11 0 };
+      n = getD ws 0 0;
+      line = getD ws 1 0;
+      ranks = ranks;
+    }
 
 abbrev pub countsIn : List ℕ → Counts
 countsIn bytes = countsOf (ranksIn bytes) (wordsOf bytes)
@@ -33,7 +41,7 @@ abbrev pub firstIn : Counts → List ℕ
 firstIn k = k .n ∷ k .line ∷ k .len ∷ []
 
 abbrev pub restIn : Client → List ℕ
-restIn c = lineWords (c .counts .own) ++ (c .counts .total ∷ c .words)
+restIn c = lineWords (c .counts .own) ++ (c .counts .total ∷ c .counts .inverse .place ∷ c .counts .inverse .item ∷ c .words)
 
 -- the bytes of an end, and the end that bytes are; those past the layout do not matter
 unfoldable pub bytesIn : Client → List ℕ

@@ -10,6 +10,7 @@ cappedCounts k =
       own = cappedLine (k .own);
       len = capped 65535 (k .len);
       total = k .total;
+      inverse = k .inverse;
       n = capped 255 (k .n);
       line = capped 255 (k .line);
       ranks = k .ranks;

@@ -17,6 +17,7 @@ use c_layout::put;
 use c_layout::ranks;
 use client::Client;
 use client::Counts;
+use client::Inverse;
 
 // Where each number stands, and where the words of the client begin.
 const N: usize = 0;
@@ -31,7 +32,11 @@ const OWN: usize = RANKS + ranks::WORDS;
 
 const TOTAL: usize = OWN + LINE;
 
-const WORDS: usize = TOTAL + 1;
+const BACK: usize = TOTAL + 1;
+
+const LOST: usize = BACK + 1;
+
+const WORDS: usize = LOST + 1;
 
 // The bytes of a client.
 pub const SIZE: usize = 4 * (WORDS + Client::WORDS);
@@ -45,10 +50,14 @@ fn counts(bytes: &[u8]) -> Counts
     let own = line_at(&numbers, OWN);
     let ranks = ranks::read(bytes);
     let total = numbers[TOTAL];
+    let place = numbers[BACK];
+    let item = numbers[LOST];
+    let inverse = Inverse { place, item };
     Counts {
         own,
         len: in_16(numbers[LEN]),
         total,
+        inverse,
         n: in_8(numbers[N]),
         line: in_8(numbers[OF]),
         ranks,
@@ -74,6 +83,8 @@ pub fn write(bytes: &mut [u8], k: Counts, words: &[u32])
     numbers[OF] = k.line as u32;
     numbers[LEN] = k.len as u32;
     numbers[TOTAL] = k.total;
+    numbers[BACK] = k.inverse.place;
+    numbers[LOST] = k.inverse.item;
     let own = k.own;
     put_line(&mut numbers, OWN, own);
     put(bytes, N, &numbers);

@@ -9,7 +9,7 @@ ghost use Rattle.client.specs.View as client;
 ghost use Rattle.client.specs.Answers.{answerOf, opened};
 ghost use Rattle.c_layout.specs.Words.{itemsOf};
 ghost use Rattle.c_client.specs.Layout.{size};
-ghost use Rattle.c_client.specs.Calls.{returned, answered, openedIn, insertedIn, deletedIn, takenIn, sentIn, acknowledgedIn};
+ghost use Rattle.c_client.specs.Calls.{returned, answered, openedIn, insertedIn, deletedIn, takenBackIn, takenIn, sentIn, acknowledgedIn};
 use c_layout::answer;
 use c_layout::report;
 use client::Changed;
@@ -85,6 +85,19 @@ pub fn delete(end: &mut [u8], position: u16) -> u64
     let mut words = [0u32; Client::WORDS];
     let k = layout::read(end, &mut words);
     let a = client::editing::delete(k, &mut words, position);
+    finish(end, a, &words)
+}
+
+// Takes the client's latest edit back. Refusals: 18 2 17 9 10 11 12.
+pub fn take_back(end: &mut [u8]) -> u64
+    ensures { λ r. ⌜ returned r (now (end .exit)) ≡ takenBackIn (now (end .entry)) ⌝ }
+{
+    if end.len() < SIZE {
+        return answer(18, 0);
+    }
+    let mut words = [0u32; Client::WORDS];
+    let k = layout::read(end, &mut words);
+    let a = client::editing::take_back(k, &mut words);
     finish(end, a, &words)
 }
 

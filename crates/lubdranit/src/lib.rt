@@ -39,6 +39,13 @@ pub extern "C" fn lub_client_delete(end: &mut [u8], position: u16) -> u64
 }
 
 #[no_mangle]
+pub extern "C" fn lub_client_take_back(end: &mut [u8]) -> u64
+    ensures { λ r. ⌜ returned r (now (end .exit)) ≡ client.takenBackIn (now (end .entry)) ⌝ }
+{
+    c_client::take_back(end)
+}
+
+#[no_mangle]
 pub extern "C" fn lub_client_send(end: &[u8], line: u8, number: u16, out: &mut [u8]) -> u64
     ensures { λ r. ⌜ returned r (now (out .exit)) ≡ client.sentIn (now (end .entry)) line number (now (out .entry)) ⌝ }
 {

@@ -36,6 +36,12 @@ read-requires c κs = search needs
 array-read-total : tie.Need-array-read-total
 array-read-total c = search needs
 
+array-read-place : tie.Need-array-read-place
+array-read-place c = search needs
+
+array-read-item : tie.Need-array-read-item
+array-read-item c = search needs
+
 array-read-in-16 : tie.Need-array-read-in-16
 array-read-in-16 c = search needs
 
@@ -62,8 +68,8 @@ returns c =
     let o = own r in
     let g = got o in
     let ns = g .get .last .1 .1 .0 in
-    counts-read (now (start g .args .bytes)) ns (o .line-at .result) (len .in-16 .result) (getD ns 9 0) (n .in-8 .result) (c .in-82 .result) (r .read .result)
-    (g .get .ensures) (o .line-at .ensures) (len .in-16 .ensures) refl (n .in-8 .ensures) (c .in-82 .ensures) (r .read .ensures)
+    counts-read (now (start g .args .bytes)) ns (o .line-at .result) (len .in-16 .result) (getD ns 9 0) (getD ns 10 0) (getD ns 11 0) (n .in-8 .result) (c .in-82 .result) (r .read .result)
+    (g .get .ensures) (o .line-at .ensures) (len .in-16 .ensures) refl refl refl (n .in-8 .ensures) (c .in-82 .ensures) (r .read .ensures)
 
 pub counts-spec : {M : Type 1} → statement M
 counts-spec =
@@ -75,6 +81,8 @@ counts-spec =
     line-at-requires
     read-requires
     array-read-total
+    array-read-place
+    array-read-item
     array-read-in-16
     in-16-requires
     array-read-in-8

@@ -46,6 +46,12 @@ array-write-numbers-3 c = search needs
 array-write-numbers-4 : tie.Need-array-write-numbers-4
 array-write-numbers-4 c = search needs
 
+array-write-numbers-5 : tie.Need-array-write-numbers-5
+array-write-numbers-5 c = search needs
+
+array-write-numbers-6 : tie.Need-array-write-numbers-6
+array-write-numbers-6 c = search needs
+
 slice-aggregate-put-line : tie.Need-slice-aggregate-put-line
 slice-aggregate-put-line c = search needs
 
@@ -89,6 +95,8 @@ write-spec =
     cast-numbers-3
     array-write-numbers-3
     array-write-numbers-4
+    array-write-numbers-5
+    array-write-numbers-6
     slice-aggregate-put-line
     put-line-requires
     slice-aggregate-put
