@@ -12,7 +12,7 @@ use Rattle.model.specs.Server as models
 use Rattle.model.specs.Ours as ours
 use Rattle.model.proofs.Tests.{hold}
 use Rattle.model.proofs.Sound.{keeps-sound}
-use Rattle.model.proofs.Alone.{ClientAlone, ServerAlone, edit-back, client-back, server-back, client-alone, server-alone}
+use Rattle.model.proofs.Alone.{ClientAlone, ServerAlone, edit-back, undo-back, client-back, server-back, client-alone, server-alone}
 use Rattle.model.proofs.Converges as model-converges
 use Rattle.model.proofs.Consequences.{consequences}
 use Rattle.line.specs.Line.{countsOf}
@@ -67,6 +67,7 @@ struct-client-alone =
     record {
       inserts = λ c p x. answer-back clients c _ (edit-back (clientView.view c) _);
       deletes = λ c p. answer-back clients c _ (edit-back (clientView.view c) _);
+      takes-back = λ c. answer-back clients c _ (undo-back (clientView.view c));
       takes = λ c bytes. answer-back clients c _ (client-back (clientView.view c) _);
       sends = λ c l number lent. sending-alone clients c lent _ (client-alone .sends (clientView.view c) _ _ lent);
       tells = λ c l lent. sending-alone clients c lent _ (client-alone .tells (clientView.view c) _ lent);
@@ -84,6 +85,7 @@ client-follows =
           opened-stands clients (clientView.store model.noClient) (model.openClient n l ranks xs) e (keeps-sound .opens-client n l ranks xs e);
       inserts = λ c m r p x. alike clients c m r (λ v. model.insertClient v p x) (edit-back m _) (keeps-sound .inserts m p x (r .1));
       deletes = λ c m r p. alike clients c m r (λ v. model.deleteClient v p) (edit-back m _) (keeps-sound .deletes m p (r .1));
+      takes-back = λ c m r. alike clients c m r model.takeBackClient (undo-back m) (keeps-sound .takes-back m (r .1));
       takes = λ c m r bytes. alike clients c m r (λ v. model.takeClient v bytes) (client-back m bytes) (keeps-sound .client-takes m bytes (r .1));
       sends = λ c m r l number lent. sending-alike clients c m r (λ v. model.sendClient v l number lent) lent;
       tells = λ c m r l lent. sending-alike clients c m r (λ v. model.tellClient v l lent) lent;
@@ -171,5 +173,6 @@ carried =
       consistent = consequences .consistent built claimed;
       order = consequences .order built claimed;
       refusals = consequences .refusals built claimed;
+      takes-back = consequences .takes-back built claimed;
       agree = consequences .agree built ours.ours claimed model-converges.converges;
     }

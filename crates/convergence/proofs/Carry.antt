@@ -15,7 +15,7 @@ use Rattle.jupiter.specs.History.{History, order, missing}
 use Rattle.jupiter.specs.Origins.{Once}
 use Rattle.model.specs.Questions.{Report, Answer, Sent, between}
 use Rattle.model.specs.Edits.{nameOf, edits}
-use Rattle.model.specs.Sheet.{Sheet, Call, insert, delete, send, tell, receive, junk}
+use Rattle.model.specs.Sheet.{Sheet, Call, insert, delete, takeBack, send, tell, receive, junk}
 use Rattle.model.specs.Log.{Log, log}
 use Rattle.model.specs.Run.{State, areBytes, unreadable, callable, answered, written, handed, call, handedNumber, numberOf, run, opened, start}
 use Rattle.model.specs.Claim.{Delivered, Enough, OnLine, Holds, LeavesAlone, Opened, Converges}
@@ -39,6 +39,7 @@ module _ (S T : Sheet) (R : S .End → T .End → Type 0) where
     pub client-opens : (n l : ℕ) (ranks xs : List ℕ) → T .openClient n l ranks xs .refusal ≡ 0 → R (S .openClient n l ranks xs .end) (T .openClient n l ranks xs .end)
     pub inserts : (a : S .End) (b : T .End) → R a b → (p x : ℕ) → Alike R (S .insert a p x) (T .insert b p x)
     pub deletes : (a : S .End) (b : T .End) → R a b → (p : ℕ) → Alike R (S .delete a p) (T .delete b p)
+    pub takes-back : (a : S .End) (b : T .End) → R a b → Alike R (S .takeBack a) (T .takeBack b)
     pub takes : (a : S .End) (b : T .End) → R a b → (bytes : List ℕ) → Alike R (S .take a bytes) (T .take b bytes)
     pub sends : (a : S .End) (b : T .End) → R a b → (l number : ℕ) (lent : List ℕ) → S .send a l number lent ≡ T .send b l number lent
     pub tells : (a : S .End) (b : T .End) → R a b → (l : ℕ) (lent : List ℕ) → S .tell a l lent ≡ T .tell b l lent
@@ -81,6 +82,9 @@ module _ (S T : Sheet) (R : S .End → T .End → Type 0) where
     same-call s t m (delete l p) ok =
         let h = between-true 1 n l (and-left (between 1 n l) (ltb p 65536) ok) in
         same-answered s t m l (delete l p) (S .delete (s .ends l) p) (T .delete (t .ends l) p) (f .deletes (s .ends l) (t .ends l) (m .ends l (h .1)) p)
+    same-call s t m (takeBack l) ok =
+        let h = between-true 1 n l ok in
+        same-answered s t m l (takeBack l) (S .takeBack (s .ends l)) (T .takeBack (t .ends l)) (f .takes-back (s .ends l) (t .ends l) (m .ends l (h .1)))
     same-call s t m (send a l number lent) ok =
         let h = leb-true a n (three (leb a n) (ltb l 256) (ltb number 65536) (and-left (leb a n && ltb l 256 && ltb number 65536) (areBytes lent) ok) .0) in
         same-written s t m (send a l number lent) (S .send (s .ends a) l number lent) (T .send (t .ends a) l number lent) (f .sends (s .ends a) (t .ends a) (m .ends a h) l number lent)
@@ -114,6 +118,7 @@ module _ (S T : Sheet) (R : S .End → T .End → Type 0) where
     same-number s t m (delete l p) ok =
         let h = between-true 1 n l (and-left (between 1 n l) (ltb p 65536) ok) in
         f .deletes (s .ends l) (t .ends l) (m .ends l (h .1)) p .refusal
+    same-number s t m (takeBack l) ok = f .takes-back (s .ends l) (t .ends l) (m .ends l (between-true 1 n l ok .1)) .refusal
     same-number s t m (send a l number lent) ok =
         let h = leb-true a n (three (leb a n) (ltb l 256) (ltb number 65536) (and-left (leb a n && ltb l 256 && ltb number 65536) (areBytes lent) ok) .0) in
         ap (λ (x : Sent). x .refusal) (f .sends (s .ends a) (t .ends a) (m .ends a h) l number lent)

@@ -7,7 +7,7 @@ use Rattle.model.specs.Client as model
 use Rattle.model.specs.Server as models
 use Rattle.model.specs.Claim.{Converges}
 use Rattle.model.proofs.Sound.{keeps-sound}
-use Rattle.model.proofs.Alone.{ClientAlone, ServerAlone, edit-back, client-back, server-back, client-alone, server-alone}
+use Rattle.model.proofs.Alone.{ClientAlone, ServerAlone, edit-back, undo-back, client-back, server-back, client-alone, server-alone}
 use Rattle.model.proofs.Consequences.{consequences}
 use Rattle.client.specs.declared.Client.{Client}
 use Rattle.client.specs.View as clientView
@@ -28,7 +28,7 @@ use Rattle.convergence.proofs.Carry.{carries}
 use Rattle.convergence.proofs.Pairs.{ClientFollows, ServerFollows, Both, follows}
 use Rattle.convergence.proofs.Built.{clients, servers, claimed}
 use Rattle.convergence.proofs.Unpack.{Form, Fits, Changing, Sending, Are, same-refusal, accepted, call-same, call-back, open-same, sending-same, sending-alone}
-use Rattle.convergence.proofs.Small.{edit-small, client-take-small, client-open-small, client-send-little, client-tell-little}
+use Rattle.convergence.proofs.Small.{edit-small, undo-small, client-take-small, client-open-small, client-send-little, client-tell-little}
 use Rattle.convergence.proofs.Small.{server-take-small, server-open-small, server-send-little, server-tell-little, given-fits, changing, sending}
 
 -- ---- the client's calls
@@ -53,6 +53,9 @@ inserting p x = changing clients clientForm stored-sizes (λ m. model.insertClie
 deleting : (p : ℕ) → Changing clientForm (λ c. clientCalls .delete c p)
 deleting p = changing clients clientForm stored-sizes (λ m. model.deleteClient m p) (λ m. edit-small m _) (λ m. edit-back m _) (λ m. keeps-sound .deletes m p)
 
+taking-back : Changing clientForm (clientCalls .takeBack)
+taking-back = changing clients clientForm stored-sizes model.takeBackClient undo-small undo-back (keeps-sound .takes-back)
+
 taking : (bytes : List ℕ) → Changing clientForm (λ c. clientCalls .take c bytes)
 taking bytes =
     changing clients clientForm stored-sizes (λ m. model.takeClient m bytes) (λ m. client-take-small m bytes) (λ m. client-back m bytes)
@@ -73,18 +76,19 @@ client-opens n l ranks items =
     (keeps-sound .opens-client n l ranks items)
 
 lent-client-alone : (b : ℕ → List ℕ) → ClientAlone (clientsLent b)
-unfolding client.insertedIn client.deletedIn client.takenIn client.answered client.sentIn client.acknowledgedIn
+unfolding client.insertedIn client.deletedIn client.takenBackIn client.takenIn client.answered client.sentIn client.acknowledgedIn
 lent-client-alone b =
     record {
       inserts = λ e p x. call-back clientForm _ (inserting p x) e;
       deletes = λ e p. call-back clientForm _ (deleting p) e;
+      takes-back = λ e. call-back clientForm _ taking-back e;
       takes = λ e bytes. call-back clientForm _ (taking bytes) e;
       sends = λ e l number out. sending-alone clientForm out _ (client-sends l number out) e;
       tells = λ e l out. sending-alone clientForm out _ (client-tells l out) e;
     }
 
 client-follows : (b : ℕ → List ℕ) → ((l : ℕ) → clientLayout.size ≤ length (b l)) → ClientFollows (clientsLent b) clientCalls (Are clientForm)
-unfolding client.openedIn client.insertedIn client.deletedIn client.takenIn client.answered client.sentIn client.acknowledgedIn
+unfolding client.openedIn client.insertedIn client.deletedIn client.takenBackIn client.takenIn client.answered client.sentIn client.acknowledgedIn
 client-follows b h =
     record {
       items = λ e c r. ap (clientCalls .items) (r .0);
@@ -101,6 +105,7 @@ client-follows b h =
           (accepted clientForm a (b l) (client-opens n l ranks xs) z);
       inserts = λ e c r p x. call-same clientForm _ (inserting p x) e c r;
       deletes = λ e c r p. call-same clientForm _ (deleting p) e c r;
+      takes-back = λ e c r. call-same clientForm _ taking-back e c r;
       takes = λ e c r bytes. call-same clientForm _ (taking bytes) e c r;
       sends = λ e c r l number out. sending-same clientForm out _ (client-sends l number out) e c r;
       tells = λ e c r l out. sending-same clientForm out _ (client-tells l out) e c r;
@@ -190,5 +195,6 @@ lent-carried cs ss h k =
       consistent = consequences .consistent (lent cs ss) holds;
       order = consequences .order (lent cs ss) holds;
       refusals = consequences .refusals (lent cs ss) holds;
+      takes-back = consequences .takes-back (lent cs ss) holds;
       agree = consequences .agree (lent cs ss) built holds claimed;
     }

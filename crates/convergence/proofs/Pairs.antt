@@ -16,6 +16,7 @@ pub record ClientFollows (c d : ClientCalls) (R : c .Client → d .Client → Ty
   pub opens : (n l : ℕ) (ranks xs : List ℕ) → d .opens n l ranks xs .refusal ≡ 0 → R (c .opens n l ranks xs .end) (d .opens n l ranks xs .end)
   pub inserts : (a : c .Client) (b : d .Client) → R a b → (p x : ℕ) → Alike R (c .insert a p x) (d .insert b p x)
   pub deletes : (a : c .Client) (b : d .Client) → R a b → (p : ℕ) → Alike R (c .delete a p) (d .delete b p)
+  pub takes-back : (a : c .Client) (b : d .Client) → R a b → Alike R (c .takeBack a) (d .takeBack b)
   pub takes : (a : c .Client) (b : d .Client) → R a b → (bytes : List ℕ) → Alike R (c .take a bytes) (d .take b bytes)
   pub sends : (a : c .Client) (b : d .Client) → R a b → (l number : ℕ) (lent : List ℕ) → c .send a l number lent ≡ d .send b l number lent
   pub tells : (a : c .Client) (b : d .Client) → R a b → (l : ℕ) (lent : List ℕ) → c .tell a l lent ≡ d .tell b l lent
@@ -67,6 +68,7 @@ module _ (c d : ClientCalls) (v w : ServerCalls) (P : c .Client → d .Client �
         client-opens = f .opens;
         inserts = either (λ a b r. (p x : ℕ) → Alike Both (sheetOf c v .insert a p x) (sheetOf d w .insert b p x)) (λ a b r p x. asClient _ _ (f .inserts a b r p x)) (λ a b r p x. unmade a b r);
         deletes = either (λ a b r. (p : ℕ) → Alike Both (sheetOf c v .delete a p) (sheetOf d w .delete b p)) (λ a b r p. asClient _ _ (f .deletes a b r p)) (λ a b r p. unmade a b r);
+        takes-back = either (λ a b r. Alike Both (sheetOf c v .takeBack a) (sheetOf d w .takeBack b)) (λ a b r. asClient _ _ (f .takes-back a b r)) unmade;
         takes = either (λ a b r. (bytes : List ℕ) → Alike Both (sheetOf c v .take a bytes) (sheetOf d w .take b bytes)) (λ a b r bytes. asClient _ _ (f .takes a b r bytes)) (λ a b r bytes. asServer _ _ (g .takes a b r bytes));
         sends = either (λ a b r. (l number : ℕ) (lent : List ℕ) → sheetOf c v .send a l number lent ≡ sheetOf d w .send b l number lent) (f .sends) (g .sends);
         tells = either (λ a b r. (l : ℕ) (lent : List ℕ) → sheetOf c v .tell a l lent ≡ sheetOf d w .tell b l lent) (f .tells) (g .tells);

@@ -97,6 +97,10 @@ pub edit-small : (m : model.Client) (e : Edit) → Small (model.editClient m e)
 unfolding model.editClient
 edit-small m e = answer-small (model.editQuestions m e) m (model.edited m e) noReport (omega arith) (λ z. nothing-narrow)
 
+pub undo-small : (m : model.Client) → Small (model.takeBackClient m)
+unfolding model.takeBackClient
+undo-small m = answer-small (model.takeBackQuestions m) m (model.edited m (m .inverse)) noReport (omega arith) (λ z. nothing-narrow)
+
 client-takes-edit : (m : model.Client) (h : Header) (e : Edit) → positionAt e < 65536 → Small (model.clientTakesEdit m h e)
 unfolding model.clientTakesEdit
 client-takes-edit m h e low =
@@ -124,7 +128,7 @@ client-take-small m bytes = client-reads m (parsed bytes) (codec .read-in-range 
 pub client-open-small : (n l : ℕ) (ranks items : List ℕ) → Small (model.openClient n l ranks items)
 unfolding model.openClient
 client-open-small n l ranks items =
-    answer-small (model.openClientQuestions n l ranks items) model.noClient (record { n = n; line = l; ranks = ranks; items = initialPlaces items; own = noLine }) noReport
+    answer-small (model.openClientQuestions n l ranks items) model.noClient (record { n = n; line = l; ranks = ranks; items = initialPlaces items; own = noLine; inverse = Nothing }) noReport
     (omega arith) (λ z. nothing-narrow)
 
 pub client-send-little : (m : model.Client) (l number : ℕ) (lent : List ℕ) → Little (model.sendClient m l number lent)

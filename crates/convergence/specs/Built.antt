@@ -9,7 +9,7 @@ use Rattle.model.specs.SheetOf as sheets
 use Rattle.model.specs.SheetOf.{ClientCalls, ServerCalls, End, answerAs, sheetOf}
 use Rattle.model.specs.Run.{areBytes}
 use Rattle.model.specs.Claim.{Opened, Converges}
-use Rattle.model.specs.Consequences.{Consistent, OneOrder, TakingRefusals, Agree}
+use Rattle.model.specs.Consequences.{Consistent, OneOrder, TakingRefusals, TakesBack, Agree}
 use Rattle.model.specs.Ours.{ours}
 use Rattle.line.specs.declared.taking.Report as lines
 use Rattle.client.specs.declared.Client.{Client}
@@ -43,6 +43,7 @@ clientCalls =
       opens = λ n l ranks items. clientAnswer (client.opened n l ranks items);
       insert = λ c p x. clientAnswer (client.inserted c p x);
       delete = λ c p. clientAnswer (client.deleted c p);
+      takeBack = λ c. clientAnswer (client.takenBack c);
       send = client.sentEdit;
       tell = client.sentAck;
       take = λ c bytes. clientAnswer (client.taken c bytes);
@@ -93,6 +94,7 @@ pub record Carried (S T : Sheet) : Type 0 where
   pub consistent : Consistent S
   pub order : OneOrder S
   pub refusals : TakingRefusals S
+  pub takes-back : TakesBack S
   pub agree : Agree S T
 
 abbrev pub BuiltCarried : Type 0

@@ -38,6 +38,7 @@ clientsLent lent =
       opens = λ n l ranks items. answerOf (client.openedIn (lent l) n l ranks (itemBytes items));
       insert = λ b p x. answerOf (client.insertedIn b p x);
       delete = λ b p. answerOf (client.deletedIn b p);
+      takeBack = λ b. answerOf (client.takenBackIn b);
       send = λ b l number out. sentOf (client.sentIn b l number out);
       tell = λ b l out. sentOf (client.acknowledgedIn b l out);
       take = λ b message. answerOf (client.takenIn b message);

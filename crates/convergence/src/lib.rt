@@ -28,6 +28,12 @@ pub fn client_delete(c: Client, p: u16) -> client::Answer
     c.delete(p)
 }
 
+pub fn client_take_back(c: Client) -> client::Answer
+    ensures { λ r. ⌜ fromClient r ≡ built .takeBack (ofClient c) ⌝ }
+{
+    c.take_back()
+}
+
 pub fn client_send(c: Client, line: u8, number: u16, out: &mut [u8]) -> Sent
     ensures { λ r. ⌜ answered r (now (out .exit)) ≡ built .send (ofClient c) line number (now (out .entry)) ⌝ }
 {

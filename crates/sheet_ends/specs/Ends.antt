@@ -4,6 +4,7 @@ use mathlib.Core.Path.{_≡_}
 use mathlib.Core.List.{List, [], _∷_, map}
 use lib.ListN.{length, getD, take}
 use Rattle.limits.specs.Limits.{maxLines}
+use Rattle.ot.specs.Edit.{Nothing}
 use Rattle.list.specs.Items.{padded}
 use Rattle.list.specs.Parts.{part}
 use Rattle.model.specs.Line.{noLine}
@@ -23,7 +24,7 @@ allSize = 9216
 
 -- past the last place
 abbrev pub noCounts : Counts
-noCounts = record { own = countsOf noLine; len = 0; total = 0; n = 0; line = 0; ranks = [] }
+noCounts = record { own = countsOf noLine; len = 0; total = 0; inverse = client.inverseStored Nothing; n = 0; line = 0; ranks = [] }
 
 -- the client at place i, counted from 0
 abbrev pub clientAt : List Counts → List ℕ → ℕ → Client

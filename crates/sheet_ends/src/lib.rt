@@ -12,6 +12,7 @@ ghost use Rattle.sheet_ends.specs.Ends.{allSize, endsOf, clientsIn, open
 ghost use Rattle.sheet_ends.specs.Orders.{sentBy, changedBy, doneOf, ordered, Placed};
 use client::Client;
 use client::Counts;
+use client::Inverse;
 use line::Line;
 use line::sending::Sent;
 use server::Server;
@@ -62,6 +63,7 @@ pub fn open_clients(
         own,
         len: 0,
         total: 0,
+        inverse: Inverse { place: 0, item: 0 },
         n: 0,
         line: 0,
         ranks: zeros,

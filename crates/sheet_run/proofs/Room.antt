@@ -57,7 +57,7 @@ listed-length (x ∷ xs) =
     let h = listed-length xs in
     omega arith
 
--- Refusals are at most 16, so an answer has at most three bytes.
+-- Refusals of a command are at most 16, so an answer has at most three bytes.
 abbrev small : ℕ → Bool
 small r = leb (length (decimal r)) 2
 
