@@ -14,6 +14,7 @@
  *     lub_client_insert(end, sizeof end, 1, 201);               step 201 at the front, shown at once
  *     lub_client_maker(end, 1);                                 1: client 1 put it there; 0 for a step of the opening list
  *     lub_client_total(end);                                    404: the seconds of the three steps
+ *     lub_client_take_back(end, sizeof end);                    the list is 101 102 again; once more, and 201 is back
  *     answer = lub_client_send(end, sizeof end, 1, 1, message, sizeof message);
  *     if (lub_refusal(answer) == 0)
  *         carry(message, lub_count(answer));                    to the server, which takes it
@@ -51,7 +52,7 @@ extern "C" {
 #define LUB_ITEMS 512u          /* items of a list */
 #define LUB_INITIAL 128u        /* items at opening */
 
-#define LUB_CLIENT_BYTES 4648u  /* a client's end */
+#define LUB_CLIENT_BYTES 4656u  /* a client's end */
 #define LUB_SERVER_BYTES 10392u /* the server's end */
 #define LUB_MESSAGE_BYTES 17u   /* the longest message: an insert has 17 bytes, a delete 12, an edit that became nothing 10 */
 #define LUB_RUN_BYTES 262144u   /* room for any output of lub_run */
@@ -75,6 +76,7 @@ enum lub_refusal_number {
     LUB_REFUSED_NOT_PENDING = 13,  /* that number is not pending */
     LUB_REFUSED_SHORT_BUFFER = 14, /* the message does not fit */
     LUB_REFUSED_RANKS = 16,        /* the ranks are not 1 to n, each used once; asked after 1 */
+    LUB_REFUSED_NOTHING = 17,      /* no edit was made yet, or what is to be taken back became nothing; asked after 2 */
     LUB_REFUSED_SHORT_END = 18     /* the end's lent bytes are shorter than its layout; asked before all others */
 };
 
@@ -93,6 +95,12 @@ uint64_t lub_client_insert(uint8_t *end, size_t end_length, uint16_t position, u
 
 /* Deletes the item at `position`. Refusals: 18 2 9 11 12. */
 uint64_t lub_client_delete(uint8_t *end, size_t end_length, uint16_t position);
+
+/* Takes back the latest edit made here: an insert's item is deleted; a delete's item is inserted again, as a new step of this client. That is
+ * an edit like any other, with a number of its own, which is to be sent, and it can itself be taken back. What is taken back has moved
+ * with the edits taken meanwhile; if none was, items and order are as before the edit. Refusals: 18 2 17 9 10 11 12. 17: no edit was made
+ * yet, or another client deleted the item. */
+uint64_t lub_client_take_back(uint8_t *end, size_t end_length);
 
 /* Writes the message of pending edit `number` in its present form into `out`, for the server. Counts the bytes written; LUB_MESSAGE_BYTES
  * are enough for any message. Changes no end, and may be repeated: a message that may be lost is sent again. `line` is the client's own.
@@ -174,12 +182,12 @@ static inline unsigned lub_server_rank(const uint8_t *end, unsigned line) { retu
  * edit. An item of the opening list has line 0 and its place in that list as number. */
 static inline unsigned lub_client_length(const uint8_t *end) { return (unsigned)lub_word(end, 2); }
 
-static inline uint32_t lub_client_item(const uint8_t *end, unsigned position) { return lub_place(end, 10, position); }
+static inline uint32_t lub_client_item(const uint8_t *end, unsigned position) { return lub_place(end, 12, position); }
 
-static inline unsigned lub_client_maker(const uint8_t *end, unsigned position) { return (unsigned)(lub_place(end, 650, position) >> 16); }
+static inline unsigned lub_client_maker(const uint8_t *end, unsigned position) { return (unsigned)(lub_place(end, 652, position) >> 16); }
 
 static inline unsigned lub_client_maker_number(const uint8_t *end, unsigned position) {
-    return (unsigned)(lub_place(end, 650, position) & 0xffff);
+    return (unsigned)(lub_place(end, 652, position) & 0xffff);
 }
 
 /* The running time of the list: the seconds of its items together. An item's seconds are its low 12 bits; the other 20 are its code. */

@@ -224,6 +224,80 @@ fn opening_origins(subject: &dyn Calls) -> Result<(), String> {
     equal(vec![expected; 9], lists(subject, &List::opened(8, vec![7; 128])))
 }
 
+/// The refusals of a list's takings back, in order.
+fn takings_back(subject: &dyn Calls, list: &List) -> Result<Vec<u8>, String> {
+    let out = calls::output(subject, list)?;
+    let mut at = 0;
+    let mut all = Vec::new();
+    for call in &list.calls {
+        if call.op == TAKE_BACK {
+            all.push(out[at]);
+        }
+        at += call.answer_length();
+    }
+    Ok(all)
+}
+
+/// The list of client 1 after these calls of a sheet of two with items 10, 20 and 30, of which client 2 goes first.
+fn client_1(subject: &dyn Calls, calls: &[Call]) -> Places {
+    let mut list = List::ranked(&[2, 1], vec![10, 20, 30]);
+    list.calls.extend_from_slice(calls);
+    lists(subject, &list).swap_remove(1)
+}
+
+/// An insert taken back, and that again; a delete taken back, whose item comes back as a new step; further edits in between.
+fn taken_back(subject: &dyn Calls) -> Result<(), String> {
+    let (insert, delete, back) = (Call::insert(1, 2, 40), Call::delete(1, 2), Call::take_back(1));
+    let opening = vec![(10, 0, 1), (20, 0, 2), (30, 0, 3)];
+    equal(&opening, client_1(subject, &[insert, back]))?;
+    equal([(10, 0, 1), (40, 1, 3), (20, 0, 2), (30, 0, 3)], client_1(subject, &[insert, back, back]).as_slice())?;
+    equal(&opening, client_1(subject, &[insert, back, back, back]))?;
+    equal([(10, 0, 1), (20, 1, 2), (30, 0, 3)], client_1(subject, &[delete, back]).as_slice())?;
+    equal([(10, 0, 1), (30, 0, 3)], client_1(subject, &[delete, back, back]).as_slice())?;
+    equal([(10, 0, 1), (20, 1, 4), (30, 0, 3)], client_1(subject, &[delete, back, back, back]).as_slice())?;
+    // the latest edit alone is taken back
+    let places = [(10, 0, 1), (40, 1, 1), (20, 1, 3), (30, 0, 3)];
+    equal(places, client_1(subject, &[insert, Call::delete(1, 3), back]).as_slice())
+}
+
+/// What is taken back stands where its step would, past edits of client 2 that came meanwhile: in front, at its place, behind.
+fn taken_back_later(subject: &dyn Calls) -> Result<(), String> {
+    let after = |edit: Call, others: &[Call]| {
+        let mut list = List::ranked(&[2, 1], vec![10, 20, 30]);
+        list.calls.push(edit);
+        list.calls.extend_from_slice(others);
+        for number in 1..=others.len() as u16 {
+            handed(&mut list, &[(2, 2, number), (0, 1, number)]);
+        }
+        list.calls.extend([Call::take_back(1), Call::send(1, 1, 1, 0, MESSAGE), Call::take(0, 0)]);
+        handed(&mut list, &[(1, 1, 2), (0, 2, 1), (0, 2, 2)]);
+        lists(subject, &list)
+    };
+    // client 2 goes first, so its insert stands before the step that is put back
+    let places = vec![(10, 0, 1), (50, 2, 1), (20, 1, 2), (30, 0, 3)];
+    equal(vec![places; 3], after(Call::delete(1, 2), &[Call::insert(2, 2, 50)]))?;
+    let places = vec![(20, 1, 2), (30, 0, 3)];
+    equal(vec![places; 3], after(Call::delete(1, 2), &[Call::delete(2, 1)]))?;
+    let places = vec![(50, 2, 2), (10, 0, 1), (60, 2, 1), (20, 0, 2), (30, 0, 3)];
+    equal(vec![places; 3], after(Call::insert(1, 2, 40), &[Call::insert(2, 2, 60), Call::insert(2, 1, 50)]))
+}
+
+/// 17 before any edit, and once another has deleted what was inserted; 12 with 64 pending, which leaves the inverse.
+fn nothing_to_take_back(subject: &dyn Calls) -> Result<(), String> {
+    let mut list = List::opened(2, (1..=128).collect());
+    list.calls.extend([Call::take_back(1), Call::insert(1, 2, 40)]);
+    handed(&mut list, &[(1, 1, 1), (0, 2, 1)]);
+    list.calls.push(Call::delete(2, 2));
+    handed(&mut list, &[(2, 2, 1), (0, 1, 1)]);
+    list.calls.push(Call::take_back(1));
+    equal([17, 17], takings_back(subject, &list)?.as_slice())?;
+    list.calls.extend([Call::delete(1, 1); 64]);
+    list.calls.extend([Call::take_back(1), Call::take_back(1)]);
+    handed(&mut list, &[(1, 1, 2)]);
+    list.calls.extend([Call::acknowledge(0, 1, 0, MESSAGE), Call::take(1, 0), Call::take_back(1), Call::take_back(1)]);
+    equal([17, 17, 12, 12, 0, 12], takings_back(subject, &list)?.as_slice())
+}
+
 /// The lists of all ends after these clients inserted their line's number at one position of one list, the server took the edits in this order,
 /// and everything was delivered.
 fn tied(subject: &dyn Calls, ranks: &[u8], initial: &[u32], position: u16, order: &[u8]) -> Vec<Places> {
@@ -319,9 +393,12 @@ fn on(subject: &dyn Calls) -> bool {
         ("positions of edits that move", moves(subject)),
         ("edits sent on", sent_on(subject)),
         ("opening items' origins", opening_origins(subject)),
+        ("an edit taken back", taken_back(subject)),
+        ("taken back past other edits", taken_back_later(subject)),
+        ("nothing to take back", nothing_to_take_back(subject)),
         ("inserts", script(&inserts.0, &inserts.1)),
         ("pending", script(&pending.0, &pending.1)),
-        ("the layouts' lengths", equal((4648, 10392), (subject.client_bytes(), subject.server_bytes()))),
+        ("the layouts' lengths", equal((4656, 10392), (subject.client_bytes(), subject.server_bytes()))),
         ("ranks", ranks(subject)),
         ("client 5 with rank 1", lead(subject)),
         ("ties", ties(subject)),

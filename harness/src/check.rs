@@ -66,11 +66,24 @@ pub struct Tally {
     moved: u64,
     furthest: u16,
     gone: u64,
+    /// Edits that were taken back.
+    taken_back: u64,
 }
 
 impl Default for Tally {
     fn default() -> Tally {
-        Tally { lists: 0, calls: 0, scripts: 0, followed: 0, refusals: [0; 256], most_passed: 0, moved: 0, furthest: 0, gone: 0 }
+        Tally {
+            lists: 0,
+            calls: 0,
+            scripts: 0,
+            followed: 0,
+            refusals: [0; 256],
+            most_passed: 0,
+            moved: 0,
+            furthest: 0,
+            gone: 0,
+            taken_back: 0,
+        }
     }
 }
 
@@ -87,6 +100,7 @@ impl Tally {
             if call.op == TAKE {
                 self.taking(Answer::of(&out[at..]));
             }
+            self.taken_back += (call.op == TAKE_BACK && out[at] == 0) as u64;
             at += call.answer_length();
         }
     }
@@ -117,6 +131,7 @@ impl Tally {
         println!("answers by refusal  {}", named.join("  "));
         println!("most edits passed by one taking: {}", self.most_passed);
         println!("takings that moved their edit: {}, {} places at most; whose edit was gone: {}", self.moved, self.furthest, self.gone);
+        println!("edits taken back: {}", self.taken_back);
     }
 }
 

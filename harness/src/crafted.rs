@@ -1,7 +1,7 @@
 //! Sound ends at a limit, made by overwriting: questions 9, 10 and 12 where no run of calls leads, and what the benchmark starts from.
 
 use crate::edit::{Edit, Origin};
-use crate::ends::pending;
+use crate::ends::{inverse, pending};
 use crate::forged;
 use crate::layout::{self, Field};
 use crate::list::*;
@@ -14,6 +14,7 @@ pub const LEAD: [u8; 8] = [2, 3, 4, 5, 1, 6, 7, 8];
 pub fn all() -> Vec<List> {
     let mut lists: Vec<List> = (0..=9).map(kind_and_length).collect();
     lists.extend(pushed());
+    lists.extend(inverse_moved());
     for line in 1..=8 {
         // the ranks of lines 1 to 5 are not their numbers
         lists.extend((0..=9).map(|priority| arriving(&LEAD, line, |maker| (Edit::Insert(2, 5, priority), (maker, 1)))));
@@ -45,8 +46,8 @@ fn at_limits() -> Vec<List> {
     for length in [0, 127, 511, 512] {
         for kept in [0, 1, 63, 64] {
             let mut list = client_at_limit(length, kept);
-            let edits = [Call::insert(1, 1, 5), Call::delete(1, 1)];
-            for call in edits.into_iter().chain([Call::take(1, 0)]) {
+            let edits = [Call::take_back(1), Call::insert(1, 1, 5), Call::take_back(1), Call::delete(1, 1), Call::take_back(1)];
+            for call in edits.into_iter().chain([Call::take(1, 0), Call::take_back(1)]) {
                 list.calls.extend([Call::dump(1), call, Call::dump(1)]);
             }
             lists.push(list);
@@ -65,6 +66,28 @@ fn pushed() -> Vec<List> {
             list.calls.extend(pending(end, 1, 0, position << 8 | priority, item));
             list.calls.extend([Call::dump(end), Call::take(end, 0), Call::dump(end)]);
             lists.push(list);
+        }
+    }
+    lists
+}
+
+/// An insert or a delete arrives in front of a client's inverse, at it or behind it: the inverse moves to 513 or past it, down, not at all, or is
+/// gone; then it is taken back, twice.
+fn inverse_moved() -> Vec<List> {
+    let mut lists = Vec::new();
+    for position in [1, 4, 5, 6, 7, 9, 10, 11, 511, 512, 513] {
+        for (priority, item) in [(0, 0), (LEAD[0] as u32, 77)] {
+            for edit in [Edit::Insert(5, 5, LEAD[4]), Edit::Insert(5, 5, LEAD[7]), Edit::Delete(5), Edit::Nothing] {
+                let mut list = client_at_limit(9, 1);
+                list.calls.extend(inverse(1, position << 8 | priority, item));
+                let numbered = Some(Numbered { number: 1, edit, origin: (5, 1) });
+                list.calls.extend(poked(0, &literal::write(&Message { line: 1, direction: 1, numbered, seen: 0 })));
+                for call in [Call::take(1, 0), Call::take_back(1), Call::take_back(1)] {
+                    list.calls.extend([Call::dump(1), call]);
+                }
+                list.calls.push(Call::dump(1));
+                lists.push(list);
+            }
         }
     }
     lists

@@ -17,6 +17,7 @@ impl Call {
             }
             INSERT => format!("{who} inserts {} at {}", self.value, self.position),
             DELETE => format!("{who} deletes at {}", self.position),
+            TAKE_BACK => format!("{who} takes its latest edit back"),
             SEND => format!("{who} sends number {} of line {} into {} bytes of slot {}", self.number, self.line, self.size, self.slot),
             ACKNOWLEDGE => format!("{who} acknowledges line {} into {} bytes of slot {}", self.line, self.size, self.slot),
             TAKE if self.number == 0 => format!("{who} takes slot {}", self.slot),

@@ -82,10 +82,13 @@ pub fn round(run: &mut Run) {
     }
 }
 
-/// An insert while the client has some left and the list is short, else a delete at the front, where others delete as well.
+/// An insert while the client has some left and the list is short, else a delete at the front, where others delete as well; now and then a
+/// taking back.
 fn any_edit(run: &mut Run, l: usize) -> Call {
     let (length, inserts) = (run.world.length(l) as usize, run.world.client(l).inserts);
-    if inserts < INSERTS as u32 && (length < 200 || run.rng.once_in(3)) {
+    if run.rng.once_in(6) {
+        Call::take_back(l as u8)
+    } else if inserts < INSERTS as u32 && (length < 200 || run.rng.once_in(3)) {
         let position = run.rng.between(1, length.min(50) + 1) as u16;
         Call::insert(l as u8, position, run.rng.next() as u32)
     } else {
@@ -149,7 +152,7 @@ pub fn exchange(run: &mut Run, l: usize) {
     run.call(Call::take(l as u8, 1));
 }
 
-/// Edits at every edge of the list, at every client.
+/// Edits at every edge of the list, at every client, and takings back.
 fn ask_edges(run: &mut Run) {
     for l in 1..=run.n as u8 {
         for choice in 0..5 {
@@ -157,6 +160,9 @@ fn ask_edges(run: &mut Run) {
             let position = [0, length, 1, length + 1, length + 2][choice];
             run.call_and_look(Call::insert(l, position, 9));
             run.call_and_look(Call::delete(l, position));
+        }
+        for _ in 0..3 {
+            run.call_and_look(Call::take_back(l));
         }
     }
 }

@@ -94,6 +94,16 @@ pub fn transform(a: Edit, b: Edit) -> (Edit, Move) {
     }
 }
 
+/// The edit that takes `edit` back, made on that list by a client of that rank: of an insert the delete of that place, of a delete the insert of
+/// the lost item.
+pub fn inverse(edit: Edit, places: &[Place], rank: u8) -> Edit {
+    match edit {
+        Insert(p, _, _) => Delete(p),
+        Delete(p) => Insert(p, places[p as usize - 1].item, rank),
+        Nothing => Nothing,
+    }
+}
+
 /// An edit as it arrived at an end, as it is applied there, and its moves in between.
 #[derive(Clone, PartialEq, Eq, Debug)]
 pub struct Carried {
@@ -189,6 +199,23 @@ mod tests {
         assert_eq!(twice(&places), None);
         apply(Insert(4, 9, 3), (3, 1), &mut places);
         assert_eq!(twice(&places), Some((3, 1)));
+    }
+
+    /// An edit and its inverse leave the items as they were; so do the inverse and its own.
+    #[test]
+    fn inverses() {
+        let items = |places: &[Place]| places.iter().map(|place| place.item).collect::<Vec<u32>>();
+        for edit in some() {
+            let mut places = opening(&[7, 8, 9, 10, 11]);
+            let before = items(&places);
+            let back = inverse(edit, &places, 2);
+            apply(edit, (1, 1), &mut places);
+            let (then, again) = (items(&places), inverse(back, &places, 2));
+            apply(back, (1, 2), &mut places);
+            assert_eq!(items(&places), before, "{edit:?}");
+            apply(again, (1, 3), &mut places);
+            assert_eq!(items(&places), then, "{edit:?}");
+        }
     }
 
     /// The packed edits of `plain` carry and move as the table says.

@@ -67,7 +67,8 @@ fn probes(end: u8, list: &mut List) {
     ];
     calls.extend(slots.iter().map(|&slot| Call::take(end, slot)));
     if end != 0 {
-        calls.extend([Call::insert(end, 1, 5), Call::delete(end, 1), Call::delete(end, 20)]);
+        calls.extend([Call::take_back(end), Call::insert(end, 1, 5), Call::take_back(end), Call::take_back(end)]);
+        calls.extend([Call::delete(end, 1), Call::delete(end, 20), Call::take_back(end)]);
     }
     for call in calls {
         list.calls.push(Call::dump(end));
@@ -121,6 +122,9 @@ pub fn ends(seed: u64) -> Vec<List> {
         let total = layout::seconds(&world.items(end as usize));
         for change in [u32::MAX, 1, 4096, 65_536] {
             add(&[Call::field(end, 1, Field::Total, total.wrapping_add(change))], end);
+        }
+        for sets in inverse_sets(end, damage::ranks(seed).get((end as usize).wrapping_sub(1)).copied()) {
+            add(&sets, end);
         }
         for (field, value) in rank_words(&damage::ranks(seed)) {
             add(&[Call::field(end, 0, field, value)], end);
@@ -214,6 +218,30 @@ fn pending_sets(end: u8, line: u8) -> Vec<Vec<Call>> {
     all
 }
 
+/// A client's inverse at the edges of both its words: every priority that another has, positions to 513 and past it, items that mean nothing. Each
+/// is asked before any other call, at a taking and at a taking back.
+fn inverse_sets(end: u8, rank: Option<u8>) -> Vec<Vec<Call>> {
+    let Some(rank) = rank.map(u32::from) else {
+        return Vec::new();
+    };
+    let mut all = Vec::new();
+    for position in [0, 1, 2, 19, 20, 21, 22, 511, 512, 513, 514, 515, 65_535] {
+        for (top, priority, item) in
+            [(0, 0, 0), (0, 0, 5), (0, rank, 0), (0, rank, 5), (0, rank % 3 + 1, 5), (1, 0, 0), (2, rank, 5), (128, 0, 0), (255, rank, 5)]
+        {
+            all.push(inverse(end, top << 24 | position << 8 | priority, item).to_vec());
+        }
+    }
+    all.extend([4, 5, 8, 9, 16 + rank, 32 + rank, 64 + rank, 128 + rank, 255].map(|priority| inverse(end, 1 << 8 | priority, 5).to_vec()));
+    all.extend([1, 255, 256, 1 << 16, 1 << 24, 1 << 31, u32::MAX].map(|item| inverse(end, 0, item).to_vec()));
+    all
+}
+
+/// A client's inverse, as place and item.
+pub fn inverse(end: u8, place: u32, item: u32) -> [Call; 2] {
+    [Call::field(end, 1, Field::InversePlace, place), Call::field(end, 1, Field::InverseItem, item)]
+}
+
 /// Several fields at once, so that one conjunct alone is false or a limit is reached with all others kept.
 fn together(end: u8, ranks: &[u8]) -> Vec<Vec<Call>> {
     if end == 0 {
@@ -230,7 +258,34 @@ fn together_at_client(end: u8, ranks: &[u8]) -> Vec<Vec<Call>> {
         indices.flat_map(|index| pending(end, 1, index, position << 8 | priority, 9 * (priority != 0) as u32)).collect()
     };
     let all_pending = |made: u32, acked: u32| [vec![set(Field::Made, made), set(Field::Acked, acked)], edits(0..64, 1, 0)].concat();
+    // no edit was made yet, and something is to be taken back
+    let unmade = |place: u32, item: u32| {
+        let none = vec![set(Field::Made, 0), set(Field::Acked, 0), set(Field::Inserts, 0)];
+        [none, edits(0..4, 0, 0), inverse(end, place, item).to_vec()].concat()
+    };
+    // acked above made, and nothing else wrong
+    let backwards = |acked: u32| [all_pending(0, acked), vec![set(Field::Inserts, 0)], inverse(end, 0, 0).to_vec()].concat();
+    let full = |made: u32, place: u32| [all_pending(made, made - 64), inverse(end, place, 0).to_vec()].concat();
     vec![
+        unmade(0, 0),
+        unmade(0, 5),
+        unmade(1 << 8, 0),
+        unmade(1 << 8 | rank, 5),
+        // 17 before 11 and 12, and unsound with nothing to take back
+        full(400, 0),
+        full(400, 1 << 8),
+        full(64, 0),
+        full(64, 1 << 8),
+        full(64, 1 << 8 | rank),
+        full(64, 513 << 8),
+        full(401, 0),
+        // every insert made: 10
+        [
+            vec![set(Field::Made, 400), set(Field::Acked, 400), set(Field::Inserts, 48)],
+            edits(0..4, 0, 0),
+            inverse(end, 1 << 8 | rank, 5).to_vec(),
+        ]
+        .concat(),
         all_pending(64, 0),
         all_pending(65, 0),
         all_pending(65, 1),
@@ -238,9 +293,9 @@ fn together_at_client(end: u8, ranks: &[u8]) -> Vec<Vec<Call>> {
         all_pending(401, 337),
         [all_pending(400, 336), vec![set(Field::Inserts, 48)]].concat(),
         [all_pending(400, 336), vec![set(Field::Inserts, 49)]].concat(),
-        all_pending(0, 1),
-        all_pending(0, 65_472),
-        all_pending(0, u32::MAX - 63),
+        backwards(1),
+        backwards(65_472),
+        backwards(u32::MAX - 63),
         vec![set(Field::Taken, 2800)],
         vec![set(Field::Taken, 2801)],
         vec![set(Field::N, 9), set(Field::Line, 9)],

@@ -10,6 +10,7 @@ pub trait Calls: Sync {
     fn client_open(&self, end: &mut [u8], n: u8, line: u8, ranks: &[u8], items: &[u8]) -> u64;
     fn client_insert(&self, end: &mut [u8], position: u16, item: u32) -> u64;
     fn client_delete(&self, end: &mut [u8], position: u16) -> u64;
+    fn client_take_back(&self, end: &mut [u8]) -> u64;
     fn client_send(&self, end: &[u8], line: u8, number: u16, out: &mut [u8]) -> u64;
     fn client_acknowledge(&self, end: &[u8], line: u8, out: &mut [u8]) -> u64;
     fn client_take(&self, end: &mut [u8], message: &[u8]) -> u64;

@@ -13,6 +13,8 @@ use crate::world::World;
 struct Mood {
     edits: usize,
     deletes: usize,
+    /// Take back the latest edit of a client, now and then twice.
+    takes_back: usize,
     /// Send the next edit of a line; half of these are taken at once.
     exchanges: usize,
     acknowledgements: usize,
@@ -68,6 +70,7 @@ impl Run {
         let mood = Mood {
             edits: rng.between(5, 60),
             deletes: rng.pick(&[10, 40, 50, 60, 90]),
+            takes_back: rng.pick(&[0, 3, 10, 30]),
             exchanges: rng.between(5, 60),
             acknowledgements: rng.pick(&[0, 2, 10]),
             strays: rng.pick(&[0, 5, 20]),
@@ -138,14 +141,16 @@ impl Run {
 
     pub fn action(&mut self) {
         let mood = self.mood;
-        let mut ticket = self.rng.below(mood.edits + mood.exchanges + mood.acknowledgements + mood.strays + mood.odd);
-        for (share, act) in [
+        let all = [
             (mood.edits, Run::edit as fn(&mut Run)),
+            (mood.takes_back, Run::take_back),
             (mood.exchanges, Run::exchange),
             (mood.acknowledgements, Run::acknowledge),
             (mood.strays, Run::stray),
             (mood.odd, Run::nonsense),
-        ] {
+        ];
+        let mut ticket = self.rng.below(all.iter().map(|(share, _)| share).sum());
+        for (share, act) in all {
             if ticket < share {
                 return act(self);
             }
@@ -167,6 +172,14 @@ impl Run {
         let item = if self.rng.once_in(2) { self.rng.below(9) as u32 } else { self.rng.next() as u32 };
         let call = if insert { Call::insert(l as u8, position, item) } else { Call::delete(l as u8, position) };
         self.call_and_look(call);
+    }
+
+    fn take_back(&mut self) {
+        let l = self.line() as u8;
+        self.call_and_look(Call::take_back(l));
+        if self.rng.once_in(4) {
+            self.call_and_look(Call::take_back(l));
+        }
     }
 
     /// Sends the next edit that the other end lacks, or another pending one, and often has it taken at once.
@@ -212,16 +225,18 @@ impl Run {
     fn nonsense(&mut self) {
         let (end, slot) = (self.rng.below(LINES + 1) as u8, self.slot());
         let line = self.rng.below(LINES + 2) as u8;
-        let call = match self.rng.below(10) {
+        let call = match self.rng.below(13) {
             0 => Call::insert(end.max(1), 1, 5),
             1 => Call::send(end, line, 1, slot, 20),
             2 => Call::acknowledge(end, line, slot, 20),
-            3 => Call { op: self.rng.between(COPY as usize + 1, 255) as u8, ..Call::dump(end) },
+            3 => Call { op: self.rng.between(TAKE_BACK as usize + 1, 255) as u8, ..Call::dump(end) },
             4 => Call::insert(0, 1, 5),
             5 => Call::take(end, slot | 64),
             6 => Call::acknowledge(end, line, slot, SLOT as u8 + 1),
             7 => Call { number: self.rng.pick(&[1, 2, 255, 256]), ..Call::take(end, slot) },
-            8 => self.refused_opening(end),
+            8 | 11 => self.refused_opening(end),
+            9 => Call::take_back(end.max(1)),
+            10 => Call::take_back(0),
             _ => {
                 // a byte changed so that the slot most likely holds no message
                 let (at, length) = (self.rng.below(3) as u16, self.world.message(slot).len() as u8);

@@ -34,7 +34,7 @@ impl Run {
         let place = self.rng.pick(&[0, 1, 2, 511, 512, 513, 65_535]) << 8 | self.rng.below(10) as u32;
         let origin = layout::origin_word((self.rng.between(0, 9) as u8, self.rng.pick(&[0, 1, 2, 399, 400, 401, 65_535])));
         let total = layout::seconds(&self.world.items(end as usize));
-        let (field, value) = match self.rng.below(16) {
+        let (field, value) = match self.rng.below(18) {
             0 => (Field::N, self.rng.below(10) as u32),
             1 => (Field::Line, self.rng.below(10) as u32),
             2 => (Field::Length, count),
@@ -50,6 +50,8 @@ impl Run {
             12 => (Field::Origin(index), origin),
             13 => (Field::PendingOrigin(index), origin),
             14 => (Field::Total, total.wrapping_add(self.rng.pick(&[u32::MAX, 0, 1, 2, 4096, 65_536]))),
+            15 => (Field::InversePlace, self.inverse(end) | self.rng.pick(&[0, 0, 0, 1, 2, 255]) << 24),
+            16 => (Field::InverseItem, self.rng.below(2) as u32),
             _ => return self.overwrite_all(end),
         };
         let value = if self.rng.once_in(6) { value | 1 << self.rng.between(8, 31) } else { value };
@@ -57,6 +59,14 @@ impl Run {
             self.call(Call::set(end, word, value));
             self.call(Call::dump(end));
         }
+    }
+
+    /// An inverse near the edges of where one may stand, mostly with the client's rank or none.
+    fn inverse(&mut self, end: u8) -> u32 {
+        let own = self.ranks.get((end as usize).wrapping_sub(1)).map_or(1, |&rank| rank as u32);
+        let priority = if self.rng.once_in(4) { self.rng.below(10) as u32 } else { self.rng.pick(&[0, own]) };
+        let length = self.world.items(end as usize).len() as u32;
+        self.rng.pick(&[0, 1, 2, length, length + 1, 511, 512, 513, 514, 65_535]) << 8 | priority
     }
 
     /// A word of ranks: of another ranking, or with a byte of it spoilt.

@@ -6,7 +6,7 @@ use crate::limits::*;
 
 /// Words before the counts: n, the line or the count of opening items, the length, and eight ranks in two words.
 const HEAD: u16 = 5;
-pub const CLIENT_WORDS: usize = HEAD as usize + 4 + 1 + ITEMS + 2 * PENDING + ITEMS;
+pub const CLIENT_WORDS: usize = HEAD as usize + 4 + 1 + 2 + ITEMS + 2 * PENDING + ITEMS;
 pub const SERVER_WORDS: usize = HEAD as usize + 4 * LINES + 1 + ITEMS + 2 * LINES * PENDING + ITEMS + LINES * PENDING;
 
 /// Words of an end.
@@ -40,6 +40,9 @@ pub enum Field {
     Inserts,
     /// The seconds of the list's items together.
     Total,
+    /// The inverse of the latest edit, which a client has: position * 256 + priority, and its item.
+    InversePlace,
+    InverseItem,
     Item(u16),
     /// Position * 256 + priority of a pending edit.
     Place(u16),
@@ -55,12 +58,17 @@ pub enum Field {
 pub const NUMBERS: [Field; 9] =
     [Field::N, Field::Line, Field::Length, Field::Initial, Field::Made, Field::Taken, Field::Acked, Field::Inserts, Field::Total];
 
+/// Where the list's items begin, behind the total and a client's inverse.
+fn first_item(end: u8, total: u16) -> u16 {
+    total + 1 + if end == 0 { 0 } else { 2 }
+}
+
 /// The word of a field, of line `line` where the server has one for each; none if the end has no such field.
 pub fn word(end: u8, line: u8, field: Field) -> Option<u16> {
     let lines = if end == 0 { LINES as u16 } else { 1 };
     let at = if end == 0 { (line as u16).wrapping_sub(1) } else { 0 };
     let total = HEAD + 4 * lines;
-    let items = total + 1;
+    let items = first_item(end, total);
     let places = items + ITEMS as u16;
     let pending = PENDING as u16;
     let origins = places + 2 * pending * lines;
@@ -71,6 +79,8 @@ pub fn word(end: u8, line: u8, field: Field) -> Option<u16> {
         Field::Length => Some(2),
         Field::Ranks(half) => (half < 2).then_some(3 + half),
         Field::Total => Some(total),
+        Field::InversePlace => (end != 0).then_some(total + 1),
+        Field::InverseItem => (end != 0).then_some(total + 2),
         Field::Item(index) => (index < ITEMS as u16).then_some(items + index),
         Field::Origin(index) => (index < ITEMS as u16).then_some(origins + index),
         _ if at >= lines => None,
@@ -110,7 +120,7 @@ pub fn read(bytes: &[u8], word: u16) -> u32 {
 pub fn name(end: u8, index: u16) -> String {
     let lines = if end == 0 { LINES as u16 } else { 1 };
     let total = HEAD + 4 * lines;
-    let items = total + 1;
+    let items = first_item(end, total);
     let places = items + ITEMS as u16;
     let origins = places + 2 * PENDING as u16 * lines;
     let of = |line: u16| if end == 0 { format!(" of line {line}") } else { String::new() };
@@ -125,6 +135,8 @@ pub fn name(end: u8, index: u16) -> String {
         format!("{name}{}", of(line))
     } else if index == total {
         "total".to_string()
+    } else if index < items {
+        ["place of the inverse", "item of the inverse"][(index - total) as usize - 1].to_string()
     } else if index < places {
         format!("items[{}]", index - items)
     } else if index < origins {
@@ -147,16 +159,19 @@ mod tests {
     /// The words that the layout names.
     #[test]
     fn named_words() {
-        assert_eq!((CLIENT_WORDS, SERVER_WORDS), (1162, 2598));
+        assert_eq!((CLIENT_WORDS, SERVER_WORDS), (1164, 2598));
         for (end, line, field, at) in [
             (1, 1, Field::Ranks(0), 3),
             (1, 1, Field::Inserts, 8),
             (1, 1, Field::Total, 9),
-            (1, 1, Field::Item(511), 521),
-            (1, 1, Field::Place(0), 522),
-            (1, 1, Field::Brought(63), 649),
-            (1, 1, Field::Origin(0), 650),
-            (1, 1, Field::Origin(511), 1161),
+            (1, 1, Field::InversePlace, 10),
+            (1, 1, Field::InverseItem, 11),
+            (1, 1, Field::Item(0), 12),
+            (1, 1, Field::Item(511), 523),
+            (1, 1, Field::Place(0), 524),
+            (1, 1, Field::Brought(63), 651),
+            (1, 1, Field::Origin(0), 652),
+            (1, 1, Field::Origin(511), 1163),
             (0, 0, Field::Initial, 1),
             (0, 0, Field::Ranks(1), 4),
             (0, 1, Field::Made, 5),
@@ -179,14 +194,18 @@ mod tests {
         }
         assert_eq!(word(0, 0, Field::Line), None);
         assert_eq!(word(1, 1, Field::Initial), None);
+        assert_eq!(word(0, 1, Field::InversePlace), None);
+        assert_eq!(word(0, 1, Field::InverseItem), None);
         assert_eq!(word(1, 1, Field::Ranks(2)), None);
         assert_eq!(word(1, 1, Field::PendingOrigin(0)), None);
         assert_eq!(word(0, 1, Field::PendingOrigin(64)), None);
         assert_eq!(name(0, 1572), "item of pending edit 62 of line 8");
-        assert_eq!(name(1, 585), "place of pending edit 63");
+        assert_eq!(name(1, 587), "place of pending edit 63");
         assert_eq!(name(1, 4), "ranks of lines 5 to 8");
         assert_eq!((name(1, 9), name(0, 37)), ("total".to_string(), "total".to_string()));
-        assert_eq!(name(1, 1161), "origin of items[511]");
+        assert_eq!((name(1, 10), name(1, 11)), ("place of the inverse".to_string(), "item of the inverse".to_string()));
+        assert_eq!((name(1, 12), name(0, 38)), ("items[0]".to_string(), "items[0]".to_string()));
+        assert_eq!(name(1, 1163), "origin of items[511]");
         assert_eq!(name(0, 2085), "origin of items[511]");
         assert_eq!(name(0, 2150), "origin of pending edit 0 of line 2");
         assert_eq!(origin_word((3, 400)), 196_608 + 400);

@@ -35,6 +35,7 @@ pub const DUMP: u8 = 8;
 pub const SHOW: u8 = 9;
 pub const FILL: u8 = 10;
 pub const COPY: u8 = 11;
+pub const TAKE_BACK: u8 = 12;
 
 #[derive(Clone, Copy, PartialEq, Eq, Debug, Default)]
 pub struct Call {
@@ -74,6 +75,10 @@ impl Call {
 
     pub fn delete(end: u8, position: u16) -> Call {
         Call { op: DELETE, end, position, ..Call::default() }
+    }
+
+    pub fn take_back(end: u8) -> Call {
+        Call { op: TAKE_BACK, end, ..Call::default() }
     }
 
     pub fn send(end: u8, line: u8, number: u16, slot: u8, size: u8) -> Call {
@@ -143,7 +148,12 @@ impl Call {
 
     /// Whether this is one of the exported calls.
     pub fn exported(&self) -> bool {
-        matches!(self.op, OPEN | INSERT | DELETE | SEND | ACKNOWLEDGE | TAKE)
+        matches!(self.op, OPEN | INSERT | DELETE | SEND | ACKNOWLEDGE | TAKE | TAKE_BACK)
+    }
+
+    /// Whether this is a client's edit.
+    pub fn edits(&self) -> bool {
+        matches!(self.op, INSERT | DELETE | TAKE_BACK)
     }
 
     /// Whether the call names an end.
@@ -155,9 +165,9 @@ impl Call {
     pub fn is_one(&self) -> bool {
         let of_slot = matches!(self.op, SEND | ACKNOWLEDGE | TAKE | POKE | SHOW);
         let sized = matches!(self.op, SEND | ACKNOWLEDGE | POKE);
-        self.op <= COPY
+        self.op <= TAKE_BACK
             && (!self.has_end() || self.end as usize <= LINES)
-            && !(matches!(self.op, INSERT | DELETE) && self.end == 0)
+            && !(self.edits() && self.end == 0)
             && !(of_slot && self.slot as usize >= SLOTS)
             && !(sized && self.size as usize > SLOT)
             && match self.op {

@@ -16,6 +16,7 @@ extern "C" {
     ) -> u64;
     fn lub_client_insert(end: *mut u8, bytes: usize, position: u16, item: u32) -> u64;
     fn lub_client_delete(end: *mut u8, bytes: usize, position: u16) -> u64;
+    fn lub_client_take_back(end: *mut u8, bytes: usize) -> u64;
     fn lub_client_send(end: *const u8, bytes: usize, line: u8, number: u16, out: *mut u8, out_bytes: usize) -> u64;
     fn lub_client_acknowledge(end: *const u8, bytes: usize, line: u8, out: *mut u8, out_bytes: usize) -> u64;
     fn lub_client_take(end: *mut u8, bytes: usize, message: *const u8, message_bytes: usize) -> u64;
@@ -54,6 +55,10 @@ impl Calls for Proved {
 
     fn client_delete(&self, end: &mut [u8], position: u16) -> u64 {
         unsafe { lub_client_delete(end.as_mut_ptr(), end.len(), position) }
+    }
+
+    fn client_take_back(&self, end: &mut [u8]) -> u64 {
+        unsafe { lub_client_take_back(end.as_mut_ptr(), end.len()) }
     }
 
     fn client_send(&self, end: &[u8], line: u8, number: u16, out: &mut [u8]) -> u64 {

@@ -1,5 +1,6 @@
 //! What can be said of every run, hostile ones too, from its own dumps: question 2 read literally, clause by clause, what an opening leaves,
-//! when 18, 1 and 16 are given, that a refusal changes nothing, and that a taking changes the list at the position applied.
+//! when 18, 1 and 16 are given, that a refusal changes nothing, that a taking changes the list at the position applied, and that taking back right
+//! after an edit leaves the items as they were before it.
 
 use crate::describe::had_to_stay;
 use crate::layout::{self, Field};
@@ -7,14 +8,16 @@ use crate::limits::*;
 use crate::list::*;
 use crate::oracle::{opening_refusal, Wrong};
 
+/// An edit as a dump shows it: the place's top byte, position, priority; item.
+type Slot = (u64, u64, u64, u64);
+
 /// A line as a dump shows it.
 struct Line {
     made: u64,
     taken: u64,
     acked: u64,
     inserts: u64,
-    /// the place's top byte, position, priority; item
-    pending: Vec<(u64, u64, u64, u64)>,
+    pending: Vec<Slot>,
     /// The pending edits' makers and their numbers, slot by slot; a client has none.
     origins: Vec<(u64, u64)>,
 }
@@ -39,11 +42,14 @@ impl View {
         (word >> 16, word & 65_535)
     }
 
+    /// The edit that a place and an item hold.
+    fn edit(&self, line: u8, place: Field, item: Field) -> Slot {
+        let (place, item) = (self.number(line, place), self.number(line, item));
+        (place >> 24, place >> 8 & 65_535, place & 255, item)
+    }
+
     fn line(&self, line: u8) -> Line {
-        let edit = |index: u16| {
-            let (place, item) = (self.number(line, Field::Place(index)), self.number(line, Field::Brought(index)));
-            (place >> 24, place >> 8 & 65_535, place & 255, item)
-        };
+        let edit = |index: u16| self.edit(line, Field::Place(index), Field::Brought(index));
         Line {
             made: self.number(line, Field::Made),
             taken: self.number(line, Field::Taken),
@@ -101,6 +107,16 @@ fn sound_origins(line: &Line, own: u64, n: u64) -> bool {
         && unused.iter().all(|&origin| origin == (0, 0))
 }
 
+/// The stored inverse: nothing, a delete or an insert of the client's rank at 1 to 513; nothing where no edit was made.
+fn sound_inverse((top, position, priority, item): Slot, rank: u64, made: u64) -> bool {
+    if (top, position, priority, item) == (0, 0, 0, 0) {
+        return true;
+    }
+    let delete = priority == 0 && item == 0;
+    let insert = priority != 0 && priority == rank;
+    made > 0 && top == 0 && (1..=513).contains(&position) && (delete || insert)
+}
+
 fn sound_client(dump: &[u8]) -> bool {
     let view = View::new(1, dump);
     let [n, line, length] = [Field::N, Field::Line, Field::Length].map(|field| view.number(1, field));
@@ -114,6 +130,7 @@ fn sound_client(dump: &[u8]) -> bool {
         && sound_pending(&own, |priority| priority == ranks[line as usize - 1] as u64)
         && own.inserts <= 48
         && own.inserts <= own.made
+        && sound_inverse(view.edit(1, Field::InversePlace, Field::InverseItem), ranks[line as usize - 1] as u64, own.made)
         && unused_places_are_zero(&view.places(), length)
         && is_running_time(&view, length)
 }
@@ -172,12 +189,23 @@ fn opened(call: &Call, initial: &[u32]) -> Vec<u8> {
     words.iter().flat_map(|word| word.to_le_bytes()).collect()
 }
 
+/// The bytes of an end's length and items.
+fn items(end: u8, bytes: &[u8]) -> Vec<u8> {
+    let word = |field: Field| 4 * layout::word(end, 1, field).unwrap() as usize;
+    let (length, first) = (word(Field::Length), word(Field::Item(0)));
+    [&bytes[length..length + 4], &bytes[first..first + 4 * ITEMS]].concat()
+}
+
 /// What is known of an end.
 #[derive(Default)]
 struct Known {
     /// Its bytes, and whether they are sound.
     end: Option<(Vec<u8>, bool)>,
     since: Since,
+    /// The items before its latest edit, as long as nothing was taken since.
+    before: Option<Vec<u8>>,
+    /// The items that the next dump has to show, as taking back left them.
+    back: Option<Vec<u8>>,
 }
 
 /// What was accepted since: the list and counts may have changed, but the end has to be sound if it was.
@@ -208,7 +236,7 @@ fn changed_at(end: u8, position: u16, before: &[u8], now: &[u8]) -> bool {
 /// Checks a whole run: 18 exactly with too few lent bytes, 1 and 16 exactly by their questions, 2 exactly at unsound ends, openings give their
 /// end, refusals change nothing and have no count, length or position, takings alone have positions, accepted calls keep ends sound.
 pub fn check(list: &List, out: &[u8]) -> Result<(), Wrong> {
-    let fresh = |end: u8| Known { end: Some((vec![FRESH; layout::bytes(end)], false)), since: Since::Nothing };
+    let fresh = |end: u8| Known { end: Some((vec![FRESH; layout::bytes(end)], false)), ..Known::default() };
     let mut ends: Vec<Known> = (0..=LINES as u8).map(fresh).collect();
     let mut at = 0;
     for (index, call) in list.calls.iter().enumerate() {
@@ -252,7 +280,12 @@ fn seen(known: &mut Known, call: &Call, now: &[u8]) -> Result<(), String> {
             }
         }
     }
-    *known = Known { end: Some((now.to_vec(), is_sound)), since: Since::Nothing };
+    if let Some(back) = known.back.take() {
+        if back != items(call.end, now) {
+            return Err("list: expected the items as before the edit that was taken back; came others".to_string());
+        }
+    }
+    (known.end, known.since) = (Some((now.to_vec(), is_sound)), Since::Nothing);
     Ok(())
 }
 
@@ -299,9 +332,13 @@ fn called(known: &mut Known, call: &Call, initial: &[u32], bytes: &[u8]) -> Resu
         return Err(format!("refusal: expected {expected}; came {refusal} (the end is {state})"));
     }
     if refusal == 0 && call.op == OPEN {
-        *known = Known { end: Some((opened(call, initial), true)), since: Since::Nothing };
+        *known = Known { end: Some((opened(call, initial), true)), ..Known::default() };
     }
-    if refusal == 0 && matches!(call.op, INSERT | DELETE | TAKE) {
+    if refusal == 0 && (call.edits() || call.op == TAKE) {
+        let dumped = known.end.as_ref().filter(|_| known.since == Since::Nothing).map(|(bytes, _)| items(call.end, bytes));
+        let shown = known.back.take().or(dumped);
+        known.back = known.before.take().filter(|_| call.op == TAKE_BACK);
+        known.before = shown.filter(|_| call.edits());
         let first = known.since == Since::Nothing && call.op == TAKE;
         known.since = if first { Since::Taking(answer.applied) } else { Since::More };
     }

@@ -147,6 +147,7 @@ impl<'a, C: Calls + ?Sized> World<'a, C> {
             (OPEN, _) => calls.client_open(end, call.size, call.line, &call.ranks(), &items(call, initial)),
             (INSERT, _) => calls.client_insert(end, call.position, call.value),
             (DELETE, _) => calls.client_delete(end, call.position),
+            (TAKE_BACK, _) => calls.client_take_back(end),
             (SEND, 0) => calls.server_send(end, call.line, call.number, &mut out[..call.size as usize]),
             (SEND, _) => calls.client_send(end, call.line, call.number, &mut out[..call.size as usize]),
             (ACKNOWLEDGE, 0) => calls.server_acknowledge(end, call.line, &mut out[..call.size as usize]),

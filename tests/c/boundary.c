@@ -1,5 +1,5 @@
 /* The exported calls from C: the marked cases of the rule book, its edges, ranks, origins, running times, the positions that a taking
- * reports, and the refusals 1, 2, 3, 4, 14, 16 and 18, with every lent byte compared before and after. Prints what differs and returns 1,
+ * reports, taking back, and the refusals 1, 2, 3, 4, 14, 16, 17 and 18, with every lent byte compared before and after. Prints what differs and returns 1,
  * or prints how many comparisons were made. */
 #include <stdio.h>
 #include <string.h>
@@ -122,6 +122,8 @@ static uint64_t insert(unsigned line, unsigned position, uint32_t item) {
 static uint64_t delete_at(unsigned line, unsigned position) {
     return lub_client_delete(client(line), sizeof clients[0], (uint16_t)position);
 }
+
+static uint64_t take_back(unsigned line) { return lub_client_take_back(client(line), sizeof clients[0]); }
 
 /* A place of a list: the item, the line of its maker and the number of that maker's edit. */
 struct place {
@@ -352,6 +354,7 @@ static void four_hundred_edits(void) {
     same("edit 400: its number", 400, lub_client_maker_number(end, 1));
     remember(1);
     refused("edit 401", 1, LUB_REFUSED_EDITS, insert(1, 1, 8));
+    refused("edit 401, a taking back", 1, LUB_REFUSED_EDITS, take_back(1));
 }
 
 /* Question 12 at the server, and seen at both of its edges. */
@@ -839,10 +842,10 @@ static void damaged_origins(void) {
     for (line = 4; line <= LUB_LINES; line++)
         server_word("an origin of a line past n", 2086 + LUB_PENDING * (size_t)(line - 1), ORIGIN(1, 1), 2);
     server_word("any origin on the list", 1574, 0xffffffffu, 0);
-    client_word("any origin on the list", 650, 0xffffffffu, 0);
+    client_word("any origin on the list", 652, 0xffffffffu, 0);
     for (slot = 2; slot < LUB_ITEMS; slot++) {
         server_word("an origin past the list's end", 1574 + slot, ORIGIN(0, slot + 1), 2);
-        client_word("an origin past the list's end", 650 + slot, ORIGIN(0, slot + 1), 2);
+        client_word("an origin past the list's end", 652 + slot, ORIGIN(0, slot + 1), 2);
     }
     same("as it was", 0, down(2, 1));
     same("client 2 acknowledges", 0, acknowledge_up(2));
@@ -881,13 +884,15 @@ static void damaged(void) {
     for (at = 0; at < LUB_CLIENT_BYTES; at++) {
         if (at % 4 < 2 && (at < 12 || (at >= 20 && at < 36)))
             continue; /* the low bytes of a number may make another sound end */
-        if (at >= 40 && at < 52 && at % 4 > 0)
+        if (at == 41)
+            continue; /* the position of the inverse: another is sound too */
+        if (at >= 48 && at < 60 && at % 4 > 0)
             continue; /* the codes of the list's three items may be anything; bit 7 of an item's first byte is among its seconds */
-        if (at >= 2088 && at < 2092)
+        if (at >= 2096 && at < 2100)
             continue; /* the pending place: another position is sound too */
-        if (at >= 2344 && at < 2348)
+        if (at >= 2352 && at < 2356)
             continue; /* the pending item */
-        if (at >= 2600 && at < 2612)
+        if (at >= 2608 && at < 2620)
             continue; /* nothing is asked of the three items' origins */
         client(1)[at] ^= 0x80;
         remember(1);
@@ -1017,6 +1022,7 @@ static void client_refuses(const char *what, size_t word, uint32_t value, const 
     remember(1);
     refused(what, 1, LUB_REFUSED_UNSOUND, insert(1, 1, 7));
     refused(what, 1, LUB_REFUSED_UNSOUND, delete_at(1, 1));
+    refused(what, 1, LUB_REFUSED_UNSOUND, take_back(1));
     refused(what, 1, LUB_REFUSED_UNSOUND, lub_client_send(client(1), sizeof clients[0], 1, 1, out, sizeof out));
     refused(what, 1, LUB_REFUSED_UNSOUND, lub_client_acknowledge(client(1), sizeof clients[0], 1, out, sizeof out));
     refused(what, 1, LUB_REFUSED_UNSOUND, lub_client_take(client(1), sizeof clients[0], message, length));
@@ -1069,11 +1075,11 @@ static void damaged_totals(void) {
     total_is("the server", 0, 4390);
     every_other_total(to_client, down_length, to_server, up_length);
     for (bit = 0; bit < 32; bit++) {
-        client_word("an item's seconds and code", 11, lub_word(client(1), 11) ^ 1u << bit, bit < 12 ? LUB_REFUSED_UNSOUND : 0);
+        client_word("an item's seconds and code", 13, lub_word(client(1), 13) ^ 1u << bit, bit < 12 ? LUB_REFUSED_UNSOUND : 0);
         server_word("an item's seconds and code", 39, lub_word(server, 39) ^ 1u << bit, bit < 12 ? LUB_REFUSED_UNSOUND : 0);
     }
     put_word(client(1), 9, 4387);
-    put_word(client(1), 11, 0x00001fffu);
+    put_word(client(1), 13, 0x00001fffu);
     put_word(server, 37, 4391);
     put_word(server, 39, 0x00001fffu);
     same("an item and the total", edit_taken(1, 1, 2), lub_client_take(client(1), sizeof clients[0], to_client, down_length));
@@ -1096,6 +1102,241 @@ static void empty_total(void) {
     total_is("none", 1, 0);
 }
 
+/* ---- taking back */
+
+/* The inverse that a client stores: position, priority and item. */
+static void inverse_is(const char *what, unsigned line, unsigned position, unsigned priority, uint32_t item) {
+    same(what, position << 8 | priority, lub_word(client(line), 10));
+    same(what, item, lub_word(client(line), 11));
+}
+
+/* An insert and a delete taken back, each again and again: every one is an edit of its own. Client 1 has rank 2. */
+static void taken_back(void) {
+    static const uint8_t ranks[2] = {2, 1};
+    static const uint32_t opening[3] = {10, 20, 30};
+    static const uint8_t put_back[17] = {5, 1, 0, 0, 6, 0, 0, 0, 2, 0, 0, 0, 20, 2, 1, 0, 6};
+    struct place with[4] = {{10, 0, 1}, {40, 1, 1}, {20, 0, 2}, {30, 0, 3}};
+    struct place without[3] = {{10, 0, 1}, {20, 0, 2}, {30, 0, 3}};
+    static const struct place less[2] = {{10, 0, 1}, {30, 0, 3}};
+    open_ranked(2, ranks, opening, 3);
+    remember(1);
+    refused("no edit was made", 1, LUB_REFUSED_NOTHING, take_back(1));
+    inverse_is("nothing", 1, 0, 0, 0);
+    same("client 1 inserts", 0, insert(1, 2, 40));
+    inverse_is("it deletes that place", 1, 2, 0, 0);
+    client_shows("inserted", 1, with, 4);
+    same("taken back", 0, take_back(1));
+    client_shows("as before the insert", 1, without, 3);
+    inverse_is("it inserts the item again", 1, 2, 2, 40);
+    same("taken back again", 0, take_back(1));
+    with[1].number = 3;
+    client_shows("inserted again, a new step", 1, with, 4);
+    same("and again", 0, take_back(1));
+    client_shows("as before the insert", 1, without, 3);
+    same("four edits", 4, lub_client_made(client(1)));
+    same("client 1 deletes", 0, delete_at(1, 2));
+    inverse_is("it inserts the lost item", 1, 2, 2, 20);
+    same("taken back", 0, take_back(1));
+    without[1].maker = 1;
+    without[1].number = 6;
+    client_shows("items as before the delete, a new step", 1, without, 3);
+    same("taken back again", 0, take_back(1));
+    client_shows("deleted again", 1, less, 2);
+    same("three inserts so far", 3, lub_word(client(1), 8));
+    same("and again", 0, take_back(1));
+    same("it counts as an insert", 4, lub_word(client(1), 8));
+    same("eight edits", 8, lub_client_made(client(1)));
+    same("a bad position", LUB_REFUSED_POSITION, insert(1, 9, 1));
+    inverse_is("a refused edit leaves the inverse", 1, 2, 0, 0);
+    same("edit 6 is an insert like any other", 17u << 8, lub_client_send(client(1), sizeof clients[0], 1, 6, out, sizeof out));
+    same_bytes("with a number and an origin of its own", put_back, out, sizeof put_back);
+    rest_stays("taken back: bytes behind the layout");
+}
+
+/* Client 1 deletes the second of three items. Client 2 inserts at its place, or deletes in front. Then client 1 takes its delete back. The
+ * smaller rank stands first. */
+static void taken_back_later(void) {
+    static const uint8_t other_first[2] = {2, 1};
+    static const uint32_t opening[3] = {10, 20, 30};
+    static const struct place behind[4] = {{10, 0, 1}, {50, 2, 1}, {20, 1, 2}, {30, 0, 3}};
+    static const struct place in_front[4] = {{10, 0, 1}, {20, 1, 2}, {50, 2, 1}, {30, 0, 3}};
+    static const struct place alone[2] = {{20, 1, 2}, {30, 0, 3}};
+    unsigned order, line;
+    for (order = 0; order < 3; order++) {
+        const struct place *end = order == 0 ? behind : order == 1 ? in_front : alone;
+        unsigned count = order == 2 ? 2 : 4;
+        open_ranked(2, order == 0 ? other_first : by_line, opening, 3);
+        same("client 1 deletes", 0, delete_at(1, 2));
+        same("client 2 edits", 0, order == 2 ? delete_at(2, 1) : insert(2, 2, 50));
+        same("it goes up", 0, up(2, 1));
+        same("client 1 takes it", 0, down(1, 1));
+        same("an acknowledgement leaves the inverse", 0, acknowledge_down(1));
+        same("client 1 takes its delete back", 0, take_back(1));
+        client_shows("put back where it belongs", 1, end, count);
+        same("both go up", 0, up(1, 1));
+        same("both go up", 0, up(1, 2));
+        same("client 2 takes both", 0, down(2, 1));
+        same("client 2 takes both", 0, down(2, 2));
+        server_shows("taken back: the server", end, count);
+        for (line = 1; line <= 2; line++)
+            client_shows("taken back: a client", line, end, count);
+    }
+}
+
+/* The edit that arrives moves past two inserts at the front: the inverse goes past the form that is applied. */
+static void taken_back_past_applied(void) {
+    static const uint32_t opening[3] = {10, 20, 30};
+    static const struct place end[6] = {{61, 1, 2}, {60, 1, 1}, {10, 0, 1}, {20, 1, 4}, {50, 2, 1}, {30, 0, 3}};
+    open_sheet(2, opening, 3);
+    same("client 1 inserts", 0, insert(1, 1, 60));
+    same("client 1 inserts", 0, insert(1, 1, 61));
+    same("client 1 deletes", 0, delete_at(1, 4));
+    same("client 2 inserts", 0, insert(2, 3, 50));
+    same("it goes up", 0, up(2, 1));
+    same("it arrives at 3 and is applied at 4", edit_taken(3, 3, 4), taken_down(1, 1));
+    inverse_is("client 1 goes first and stays", 1, 4, 1, 20);
+    same("taken back", 0, take_back(1));
+    client_shows("before the other's insert", 1, end, 6);
+    same("a front insert of client 2", 0, insert(2, 1, 70));
+    same("it goes up", 0, up(2, 2));
+    same("it is applied behind the two", edit_taken(4, 1, 3), taken_down(1, 2));
+    inverse_is("what deletes it moves up", 1, 5, 0, 0);
+    same("taken back again", 0, take_back(1));
+    same("its item is off the list", 50, lub_client_item(client(1), 5));
+}
+
+/* Client 2 deletes what client 1 inserted: nothing is left to take back, until the next edit. */
+static void nothing_to_take_back(void) {
+    static const uint32_t opening[2] = {10, 20};
+    static const struct place end[2] = {{10, 1, 3}, {20, 0, 2}};
+    open_sheet(2, opening, 2);
+    same("client 1 inserts", 0, insert(1, 2, 40));
+    same("it goes up", 0, up(1, 1));
+    same("client 2 takes it", 0, down(2, 1));
+    same("and deletes it", 0, delete_at(2, 2));
+    same("which goes up", 0, up(2, 1));
+    same("client 1 takes it", edit_taken(0, 2, 2), taken_down(1, 1));
+    inverse_is("nothing", 1, 0, 0, 0);
+    remember(1);
+    refused("it became nothing", 1, LUB_REFUSED_NOTHING, take_back(1));
+    refused("asked again", 1, LUB_REFUSED_NOTHING, take_back(1));
+    same("client 1 deletes", 0, delete_at(1, 1));
+    same("which is taken back", 0, take_back(1));
+    client_shows("put back", 1, end, 2);
+}
+
+/* 9 to 12 of taking back, and 17 before them. Refused, no byte changes. */
+static void taken_back_at_limits(void) {
+    static uint32_t opening[LUB_INITIAL];
+    unsigned i;
+    open_sheet(1, opening, LUB_INITIAL);
+    for (i = 1; i <= LUB_PENDING; i++)
+        same("64 pending", 0, delete_at(1, 1));
+    remember(1);
+    refused("65 pending", 1, LUB_REFUSED_PENDING, take_back(1));
+    refused("an edit elsewhere leaves the inverse", 1, LUB_REFUSED_PENDING, insert(1, 5, 7));
+    put_word(client(1), 10, 0);
+    put_word(client(1), 11, 0);
+    remember(1);
+    refused("17 before 12", 1, LUB_REFUSED_NOTHING, take_back(1));
+    put_word(client(1), 10, 1u << 8 | 1);
+    settle(1, LUB_PENDING);
+    same("all acknowledged", 0, take_back(1));
+    open_sheet(1, NULL, 0);
+    for (i = 1; i <= LUB_INSERTS; i++)
+        same("48 inserts", 0, insert(1, 1, i));
+    same("a delete", 0, delete_at(1, 1));
+    remember(1);
+    refused("insert 49", 1, LUB_REFUSED_INSERTS, take_back(1));
+    /* 47 items: a delete fits at 1 to 47, an insert at 1 to 48 */
+    put_word(client(1), 10, 48u << 8);
+    put_word(client(1), 11, 0);
+    remember(1);
+    refused("a delete past the list", 1, LUB_REFUSED_POSITION, take_back(1));
+    put_word(client(1), 10, 49u << 8 | 1);
+    remember(1);
+    refused("9 before 10", 1, LUB_REFUSED_POSITION, take_back(1));
+    put_word(client(1), 10, 47u << 8);
+    same("a delete at the end", 0, take_back(1));
+    same("46 items", 46, lub_client_length(client(1)));
+}
+
+/* An inverse at 512 by hand moves to 513, and no further: taking then asks 9. */
+static void inverse_at_its_end(void) {
+    static const uint8_t ranks[2] = {2, 1};
+    static const uint32_t opening[2] = {10, 20};
+    uint8_t message[17] = {5, 1, 1, 0, 1, 0, 0, 0, 1, 0, 0, 0, 7, 1, 2, 0, 1};
+    unsigned priority;
+    for (priority = 0; priority <= 2; priority += 2) {
+        open_ranked(2, ranks, opening, 2);
+        same("client 1 deletes", 0, delete_at(1, 1));
+        put_word(client(1), 10, 512u << 8 | priority);
+        put_word(client(1), 11, priority == 0 ? 0 : 9);
+        message[4] = 1;
+        same("an insert at the front", edit_taken(1, 1, 1), lub_client_take(client(1), sizeof clients[0], message, sizeof message));
+        inverse_is("513", 1, 513, priority, priority == 0 ? 0 : 9);
+        message[4] = 2;
+        remember(1);
+        refused("514", 1, LUB_REFUSED_POSITION, lub_client_take(client(1), sizeof clients[0], message, sizeof message));
+        refused("past the list", 1, LUB_REFUSED_POSITION, take_back(1));
+    }
+}
+
+/* Question 2 of an inverse at a client of rank 2 of three that has made an edit, or none. */
+static unsigned inverse_refusal(uint32_t place, uint32_t item, int made) {
+    uint32_t position = place >> 8, priority = place & 0xff;
+    if (place == 0 && item == 0)
+        return 0;
+    if (!made || position < 1 || position > 513)
+        return LUB_REFUSED_UNSOUND;
+    return priority == 2 || (priority == 0 && item == 0) ? 0 : LUB_REFUSED_UNSOUND;
+}
+
+static void inverse_asked(uint32_t place, uint32_t item, int made) {
+    uint32_t right = lub_word(client(1), 10), right_item = lub_word(client(1), 11);
+    unsigned refusal = inverse_refusal(place, item, made);
+    put_word(client(1), 10, place);
+    put_word(client(1), 11, item);
+    remember(1);
+    if (refusal != 0) {
+        refused("a damaged inverse", 1, refusal, take_back(1));
+        refused("a damaged inverse", 1, refusal, insert(1, 1, 7));
+        refused("a damaged inverse", 1, refusal, lub_client_take(client(1), sizeof clients[0], out, 0));
+    } else if (place == 0)
+        refused("nothing", 1, LUB_REFUSED_NOTHING, take_back(1));
+    same("an inverse", refusal, lub_refusal(lub_client_acknowledge(client(1), sizeof clients[0], 1, out, sizeof out)));
+    put_word(client(1), 10, right);
+    put_word(client(1), 11, right_item);
+}
+
+/* Every value of each byte of both words, around a delete and an insert, and every edge of positions with every priority. */
+static void damaged_inverses(void) {
+    static const uint8_t ranks[3] = {2, 3, 1};
+    static const uint32_t opening[3] = {10, 20, 30};
+    static const uint32_t positions[9] = {0, 1, 2, 511, 512, 513, 514, 515, 65535};
+    static const uint32_t places[3] = {0, 1u << 8, 2u << 8 | 2};
+    uint32_t value, priority;
+    unsigned byte, made, i;
+    open_ranked(3, ranks, opening, 3);
+    for (made = 0; made <= 1; made++) {
+        for (i = 0; i < 3; i++)
+            for (byte = 0; byte < 4; byte++)
+                for (value = 0; value < 256; value++) {
+                    inverse_asked((places[i] & ~(0xffu << 8 * byte)) | value << 8 * byte, 0, (int)made);
+                    inverse_asked(places[i], value << 8 * byte, (int)made);
+                }
+        for (i = 0; i < 9; i++)
+            for (priority = 0; priority <= 9; priority++) {
+                inverse_asked(positions[i] << 8 | priority, 0, (int)made);
+                inverse_asked(positions[i] << 8 | priority, 5, (int)made);
+            }
+        if (made == 0)
+            same("an edit", 0, delete_at(1, 1));
+    }
+    inverse_is("as it was", 1, 1, 2, 10);
+    same("and it is taken back", 0, take_back(1));
+}
+
 static void short_ends(void) {
     uint8_t junk[1] = {0};
     open_sheet(1, NULL, 0);
@@ -1103,6 +1344,7 @@ static void short_ends(void) {
     refused("18: client open", 1, 18, lub_client_open(client(1), LUB_CLIENT_BYTES - 1, 0, 0, junk, 1, junk, 1));
     refused("18: client insert", 1, 18, lub_client_insert(client(1), LUB_CLIENT_BYTES - 1, 0, 0));
     refused("18: client delete", 1, 18, lub_client_delete(client(1), 0, 0));
+    refused("18: client take back", 1, 18, lub_client_take_back(client(1), LUB_CLIENT_BYTES - 1));
     refused("18: client send", 1, 18, lub_client_send(client(1), LUB_CLIENT_BYTES - 1, 9, 0, out, 0));
     refused("18: client acknowledge", 1, 18, lub_client_acknowledge(client(1), LUB_CLIENT_BYTES - 1, 9, out, 0));
     refused("18: client take", 1, 18, lub_client_take(client(1), LUB_CLIENT_BYTES - 1, junk, 1));
@@ -1145,6 +1387,13 @@ int main(void) {
     longest_total();
     damaged_totals();
     empty_total();
+    taken_back();
+    taken_back_later();
+    taken_back_past_applied();
+    nothing_to_take_back();
+    taken_back_at_limits();
+    inverse_at_its_end();
+    damaged_inverses();
     short_ends();
     printf("boundary: %u comparisons, %u wrong\n", compared, wrong);
     return wrong == 0 ? 0 : 1;

@@ -113,6 +113,12 @@ fn edits() -> Vec<Task> {
     }
     let delete = |calls: &dyn Calls, end: &mut [u8]| calls.client_delete(end, 200);
     tasks.push(Task::new("client delete, from 8 pending, 512 items", &client(512, 8).0, delete).fresh(BURST));
+    let back = |calls: &dyn Calls, end: &mut [u8]| calls.client_take_back(end);
+    for length in [128, 504] {
+        let mut list = client_at_limit(length, 8);
+        list.calls.push(Call::insert(1, length / 2, 5));
+        tasks.push(Task::new(format!("client take back, from 9 pending, {length} items"), &after(&list, 1).0, back).fresh(BURST));
+    }
     // everything but the writing: question 9 says no
     for (length, kept) in [(128, 0), (511, 64)] {
         let name = format!("client insert refused, {kept} pending, {length} items");

@@ -1,7 +1,7 @@
 //! The calls: which question says no, and what an accepted one does to the history.
 
 use super::{answer, taken, Expected, Oracle};
-use crate::edit::{apply, fits, twice, Carried, Edit, Origin};
+use crate::edit::{apply, fits, twice, Carried, Edit, Origin, Place};
 use crate::form::Set;
 use crate::limits::*;
 use crate::list::*;
@@ -22,6 +22,7 @@ impl Oracle {
             12
         } else {
             let context = line.point(l - 1, line.client.made, line.client.taken);
+            (line.before, line.since) = (line.shown.clone(), line.client.taken);
             line.client.made += 1;
             line.client.inserts += insert as u16;
             self.history.make(l - 1, edit, context);
@@ -32,6 +33,26 @@ impl Oracle {
         };
         self.same_lists(l)?;
         Ok(answer(refusal, 0))
+    }
+
+    /// Taking back makes the edit that the definition gives, if it gives one. If nothing was taken since the edit that is taken back, the items and
+    /// their order are as they were before it.
+    pub(super) fn take_back(&mut self, l: usize) -> Result<Expected, String> {
+        let edit = self.undo(l);
+        if edit == Edit::Nothing {
+            return Ok(answer(17, 0));
+        }
+        let items = |places: &[Place]| places.iter().map(|place| place.item).collect::<Vec<u32>>();
+        let line = &self.lines[l - 1];
+        let (made, as_before) = (line.client.made, (line.since == line.client.taken).then(|| items(&line.before)));
+        let expected = self.edit(l, edit)?;
+        let line = &self.lines[l - 1];
+        match as_before {
+            Some(before) if line.client.made != made && items(&line.shown) != before => {
+                Err(format!("client {l} takes back and nothing was taken since: {:?} before the edit, {before:?} now", line.shown))
+            }
+            _ => Ok(expected),
+        }
     }
 
     pub(super) fn send(&mut self, call: &Call) -> Expected {
@@ -191,6 +212,10 @@ impl Oracle {
         line.client.acked = seen;
         let applied = self.graph.rev(l, place);
         self.same_in_graph(l, origin, from, &carried, applied)?;
+        let undo = self.undo(l);
+        if !fits(undo, &self.lines[l - 1].shown) {
+            return Err(format!("what takes back, {undo:?}, does not fit client {l}'s list any more"));
+        }
         Ok(carried)
     }
 

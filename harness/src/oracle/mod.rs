@@ -37,6 +37,9 @@ struct Line {
     /// The set of the first j others, at index j.
     first: Vec<Set>,
     shown: Vec<Place>,
+    /// What the client showed when it made its latest edit, and how many edits it had taken then.
+    before: Vec<Place>,
+    since: u16,
     /// Forms already asked for, of the client's and of the server's pending edits.
     asked: [Asked; 2],
 }
@@ -163,6 +166,7 @@ impl Oracle {
             _ if unopened => Ok(answer(2, 0)),
             INSERT => self.edit(end, Edit::Insert(call.position, call.value, self.ranks[end - 1])),
             DELETE => self.edit(end, Edit::Delete(call.position)),
+            TAKE_BACK => self.take_back(end),
             SEND | ACKNOWLEDGE => Ok(self.send(call)),
             TAKE => self.take(end, call),
             POKE => {

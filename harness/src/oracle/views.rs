@@ -1,7 +1,7 @@
 //! What an end has to look like, and that the lists meet: everything is asked of the definition.
 
 use super::{dumped, Asked, Expected, Line, Oracle};
-use crate::edit::{apply, fits, Edit};
+use crate::edit::{apply, fits, inverse, transform, Edit};
 use crate::layout::{self, Field};
 
 impl Oracle {
@@ -38,6 +38,23 @@ impl Oracle {
         }
     }
 
+    /// What taking back makes at client l: the inverse of its latest edit on the list that it showed then, past the form of each edit that it has
+    /// applied since. Asked of the definition anew each time.
+    pub(super) fn undo(&mut self, l: usize) -> Edit {
+        let Some(latest) = self.history.lines[l - 1].last() else {
+            return Edit::Nothing;
+        };
+        let line = &self.lines[l - 1];
+        let mut undo = inverse(latest.edit, &line.before, self.ranks[l - 1]);
+        for taken in line.since..line.client.taken {
+            let line = &self.lines[l - 1];
+            let (place, set) = (line.others[taken as usize], line.point(l - 1, line.client.made, taken));
+            let form = self.history.form(self.history.order[place], self.numbers[place], set);
+            undo = transform(undo, form).0;
+        }
+        undo
+    }
+
     /// The whole end as the rule book has it, in the layout's words.
     pub(super) fn dump(&mut self, end: usize) -> Result<Expected, String> {
         let mut words = vec![0; layout::words(end as u8)];
@@ -67,12 +84,13 @@ impl Oracle {
             put(l, Field::Taken, counts.taken as u32);
             put(l, Field::Acked, counts.acked as u32);
             put(l, Field::Inserts, counts.inserts as u32);
+            if end != 0 {
+                let (place, item) = stored(self.undo(l));
+                put(l, Field::InversePlace, place);
+                put(l, Field::InverseItem, item);
+            }
             for (index, number) in (counts.acked + 1..=counts.made).enumerate() {
-                let (place, item) = match self.pending(end, l, number) {
-                    Edit::Nothing => (0, 0),
-                    Edit::Delete(position) => (position as u32 * 256, 0),
-                    Edit::Insert(position, item, priority) => (position as u32 * 256 + priority as u32, item),
-                };
+                let (place, item) = stored(self.pending(end, l, number));
                 put(l, Field::Place(index as u16), place);
                 put(l, Field::Brought(index as u16), item);
                 if end == 0 {
@@ -135,5 +153,14 @@ impl Oracle {
     pub(super) fn delivered(&self) -> bool {
         let same = |line: &Line| line.client.made == line.server.taken && line.client.taken == line.server.made;
         self.lines.iter().all(same)
+    }
+}
+
+/// An edit as the layout stores it: place and item.
+fn stored(edit: Edit) -> (u32, u32) {
+    match edit {
+        Edit::Nothing => (0, 0),
+        Edit::Delete(position) => (position as u32 * 256, 0),
+        Edit::Insert(position, item, priority) => (position as u32 * 256 + priority as u32, item),
     }
 }

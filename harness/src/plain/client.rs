@@ -8,6 +8,7 @@ use super::places::Places;
 use super::ranks::{self, Ranks};
 use super::reported;
 use super::slip::{Rules, Slip};
+use super::undo::Inverse;
 use super::{Answer, Sent};
 use crate::limits::*;
 
@@ -19,10 +20,12 @@ pub struct Client {
     pub ranks: Ranks,
     pub own: Line,
     pub list: Places,
+    /// Of the latest edit, past each edit taken since; nothing before the first.
+    pub inverse: Inverse,
 }
 
 impl Client {
-    pub const ZERO: Client = Client { n: 0, line: 0, ranks: [0; LINES], own: Line::ZERO, list: Places::ZERO };
+    pub const ZERO: Client = Client { n: 0, line: 0, ranks: [0; LINES], own: Line::ZERO, list: Places::ZERO, inverse: Inverse::NOTHING };
 
     /// Questions 1 and 16, of an end that is all zeros. Refused, it stays so.
     #[inline]
@@ -53,6 +56,7 @@ impl Client {
             && (own.inserts <= own.made || R::slips(Slip::SoundInsertsMade))
             && ranks::sound::<R>(self.n, &self.ranks)
             && own.sound::<R>(|priority| priority == self.own_priority::<R>() as u32)
+            && self.inverse.sound::<R>(self.own_priority::<R>(), own.made)
             && self.list.sound::<R>(self.n)
     }
 
@@ -81,12 +85,85 @@ impl Client {
         self.edit::<R>(Edit::delete(position))
     }
 
+    /// Takes the latest edit back: its inverse is made as an ordinary edit. Questions 2, 17, 9, 10, 11, 12.
+    pub fn take_back<R: Rules>(&mut self) -> Answer {
+        let seventeen = self.inverse.place == 0;
+        if !self.sound::<R>() {
+            return Answer::refused(if seventeen && R::slips(Slip::SeventeenFirst) { 17 } else { 2 });
+        }
+        let before = (self.inverse, self.own.clone());
+        let edit = self.inverse.edit();
+        let refusal = if seventeen { self.nothing_refusal::<R>() } else { self.back_refusal::<R>(edit) };
+        if refusal != 0 {
+            if R::slips(Slip::BackRefusedClears) {
+                self.inverse = Inverse::NOTHING;
+            }
+            return Answer::refused(refusal);
+        }
+        let answer = self.make::<R>(edit);
+        self.slip_of_taking_back::<R>(edit, before);
+        answer
+    }
+
+    /// 17 where there is nothing to take back, but for the slips that ask it late.
+    #[inline]
+    fn nothing_refusal<R: Rules>(&self) -> u8 {
+        if R::slips(Slip::SeventeenAfterNine) {
+            return 9;
+        }
+        let counts = if R::slips(Slip::SeventeenLast) { self.make_refusal::<R>(Edit::NOTHING) } else { 0 };
+        if counts == 0 {
+            17
+        } else {
+            counts
+        }
+    }
+
+    /// Questions 9 to 12 of taking back.
+    #[inline]
+    fn back_refusal<R: Rules>(&self, edit: Edit) -> u8 {
+        match self.make_refusal::<R>(edit) {
+            10 if R::slips(Slip::BackNoTen) => 0,
+            11 if R::slips(Slip::BackNoEleven) => 0,
+            12 if R::slips(Slip::BackNoTwelve) => 0,
+            refusal => refusal,
+        }
+    }
+
+    /// The slips of what taking back leaves.
+    #[inline(always)]
+    fn slip_of_taking_back<R: Rules>(&mut self, edit: Edit, (inverse, own): (Inverse, Line)) {
+        let insert = edit.kind() == INSERT;
+        let at = (edit.position() as usize).wrapping_sub(1);
+        match () {
+            _ if R::slips(Slip::BackOnce) => self.inverse = Inverse::NOTHING,
+            _ if R::slips(Slip::BackKept) => self.inverse = inverse,
+            _ if R::slips(Slip::BackUnsent) => self.own = own,
+            _ if R::slips(Slip::BackUncounted) => self.own.inserts = own.inserts,
+            _ if R::slips(Slip::BackOrigin) && insert => self.list.origins[at] = origins::word(self.line, own.made),
+            _ if R::slips(Slip::BackOldOrigin) && insert => self.list.origins[at] = origins::word(0, edit.position()),
+            _ => {}
+        }
+    }
+
     /// Questions 2, 9, 10, 11, 12.
     #[inline]
     fn edit<R: Rules>(&mut self, edit: Edit) -> Answer {
         let refusal = self.edit_refusal::<R>(edit);
         if refusal != 0 {
+            if R::slips(Slip::InverseRefused) && refusal > 9 {
+                self.inverse = Inverse::of::<R>(edit, &self.list, self.line, self.rank::<R>());
+            }
             return Answer::refused(refusal);
+        }
+        self.make::<R>(edit)
+    }
+
+    /// An edit that may be made: applied, counted and kept, and its inverse stored.
+    #[inline]
+    fn make<R: Rules>(&mut self, edit: Edit) -> Answer {
+        if !(R::slips(Slip::InverseFirst) && self.inverse != Inverse::NOTHING) {
+            self.inverse = Inverse::of::<R>(edit, &self.list, self.line, self.rank::<R>());
         }
         let number = self.own.made + !R::slips(Slip::OwnNumberBefore) as u16;
         if !R::slips(Slip::ListLeft) {
@@ -104,14 +181,22 @@ impl Client {
 
     #[inline]
     fn edit_refusal<R: Rules>(&self, edit: Edit) -> u8 {
+        if !self.sound::<R>() {
+            2
+        } else {
+            self.make_refusal::<R>(edit)
+        }
+    }
+
+    /// Questions 9 to 12.
+    #[inline]
+    fn make_refusal<R: Rules>(&self, edit: Edit) -> u8 {
         let own = &self.own;
         let most_inserts = if R::slips(Slip::Insert49) { INSERTS + 1 } else { INSERTS };
         let most_edits = if R::slips(Slip::Edit401) { EDITS + 1 } else { EDITS };
         let ten = edit.kind() == INSERT && own.inserts >= most_inserts;
         let twelve = own.kept() as usize >= room::<R>();
-        if !self.sound::<R>() {
-            2
-        } else if ten && R::slips(Slip::TenBeforeNine) {
+        if ten && R::slips(Slip::TenBeforeNine) {
             10
         } else if !fits::<R>(edit, self.list.length) {
             9
@@ -181,17 +266,22 @@ impl Client {
             return reported::refused::<R>(refusal, edit);
         }
         if message.is_ack() {
+            if R::slips(Slip::InverseAcked) {
+                self.inverse = Inverse::NOTHING;
+            }
             return self.own.acknowledge::<R>(message.seen);
         }
         if !another {
             return Answer::refused(4);
         }
         let crossed = self.own.cross::<R>(edit, message.seen, &self.ranks);
-        if !crossed.within || !crossed.edit.fits(self.list.length, ITEMS as u16) {
+        let inverse = self.inverse.past::<R>(edit, &crossed);
+        if !crossed.within || !crossed.edit.fits(self.list.length, ITEMS as u16) || !inverse.stands::<R>() {
             return reported::refused_late::<R>(9, &message, &crossed);
         }
         let answer = reported::taken::<R>(&self.own, &message, &crossed, Slip::ClientSilent);
         self.own.store::<R>(&crossed, message.seen);
+        self.inverse = inverse;
         if !R::slips(Slip::ListLeft) {
             let maker = if R::slips(Slip::MakerOfLine) { message.line } else { origins::maker(message.origin) };
             let number = if R::slips(Slip::NumberOfMessage) { message.number } else { origins::number(message.origin) };

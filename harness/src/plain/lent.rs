@@ -39,7 +39,8 @@ fn change<R: Rules, E: End>(end: &mut [u8], call: impl FnOnce(&mut E) -> Answer)
             *list = before;
         }
     }
-    if answer.refusal == 0 || R::slips(Slip::RefusedSeen) {
+    let refused_writes = R::slips(Slip::RefusedSeen) || R::slips(Slip::InverseRefused) || R::slips(Slip::BackRefusedClears);
+    if answer.refusal == 0 || refused_writes {
         changed.write(words);
     } else if R::slips(Slip::RefusedByte) {
         words[E::WORDS - 1][0] ^= 1;
@@ -173,6 +174,10 @@ impl<R: Rules + Sync> Calls for R {
 
     fn client_delete(&self, end: &mut [u8], position: u16) -> u64 {
         change::<R, Client>(end, |client| client.delete::<R>(position))
+    }
+
+    fn client_take_back(&self, end: &mut [u8]) -> u64 {
+        change::<R, Client>(end, |client| client.take_back::<R>())
     }
 
     fn client_send(&self, end: &[u8], line: u8, number: u16, out: &mut [u8]) -> u64 {

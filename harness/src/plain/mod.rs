@@ -13,6 +13,7 @@ pub mod reported;
 pub mod script;
 pub mod server;
 pub mod slip;
+pub mod undo;
 pub mod words;
 
 /// The answer of editing and taking: the number of the first no, or 0, how many pending edits were passed, and of an edit that was taken the

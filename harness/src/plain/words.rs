@@ -6,6 +6,7 @@ use super::places::Places;
 use super::ranks::Ranks;
 use super::server::Server;
 use super::slip::{Rules, Slip};
+use super::undo::Inverse;
 use crate::limits::*;
 
 pub type Word = [u8; 4];
@@ -74,7 +75,7 @@ fn read_pending<R: Rules>(pending: &mut Pending, places: &[Word], items: &[Word]
 }
 
 impl End for Client {
-    const WORDS: usize = 1162;
+    const WORDS: usize = 1164;
     const ZERO: Client = Client::ZERO;
 
     #[inline]
@@ -87,9 +88,13 @@ impl End for Client {
         let own = &mut self.own;
         (own.made, own.taken, own.acked, own.inserts) = (small(5), small(6), small(7), small(8));
         self.list.total = number(words[9]);
-        read_all(&mut self.list.items, &words[10..522]);
-        read_pending::<R>(&mut own.pending, &words[522..586], &words[586..650]);
-        read_all(&mut self.list.origins, &words[650..1162]);
+        self.inverse = Inverse { place: number(words[10]), item: number(words[11]) };
+        if R::slips(Slip::WideInverse) {
+            self.inverse.place &= 0xFF_FFFF;
+        }
+        read_all(&mut self.list.items, &words[12..524]);
+        read_pending::<R>(&mut own.pending, &words[524..588], &words[588..652]);
+        read_all(&mut self.list.origins, &words[652..1164]);
         !is_wide::<R>(gathered(&words[..2]), number(words[2]) | gathered(&words[5..9]))
     }
 
@@ -100,10 +105,11 @@ impl End for Client {
         write_ranks(&mut words[3..], &self.ranks);
         write_all(&mut words[5..9], &[own.made, own.taken, own.acked, own.inserts].map(u32::from));
         words[9] = self.list.total.to_le_bytes();
-        write_all(&mut words[10..522], &self.list.items);
-        write_all(&mut words[522..586], &own.pending.places);
-        write_all(&mut words[586..650], &own.pending.items);
-        write_all(&mut words[650..1162], &self.list.origins);
+        write_all(&mut words[10..12], &[self.inverse.place, self.inverse.item]);
+        write_all(&mut words[12..524], &self.list.items);
+        write_all(&mut words[524..588], &own.pending.places);
+        write_all(&mut words[588..652], &own.pending.items);
+        write_all(&mut words[652..1164], &self.list.origins);
     }
 
     fn shown(&mut self) -> (u16, &mut Places) {
