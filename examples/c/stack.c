@@ -24,6 +24,7 @@ static void nothing(void) {}
 static void client_open(void) { answer = lub_client_open(client, sizeof client, 8, 1, ranks, 8, items, sizeof items); }
 static void client_insert(void) { answer = lub_client_insert(client, sizeof client, 1, 7); }
 static void client_delete(void) { answer = lub_client_delete(client, sizeof client, 1); }
+static void client_take_back(void) { answer = lub_client_take_back(client, sizeof client); }
 static void client_send(void) { answer = lub_client_send(client, sizeof client, 1, 1, message, sizeof message); }
 static void client_acknowledge(void) { answer = lub_client_acknowledge(client, sizeof client, 1, message, sizeof message); }
 static void client_take(void) { answer = lub_client_take(client, sizeof client, message, length); }
@@ -38,9 +39,10 @@ static const struct {
     void (*call)(void);
 } calls[] = {
     {"lub_client_open", client_open},     {"lub_client_insert", client_insert},           {"lub_client_delete", client_delete},
-    {"lub_client_send", client_send},     {"lub_client_acknowledge", client_acknowledge}, {"lub_client_take", client_take},
-    {"lub_server_open", server_open},     {"lub_server_send", server_send},               {"lub_server_acknowledge", server_acknowledge},
-    {"lub_server_take", server_take},     {"lub_run", run},                               {"(an empty function)", nothing},
+    {"lub_client_take_back", client_take_back}, {"lub_client_send", client_send}, {"lub_client_acknowledge", client_acknowledge},
+    {"lub_client_take", client_take},     {"lub_server_open", server_open},               {"lub_server_send", server_send},
+    {"lub_server_acknowledge", server_acknowledge}, {"lub_server_take", server_take},     {"lub_run", run},
+    {"(an empty function)", nothing},
 };
 
 #define CALLS (sizeof calls / sizeof calls[0])
