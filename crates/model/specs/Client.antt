@@ -96,12 +96,7 @@ abbrev pub editQuestions : Client → Edit → List Question
 editQuestions c e = ask 2 (soundClient c) ∷ makeQuestions c e
 
 unfoldable pub editClient : Client → Edit → Answer Client
-editClient c e =
-    answer
-    (asks (editQuestions c e))
-    c
-    (edited c e)
-    noReport
+editClient c e = answer (asks (editQuestions c e)) c (edited c e) noReport
 
 -- the item goes before the one at the position; its priority is the line's rank
 abbrev pub insertClient : Client → ℕ → ℕ → Answer Client
