@@ -4,6 +4,4 @@ pub mod Inverses
 pub mod Sound
 pub mod Stored
 pub mod Written
-pub mod Edits
 pub mod Messages
-pub mod Takes

@@ -1,4 +1,3 @@
 pub mod View
 pub mod Undo
 pub mod Answers
-pub mod Taking

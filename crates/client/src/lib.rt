@@ -1,6 +1,6 @@
-// The client's end of a sheet (01: the bay end): its state, opening, and question 2.
-// A client is its numbers and one array of words. The calls get the numbers by value and change lent words in place; the methods, which
-// take a client by value and hand it back, are thin: they lend its words.
+// The client's end of a sheet (01: the bay end): its state, opening, question 2, and what the calls that change it share.
+// A client is its numbers and one array of words. The calls get the numbers by value and change lent words in place (`client_edit`,
+// `client_take`); the methods, which take a client by value and hand it back, are thin: they lend its words (`ends`).
 ghost use mathlib.Core.Path.{_≡_};
 ghost use mathlib.Core.Bool.{true};
 ghost use lib.ListN.{length, replicate};
@@ -15,10 +15,8 @@ use line::taking::no_report;
 use list::Origin;
 use ot::Form;
 
-pub mod editing;
 pub mod sending;
-pub mod taking;
-mod undo;
+pub mod undo;
 
 // An edit that taking back would make, or nothing: its place as in a slot, position * 256 + priority, and the item of an insert.
 pub struct Inverse {
@@ -63,7 +61,7 @@ pub struct Answer {
 }
 
 // A refusal leaves the numbers as they came.
-fn refused(refusal: u8, k: Counts) -> Changed
+pub fn refused(refusal: u8, k: Counts) -> Changed
     ensures { λ r. ⌜ r ≡ refusedCounts refusal k ⌝ }
 {
     Changed {
@@ -74,7 +72,7 @@ fn refused(refusal: u8, k: Counts) -> Changed
 }
 
 // A call that is done: the numbers with another line, another length, another total and another inverse.
-fn done(k: Counts, report: Report, own: Line, len: u16, total: u32, inverse: Inverse) -> Changed
+pub fn done(k: Counts, report: Report, own: Line, len: u16, total: u32, inverse: Inverse) -> Changed
     ensures { λ r. ⌜ r ≡ doneCounts k report own len total inverse ⌝ }
 {
     let ranks = k.ranks;
@@ -95,7 +93,7 @@ fn done(k: Counts, report: Report, own: Line, len: u16, total: u32, inverse: Inv
 }
 
 // The answer of a method: the words that were lent, with their numbers again.
-fn joined(a: Changed, words: [u32; Client::WORDS]) -> Answer
+pub fn joined(a: Changed, words: [u32; Client::WORDS]) -> Answer
     ensures { λ r. ⌜ r ≡ answerOf a words ⌝ }
 {
     let counts = a.counts;
@@ -109,7 +107,7 @@ fn joined(a: Changed, words: [u32; Client::WORDS]) -> Answer
 }
 
 // The rank of the client's own line.
-fn rank(k: Counts) -> u8
+pub fn rank(k: Counts) -> u8
     ensures { λ r. ⌜ r ≡ rankOf (k .ranks) (k .line) ⌝ }
 {
     ranks::of_line(&k.ranks, k.line)
@@ -128,7 +126,7 @@ fn list_sound(words: &[u32], len: usize, total: u32) -> bool
 }
 
 // Question 2. Every test is made whatever the others find.
-fn is_sound(k: Counts, words: &[u32]) -> bool
+pub fn is_sound(k: Counts, words: &[u32]) -> bool
     requires { ⌜ Sizes k (now words) ⌝ }
     ensures answer { λ r. ⌜ r ≡ sound (clientOf k (now (words .entry))) ⌝ }
     ensures facts { λ r. ⌜ (r ≡ true → Sound (clientOf k (now (words .entry)))) ⌝ }
@@ -147,7 +145,7 @@ fn is_sound(k: Counts, words: &[u32]) -> bool
 }
 
 // Applies the edit of form f, item x and that origin to the list of len places, and gives its new length.
-fn apply(words: &mut [u32], len: u16, f: Form, x: u32, origin: Origin) -> u16
+pub fn apply(words: &mut [u32], len: u16, f: Form, x: u32, origin: Origin) -> u16
     requires { ⌜ (length (now words) ≡ size) × Room (edit f x) len capacity ⌝ }
     ensures { λ r. ⌜ Applied f x origin len (now (words .entry)) (now (words .exit)) r ⌝ }
 {

@@ -5,6 +5,7 @@ ghost use mathlib.Core.Path.{_≡_};
 ghost use Rattle.line.specs.Sending.{answered};
 ghost use Rattle.convergence.specs.Built.{ofClient, ofServer, fromClient, fromServer, built};
 use client::Client;
+use ends::client_end::ClientEnd;
 use line::sending::Sent;
 use server::Server;
 
@@ -19,19 +20,19 @@ pub fn client_open(n: u8, line: u8, ranks: &[u8], items: &[u32]) -> client::Answ
 pub fn client_insert(c: Client, p: u16, x: u32) -> client::Answer
     ensures { λ r. ⌜ fromClient r ≡ built .insert (ofClient c) p x ⌝ }
 {
-    c.insert(p, x)
+    ClientEnd { client: c }.insert(p, x)
 }
 
 pub fn client_delete(c: Client, p: u16) -> client::Answer
     ensures { λ r. ⌜ fromClient r ≡ built .delete (ofClient c) p ⌝ }
 {
-    c.delete(p)
+    ClientEnd { client: c }.delete(p)
 }
 
 pub fn client_take_back(c: Client) -> client::Answer
     ensures { λ r. ⌜ fromClient r ≡ built .takeBack (ofClient c) ⌝ }
 {
-    c.take_back()
+    ClientEnd { client: c }.take_back()
 }
 
 pub fn client_send(c: Client, line: u8, number: u16, out: &mut [u8]) -> Sent
@@ -49,7 +50,7 @@ pub fn client_tell(c: Client, line: u8, out: &mut [u8]) -> Sent
 pub fn client_take(c: Client, bytes: &[u8]) -> client::Answer
     ensures { λ r. ⌜ fromClient r ≡ built .take (ofClient c) (now (bytes .entry)) ⌝ }
 {
-    c.take(bytes)
+    ClientEnd { client: c }.take(bytes)
 }
 
 // ---- the server

@@ -109,12 +109,12 @@ fn at_client(c: Counts, words: &mut [u32], o: Order, bytes: &[u8]) -> client::Ch
     ensures { λ r. ⌜ answerOf r (now (words .exit)) ≡ changedBy (clientOf c (now (words .entry))) o (now (bytes .entry)) ⌝ }
 {
     if o.verb == INS {
-        return client::editing::insert(c, words, o.number, o.item);
+        return client_edit::insert(c, words, o.number, o.item);
     }
     if o.verb == DEL {
-        return client::editing::delete(c, words, o.number);
+        return client_edit::delete(c, words, o.number);
     }
-    client::taking::take(c, words, bytes)
+    client_take::take(c, words, bytes)
 }
 
 // An order at the server and at the client of its line, in place. What cannot be sent changes nothing.

@@ -2,8 +2,9 @@
 // reaches none of them. Each line is what calls answered: a refusal's number or 0, and where it says so a count.
 ghost use mathlib.Core.Path.{_≡_};
 ghost use mathlib.Core.List.{[], _∷_};
-ghost use Rattle.client.specs.Answers.{taken};
+ghost use Rattle.client.specs.Answers.{inserted, taken};
 use client::Client;
+use ends::client_end::ClientEnd;
 use line::Line;
 use server::Counts;
 use server::Server;
@@ -23,6 +24,12 @@ fn item(x: u32) {
 
 fn count(x: u16) {
     number(x as u64);
+}
+
+fn insert(c: Client, p: u16, x: u32) -> client::Answer
+    ensures { λ r. ⌜ r ≡ inserted c p x ⌝ }
+{
+    ClientEnd { client: c }.insert(p, x)
 }
 
 // Client 1 takes an insert of client 2 at the front.
@@ -48,7 +55,7 @@ fn take_insert(c: Client, number: u8, seen: u8) -> client::Answer
         0,
         number,
     ];
-    c.take(&m)
+    ClientEnd { client: c }.take(&m)
 }
 
 // The next message on its line, a delete: made on that line, with that number in two bytes.
@@ -56,7 +63,7 @@ fn take_delete(c: Client, maker: u8, high: u8, low: u8) -> client::Answer
     ensures { λ r. ⌜ r ≡ taken c (7 ∷ 1 ∷ 1 ∷ 0 ∷ 1 ∷ 0 ∷ 0 ∷ 0 ∷ 1 ∷ maker ∷ high ∷ low ∷ []) ⌝ }
 {
     let m = [7u8, 1, 1, 0, 1, 0, 0, 0, 1, maker, high, low];
-    c.take(&m)
+    ClientEnd { client: c }.take(&m)
 }
 
 // Client 1 takes an acknowledgement.
@@ -64,7 +71,7 @@ fn take_ack(c: Client, seen: u8) -> client::Answer
     ensures { λ r. ⌜ r ≡ taken c (4 ∷ 1 ∷ 1 ∷ 0 ∷ seen ∷ []) ⌝ }
 {
     let m = [4u8, 1, 1, 0, seen];
-    c.take(&m)
+    ClientEnd { client: c }.take(&m)
 }
 
 fn refusal(a: client::Answer) {
@@ -264,13 +271,13 @@ fn refused_server() {
 fn main() {
     let items = [10u32];
     let a = Client::open(2, 1, &[1u8, 2], &items);
-    let b = a.client.insert(1, 20);
-    let c = b.client.insert(2, 30);
+    let b = insert(a.client, 1, 20);
+    let c = insert(b.client, 2, 30);
     seen(c.client);
     refused(c.client);
     overtaken(c.client);
-    let d = a.client.insert(2, 20);
-    let e = d.client.insert(3, 30);
+    let d = insert(a.client, 2, 20);
+    let e = insert(d.client, 3, 30);
     kept(e.client);
     origins(e.client);
     makers(e.client);

@@ -6,6 +6,7 @@ ghost use Rattle.server.specs.Answers as server;
 ghost use Rattle.test_timing.specs.Opened.{clientWith, serverWith, clientAnswered, serverAnswered};
 use c_layout::report;
 use client::Client;
+use ends::client_end::ClientEnd;
 use server::Server;
 
 // Client 1 of 2, opened with line numbers as ranks and so many items; more than opening lets through leave an end that is all zeros.
@@ -34,7 +35,7 @@ pub extern "C" fn lub_time_client_insert(count: u8, position: u16, item: u32, ti
     let c = client_with(count);
     let mut i = 1;
     loop {
-        let a = c.insert(position, item);
+        let a = ClientEnd { client: c }.insert(position, item);
         if times <= i {
             return report(a.refusal, a.report);
         }
@@ -49,7 +50,7 @@ pub extern "C" fn lub_time_client_take(count: u8, message: &[u8], times: u32) ->
     let c = client_with(count);
     let mut i = 1;
     loop {
-        let a = c.take(message);
+        let a = ClientEnd { client: c }.take(message);
         if times <= i {
             return report(a.refusal, a.report);
         }

@@ -1,0 +1,10 @@
+-- `made_elsewhere` is its definition, test by test.
+use borrow.Author.Needs.{needs}
+use Rattle.client_take.proofs.made_elsewhere.Statement.{statement}
+use Rattle.client_take.proofs.made_elsewhere.Tie as tie
+
+returns : tie.Need-returns
+returns c = search needs
+
+pub made-elsewhere-spec : {M : Type 1} → statement M
+made-elsewhere-spec = tie.close (tie.spec returns)
