@@ -5,6 +5,7 @@ ghost use mathlib.Core.Path.{_≡_};
 ghost use Rattle.line.specs.Sending.{answered};
 ghost use Rattle.convergence.specs.Built.{ofClient, ofServer, fromClient, fromServer, built};
 use client::Client;
+use ends::server_end::ServerEnd;
 use line::sending::Sent;
 use server::Server;
 
@@ -75,5 +76,5 @@ pub fn server_tell(s: Server, line: u8, out: &mut [u8]) -> Sent
 pub fn server_take(s: Server, bytes: &[u8]) -> server::Answer
     ensures { λ r. ⌜ fromServer r ≡ built .take (ofServer s) (now (bytes .entry)) ⌝ }
 {
-    s.take(bytes)
+    ServerEnd { server: s }.take(bytes)
 }

@@ -8,9 +8,3 @@ pub mod Facts
 pub mod Opening
 pub mod Sends
 pub mod Answers
-pub mod Asked
-pub mod Deciding
-pub mod Takes
-pub mod Written
-pub mod Keeping
-pub mod Accepts

@@ -2,27 +2,21 @@
 // The server is its numbers and one array of words. The calls get the numbers by value and change lent words in place; the methods, which
 // take the server by value and hand it back, are thin: they lend its words.
 pub mod sending;
-pub mod taking;
 
 ghost use mathlib.Core.Path.{_≡_};
 ghost use mathlib.Core.Bool.{true};
 ghost use Prim.Native.Nat.{_≤_, _<_};
 ghost use lib.ListN.{length, replicate};
 ghost use Rattle.limits.specs.Limits.{maxLines, maxInitial};
-ghost use Rattle.ot.specs.Edit.{edit};
-ghost use Rattle.list.specs.Items.{capacity, Room};
-ghost use Rattle.model.specs.Ranks.{rankOf};
 ghost use Rattle.ranks.specs.Stored.{soundRanks};
 ghost use Rattle.pending.specs.Slots.{allFrom};
-ghost use Rattle.server.specs.View.{size, slotsAt, makersAt, countsAt, serverOf, sound, Sound, Sizes, Applied};
+ghost use Rattle.server.specs.View.{size, slotsAt, makersAt, countsAt, serverOf, sound, Sound, Sizes};
 ghost use Rattle.server.specs.Answers.{opened, refusedCounts, answerOf};
 ghost use Rattle.server.specs.Opening.{openAsked, freshCounts, OpenWords};
 ghost use Rattle.server.specs.Totals.{inLimits, listRight, soundUsed, soundMakers, emptyUnused, soundEither, lineSoundAt, Totaled};
 use line::Line;
 use line::taking::Report;
 use line::taking::no_report;
-use list::Origin;
-use ot::Form;
 
 // The numbers of the server.
 pub struct Counts {
@@ -68,7 +62,7 @@ struct Totals {
 }
 
 // A refusal leaves the numbers as they came.
-fn refused(refusal: u8, k: Counts) -> Changed
+pub fn refused(refusal: u8, k: Counts) -> Changed
     ensures { λ r. ⌜ r ≡ refusedCounts refusal k ⌝ }
 {
     Changed {
@@ -79,7 +73,7 @@ fn refused(refusal: u8, k: Counts) -> Changed
 }
 
 // The answer of a method: the words that were lent, with their numbers again.
-fn joined(a: Changed, words: [u32; Server::WORDS]) -> Answer
+pub fn joined(a: Changed, words: [u32; Server::WORDS]) -> Answer
     ensures { λ r. ⌜ r ≡ answerOf a words ⌝ }
 {
     let counts = a.counts;
@@ -94,22 +88,16 @@ fn joined(a: Changed, words: [u32; Server::WORDS]) -> Answer
 
 // ---- one line
 
-// The counts of the line at a place, counted from 0, and its rank.
-fn line_at(k: Counts, at: usize) -> Line
+// The counts of the line at a place, counted from 0.
+pub fn line_at(k: Counts, at: usize) -> Line
     requires { ⌜ at < maxLines ⌝ }
     ensures { λ r. ⌜ r ≡ countsAt k at ⌝ }
 {
     k.lines[at]
 }
 
-fn rank_of(k: Counts, line: u8) -> u8
-    ensures { λ r. ⌜ r ≡ rankOf (k .ranks) line ⌝ }
-{
-    ranks::of_line(&k.ranks, line)
-}
-
 // The words of its pending edits, and the origins of these.
-fn slots_at(words: &[u32], at: usize) -> &[u32]
+pub fn slots_at(words: &[u32], at: usize) -> &[u32]
     requires { ⌜ (length (now words) ≡ size) × (at < maxLines) ⌝ }
     ensures { λ r. ⌜ now r ≡ slotsAt at (now (words .entry)) ⌝ }
 {
@@ -222,7 +210,7 @@ fn in_limits(k: Counts) -> bool
 }
 
 // Every test is made whatever the others find.
-fn is_sound(k: Counts, words: &[u32]) -> bool
+pub fn is_sound(k: Counts, words: &[u32]) -> bool
     requires { ⌜ Sizes k (now words) ⌝ }
     ensures answer { λ r. ⌜ r ≡ sound (serverOf k (now (words .entry))) ⌝ }
     ensures facts { λ r. ⌜ (r ≡ true → Sound (serverOf k (now (words .entry)))) ⌝ }
@@ -234,18 +222,6 @@ fn is_sound(k: Counts, words: &[u32]) -> bool
         return right & few & list_sound(k.len, k.total, words) & lines_sound(k, words, all.taken);
     }
     false
-}
-
-// ---- the list
-
-// Applies the edit of form f, item x and that origin to the list of len places, and gives its new length.
-fn apply(words: &mut [u32], len: u16, f: Form, x: u32, origin: Origin) -> u16
-    requires { ⌜ (length (now words) ≡ size) × Room (edit f x) len capacity ⌝ }
-    ensures { λ r. ⌜ Applied f x origin len (now (words .entry)) (now (words .exit)) r ⌝ }
-{
-    let word = list::word_of(origin);
-    list::apply(&mut words[Server::ORIGINS..Server::MAKERS], len, f, word);
-    list::apply(&mut words[0..Server::ITEMS], len, f, x)
 }
 
 // ---- opening
