@@ -1,6 +1,5 @@
 pub mod Counted
 pub mod Lines
-pub mod Loops
 pub mod Rows
 pub mod Whole
 pub mod Stored

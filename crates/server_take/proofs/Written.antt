@@ -27,7 +27,7 @@ use Rattle.line.proofs.Staying.{pending-length}
 use Rattle.line.proofs.Room.{room-form}
 use Rattle.server.specs.View.{size, origins, makers, itemsIn, originsIn, slotsAt, makersAt, Parts, SlotsWrote, MakersWrote, Applied}
 use Rattle.server_take.specs.Taking.{slotsKept, makersKept, makersLeft}
-use Rattle.server.proofs.Loops.{lent-is, base, makersBase, items-long, origins-long}
+use Rattle.server_words.proofs.Loops.{lent-is, base, makersBase, items-long, origins-long}
 
 -- of parts of one length, one behind the other, the one at place i was written
 module _ (a n i : ℕ) (x l l′ : List ℕ) (w : Wrote (a + n * i) n x l l′) (j : ℕ) (below : j < i → a + n * j + n ≤ a + n * i)

@@ -9,7 +9,6 @@ ghost use Rattle.ot.specs.Edit.{edit, itemOf};
 ghost use Rattle.list.specs.Items.{capacity, Room};
 ghost use Rattle.list.specs.Places.{wordOf};
 ghost use Rattle.wire.specs.Message.{inRange};
-ghost use Rattle.model.specs.Questions.{asks};
 ghost use Rattle.model.specs.Ranks.{rankOf};
 ghost use Rattle.pending.specs.Slots.{allFrom};
 ghost use Rattle.line.specs.Line.{Kept};
@@ -120,7 +119,7 @@ fn decide_line(k: Counts, words: &[u32], a: Arrival, later: &mut [u32; Server::P
     let inserts = inserts_then(k, a);
     line::taking::decide(
         server::line_at(k, at),
-        server::slots_at(words, at),
+        server_words::slots_at(words, at),
         k.len,
         inserts,
         a,

@@ -11,13 +11,11 @@ use Rattle.limits.specs.Limits.{maxItems, maxLines, maxPending}
 use Rattle.list.specs.Items.{allZero}
 use Rattle.list.specs.Parts.{part}
 use Rattle.list.proofs.Parts.{part-length}
-use Rattle.model.specs.Ranks.{rankOf}
 use Rattle.pending.specs.Slots as pending
 use Rattle.line.specs.declared.Line.{Line}
 use Rattle.line_sound.specs.Sound.{rightPriority, soundLine, makersSound, emptyLine}
-use Rattle.server.specs.declared.Counts.{Counts}
-use Rattle.server.specs.View.{size, origins, makers, itemsIn, originsIn, slotsAt, makersAt, countsAt}
-use Rattle.server.specs.Totals.{soundUsed, soundMakers, emptyUnused, soundEither, lineSoundAt}
+use Rattle.server_words.specs.Words.{size, origins, makers, itemsIn, originsIn, slotsAt, makersAt}
+use Rattle.server_words.specs.Right.{soundUsed, soundMakers, emptyUnused, soundEither}
 
 -- so many words as code lends them, from one place up to another
 pub lent-is : (a n : ℕ) (words : List ℕ) → take (a + n - a) (drop a words) ≡ part a n words
@@ -72,8 +70,3 @@ module _ (words : List ℕ) (i : ℕ) (v : Line) where
   pub unused-answers : (n rank taken : ℕ) (empty : Bool) → n ≤ i → empty ≡ emptyUnused v words i → empty ≡ soundEither n rank v taken words i
   unused-answers n rank taken empty h e =
       e ∙ ap (λ (b : Bool). cond b (soundUsed n rank v taken words i && soundMakers n v words i) (emptyUnused v words i)) (sym (le-ltb i n h))
-
--- the line at place i, by what was read of the server's numbers
-pub line-answers : (k : Counts) (words : List ℕ) (i taken rank : ℕ) (v : Line) (r : Bool) → rank ≡ rankOf (k .ranks) (i + 1) → v ≡ countsAt k i
-    → r ≡ soundEither (k .n) rank v taken words i → r ≡ lineSoundAt k taken words i
-line-answers k words i taken rank v r er ev e = e ∙ ap₂ (λ (a : ℕ) (w : Line). soundEither (k .n) a w taken words i) er ev

@@ -1,9 +1,9 @@
 use borrow.Author.Needs.{needs}
 use denote.Ref.{now}
-use Rattle.pending.specs.Slots as pending
-use Rattle.server.proofs.Loops.{lent-is, base}
-use Rattle.server.proofs.slots_at.Statement.{statement}
-use Rattle.server.proofs.slots_at.Tie as tie
+use Rattle.limits.specs.Limits.{maxPending}
+use Rattle.server_words.proofs.Loops.{lent-is, makersBase}
+use Rattle.server_words.proofs.makers_at.Statement.{statement}
+use Rattle.server_words.proofs.makers_at.Tie as tie
 
 mul-from : tie.Need-mul-from
 mul-from c = search needs
@@ -27,10 +27,10 @@ part-result-end : tie.Need-part-result-end
 part-result-end c = search needs
 
 returns : tie.Need-returns
-returns c = let a = c .before .args in lent-is (base (a .at)) pending.size (now (a .words))
+returns c = let a = c .before .args in lent-is (makersBase (a .at)) maxPending (now (a .words))
 
-pub slots-at-spec : {M : Type 1} → statement M
-slots-at-spec =
+pub makers-at-spec : {M : Type 1} → statement M
+makers-at-spec =
     tie.close
     (tie.spec
     mul-from
