@@ -32,11 +32,12 @@ use Rattle.line.proofs.Decisions.{then-edit}
 use Rattle.line.proofs.Room.{room-items, room-origins, room-length}
 use Rattle.server.specs.declared.Counts.{Counts}
 use Rattle.server.specs.View.{size, slotsAt, makersAt, countsAt, lineAt, makersOf, serverOf, view, store, Sound, SlotsWrote, MakersWrote, Applied}
-use Rattle.server_take.specs.Taking.{placeOf, insertsThen, Decided, KeptBy, makersLeft, withLine, takesIt, keepsIt, serverThen}
+use Rattle.server_decide.specs.Decides.{placeOf, insertsThen, Decided}
+use Rattle.server_take.specs.Taking.{KeptBy, makersLeft, withLine, takesIt, keepsIt, serverThen}
 use Rattle.server.proofs.Rows.{Row, makersFor, store-is}
 use Rattle.server.proofs.Facts.{sizes, own-holds, len-few, first-words, first-count, first-sum, lines-few, lines-count, makers-many, at-view, makers-view, at-makers}
-use Rattle.server_take.proofs.Asked.{roomy-each}
-use Rattle.server_take.proofs.Deciding.{Accepted, accepts}
+use Rattle.server_decide.proofs.Asked.{roomy-each}
+use Rattle.server_decide.proofs.Deciding.{Accepted, accepts}
 use Rattle.server_take.proofs.Keeping.{keeps-own, keeps-other, countsThen, slotsThen, makersThen}
 use Rattle.server_take.proofs.Takes.{line-is}
 

@@ -1,5 +1,3 @@
-pub mod Asked
-pub mod Deciding
 pub mod Takes
 pub mod Written
 pub mod Keeping

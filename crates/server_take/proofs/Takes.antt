@@ -33,11 +33,12 @@ use Rattle.server.specs.declared.Server.{Server}
 use Rattle.server.specs.declared.Changed.{Changed}
 use Rattle.server.specs.View.{slotsAt, countsAt, lineAt, serverOf, view, store, Sound}
 use Rattle.server.specs.Answers.{refusedWith, refusedCounts, answerOf, guarded, taken, takenMessage}
-use Rattle.server_take.specs.Taking.{isOwn, upTo, placeOf, refusalAt, Decided, serverThen}
+use Rattle.server_decide.specs.Decides.{isOwn, upTo, placeOf, refusalAt, Decided}
+use Rattle.server_take.specs.Taking.{serverThen}
 use Rattle.server.proofs.Answers as ends
 use Rattle.server.proofs.Facts.{facts, at-view}
-use Rattle.server_take.proofs.Asked.{up-line, own-rank, roomy-model}
-use Rattle.server_take.proofs.Deciding.{Accepted, told-refusal, accepts}
+use Rattle.server_decide.proofs.Asked.{up-line, own-rank, roomy-model}
+use Rattle.server_decide.proofs.Deciding.{Accepted, told-refusal, accepts}
 
 -- the last of three tests may be changed where the second says yes
 where-so : (a b x y : Bool) → (b ≡ true → x ≡ y) → (a && b && x) ≡ (a && b && y)

@@ -8,10 +8,11 @@ use Rattle.line.specs.Line.{Kept}
 use Rattle.line.specs.Taking.{Between, accepted}
 use Rattle.server.specs.declared.Counts.{Counts}
 use Rattle.server.specs.View.{serverOf, slotsAt, makersAt, SlotsWrote, MakersWrote}
-use Rattle.server_take.specs.Taking.{placeOf, makersLeft}
+use Rattle.server_decide.specs.Decides.{placeOf}
+use Rattle.server_take.specs.Taking.{makersLeft}
 use Rattle.server.proofs.Facts.{sizes, len-few}
-use Rattle.server_take.proofs.Asked.{up-line}
-use Rattle.server_take.proofs.Deciding.{Accepted}
+use Rattle.server_decide.proofs.Asked.{up-line}
+use Rattle.server_decide.proofs.Deciding.{Accepted}
 use Rattle.server_take.proofs.Accepts.{taken, list-asked, kept-own, written}
 use borrow.Author.Needs.{needs}
 use Rattle.server_take.proofs.change.Statement.{statement}

@@ -11,7 +11,7 @@ use Rattle.line.specs.Keeping.{withKept}
 use Rattle.server.specs.View.{slotsAt, makersAt, SlotsWrote, MakersWrote}
 use Rattle.server_take.specs.Taking.{slotsKept, makersKept, KeptBy}
 use Rattle.server.proofs.Facts.{sizes, lines-few, made-few}
-use Rattle.server_take.proofs.Asked.{roomy-each}
+use Rattle.server_decide.proofs.Asked.{roomy-each}
 use Rattle.server_take.proofs.Keeping.{kept-none, kept-skip, kept-still, kept-turn}
 use Rattle.server_take.proofs.keep_others.Statement.{statement}
 use Rattle.server_take.proofs.keep_others.Tie as tie

@@ -9,7 +9,7 @@ use Rattle.ot.specs.Form.{positionOf}
 use Rattle.line.specs.declared.taking.Arrival.{Arrival}
 use Rattle.line.proofs.Decisions.{arrival-position}
 use Rattle.server.specs.View.{serverOf, Sound}
-use Rattle.server_take.proofs.Deciding.{accepts}
+use Rattle.server_decide.proofs.Deciding.{accepts}
 use Rattle.server_take.proofs.Takes.{refuses, item-right, taken-done}
 use Rattle.server_take.proofs.take_message.Statement.{statement}
 use Rattle.server_take.proofs.take_message.Tie as tie

@@ -21,7 +21,7 @@ use Rattle.line.specs.declared.taking.Arrival.{Arrival}
 use Rattle.line.specs.Keeping.{thenAsked}
 use Rattle.server.specs.declared.Counts.{Counts}
 use Rattle.server.specs.View.{countsAt, linesFrom}
-use Rattle.server_take.specs.Taking.{isOwn, madeHere, upTo, roomyAt, lastAsked, placeOf, insertsThen, lastRefusal}
+use Rattle.server_decide.specs.Decides.{isOwn, madeHere, upTo, roomyAt, lastAsked, placeOf, insertsThen, lastRefusal}
 
 -- ---- question 4
 

@@ -28,9 +28,9 @@ use Rattle.line.proofs.Deciding.{deciding-no, deciding-yes}
 use Rattle.line.proofs.Decisions.{deciding-refusal, decided-refusal, decided-done, refusal-room, later-length}
 use Rattle.server.specs.declared.Counts.{Counts}
 use Rattle.server.specs.View.{slotsAt, countsAt, lineAt, serverOf, Sound}
-use Rattle.server_take.specs.Taking.{upTo, roomyAt, lastAsked, placeOf, insertsThen, lastRefusal, refusalAt, decided, LineDecided, Decided}
+use Rattle.server_decide.specs.Decides.{upTo, roomyAt, lastAsked, placeOf, insertsThen, lastRefusal, refusalAt, decided, LineDecided, Decided}
 use Rattle.server.proofs.Facts.{lines-few, len-few, at-facts}
-use Rattle.server_take.proofs.Asked.{up-line}
+use Rattle.server_decide.proofs.Asked.{up-line}
 
 -- ---- what the parts ask
 
