@@ -6,6 +6,7 @@ ghost use Rattle.line.specs.Sending.{answered};
 ghost use Rattle.convergence.specs.Built.{ofClient, ofServer, fromClient, fromServer, built};
 use client::Client;
 use ends::client_end::ClientEnd;
+use ends::server_end::ServerEnd;
 use line::sending::Sent;
 use server::Server;
 
@@ -76,5 +77,5 @@ pub fn server_tell(s: Server, line: u8, out: &mut [u8]) -> Sent
 pub fn server_take(s: Server, bytes: &[u8]) -> server::Answer
     ensures { λ r. ⌜ fromServer r ≡ built .take (ofServer s) (now (bytes .entry)) ⌝ }
 {
-    s.take(bytes)
+    ServerEnd { server: s }.take(bytes)
 }

@@ -1,6 +1,5 @@
 pub mod Counted
 pub mod Lines
-pub mod Loops
 pub mod Rows
 pub mod Whole
 pub mod Stored
@@ -8,9 +7,3 @@ pub mod Facts
 pub mod Opening
 pub mod Sends
 pub mod Answers
-pub mod Asked
-pub mod Deciding
-pub mod Takes
-pub mod Written
-pub mod Keeping
-pub mod Accepts

@@ -3,15 +3,18 @@ use Prim.Native.Nat.{ℕ, zero, suc, _+_, _-_, _*_, _≤_, _<_}
 use native.Mathlib.Numerals.{add-one}
 use native.Mathlib.Nat.{zero-add}
 use native.Mathlib.Omega.{arith}
-use mathlib.Core.Path.{_≡_, refl, ap, sym, _∙_}
+use mathlib.Core.Path.{_≡_, refl, ap, ap₂, sym, _∙_}
+use mathlib.Core.Bool.{Bool}
 use mathlib.Core.List.{List, [], _∷_}
 use lib.ListN.{length, getD, List·getD-eq-default}
+use Rattle.model.specs.Ranks.{rankOf}
 use Rattle.model.specs.Line as line
 use Rattle.model.specs.Server as model
 use Rattle.line.specs.declared.Line.{Line}
+use Rattle.server_words.specs.Right.{soundEither}
 use Rattle.server.specs.declared.Counts.{Counts}
 use Rattle.server.specs.View.{countsAt, lineAt, linesFrom, makersOf, makersFrom}
-use Rattle.server.specs.Totals.{totalOf}
+use Rattle.server.specs.Totals.{totalOf, lineSoundAt}
 
 module _ (k : Counts) (words : List ℕ) where
   pub lines-length : (i count : ℕ) → length (linesFrom k words i count) ≡ count
@@ -125,3 +128,8 @@ adding-turn k n i t s v h e ft fs a =
 pub adding-end : (k : Counts) (n i t s : ℕ) → n ≤ i → Adding k n i t s → (t ≡ totalOf (λ v. v .taken) k) × (s ≡ totalOf (λ v. v .inserts) k)
 adding-end k n i t s h a =
     (omega (arith, a .taken, rest-end (λ v. v .taken) k n i h), omega (arith, a .inserts, rest-end (λ v. v .inserts) k n i h))
+
+-- the line at place i, by what was read of the server's numbers
+pub line-answers : (k : Counts) (words : List ℕ) (i taken rank : ℕ) (v : Line) (r : Bool) → rank ≡ rankOf (k .ranks) (i + 1) → v ≡ countsAt k i
+    → r ≡ soundEither (k .n) rank v taken words i → r ≡ lineSoundAt k taken words i
+line-answers k words i taken rank v r er ev e = e ∙ ap₂ (λ (a : ℕ) (w : Line). soundEither (k .n) a w taken words i) er ev

@@ -37,7 +37,7 @@ use Rattle.server.specs.declared.Changed.{Changed}
 use Rattle.server.specs.View.{size, origins, serverOf, store}
 use Rattle.server.specs.Answers.{given, opened, refusedCounts, answerOf}
 use Rattle.server.specs.Opening.{openAsked, freshCounts, OpenWords}
-use Rattle.server.proofs.Loops.{base, makersBase}
+use Rattle.server_words.proofs.Loops.{base, makersBase}
 use Rattle.server.proofs.Rows.{Row, store-is}
 
 -- ---- zeros

@@ -34,7 +34,7 @@ use Rattle.server.specs.View.{slotsAt, makersAt, countsAt, lineAt, maker
 use Rattle.server.specs.Answers.{guardedSending, sentEdit, sentAck}
 use Rattle.server.specs.Sending.{lineAsked, sendAsked, OnLine, Sendable}
 use Rattle.server.proofs.Lines.{line-used}
-use Rattle.server.proofs.Loops.{makers-long}
+use Rattle.server_words.proofs.Loops.{makers-long}
 use Rattle.server.proofs.Facts.{sizes, lines-few, makers-view, at-makers}
 
 -- ---- questions 2 and 4

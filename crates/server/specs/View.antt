@@ -1,5 +1,5 @@
 -- The server's end in numbers and words: the model's server that these are, and back; question 2 of them.
-use Prim.Native.Nat.{ℕ, zero, suc, _+_, _-_, _*_, _<_}
+use Prim.Native.Nat.{ℕ, zero, suc, _+_, _-_, _<_}
 use mathlib.Core.Path.{_≡_}
 use mathlib.Core.Bool.{Bool, true, _&&_, cond}
 use mathlib.Core.List.{List, [], _∷_, _++_, map}
@@ -11,7 +11,6 @@ use Rattle.ot.specs.Edit.{edit, sizeAfter}
 use Rattle.list.specs.Items.{padded, stored, allZero, edited}
 use Rattle.list.specs.declared.Origin.{Origin}
 use Rattle.list.specs.Places.{Place, placesOf, itemsOf, originsOf, wordOf, originAt}
-use Rattle.list.specs.Parts.{part}
 use Rattle.list.specs.Seconds.{runningTime}
 use Rattle.model.specs.Questions.{every}
 use Rattle.model.specs.Line as line
@@ -22,38 +21,13 @@ use Rattle.pending.specs.Slots.{allFrom}
 use Rattle.line.specs.declared.Line.{Line}
 use Rattle.line.specs.Line.{lineOf, countsOf, Kept}
 use Rattle.line_sound.specs.Sound.{tidy, emptyLine}
+pub use Rattle.server_words.specs.Words.{size, origins, makers, itemsIn, slotsAt, originsIn, makersAt}
 use Rattle.server.specs.declared.Counts.{Counts}
 use Rattle.server.specs.declared.Server.{Server}
-
--- the words of the server: 512 items, the 128 words of each of eight lines, the origins of the items, and for each line 64 origins of its
--- pending edits
-abbrev pub size : ℕ
-size = 2560
-
--- where the origins of the items begin, and those of pending edits
-abbrev pub origins : ℕ
-origins = 1536
-
-abbrev pub makers : ℕ
-makers = 2048
-
-abbrev pub itemsIn : List ℕ → List ℕ
-itemsIn words = part 0 maxItems words
-
--- the words of the line at place i, counted from 0
-abbrev pub slotsAt : ℕ → List ℕ → List ℕ
-slotsAt i words = part (maxItems + pending.size * i) pending.size words
-
-abbrev pub originsIn : List ℕ → List ℕ
-originsIn words = part origins maxItems words
 
 -- the first len places of the list
 abbrev pub listIn : ℕ → List ℕ → List Place
 listIn len words = placesOf (take len (itemsIn words)) (take len (originsIn words))
-
--- the origins of the pending edits of the line at place i
-abbrev pub makersAt : ℕ → List ℕ → List ℕ
-makersAt i words = part (makers + maxPending * i) maxPending words
 
 abbrev pub countsAt : Counts → ℕ → Line
 countsAt k i = getD (k .lines) i (countsOf line.noLine)

@@ -2,27 +2,23 @@
 // The server is its numbers and one array of words. The calls get the numbers by value and change lent words in place; the methods, which
 // take the server by value and hand it back, are thin: they lend its words.
 pub mod sending;
-pub mod taking;
 
 ghost use mathlib.Core.Path.{_≡_};
 ghost use mathlib.Core.Bool.{true};
 ghost use Prim.Native.Nat.{_≤_, _<_};
 ghost use lib.ListN.{length, replicate};
 ghost use Rattle.limits.specs.Limits.{maxLines, maxInitial};
-ghost use Rattle.ot.specs.Edit.{edit};
-ghost use Rattle.list.specs.Items.{capacity, Room};
-ghost use Rattle.model.specs.Ranks.{rankOf};
 ghost use Rattle.ranks.specs.Stored.{soundRanks};
 ghost use Rattle.pending.specs.Slots.{allFrom};
-ghost use Rattle.server.specs.View.{size, slotsAt, makersAt, countsAt, serverOf, sound, Sound, Sizes, Applied};
+ghost use Rattle.server.specs.View.{size, countsAt, serverOf, sound, Sound, Sizes};
 ghost use Rattle.server.specs.Answers.{opened, refusedCounts, answerOf};
 ghost use Rattle.server.specs.Opening.{openAsked, freshCounts, OpenWords};
-ghost use Rattle.server.specs.Totals.{inLimits, listRight, soundUsed, soundMakers, emptyUnused, soundEither, lineSoundAt, Totaled};
+ghost use Rattle.server.specs.Totals.{inLimits, lineSoundAt, Totaled};
 use line::Line;
 use line::taking::Report;
 use line::taking::no_report;
-use list::Origin;
-use ot::Form;
+use server_words::is_line_sound;
+use server_words::list_sound;
 
 // The numbers of the server.
 pub struct Counts {
@@ -68,7 +64,7 @@ struct Totals {
 }
 
 // A refusal leaves the numbers as they came.
-fn refused(refusal: u8, k: Counts) -> Changed
+pub fn refused(refusal: u8, k: Counts) -> Changed
     ensures { λ r. ⌜ r ≡ refusedCounts refusal k ⌝ }
 {
     Changed {
@@ -79,7 +75,7 @@ fn refused(refusal: u8, k: Counts) -> Changed
 }
 
 // The answer of a method: the words that were lent, with their numbers again.
-fn joined(a: Changed, words: [u32; Server::WORDS]) -> Answer
+pub fn joined(a: Changed, words: [u32; Server::WORDS]) -> Answer
     ensures { λ r. ⌜ r ≡ answerOf a words ⌝ }
 {
     let counts = a.counts;
@@ -94,37 +90,12 @@ fn joined(a: Changed, words: [u32; Server::WORDS]) -> Answer
 
 // ---- one line
 
-// The counts of the line at a place, counted from 0, and its rank.
-fn line_at(k: Counts, at: usize) -> Line
+// The counts of the line at a place, counted from 0.
+pub fn line_at(k: Counts, at: usize) -> Line
     requires { ⌜ at < maxLines ⌝ }
     ensures { λ r. ⌜ r ≡ countsAt k at ⌝ }
 {
     k.lines[at]
-}
-
-fn rank_of(k: Counts, line: u8) -> u8
-    ensures { λ r. ⌜ r ≡ rankOf (k .ranks) line ⌝ }
-{
-    ranks::of_line(&k.ranks, line)
-}
-
-// The words of its pending edits, and the origins of these.
-fn slots_at(words: &[u32], at: usize) -> &[u32]
-    requires { ⌜ (length (now words) ≡ size) × (at < maxLines) ⌝ }
-    ensures { λ r. ⌜ now r ≡ slotsAt at (now (words .entry)) ⌝ }
-{
-    let from = Server::ITEMS + pending::WORDS * at;
-    let to = from + pending::WORDS;
-    &words[from..to]
-}
-
-fn makers_at(words: &[u32], at: usize) -> &[u32]
-    requires { ⌜ (length (now words) ≡ size) × (at < maxLines) ⌝ }
-    ensures { λ r. ⌜ now r ≡ makersAt at (now (words .entry)) ⌝ }
-{
-    let from = Server::MAKERS + Server::PENDING * at;
-    let to = from + Server::PENDING;
-    &words[from..to]
 }
 
 // ---- question 2
@@ -144,43 +115,6 @@ fn add_up(k: Counts) -> Totals
     Totals { taken, inserts }
 }
 
-// A line in use by its counts and pending edits, where all lines took so many edits. It is handed its own counts and rank: the server's, by value, would
-// be copied for each line.
-fn pending_sound(v: Line, n: u8, rank: u8, words: &[u32], at: usize, taken: u32) -> bool
-    requires { ⌜ (length (now words) ≡ size) × (at < maxLines) ⌝ }
-    ensures { λ r. ⌜ r ≡ soundUsed n rank v taken (now (words .entry)) at ⌝ }
-{
-    let others = v.made as u32 + v.taken as u32 == taken;
-    others & line_sound::is_sound(v.taken, v, slots_at(words, at), n, rank, false)
-}
-
-// The origins of its pending edits.
-fn makers_sound(v: Line, n: u8, words: &[u32], at: usize) -> bool
-    requires { ⌜ (length (now words) ≡ size) × (at < maxLines) ⌝ }
-    ensures { λ r. ⌜ r ≡ soundMakers n v (now (words .entry)) at ⌝ }
-{
-    let count = v.pending() as usize;
-    line_sound::makers_sound(makers_at(words, at), count, n, at as u8 + 1)
-}
-
-// A line that is not in use.
-fn unused_empty(v: Line, words: &[u32], at: usize) -> bool
-    requires { ⌜ (length (now words) ≡ size) × (at < maxLines) ⌝ }
-    ensures { λ r. ⌜ r ≡ emptyUnused v (now (words .entry)) at ⌝ }
-{
-    line_sound::is_empty(v, slots_at(words, at)) & list::zero_from(makers_at(words, at), 0)
-}
-
-fn is_line_sound(v: Line, n: u8, rank: u8, words: &[u32], at: usize, taken: u32) -> bool
-    requires { ⌜ (length (now words) ≡ size) × (at < maxLines) ⌝ }
-    ensures { λ r. ⌜ r ≡ soundEither n rank v taken (now (words .entry)) at ⌝ }
-{
-    if at < n as usize {
-        return pending_sound(v, n, rank, words, at, taken) & makers_sound(v, n, words, at);
-    }
-    unused_empty(v, words, at)
-}
-
 // All lines, where those in use took so many edits together.
 fn lines_sound(k: Counts, words: &[u32], taken: u32) -> bool
     requires { ⌜ (k .n ≤ maxLines) × Sizes k (now words) ⌝ }
@@ -192,18 +126,6 @@ fn lines_sound(k: Counts, words: &[u32], taken: u32) -> bool
         well = well & is_line_sound(k.lines[i], k.n, rank, words, i, taken);
     }
     well
-}
-
-// Behind the list all places are zero, items and origins, and the total is the sum over the items.
-fn list_sound(len: u16, total: u32, words: &[u32]) -> bool
-    requires { ⌜ length (now words) ≡ size ⌝ }
-    ensures { λ r. ⌜ r ≡ listRight len total (now (words .entry)) ⌝ }
-{
-    let items = &words[0..Server::ITEMS];
-    let sum = list::total(items, len as usize);
-    let unused = list::zero_from(items, len as usize);
-    let origins = list::zero_from(&words[Server::ORIGINS..Server::MAKERS], len as usize);
-    unused & origins & (total == sum)
 }
 
 fn ranks_sound(k: Counts) -> bool
@@ -222,7 +144,7 @@ fn in_limits(k: Counts) -> bool
 }
 
 // Every test is made whatever the others find.
-fn is_sound(k: Counts, words: &[u32]) -> bool
+pub fn is_sound(k: Counts, words: &[u32]) -> bool
     requires { ⌜ Sizes k (now words) ⌝ }
     ensures answer { λ r. ⌜ r ≡ sound (serverOf k (now (words .entry))) ⌝ }
     ensures facts { λ r. ⌜ (r ≡ true → Sound (serverOf k (now (words .entry)))) ⌝ }
@@ -234,18 +156,6 @@ fn is_sound(k: Counts, words: &[u32]) -> bool
         return right & few & list_sound(k.len, k.total, words) & lines_sound(k, words, all.taken);
     }
     false
-}
-
-// ---- the list
-
-// Applies the edit of form f, item x and that origin to the list of len places, and gives its new length.
-fn apply(words: &mut [u32], len: u16, f: Form, x: u32, origin: Origin) -> u16
-    requires { ⌜ (length (now words) ≡ size) × Room (edit f x) len capacity ⌝ }
-    ensures { λ r. ⌜ Applied f x origin len (now (words .entry)) (now (words .exit)) r ⌝ }
-{
-    let word = list::word_of(origin);
-    list::apply(&mut words[Server::ORIGINS..Server::MAKERS], len, f, word);
-    list::apply(&mut words[0..Server::ITEMS], len, f, x)
 }
 
 // ---- opening
@@ -327,11 +237,11 @@ impl Server {
     pub const INITIAL: usize = limits::INITIAL;
 
     // Where the origins of the items begin, and those of pending edits; and the words of the server.
-    pub const ORIGINS: usize = 1536;
+    pub const ORIGINS: usize = server_words::ORIGINS;
 
-    pub const MAKERS: usize = 2048;
+    pub const MAKERS: usize = server_words::MAKERS;
 
-    pub const WORDS: usize = 2560;
+    pub const WORDS: usize = server_words::WORDS;
 
     // A server of n lines, with the initial list. Refused, it is all zeros.
     pub fn open(n: u8, ranks: &[u8], items: &[u32]) -> Answer

@@ -13,6 +13,8 @@ use line::sending::ask_number;
 use line::sending::finish;
 use line::sending::message;
 use line::sending::refused;
+use server_words::makers_at;
+use server_words::slots_at;
 use wire::Message;
 
 // Questions 2 and 4.
@@ -51,9 +53,9 @@ fn message_of(k: Counts, words: &[u32], line: u8, number: u16) -> Message
 {
     let at = (line - 1) as usize;
     let v = crate::line_at(k, at);
-    let makers = crate::makers_at(words, at);
+    let makers = makers_at(words, at);
     let origin = list::origin_at(makers[(number - 1 - v.acked) as usize]);
-    message(line, 1, origin, v, crate::slots_at(words, at), number)
+    message(line, 1, origin, v, slots_at(words, at), number)
 }
 
 // Writes the message of the pending edit of that number, unless a question says no.

@@ -144,7 +144,7 @@ pub fn turn(
     }
     let n = b.written;
     if UP <= o.verb {
-        let a = server::taking::take(s, words, &m[..n]);
+        let a = server_take::take(s, words, &m[..n]);
         let k = a.counts;
         t.refusal = a.refusal;
         t.server = k;

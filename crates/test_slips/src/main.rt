@@ -5,6 +5,7 @@ ghost use mathlib.Core.List.{[], _∷_};
 ghost use Rattle.client.specs.Answers.{inserted, taken};
 use client::Client;
 use ends::client_end::ClientEnd;
+use ends::server_end::ServerEnd;
 use line::Line;
 use server::Counts;
 use server::Server;
@@ -177,11 +178,11 @@ fn makers_up() {
     let items = [10u32];
     let a = Server::open(2, &[1u8, 2], &items);
     let s = a.server;
-    let b = s.take(&[7u8, 1, 0, 0, 1, 0, 0, 0, 1, 2, 0, 1]);
+    let b = ServerEnd { server: s }.take(&[7u8, 1, 0, 0, 1, 0, 0, 0, 1, 2, 0, 1]);
     number(b.refusal as u64);
-    let d = s.take(&[7u8, 1, 0, 0, 1, 0, 0, 0, 1, 1, 0, 2]);
+    let d = ServerEnd { server: s }.take(&[7u8, 1, 0, 0, 1, 0, 0, 0, 1, 1, 0, 2]);
     number(d.refusal as u64);
-    let e = s.take(&[2u8, 1, 0, 0, 1, 0, 0, 0, 1]);
+    let e = ServerEnd { server: s }.take(&[2u8, 1, 0, 0, 1, 0, 0, 0, 1]);
     number(e.refusal as u64);
     io::write_all(1, b"\n");
 }
@@ -192,10 +193,10 @@ fn nothing() {
     let items = [10u32];
     let a = Server::open(2, &[1u8, 2], &items);
     let s = a.server;
-    let b = s.take(&[7u8, 1, 0, 0, 1, 0, 0, 0, 1, 1, 0, 1]);
+    let b = ServerEnd { server: s }.take(&[7u8, 1, 0, 0, 1, 0, 0, 0, 1, 1, 0, 1]);
     number(b.refusal as u64);
     let t = b.server;
-    let d = t.take(&[7u8, 2, 0, 0, 1, 0, 0, 0, 1, 2, 0, 1]);
+    let d = ServerEnd { server: t }.take(&[7u8, 2, 0, 0, 1, 0, 0, 0, 1, 2, 0, 1]);
     number(d.refusal as u64);
     number(d.report.passed as u64);
     let u = d.server;

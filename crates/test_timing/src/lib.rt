@@ -7,6 +7,7 @@ ghost use Rattle.test_timing.specs.Opened.{clientWith, serverWith, clien
 use c_layout::report;
 use client::Client;
 use ends::client_end::ClientEnd;
+use ends::server_end::ServerEnd;
 use server::Server;
 
 // Client 1 of 2, opened with line numbers as ranks and so many items; more than opening lets through leave an end that is all zeros.
@@ -65,7 +66,7 @@ pub extern "C" fn lub_time_server_take(count: u8, message: &[u8], times: u32) ->
     let s = server_with(count);
     let mut i = 1;
     loop {
-        let a = s.take(message);
+        let a = ServerEnd { server: s }.take(message);
         if times <= i {
             return report(a.refusal, a.report);
         }

@@ -9,7 +9,7 @@ use Rattle.pending.specs.Slots.{allFrom}
 use Rattle.line_sound.proofs.All.{all-start, all-turn, all-end}
 use Rattle.server.specs.View.{countsAt}
 use Rattle.server.specs.Totals.{lineSoundAt}
-use Rattle.server.proofs.Loops.{line-answers}
+use Rattle.server.proofs.Lines.{line-answers}
 use Rattle.server.proofs.lines_sound.Statement.{statement}
 use Rattle.server.proofs.lines_sound.Tie as tie
 

@@ -1,0 +1,4 @@
+pub mod Takes
+pub mod Written
+pub mod Keeping
+pub mod Accepts
