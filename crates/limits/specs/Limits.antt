@@ -24,6 +24,10 @@ maxPending = 64
 abbrev pub maxItems : ℕ
 maxItems = 512
 
+-- bytes of a packet (02: N2)
+abbrev pub maxPacket : ℕ
+maxPacket = 1400
+
 -- 01: items at opening
 abbrev pub maxInitial : ℕ
 maxInitial = 128

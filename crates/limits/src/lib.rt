@@ -18,3 +18,6 @@ pub const PENDING: usize = 64;
 pub const ITEMS: usize = 512;
 
 pub const INITIAL: usize = 128;
+
+// bytes of a packet (02: N2)
+pub const PACKET: usize = 1400;

@@ -59,7 +59,7 @@ use Rattle.model.proofs.Sim.{clientFrom, serverFrom, lineFrom, line-fro
 use Rattle.model.proofs.Follow.{refused, edits-on, takes-down, takes-up, acks-down, acks-up, writes-on}
 
 -- the log of a refused call, and of one that was not
-log-no : {ranks : List ℕ} (w : Log ranks) (c : Call) (r : ℕ) → (r ≡ 0 → ⊥) → log w c r ≡ refusedLog w c
+pub log-no : {ranks : List ℕ} (w : Log ranks) (c : Call) (r : ℕ) → (r ≡ 0 → ⊥) → log w c r ≡ refusedLog w c
 unfolding log
 log-no w c r h = rw (ne-eqb r 0 h)
 
@@ -456,7 +456,7 @@ unread (read.Message m) e = never e
 
 module _ (n : ℕ) (items : List Place) {ranks : List ℕ} {from : Moment ranks} (s : State ours ranks) (sim : Sim n items from s) where
   -- a message taken at end a
-  takes-at : (a i : ℕ) → a ≤ n → (b : List ℕ) → getElem? (s .messages) i ≡ some b → Sim n items from (answered ours s a (receive a i) (ours .take (s .ends a) b))
+  pub takes-at : (a i : ℕ) → a ≤ n → (b : List ℕ) → getElem? (s .messages) i ≡ some b → Sim n items from (answered ours s a (receive a i) (ours .take (s .ends a) b))
   unfolding takeClient takeServer logged refusedLog
   takes-at a i hi b e =
       let m = written-as (s .recorded .messages) i b (ap (λ (ms : List (List ℕ)). getElem? ms i) (sym (sim .messages)) ∙ e) (MessageOk n ranks items (sim .E) (s .recorded .history)) (sim .written) in
@@ -475,7 +475,7 @@ module _ (n : ℕ) (items : List Place) {ranks : List ℕ} {from : Moment ranks}
           (subst (λ (r : Read). Sim n items from (answered ours s (suc a) (receive (suc a) i) (answerAs client (clientReads C r)))) (sym (ap parsed same ∙ codec .written-read (wireMessage x) (ok .1)))
           (take-message n items s sim (suc a) (omega arith) hi (receive (suc a) i) x ok (ap (took (s .recorded) (suc a)) is) refl))
 
-  junks-at : (a : ℕ) (bytes : List ℕ) → a ≤ n → parsed bytes ≡ read.Refused → Sim n items from (answered ours s a (junk a bytes) (ours .take (s .ends a) bytes))
+  pub junks-at : (a : ℕ) (bytes : List ℕ) → a ≤ n → parsed bytes ≡ read.Refused → Sim n items from (answered ours s a (junk a bytes) (ours .take (s .ends a) bytes))
   unfolding takeClient takeServer refusedLog
   junks-at zero bytes hi e =
       let S = serverFrom n (length items) ranks (sim .E .doc) (sim .E .lines) (sim .si) in
@@ -489,19 +489,19 @@ module _ (n : ℕ) (items : List Place) {ranks : List ℕ} {from : Moment ranks}
       (take-junk n items s sim (suc a) (omega arith) hi (junk (suc a) bytes) (answer (asks (ask 2 (soundClient C) ∷ ask 3 false ∷ [])) C C noReport)
       (outcome (asks (ask 2 (soundClient C) ∷ ask 3 false ∷ [])) C C noReport) refl))
 
-  sends-at : (a l number : ℕ) (lent : List ℕ) → a ≤ n → Sim n items from (written ours s (send a l number lent) (ours .send (s .ends a) l number lent))
+  pub sends-at : (a l number : ℕ) (lent : List ℕ) → a ≤ n → Sim n items from (written ours s (send a l number lent) (ours .send (s .ends a) l number lent))
   sends-at zero l number lent hi = subst (λ (e : End). Sim n items from (written ours s (send 0 l number lent) (ours .send e l number lent))) (sym (sim .server-is)) (server-posts n items s sim l number lent)
   sends-at (suc a) l number lent hi =
       subst (λ (e : End). Sim n items from (written ours s (send (suc a) l number lent) (ours .send e l number lent))) (sym (sim .client-is (suc a) (omega arith) hi))
       (client-sends n items s sim (suc a) (omega arith) hi l number lent)
 
-  tells-at : (a l : ℕ) (lent : List ℕ) → a ≤ n → Sim n items from (written ours s (tell a l lent) (ours .tell (s .ends a) l lent))
+  pub tells-at : (a l : ℕ) (lent : List ℕ) → a ≤ n → Sim n items from (written ours s (tell a l lent) (ours .tell (s .ends a) l lent))
   tells-at zero l lent hi = subst (λ (e : End). Sim n items from (written ours s (tell 0 l lent) (ours .tell e l lent))) (sym (sim .server-is)) (server-acks n items s sim l lent)
   tells-at (suc a) l lent hi =
       subst (λ (e : End). Sim n items from (written ours s (tell (suc a) l lent) (ours .tell e l lent))) (sym (sim .client-is (suc a) (omega arith) hi))
       (client-tells n items s sim (suc a) (omega arith) hi l lent)
 
-  edits-at : (c : Call) (l : ℕ) (e : Edit) → 1 ≤ l → l ≤ n → priority (eqb (rankOf ranks l)) e ≡ true → Small e → logged (s .recorded) c ≡ logs.edited (s .recorded) l e
+  pub edits-at : (c : Call) (l : ℕ) (e : Edit) → 1 ≤ l → l ≤ n → priority (eqb (rankOf ranks l)) e ≡ true → Small e → logged (s .recorded) c ≡ logs.edited (s .recorded) l e
       → refusedLog (s .recorded) c ≡ hears (s .recorded) (s .recorded .heard)
       → Sim n items from (answered ours s l c (answerAs client (editClient (clientFrom n l ranks (sim .E .clients l) (sim .E .docs l) (sim .ci l) (sim .bk l)) e)))
   unfolding editClient
@@ -511,7 +511,7 @@ module _ (n : ℕ) (items : List Place) {ranks : List ℕ} {from : Moment ranks}
       (outcome (asks (editQuestions C e)) C (edited C e) noReport) (edits-sound C e pr (sim .client-sound l lo hi))
 
   -- the inverse that the client stores is what the log says that taking back makes
-  takes-back-at : (l : ℕ) → 1 ≤ l → l ≤ n
+  pub takes-back-at : (l : ℕ) → 1 ≤ l → l ≤ n
       → Sim n items from (answered ours s l (takeBack l) (answerAs client (takeBackClient (clientFrom n l ranks (sim .E .clients l) (sim .E .docs l) (sim .ci l) (sim .bk l)))))
   unfolding takeBackClient logged refusedLog
   takes-back-at l lo hi =
@@ -520,29 +520,3 @@ module _ (n : ℕ) (items : List Place) {ranks : List ℕ} {from : Moment ranks}
       edit-call n items s sim l lo hi (takeBack l) (sim .bk l) (asks (takeBackQuestions C)) (client-facts C sound .inverse .rank) (sim .back-small l)
       (λ z. yes-all (takeBackQuestions C) (omega arith) z .1 .1) (ap (logs.edited (s .recorded) l) (sym (sim .back-is l))) refl (takeBackClient C)
       (outcome (asks (takeBackQuestions C)) C (edited C (sim .bk l)) noReport) (takes-back C sound)
-
-  pub called : (c : Call) → callable n c ≡ true → Sim n items from (call ours s c)
-  unfolding call callable handed logged refusedLog
-  called (insert l p x) ok =
-      let t = three (between 1 n l) (ltb p 65536) (ltb x 4294967296) ok in
-      let at-l = between-true 1 n l (t .0) in
-      subst (λ (e : End). Sim n items from (answered ours s l (insert l p x) (ours .insert e p x))) (sym (sim .client-is l (at-l .0) (at-l .1)))
-      (edits-at (insert l p x) l (Insert p x (rankOf ranks l)) (at-l .0) (at-l .1) (eq-eqb (rankOf ranks l) (rankOf ranks l) refl) (le-leb x 4294967295 (omega (arith, ltb-true x 4294967296 (t .2)))) refl refl)
-  called (delete l p) ok =
-      let at-l = between-true 1 n l (and-left (between 1 n l) (ltb p 65536) ok) in
-      subst (λ (e : End). Sim n items from (answered ours s l (delete l p) (ours .delete e p))) (sym (sim .client-is l (at-l .0) (at-l .1)))
-      (edits-at (delete l p) l (Delete p) (at-l .0) (at-l .1) refl refl refl refl)
-  called (takeBack l) ok =
-      let at-l = between-true 1 n l ok in
-      subst (λ (e : End). Sim n items from (answered ours s l (takeBack l) (ours .takeBack e))) (sym (sim .client-is l (at-l .0) (at-l .1))) (takes-back-at l (at-l .0) (at-l .1))
-  called (send a l number lent) ok =
-      sends-at a l number lent (leb-true a n (three (leb a n) (ltb l 256) (ltb number 65536) (and-left (leb a n && ltb l 256 && ltb number 65536) (areBytes lent) ok) .0))
-  called (tell a l lent) ok = tells-at a l lent (leb-true a n (three (leb a n) (ltb l 256) (areBytes lent) ok .0))
-  called (receive a i) ok = go (getElem? (s .messages) i) refl
-    where
-      go : (m : Option (List ℕ)) → getElem? (s .messages) i ≡ m → Sim n items from (handed ours s a (receive a i) m)
-      go none e = sim
-      go (some b) e = takes-at a i (leb-true a n ok) b e
-  called (junk a bytes) ok =
-      let t = three (leb a n) (areBytes bytes) (unreadable (parsed bytes)) ok in
-      junks-at a bytes (leb-true a n (t .0)) (unread (parsed bytes) (t .2))

@@ -4,7 +4,7 @@ use mathlib.Core.Bool.{Bool, true, false, cond}
 use mathlib.Core.Option.{Option, none, some}
 use mathlib.Core.List.{List, [], _∷_, _++_, map}
 use Prim.Native.Nat.{ℕ, zero, suc, _≤_}
-use lib.ListN.{getElem?}
+use lib.ListN.{length, getElem?}
 use borrow.Author.Tests.{eq-eqb, le-leb}
 use Rattle.ot.specs.Edit.{Edit}
 use Rattle.list.specs.Places.{Place, initialPlaces, appliedBy, itemsOf}
@@ -20,14 +20,16 @@ use Rattle.jupiter.proofs.Step.{Later}
 use Rattle.jupiter.proofs.Start.{whole, whole-none}
 use Rattle.jupiter.proofs.Runs.{Onward}
 use Rattle.jupiter.proofs.Consistency as theorem
-use Rattle.model.specs.Questions.{Question, asks}
+use Rattle.model.specs.Limits.{maxInitial}
+use Rattle.model.specs.Questions.{Question, asks, Report}
+use Rattle.model.specs.Packets.{known, packetFrom}
 use Rattle.model.specs.Ranks.{rankOf, among}
 use Rattle.model.specs.Edits.{edits}
-use Rattle.model.specs.Sheet.{Sheet, Call, insert, delete, takeBack, send, tell, receive, junk}
+use Rattle.model.specs.Sheet.{Sheet, Call, insert, delete, takeBack, send, tell, receive, pack, packet, junk}
 use Rattle.model.specs.Log as logs
-use Rattle.model.specs.Log.{Log, namedBy, edited, log, madeAt, takenAt, messageBytes}
-use Rattle.model.specs.Numbers.{taking, handing, number}
-use Rattle.model.specs.Run.{State, callable, handed, handedNumber, call, numberOf, run, start}
+use Rattle.model.specs.Log.{Log, namedBy, edited, log, tookPacket, madeAt, takenAt, messageBytes}
+use Rattle.model.specs.Numbers.{taking, handing, packetHanded, number}
+use Rattle.model.specs.Run.{State, callable, handed, handedNumber, packetOf, call, numberOf, run, start}
 use Rattle.model.specs.Claim.{Holds, Opened, Converges}
 use Rattle.model.specs.Ours.{server, ours}
 use Rattle.model.specs.Order.{SameOrder}
@@ -39,7 +41,7 @@ use Rattle.model.proofs.Places.{namesOf, edit-origins, may-open, shown-
 use Rattle.model.proofs.Orders.{places-order}
 use Rattle.model.proofs.Sim.{Moment, Sim, present, from-here, laws}
 use Rattle.model.proofs.Reached.{who, stateOf, reached, shows}
-use Rattle.model.proofs.Converges.{opening, starts, runs, server-asked, converges}
+use Rattle.model.proofs.Converges.{opening, starts, runs, server-asked, few-places, converges}
 
 -- ---- the log is settled by the calls
 
@@ -70,18 +72,31 @@ module _ (S T : Sheet) (n : ℕ) {ranks : List ℕ} where
     handed-same a c none q = e
     handed-same a c (some b) q = ap₂ (λ (w : Log ranks) (r : ℕ). log w c r) e q
 
-    same-call : (c : Call) → numberOf S s c ≡ numberOf T t c → call S s c .recorded ≡ call T t c .recorded
+    -- the packet of the same numbers, and how many of its messages are taken
+    same-packet : (is tail : List ℕ) → packetOf S s is tail ≡ packetOf T t is tail
+    same-packet is tail = ap (λ (ms : List (List ℕ)). packetFrom ms is tail) same-messages
+
+    same-count : (a : ℕ) (is tail : List ℕ) → callable n (packet a is tail) ≡ true
+        → S .takePacket (s .ends a) (packetOf S s is tail) .report .passed ≡ T .takePacket (t .ends a) (packetOf T t is tail) .report .passed
+    same-count a is tail ok =
+        ap (λ (k : Report). k .passed) (hs .packets a is tail ok) ∙ ap (λ (w : Log ranks). packetHanded n w a is tail .count) e ∙ sym (ap (λ (k : Report). k .passed) (ht .packets a is tail ok))
+
+    same-call : (c : Call) → callable n c ≡ true → numberOf S s c ≡ numberOf T t c → call S s c .recorded ≡ call T t c .recorded
     unfolding call numberOf
-    same-call (insert l p x) q = ap₂ (λ (w : Log ranks) (r : ℕ). log w (insert l p x) r) e q
-    same-call (delete l p) q = ap₂ (λ (w : Log ranks) (r : ℕ). log w (delete l p) r) e q
-    same-call (takeBack l) q = ap₂ (λ (w : Log ranks) (r : ℕ). log w (takeBack l) r) e q
-    same-call (send a l k lent) q = ap₂ (λ (w : Log ranks) (r : ℕ). log w (send a l k lent) r) e q
-    same-call (tell a l lent) q = ap₂ (λ (w : Log ranks) (r : ℕ). log w (tell a l lent) r) e q
-    same-call (receive a i) q =
+    same-call (insert l p x) ok q = ap₂ (λ (w : Log ranks) (r : ℕ). log w (insert l p x) r) e q
+    same-call (delete l p) ok q = ap₂ (λ (w : Log ranks) (r : ℕ). log w (delete l p) r) e q
+    same-call (takeBack l) ok q = ap₂ (λ (w : Log ranks) (r : ℕ). log w (takeBack l) r) e q
+    same-call (send a l k lent) ok q = ap₂ (λ (w : Log ranks) (r : ℕ). log w (send a l k lent) r) e q
+    same-call (tell a l lent) ok q = ap₂ (λ (w : Log ranks) (r : ℕ). log w (tell a l lent) r) e q
+    same-call (receive a i) ok q =
         let there : getElem? (s .messages) i ≡ getElem? (t .messages) i = ap (λ (ms : List (List ℕ)). getElem? ms i) same-messages in
         ap (λ (m : Option (List ℕ)). handed S s a (receive a i) m .recorded) there
         ∙ handed-same a (receive a i) (getElem? (t .messages) i) (ap (handedNumber S s a) (sym there) ∙ q)
-    same-call (junk a bytes) q = ap₂ (λ (w : Log ranks) (r : ℕ). log w (junk a bytes) r) e q
+    same-call (pack a l offset lent) ok q = ap₂ (λ (w : Log ranks) (r : ℕ). log w (pack a l offset lent) r) e q
+    same-call (packet a is tail) ok q =
+        ap₂ (λ (w : Log ranks) (k : ℕ). tookPacket w a k (known (length (s .messages)) is)) e (same-count a is tail ok)
+        ∙ ap (λ (ms : List (List ℕ)). tookPacket (t .recorded) a (T .takePacket (t .ends a) (packetOf T t is tail) .report .passed) (known (length ms) is)) same-messages
+    same-call (junk a bytes) ok q = ap₂ (λ (w : Log ranks) (r : ℕ). log w (junk a bytes) r) e q
 
   same-log : (calls : List Call) (s : State S ranks) (t : State T ranks) → Good S n s → Good T n t → s .recorded ≡ t .recorded → run S n s calls .recorded ≡ run T n t calls .recorded
   unfolding run
@@ -90,7 +105,7 @@ module _ (S T : Sheet) (n : ℕ) {ranks : List ℕ} where
       same-log cs (cond (callable n c) (call S s c) s) (cond (callable n c) (call T t c) t) (λ calls. gs (c ∷ calls)) (λ calls. gt (c ∷ calls)) (go (callable n c) refl)
     where
       go : (b : Bool) → callable n c ≡ b → (cond {A = State S ranks} b (call S s c) s) .recorded ≡ (cond {A = State T ranks} b (call T t c) t) .recorded
-      go true ok = same-call s t (gs []) (gt []) e c (same-number s t (gs []) (gt []) e c ok)
+      go true ok = same-call s t (gs []) (gt []) e c ok (same-number s t (gs []) (gt []) e c ok)
       go false ok = e
 
 -- ---- two sheets
@@ -218,10 +233,13 @@ module _ (S : Sheet) (c : Converges S) (n : ℕ) (ranks items : List ℕ) (o : O
   ours-open : Opened ours n ranks items
   ours-open = opened-too S ours c converges n ranks items o
 
+  few : length (initialPlaces items) ≤ maxInitial
+  few = few-places items (server-asked n ranks items (ours-open .server) .2)
+
   led : Sim n (initialPlaces items) (opening items) there
   led =
       let asked = server-asked n ranks items (ours-open .server) in
-      runs n (initialPlaces items) calls (start ours n ranks items) (starts n ranks items (asked .0) (asked .1) (asked .2) (asked .3) (o .numbers))
+      runs n (initialPlaces items) few calls (start ours n ranks items) (starts n ranks items (asked .0) (asked .1) (asked .2) (asked .3) (o .numbers))
 
   -- where S is led, and that it shows what ours shows there and after more calls
   abbrev here : State S ranks
@@ -247,7 +265,7 @@ module _ (S : Sheet) (c : Converges S) (n : ℕ) (ranks items : List ℕ) (o : O
   shows-here = shows-further []
 
   led-further : (more : List Call) → Sim n (initialPlaces items) (present led) (run ours n there more)
-  led-further more = runs n (initialPlaces items) more there (from-here led)
+  led-further more = runs n (initialPlaces items) few more there (from-here led)
 
   strong : (more : List Call) (a b : ℕ) → a ≤ n → b ≤ n
       → SameSet (appliedAt (here .recorded .history) a) (appliedAt (run S n here more .recorded .history) b)

@@ -41,10 +41,11 @@ use Rattle.model.proofs.Places.{namesOf, edit-origins, may-open, shown-
 use Rattle.model.proofs.Sim.{clientFrom, serverFrom, line-from, Moment, Sim, present, laws}
 use Rattle.model.proofs.Reached.{who, stateOf, reached, shows}
 use Rattle.model.proofs.Counts as counts
-use Rattle.model.proofs.Calls.{called}
 use Rattle.model.proofs.Next.{delivers-down, delivers-up}
 use Rattle.model.proofs.Alone.{alone}
-use Rattle.model.proofs.Numbers.{refusal-is, numbered, reads-back}
+use Rattle.model.proofs.Outcome.{refusal-is}
+use Rattle.model.proofs.Numbers.{reads-back}
+use Rattle.model.proofs.AnyCall.{called, numbered, counts as packet-counts}
 
 -- ---- from the theory's ends to the claim
 
@@ -119,6 +120,7 @@ module _ (n : ℕ) (items : List Place) {ranks : List ℕ} {from : Moment ranks}
         read-back = reads-back n items s sim few;
         numbers = numbered n items s sim few;
         reports = sim .reports;
+        packets = packet-counts n items s sim few;
         lines = on-line;
       }
     where
@@ -193,13 +195,14 @@ module _ (n : ℕ) (ranks items : List ℕ) (lo : 1 ≤ n) (hi : n ≤ maxLines)
 
 -- ---- every list of calls
 
-pub runs : (n : ℕ) (items : List Place) {ranks : List ℕ} {from : Moment ranks} (calls : List Call) (s : State ours ranks) → Sim n items from s → Sim n items from (run ours n s calls)
+pub runs : (n : ℕ) (items : List Place) {ranks : List ℕ} {from : Moment ranks} → length items ≤ maxInitial → (calls : List Call) (s : State ours ranks) → Sim n items from s
+    → Sim n items from (run ours n s calls)
 unfolding run
-runs n items {from = from} [] s sim = sim
-runs n items {from = from} (c ∷ cs) s sim = runs n items cs (cond (callable n c) (call ours s c) s) (go (callable n c) refl)
+runs n items {from = from} few [] s sim = sim
+runs n items {from = from} few (c ∷ cs) s sim = runs n items few cs (cond (callable n c) (call ours s c) s) (go (callable n c) refl)
   where
     go : (b : Bool) → callable n c ≡ b → Sim n items from (cond b (call ours s c) s)
-    go true e = called n items s sim c e
+    go true e = called n items s sim few c e
     go false e = sim
 
 -- what an opening that was not refused was asked
@@ -212,6 +215,9 @@ server-asked n ranks items e =
     let b = between-true 1 maxLines n (t .0) in
     (b .0, b .1, leb-true (length items) maxInitial (t .1 .0), y .1 .0)
 
+pub few-places : (items : List ℕ) → length items ≤ maxInitial → length (initialPlaces items) ≤ maxInitial
+few-places items = subst (λ (k : ℕ). k ≤ maxInitial) (sym (initial-length items))
+
 pub converges : Converges ours
 converges =
     record {
@@ -221,6 +227,7 @@ converges =
       holds = λ n ranks items opened calls.
           let asked = server-asked n ranks items (opened .server) in
           let places = initialPlaces items in
-          holds n places (run ours n (start ours n ranks items) calls) (runs n places calls (start ours n ranks items) (starts n ranks items (asked .0) (asked .1) (asked .2) (asked .3) (opened .numbers)))
-          (subst (λ (k : ℕ). k ≤ maxInitial) (sym (initial-length items)) (asked .2)) (may-open ranks items);
+          let few = few-places items (asked .2) in
+          holds n places (run ours n (start ours n ranks items) calls) (runs n places few calls (start ours n ranks items) (starts n ranks items (asked .0) (asked .1) (asked .2) (asked .3) (opened .numbers)))
+          few (may-open ranks items);
     }

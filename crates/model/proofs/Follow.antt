@@ -1,7 +1,7 @@
 -- Each call of the sheet is a step of the theory, or was refused and is none.
 use mathlib.Core.Path.{_≡_, refl, ap, ap₂, sym, _∙_, subst}
 use mathlib.Core.Bool.{Bool, true, false, cond}
-use mathlib.Core.List.{List, [], _∷_, _++_, append-nil, append-assoc, map-append}
+use mathlib.Core.List.{List, [], _∷_, _++_, append-nil, append-assoc, map, map-append}
 use Prim.Native.Nat.{ℕ, zero, suc, _+_, _-_, _≤_}
 use native.Mathlib.Omega.{arith}
 use lib.Dec.{eqb}
@@ -35,7 +35,7 @@ use Rattle.model.specs.Server.{Server, soundServer, serverTaken, serverA
 use Rattle.model.specs.Ranks.{rankOf}
 use Rattle.model.specs.Edits.{Named, appliedNamed, Rule, editsBy, edits}
 use Rattle.model.specs.Log as logs
-use Rattle.model.specs.Log.{Log, messageBytes, namedBy, setOf, madeAt, hears, tookUp, tookDown, writes}
+use Rattle.model.specs.Log.{Log, messageBytes, namedBy, setOf, madeAt, hears, tookUp, tookDown, writes, packs}
 use Rattle.model.specs.Run.{State, areItems}
 use Rattle.model.specs.Ours.{client, server, ours}
 use Rattle.model.proofs.Instance.{to-T, by-rank, editsOf, map-drop, past-same, over-same}
@@ -581,9 +581,9 @@ module _ (n : ℕ) (items : List Place) {ranks : List ℕ} {from : Moment ranks}
           }
 
   -- ---- a message is written
-  pub writes-on : (x : Message (edits ranks)) → MessageOk n ranks items (sim .E) h x
-      → Sim n items from (record { ends = s .ends; messages = s .messages ++ (messageBytes x ∷ []); reports = s .reports; recorded = writes w x })
-  writes-on x ok =
+  pub writes-all : (xs : List (Message (edits ranks))) → All (MessageOk n ranks items (sim .E) h) xs
+      → Sim n items from (record { ends = s .ends; messages = s .messages ++ map messageBytes xs; reports = s .reports; recorded = packs w xs })
+  writes-all xs ok =
       record {
         E = sim .E;
         ci = sim .ci;
@@ -599,8 +599,8 @@ module _ (n : ℕ) (items : List Place) {ranks : List ℕ} {from : Moment ranks}
         client-shown = sim .client-shown;
         server-heard = sim .server-heard;
         client-heard = sim .client-heard;
-        messages = ap (λ (ms : List (List ℕ)). ms ++ (messageBytes x ∷ [])) (sim .messages) ∙ sym (map-append messageBytes (w .messages) (x ∷ []));
-        written = all-append (MessageOk n ranks items (sim .E) h) (w .messages) (x ∷ []) (sim .written) (ok, tt);
+        messages = ap (λ (ms : List (List ℕ)). ms ++ map messageBytes xs) (sim .messages) ∙ sym (map-append messageBytes (w .messages) xs);
+        written = all-append (MessageOk n ranks items (sim .E) h) (w .messages) xs (sim .written) ok;
         reports = sim .reports;
         taken = sim .taken;
         served-lines = sim .served-lines;
@@ -613,3 +613,7 @@ module _ (n : ℕ) (items : List Place) {ranks : List ℕ} {from : Moment ranks}
         back-small = sim .back-small;
         docs-small = sim .docs-small;
       }
+
+  pub writes-on : (x : Message (edits ranks)) → MessageOk n ranks items (sim .E) h x
+      → Sim n items from (record { ends = s .ends; messages = s .messages ++ (messageBytes x ∷ []); reports = s .reports; recorded = writes w x })
+  writes-on x ok = writes-all (x ∷ []) (ok, tt)

@@ -19,6 +19,7 @@ pub mod Sim
 pub mod Reached
 pub mod Follow
 pub mod Outcome
+pub mod Packets
 pub mod Alone
 pub mod Ranges
 pub mod Calls
@@ -27,6 +28,9 @@ pub mod Rooms
 pub mod Bounds
 pub mod Next
 pub mod Numbers
+pub mod TakesPackets
+pub mod WritesPackets
+pub mod AnyCall
 pub mod Converges
 pub mod Consequences
 pub mod Wrong

@@ -18,13 +18,14 @@ use Rattle.jupiter.specs.History.{History, at, order, newEdit}
 use Rattle.jupiter.proofs.Lists.{All}
 use Rattle.jupiter.proofs.Forms.{form-made}
 use Rattle.model.specs.Questions.{asks, between}
+use Rattle.model.specs.Packets.{known}
 use Rattle.model.specs.Ranks.{rankOf}
 use Rattle.model.specs.Inverse.{inverseOf}
 use Rattle.model.specs.Edits.{Named, appliedNamed, edits}
-use Rattle.model.specs.Sheet.{Sheet, Call, insert, delete, takeBack, send, tell, receive, junk}
-use Rattle.model.specs.Log.{Log, setOf, namedBy, hears, hearing, edited, took, logged, refusedLog, log}
+use Rattle.model.specs.Sheet.{Sheet, Call, insert, delete, takeBack, send, tell, receive, pack, packet, junk}
+use Rattle.model.specs.Log.{Log, setOf, namedBy, hears, hearing, edited, took, tookFirst, tookPacket, logged, refusedLog, log}
 use Rattle.model.specs.Numbers.{editing, undoing, number}
-use Rattle.model.specs.Run.{State, callable, handed, call, numberOf, run}
+use Rattle.model.specs.Run.{State, callable, handed, packetOf, call, numberOf, run}
 use Rattle.model.specs.Consequences.{editOf, sparedBy}
 use Rattle.model.proofs.Tests.{never, three, and-left, and-right, yes-all, between-true}
 use Rattle.model.proofs.Table.{cond-ne}
@@ -52,7 +53,7 @@ unfolding setOf
 client-set h zero e x a q = absurd (omega arith)
 client-set h (suc k) e x a q = q
 
-at-same : {A : Type 0} (l : ℕ) (v : A) (f : ℕ → A) → at l v f l ≡ v
+pub at-same : {A : Type 0} (l : ℕ) (v : A) (f : ℕ → A) → at l v f l ≡ v
 at-same l v f = rw (eq-eqb l l refl)
 
 module _ {ranks : List ℕ} (w : Log ranks) (l : ℕ) (e : Edit) where
@@ -86,6 +87,8 @@ makes n w l (takeBack j) e z =
 makes n w l (send a j k lent) e z = never e
 makes n w l (tell a j lent) e z = never e
 makes n w l (receive a i) e z = never e
+makes n w l (pack a j offset lent) e z = never e
+makes n w l (packet a is tail) e z = never e
 makes n w l (junk a bytes) e z = never e
 
 -- the line of such a call is one of the sheet's
@@ -97,6 +100,8 @@ edits-line n l (takeBack j) e ok = subst (λ (i : ℕ). (1 ≤ i) × (i ≤ n)) 
 edits-line n l (send a j k lent) e ok = never e
 edits-line n l (tell a j lent) e ok = never e
 edits-line n l (receive a i) e ok = never e
+edits-line n l (pack a j offset lent) e ok = never e
+edits-line n l (packet a is tail) e ok = never e
 edits-line n l (junk a bytes) e ok = never e
 
 -- ---- a client makes and takes nothing
@@ -148,7 +153,22 @@ module _ {ranks : List ℕ} (l : ℕ) (w : Log ranks) where
   log-spares (send a j k lent) cs r e = either (eqb r 0) _ _ (λ z. record { shown = refl; undo = refl }) (spared-none l w)
   log-spares (tell a j lent) cs r e = either (eqb r 0) _ _ (λ z. record { shown = refl; undo = refl }) (spared-none l w)
   log-spares (receive a i) cs r e = either (eqb r 0) _ _ (λ z. took-spares a (getElem? (w .messages) i) (apart a l (and-left (not (eqb a l)) (sparedBy l cs) e))) (heard-spares (w .heard))
+  log-spares (pack a j offset lent) cs r e = either (eqb r 0) _ _ (λ z. record { shown = refl; undo = refl }) (spared-none l w)
+  log-spares (packet a is tail) cs r e = either (eqb r 0) _ _ (λ z. spared-none l w) (spared-none l w)
   log-spares (junk a bytes) cs r e = either (eqb r 0) _ _ (λ z. heard-spares (w .heard)) (heard-spares (w .heard))
+
+-- another end takes messages of a packet
+first-spares : {ranks : List ℕ} (l a : ℕ) → (a ≡ l → ⊥) → (k : ℕ) (is : List ℕ) (w : Log ranks) → Spared l w (tookFirst w a k is)
+unfolding tookFirst
+first-spares l a d zero is w = spared-none l w
+first-spares l a d (suc k) [] w = spared-none l w
+first-spares l a d (suc k) (i ∷ is) w =
+    let one = took-spares l w a (getElem? (w .messages) i) d in
+    let rest = first-spares l a d k is (took w a (getElem? (w .messages) i)) in
+    record { shown = rest .shown ∙ one .shown; undo = rest .undo ∙ one .undo }
+
+packet-spares : {ranks : List ℕ} (l a : ℕ) → (a ≡ l → ⊥) → (k : ℕ) (is : List ℕ) (w : Log ranks) → Spared l w (tookPacket w a k is)
+packet-spares l a d k is w = let all = first-spares l a d k is w in record { shown = all .shown; undo = all .undo }
 
 -- the calls behind it spare the client too
 spared-rest : (l : ℕ) (c : Call) (cs : List Call) → sparedBy l (c ∷ cs) ≡ true → sparedBy l cs ≡ true
@@ -159,6 +179,8 @@ spared-rest l (takeBack j) cs e = and-right (not (eqb j l)) (sparedBy l cs) e
 spared-rest l (send a j k lent) cs e = e
 spared-rest l (tell a j lent) cs e = e
 spared-rest l (receive a i) cs e = and-right (not (eqb a l)) (sparedBy l cs) e
+spared-rest l (pack a j offset lent) cs e = e
+spared-rest l (packet a is tail) cs e = and-right (not (eqb a l)) (sparedBy l cs) e
 spared-rest l (junk a bytes) cs e = e
 
 module _ (S : Sheet) {ranks : List ℕ} where
@@ -171,25 +193,31 @@ module _ (S : Sheet) {ranks : List ℕ} where
   edit-logs s l (send a j k lent) e = never e
   edit-logs s l (tell a j lent) e = never e
   edit-logs s l (receive a i) e = never e
+  edit-logs s l (pack a j offset lent) e = never e
+  edit-logs s l (packet a is tail) e = never e
   edit-logs s l (junk a bytes) e = never e
 
-  -- a call writes to the log by the number that it is answered with; where no such message was written, there is no call
-  logs-as : (P : Log ranks → Type 0) (s : State S ranks) (c : Call) → P (s .recorded) → ((r : ℕ) → P (log (s .recorded) c r)) → P (call S s c .recorded)
+  -- a call writes to the log by the number that it is answered with, a packet by how many messages were taken; where no such message was
+  -- written, there is no call
+  logs-as : (P : Log ranks → Type 0) (s : State S ranks) (c : Call) → P (s .recorded) → ((r : ℕ) → P (log (s .recorded) c r))
+      → ((a : ℕ) (is tail : List ℕ) → c ≡ packet a is tail → (k : ℕ) (js : List ℕ) → P (tookPacket (s .recorded) a k js)) → P (call S s c .recorded)
   unfolding call handed
-  logs-as P s (insert j p x) same f = f (S .insert (s .ends j) p x .refusal)
-  logs-as P s (delete j p) same f = f (S .delete (s .ends j) p .refusal)
-  logs-as P s (takeBack j) same f = f (S .takeBack (s .ends j) .refusal)
-  logs-as P s (send a j k lent) same f = f (S .send (s .ends a) j k lent .refusal)
-  logs-as P s (tell a j lent) same f = f (S .tell (s .ends a) j lent .refusal)
-  logs-as P s (receive a i) same f = go (getElem? (s .messages) i)
+  logs-as P s (insert j p x) same f g = f (S .insert (s .ends j) p x .refusal)
+  logs-as P s (delete j p) same f g = f (S .delete (s .ends j) p .refusal)
+  logs-as P s (takeBack j) same f g = f (S .takeBack (s .ends j) .refusal)
+  logs-as P s (send a j k lent) same f g = f (S .send (s .ends a) j k lent .refusal)
+  logs-as P s (tell a j lent) same f g = f (S .tell (s .ends a) j lent .refusal)
+  logs-as P s (receive a i) same f g = go (getElem? (s .messages) i)
     where
       go : (m : Option (List ℕ)) → P (handed S s a (receive a i) m .recorded)
       go none = same
       go (some b) = f (S .take (s .ends a) b .refusal)
-  logs-as P s (junk a bytes) same f = f (S .take (s .ends a) bytes .refusal)
+  logs-as P s (pack a j offset lent) same f g = f (S .pack (s .ends a) j lent offset .refusal)
+  logs-as P s (packet a is tail) same f g = g a is tail refl (S .takePacket (s .ends a) (packetOf S s is tail) .report .passed) (known (length (s .messages)) is)
+  logs-as P s (junk a bytes) same f g = f (S .take (s .ends a) bytes .refusal)
 
   pub run-spares : (n l : ℕ) (calls : List Call) (s : State S ranks) → sparedBy l calls ≡ true → Spared l (s .recorded) (run S n s calls .recorded)
-  unfolding run
+  unfolding run sparedBy
   run-spares n l [] s e = spared-none l (s .recorded)
   run-spares n l (c ∷ cs) s e =
       let one = go (callable n c) in
@@ -198,4 +226,5 @@ module _ (S : Sheet) {ranks : List ℕ} where
     where
       go : (b : Bool) → Spared l (s .recorded) ((cond {A = State S ranks} b (call S s c) s) .recorded)
       go true = logs-as (Spared l (s .recorded)) s c (spared-none l (s .recorded)) (λ r. log-spares l (s .recorded) c cs r e)
+          (λ a is tail z k js. packet-spares l a (apart a l (and-left (not (eqb a l)) (sparedBy l cs) (subst (λ (d : Call). sparedBy l (d ∷ cs) ≡ true) z e))) k js (s .recorded))
       go false = spared-none l (s .recorded)

@@ -44,20 +44,12 @@ use Rattle.model.proofs.Tests.{Alike, alike, never, both, three, and-le
 use Rattle.model.proofs.SoundLine.{Asked, yes-asked}
 use Rattle.model.proofs.SoundClient.{carryQuestions}
 use Rattle.model.proofs.SoundServer.{lastQuestions}
+use Rattle.model.proofs.Outcome.{refusal-is}
 use Rattle.model.proofs.Sim.{clientFrom, serverFrom, lineFrom, line-from, Lined, MessageOk, Moment, Sim}
 use Rattle.model.proofs.Counts.{client-made, client-taken, server-made, server-taken}
 use Rattle.model.proofs.Rooms.{same-room}
 use Rattle.model.proofs.Calls.{client-message, server-message, unread, up-is, up-bytes, down-is, down-bytes}
 use Rattle.model.proofs.Next.{up-4, down-asked, down-stands, up-asked, up-10}
-
--- the number of an answer
-pub refusal-is : {E : Type 0} (r : ℕ) (old new : E) (k : Report) → answer r old new k .refusal ≡ r
-unfolding answer
-refusal-is {E} r old new k = go (eqb r 0) refl
-  where
-    go : (b : Bool) → eqb r 0 ≡ b → (cond {A = Answer E} b (record { refusal = 0; end = new; report = k }) (record { refusal = r; end = old; report = noReport })) .refusal ≡ r
-    go true e = sym (eqb-true r 0 e)
-    go false e = refl
 
 sent-is : (r : ℕ) (bytes lent : List ℕ) → sent r bytes lent .refusal ≡ r
 unfolding sent
@@ -259,17 +251,17 @@ module _ (n : ℕ) (items : List Place) {ranks : List ℕ} {from : Moment ranks}
   server-takes (downAck k seen) ok = refusal-is (asks (serverAckQuestions S k 1 seen)) S (serverAcked S k seen) noReport ∙ alike (serverAckQuestions S k 1 seen) (taking n w 0 (downAck k seen)) (Alike.over (sim .server-sound) (Alike.same refl (λ y4. never y4)))
 
   -- ---- at any end
-  edits-at : (l : ℕ) → 1 ≤ l → l ≤ n → (e : Edit) → editClient (clientFrom n l ranks (E .clients l) (E .docs l) (sim .ci l) (sim .bk l)) e .refusal ≡ asks (editing w l e)
+  pub edits-at : (l : ℕ) → 1 ≤ l → l ≤ n → (e : Edit) → editClient (clientFrom n l ranks (E .clients l) (E .docs l) (sim .ci l) (sim .bk l)) e .refusal ≡ asks (editing w l e)
   unfolding editClient
   edits-at zero lo hi e = absurd (omega arith)
   edits-at (suc a) lo hi e = refusal-is (asks (editQuestions (C a hi) e)) (C a hi) (edited (C a hi) e) noReport ∙ edit-number a hi e
 
-  undoes-at : (l : ℕ) → 1 ≤ l → l ≤ n → takeBackClient (clientFrom n l ranks (E .clients l) (E .docs l) (sim .ci l) (sim .bk l)) .refusal ≡ asks (undoing w l)
+  pub undoes-at : (l : ℕ) → 1 ≤ l → l ≤ n → takeBackClient (clientFrom n l ranks (E .clients l) (E .docs l) (sim .ci l) (sim .bk l)) .refusal ≡ asks (undoing w l)
   unfolding takeBackClient
   undoes-at zero lo hi = absurd (omega arith)
   undoes-at (suc a) lo hi = refusal-is (asks (takeBackQuestions (C a hi))) (C a hi) (edited (C a hi) (sim .bk (suc a))) noReport ∙ undo-number a hi
 
-  sends-at : (a l k : ℕ) (lent : List ℕ) → a ≤ n → ours .send (s .ends a) l k lent .refusal ≡ asks (sending n w a l k lent)
+  pub sends-at : (a l k : ℕ) (lent : List ℕ) → a ≤ n → ours .send (s .ends a) l k lent .refusal ≡ asks (sending n w a l k lent)
   unfolding sendClient sendServer
   sends-at zero l k lent hi =
       ap (λ (e : End). ours .send e l k lent .refusal) (sim .server-is) ∙ sent-is (asks (sendServerQuestions S l k lent)) (bytesOf (serverMessage S l k)) lent ∙ server-sends l k lent
@@ -277,7 +269,7 @@ module _ (n : ℕ) (items : List Place) {ranks : List ℕ} {from : Moment ranks}
       ap (λ (e : End). ours .send e l k lent .refusal) (sim .client-is (suc a) (omega arith) hi)
       ∙ sent-is (asks (sendClientQuestions (C a hi) l k lent)) (bytesOf (clientMessage (C a hi) k)) lent ∙ client-sends a hi l k lent
 
-  tells-at : (a l : ℕ) (lent : List ℕ) → a ≤ n → ours .tell (s .ends a) l lent .refusal ≡ asks (telling n a l lent)
+  pub tells-at : (a l : ℕ) (lent : List ℕ) → a ≤ n → ours .tell (s .ends a) l lent .refusal ≡ asks (telling n a l lent)
   unfolding tellClient tellServer
   tells-at zero l lent hi =
       ap (λ (e : End). ours .tell e l lent .refusal) (sim .server-is) ∙ sent-is (asks (tellServerQuestions S l lent)) (bytesOf (message.Ack l 1 (lineOf S l .taken))) lent ∙ server-tells l lent
@@ -285,7 +277,7 @@ module _ (n : ℕ) (items : List Place) {ranks : List ℕ} {from : Moment ranks}
       ap (λ (e : End). ours .tell e l lent .refusal) (sim .client-is (suc a) (omega arith) hi)
       ∙ sent-is (asks (tellClientQuestions (C a hi) l lent)) (bytesOf (message.Ack (suc a) 0 (E .clients (suc a) .taken))) lent ∙ client-tells a hi l lent
 
-  takes-at : (a : ℕ) → a ≤ n → (x : Message (edits ranks)) → MessageOk n ranks items E h x → ours .take (s .ends a) (messageBytes x) .refusal ≡ asks (taking n w a x)
+  pub takes-at : (a : ℕ) → a ≤ n → (x : Message (edits ranks)) → MessageOk n ranks items E h x → ours .take (s .ends a) (messageBytes x) .refusal ≡ asks (taking n w a x)
   unfolding takeClient takeServer
   takes-at zero hi x ok =
       ap (λ (e : End). ours .take e (messageBytes x) .refusal) (sim .server-is) ∙ ap (λ (r : Read). serverReads S r .refusal) (codec .written-read (wireMessage x) (ok .1)) ∙ server-takes x ok
@@ -293,7 +285,7 @@ module _ (n : ℕ) (items : List Place) {ranks : List ℕ} {from : Moment ranks}
       ap (λ (e : End). ours .take e (messageBytes x) .refusal) (sim .client-is (suc a) (omega arith) hi)
       ∙ ap (λ (r : Read). clientReads (C a hi) r .refusal) (codec .written-read (wireMessage x) (ok .1)) ∙ client-takes a hi x ok
 
-  junk-at : (a : ℕ) (bytes : List ℕ) → a ≤ n → parsed bytes ≡ read.Refused → ours .take (s .ends a) bytes .refusal ≡ 3
+  pub junk-at : (a : ℕ) (bytes : List ℕ) → a ≤ n → parsed bytes ≡ read.Refused → ours .take (s .ends a) bytes .refusal ≡ 3
   unfolding takeClient takeServer
   junk-at zero bytes hi e =
       ap (λ (d : End). ours .take d bytes .refusal) (sim .server-is) ∙ ap (λ (r : Read). serverReads S r .refusal) e
@@ -303,7 +295,7 @@ module _ (n : ℕ) (items : List Place) {ranks : List ℕ} {from : Moment ranks}
       ∙ refusal-is (asks (ask 2 (soundClient (C a hi)) ∷ ask 3 false ∷ [])) (C a hi) (C a hi) noReport ∙ rw (sim .client-sound (suc a) (omega arith) hi)
 
   -- a message of the list, and the message that it is of
-  hands-at : (a i : ℕ) → a ≤ n → handedNumber ours s a (getElem? (s .messages) i) ≡ handing n w a (getElem? (w .messages) i)
+  pub hands-at : (a i : ℕ) → a ≤ n → handedNumber ours s a (getElem? (s .messages) i) ≡ handing n w a (getElem? (w .messages) i)
   hands-at a i hi =
       ap (λ (ms : List (List ℕ)). handedNumber ours s a (getElem? ms i)) (sim .messages) ∙ go (w .messages) i (sim .written)
     where
@@ -311,25 +303,6 @@ module _ (n : ℕ) (items : List Place) {ranks : List ℕ} {from : Moment ranks}
       go [] i ok = refl
       go (x ∷ xs) zero ok = takes-at a hi x (ok .0)
       go (x ∷ xs) (suc i) ok = go xs i (ok .1)
-
-  pub numbered : (c : Call) → callable n c ≡ true → numberOf ours s c ≡ number n w c
-  unfolding numberOf number callable
-  numbered (insert l p x) ok =
-      let there = between-true 1 n l (three (between 1 n l) (ltb p 65536) (ltb x 4294967296) ok .0) in
-      ap (λ (e : End). ours .insert e p x .refusal) (sim .client-is l (there .0) (there .1)) ∙ edits-at l (there .0) (there .1) (Insert p x (rankOf ranks l))
-  numbered (delete l p) ok =
-      let there = between-true 1 n l (and-left (between 1 n l) (ltb p 65536) ok) in
-      ap (λ (e : End). ours .delete e p .refusal) (sim .client-is l (there .0) (there .1)) ∙ edits-at l (there .0) (there .1) (Delete p)
-  numbered (takeBack l) ok =
-      let there = between-true 1 n l ok in
-      ap (λ (e : End). ours .takeBack e .refusal) (sim .client-is l (there .0) (there .1)) ∙ undoes-at l (there .0) (there .1)
-  numbered (send a l k lent) ok =
-      sends-at a l k lent (leb-true a n (three (leb a n) (ltb l 256) (ltb k 65536) (and-left (leb a n && ltb l 256 && ltb k 65536) (areBytes lent) ok) .0))
-  numbered (tell a l lent) ok = tells-at a l lent (leb-true a n (three (leb a n) (ltb l 256) (areBytes lent) ok .0))
-  numbered (receive a i) ok = hands-at a i (leb-true a n ok)
-  numbered (junk a bytes) ok =
-      let t = three (leb a n) (areBytes bytes) (unreadable (parsed bytes)) ok in
-      junk-at a bytes (leb-true a n (t .0)) (unread (parsed bytes) (t .2))
 
   pub reads-back : map parsed (s .messages) ≡ map (λ x. read.Message (wireMessage x)) (w .messages)
   reads-back = ap (map parsed) (sim .messages) ∙ go (w .messages) (sim .written)

@@ -1,5 +1,5 @@
 -- A call was refused, or it was not: what its answer then is.
-use mathlib.Core.Path.{_≡_, refl}
+use mathlib.Core.Path.{_≡_, refl, sym}
 use mathlib.Core.Bool.{Bool, true, false, cond}
 use mathlib.Core.List.{List, _++_}
 use Prim.Native.Nat.{ℕ}
@@ -33,3 +33,12 @@ posted r bytes lent = go (eqb r 0) refl
         → Posted r bytes lent (cond {A = Sent} b (record { refusal = 0; written = length bytes; buffer = bytes ++ drop (length bytes) lent }) (record { refusal = r; written = 0; buffer = lent }))
     go true e = Posted.yes (eqb-true r 0 e)
     go false e = Posted.no (eqb-false r 0 e)
+
+-- the number of an answer
+pub refusal-is : {E : Type 0} (r : ℕ) (old new : E) (k : Report) → answer r old new k .refusal ≡ r
+unfolding answer
+refusal-is {E} r old new k = go (eqb r 0) refl
+  where
+    go : (b : Bool) → eqb r 0 ≡ b → (cond {A = Answer E} b (record { refusal = 0; end = new; report = k }) (record { refusal = r; end = old; report = noReport })) .refusal ≡ r
+    go true e = sym (eqb-true r 0 e)
+    go false e = refl

@@ -19,7 +19,7 @@ use Rattle.model.specs.Run.{State, run, start}
 use Rattle.model.specs.Claim.{Delivered, Enough, Opened, Holds, Converges, Full}
 use Rattle.model.specs.Consequences.{OneOrder}
 use Rattle.model.specs.Marked.{lent}
-use Rattle.model.specs.Wrong.{leaving, repeating, unsubtracted, firstOnly, refusing, miscounting, forgiving, listening, early, frozen, byLine, otherRanks, bySender, byMessage, arrivedTwice, goneShown, uncarried, carriedPastArrived, showingAs, turning, mirroring, Refuted}
+use Rattle.model.specs.Wrong.{leaving, repeating, unsubtracted, firstOnly, refusing, miscounting, forgiving, listening, early, frozen, byLine, otherRanks, bySender, byMessage, arrivedTwice, goneShown, uncarried, carriedPastArrived, showingAs, turning, mirroring, Refuted, goesOn, goingOn, forgetting}
 use Rattle.model.proofs.Ranks.{line-ranking}
 use Rattle.model.proofs.Ranges.{short}
 use Rattle.model.proofs.Opens.{client-asks, server-asks, client-opens, server-opens}
@@ -302,6 +302,18 @@ mirroring-fails c =
     (c 1 (lineRanks 1) [] (showing-open reverse (λ before own. reverse own)) (insert 1 1 7 ∷ insert 1 2 8 ∷ send 1 1 1 lent ∷ receive 0 0 ∷ send 1 1 2 lent ∷ receive 0 1 ∷ []) [] 1 0 (omega arith) (omega arith)
     0 1 1 0 (record { here = omega arith; there = omega arith; origin = refl }) (record { here = omega arith; there = omega arith; origin = refl }))
 
+-- Client 1 makes two edits. The server gets a packet of the first message twice and the second: the repeat is refused, and ends the packet.
+repeated : List Call
+repeated = insert 1 1 7 ∷ insert 1 1 8 ∷ send 1 1 1 lent ∷ send 1 1 2 lent ∷ []
+
+going-on-fails : Converges goingOn → ⊥
+unfolding repeated computing goesOn
+going-on-fails c = differ 1 2 refl (sym (ap (λ (k : Report). k .passed) (one goingOn c repeated .packets 0 (0 ∷ 0 ∷ 1 ∷ []) [] refl)))
+
+forgetting-fails : Converges forgetting → ⊥
+unfolding repeated computing
+forgetting-fails c = differ 0 1 refl (ap (λ (k : Report). k .passed) (one forgetting c repeated .packets 0 (0 ∷ 0 ∷ 1 ∷ []) [] refl))
+
 pub refuted : Refuted
 refuted =
     record {
@@ -328,6 +340,8 @@ refuted =
       gone-shown-fails = gone-shown-fails;
       uncarried-fails = uncarried-fails;
       carried-past-arrived-fails = carried-past-arrived-fails;
+      going-on-fails = going-on-fails;
+      forgetting-fails = forgetting-fails;
       turning-fails = turning-fails;
       mirroring-fails = mirroring-fails;
     }

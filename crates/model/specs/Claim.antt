@@ -1,7 +1,7 @@
 -- Demands 2 and 3 as one claim over all lists of calls. Each field is a sentence of 01.
 use Prim.Native.Nat.{ℕ, suc, _+_, _≤_}
 use mathlib.Core.Path.{_≡_}
-use mathlib.Core.Bool.{true}
+use mathlib.Core.Bool.{true, false}
 use mathlib.Core.List.{List, [], map}
 use lib.ListN.{length, take, drop}
 use Rattle.list.specs.Seconds.{runningTime}
@@ -10,15 +10,16 @@ use Rattle.wire.specs.Bytes.{parsed}
 use Rattle.jupiter.specs.Form.{replay}
 use Rattle.jupiter.specs.History.{History, order, missing}
 use Rattle.jupiter.specs.Origins.{Once}
-use Rattle.model.specs.Limits.{maxPending}
-use Rattle.model.specs.Questions.{asks, noReport, Answer, Sent}
+use Rattle.model.specs.Limits.{maxPending, maxPacket}
+use Rattle.model.specs.Questions.{asks, between, noReport, Answer, Sent}
+use Rattle.model.specs.Packets.{counted, handedOver}
 use Rattle.model.specs.Client.{openClientQuestions}
 use Rattle.model.specs.Server.{openServerQuestions}
 use Rattle.model.specs.Edits.{nameOf, edits}
-use Rattle.model.specs.Sheet.{Sheet, Call}
+use Rattle.model.specs.Sheet.{Sheet, Call, packet}
 use Rattle.model.specs.Log.{madeAt, takenAt, editMessage, wireMessage, messageBytes}
-use Rattle.model.specs.Numbers.{number}
-use Rattle.model.specs.Run.{State, areItems, areBytes, callable, numberOf, run, start}
+use Rattle.model.specs.Numbers.{number, packetHanded}
+use Rattle.model.specs.Run.{State, areItems, areBytes, callable, numberOf, packetOf, run, start}
 
 -- A refusal hands back the end as it came and reports nothing; a refused sending changes no lent byte, and its length is 0.
 abbrev pub Back : {E : Type 0} → E → Answer E → Type 0
@@ -30,6 +31,11 @@ Unwritten lent r = (r .refusal ≡ 0 → ⊥) → (r .written ≡ 0) × (r .buff
 -- bytes past the message stay
 abbrev pub PastStays : List ℕ → Sent → Type 0
 PastStays lent r = drop (r .written) (r .buffer) ≡ drop (r .written) lent
+
+-- only the stretch that was written changes
+abbrev pub StretchAlone : ℕ → List ℕ → Sent → Type 0
+StretchAlone offset lent r =
+    (take offset (r .buffer) ≡ take offset lent) × (drop (offset + r .written) (r .buffer) ≡ drop (offset + r .written) lent)
 
 module _ (S : Sheet) where
   -- An edit message from one end to another is taken: the sending is not refused, the taking of what it wrote is not refused, and the
@@ -88,6 +94,9 @@ module _ (S : Sheet) where
       -- Each taking reports what the definitions give: as many pending edits passed as made less seen, the position of the form that arrived, and
       -- that of the form applied.
       pub reports : s .reports ≡ s .recorded .reports
+      -- whatever packet is taken next answers how many of its messages are taken, beside a refusal too
+      pub packets : (a : ℕ) (is tail : List ℕ) → callable n (packet a is tail) ≡ true
+          → S .takePacket (s .ends a) (packetOf S s is tail) .report ≡ counted (packetHanded n (s .recorded) a is tail .count)
       pub lines : (l : ℕ) → 1 ≤ l → l ≤ n → OnLine l
 
   -- what a call leaves alone, whatever end it is handed
@@ -96,6 +105,13 @@ module _ (S : Sheet) where
     pub deletes : (e : S .End) (p : ℕ) → Back e (S .delete e p)
     pub takes-back : (e : S .End) → Back e (S .takeBack e)
     pub takes : (e : S .End) (bytes : List ℕ) → Back e (S .take e bytes)
+    -- A packet is its messages handed over one after another until one is refused (02: N2). One that is too short or too long is refused whole.
+    pub packets : (e : S .End) (bytes : List ℕ) → between 1 maxPacket (length bytes) ≡ true
+        → S .takePacket e bytes ≡ handedOver (S .take) (length bytes) 0 e bytes
+    pub no-packets : (e : S .End) (bytes : List ℕ) → between 1 maxPacket (length bytes) ≡ false
+        → (S .takePacket e bytes .refusal ≡ 0 → ⊥) × (S .takePacket e bytes .end ≡ e) × (S .takePacket e bytes .report ≡ noReport)
+    pub packs : (e : S .End) (l : ℕ) (lent : List ℕ) (offset : ℕ) → Unwritten lent (S .pack e l lent offset)
+        × StretchAlone offset lent (S .pack e l lent offset)
     pub sends : (e : S .End) (l number : ℕ) (lent : List ℕ) → Unwritten lent (S .send e l number lent) × PastStays lent (S .send e l number lent)
     pub tells : (e : S .End) (l : ℕ) (lent : List ℕ) → Unwritten lent (S .tell e l lent) × PastStays lent (S .tell e l lent)
 

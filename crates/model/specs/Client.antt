@@ -1,7 +1,7 @@
 -- The client's end (01: the bay end) as a record over lists, question 2, and its calls.
 use Prim.Native.Nat.{ℕ, _+_}
 use mathlib.Core.Bool.{Bool, false, not, _&&_}
-use mathlib.Core.List.{List, [], _∷_}
+use mathlib.Core.List.{List, [], _∷_, map}
 use lib.Dec.{leb, ltb, eqb}
 use lib.ListN.{length}
 use Rattle.ot.specs.Edit.{Edit, Nothing, Delete, Insert, fits, transformed}
@@ -16,9 +16,10 @@ use Rattle.wire.specs.Bytes.{bytesOf, parsed}
 use Rattle.model.specs.Limits.{maxLines, maxInserts, maxEdits, maxOthers, maxItems, maxInitial}
 use Rattle.model.specs.Questions.{Question, ask, asks, every, between, noReport, Answer, answer, Sent, sent}
 use Rattle.model.specs.Cross.{priority, insertsOf}
+use Rattle.model.specs.Packets.{packed, unpacked}
 use Rattle.model.specs.Ranks.{rankOf, ranking}
 use Rattle.model.specs.Inverse.{inverseOf, isNothing, inverseStands, soundInverse}
-use Rattle.model.specs.Line.{Line, noLine, other, lineTests, roomy, lineKeeps, lineMessage, sendQuestions, lineAcked, lineTaken, carried, lineReport, seenQuestions, takeQuestions}
+use Rattle.model.specs.Line.{Line, noLine, other, lineTests, roomy, lineKeeps, lineMessage, sendQuestions, pendingNumbers, lineAcked, lineTaken, carried, lineReport, seenQuestions, takeQuestions}
 
 pub record Client : Type 0 where
   -- how many clients the sheet has, and which this one is
@@ -131,6 +132,11 @@ sendClient c line number lent =
     (bytesOf (clientMessage c number))
     lent
 
+-- a packet of its pending edits, in number order, from an offset of the buffer on
+unfoldable pub packClient : Client → ℕ → List ℕ → ℕ → Sent
+packClient c line lent offset =
+    packed (ask 2 (soundClient c) ∷ ask 4 (eqb line (c .line)) ∷ []) (map (λ k. bytesOf (clientMessage c k)) (pendingNumbers (c .own))) offset lent
+
 abbrev pub tellClientQuestions : Client → ℕ → List ℕ → List Question
 tellClientQuestions c line lent =
     ask 2 (soundClient c) ∷ ask 4 (eqb line (c .line)) ∷ ask 14 (leb 5 (length lent)) ∷ []
@@ -193,3 +199,7 @@ clientReads c (read.Message m) = clientTakes c m
 
 unfoldable pub takeClient : Client → List ℕ → Answer Client
 takeClient c bytes = clientReads c (parsed bytes)
+
+-- a packet: its messages taken one after another
+unfoldable pub packetClient : Client → List ℕ → Answer Client
+packetClient c bytes = unpacked soundClient takeClient c bytes

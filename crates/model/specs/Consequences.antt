@@ -10,7 +10,7 @@ use Rattle.jupiter.specs.History.{History}
 use Rattle.jupiter.specs.Claims.{SameSet}
 use Rattle.model.specs.Ranks.{among}
 use Rattle.list.specs.Places.{itemsOf}
-use Rattle.model.specs.Sheet.{Sheet, Call, insert, delete, takeBack, send, tell, receive, junk}
+use Rattle.model.specs.Sheet.{Sheet, Call, insert, delete, takeBack, send, tell, receive, pack, packet, junk}
 use Rattle.model.specs.Run.{State, areItems, callable, numberOf, run, start}
 use Rattle.model.specs.Claim.{Opened, Converges}
 use Rattle.model.specs.Order.{SameOrder}
@@ -32,12 +32,16 @@ editOf l (takeBack j) = eqb j l
 editOf l (send a j number lent) = false
 editOf l (tell a j lent) = false
 editOf l (receive a i) = false
+editOf l (pack a j offset lent) = false
+editOf l (packet a is tail) = false
 editOf l (junk a bytes) = false
 
 -- client l makes and takes nothing by any of the calls
 unfoldable pub sparedBy : ℕ → List Call → Bool
 sparedBy l [] = true
 sparedBy l (receive a i ∷ cs) = not (eqb a l) && sparedBy l cs
+sparedBy l (pack a j offset lent ∷ cs) = sparedBy l cs
+sparedBy l (packet a is tail ∷ cs) = not (eqb a l) && sparedBy l cs
 sparedBy l (junk a bytes ∷ cs) = sparedBy l cs
 sparedBy l (insert j p x ∷ cs) = not (eqb j l) && sparedBy l cs
 sparedBy l (delete j p ∷ cs) = not (eqb j l) && sparedBy l cs

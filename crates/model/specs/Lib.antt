@@ -1,6 +1,7 @@
 pub mod Limits
 pub mod Questions
 pub mod Cross
+pub mod Packets
 pub mod Ranks
 pub mod Inverse
 pub mod Line

@@ -1,5 +1,5 @@
 -- One line as either end keeps it (01: "The server keeps the same per line"): its counts and its pending edits.
-use Prim.Native.Nat.{ℕ, _+_, _-_}
+use Prim.Native.Nat.{ℕ, zero, suc, _+_, _-_}
 use mathlib.Core.Bool.{Bool, _&&_, not}
 use mathlib.Core.List.{List, [], _∷_, _++_}
 use lib.Dec.{leb, ltb, eqb}
@@ -73,6 +73,14 @@ lineMessage line direction origin v number =
 abbrev pub sendQuestions : Line → ℕ → Message → List ℕ → List Question
 sendQuestions v number m lent =
     ask 13 (between (v .acked + 1) (v .made) number) ∷ ask 14 (leb (length (bytesOf m)) (length lent)) ∷ []
+
+-- the numbers of its pending edits, in order
+unfoldable pub numbersFrom : ℕ → ℕ → List ℕ
+numbersFrom k zero = []
+numbersFrom k (suc count) = k ∷ numbersFrom (suc k) count
+
+abbrev pub pendingNumbers : Line → List ℕ
+pendingNumbers v = numbersFrom (v .acked + 1) (v .made - v .acked)
 
 -- ---- taking
 

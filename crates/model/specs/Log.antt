@@ -3,8 +3,8 @@
 use Prim.Native.Nat.{ℕ, zero, suc, _-_}
 use mathlib.Core.Bool.{cond}
 use mathlib.Core.Option.{Option, none, some}
-use mathlib.Core.List.{List, [], _∷_, _++_}
-use lib.Dec.{eqb}
+use mathlib.Core.List.{List, [], _∷_, _++_, map}
+use lib.Dec.{eqb, leb}
 use lib.ListN.{length, getD, getElem?}
 use Rattle.ot.specs.Edit as edit
 use Rattle.ot.specs.Edit.{Edit, transformed}
@@ -24,9 +24,10 @@ use Rattle.jupiter.specs.History.{History, noHistory, at, order, madeBy, missin
 use Rattle.model.specs.Questions.{Report, noReport}
 use Rattle.model.specs.Ranks.{rankOf}
 use Rattle.model.specs.Inverse.{inverseOf}
-use Rattle.model.specs.Line.{positionAt}
+use Rattle.model.specs.Packets.{counted}
+use Rattle.model.specs.Line.{positionAt, numbersFrom}
 use Rattle.model.specs.Edits.{Named, Rule, editsBy, edits, appliedNamed}
-use Rattle.model.specs.Sheet.{Call, insert, delete, takeBack, send, tell, receive, junk}
+use Rattle.model.specs.Sheet.{Call, insert, delete, takeBack, send, tell, receive, pack, packet, junk}
 
 abbrev pub headerOf : {by : Rule} → ℕ → ℕ → EditMessage (editsBy by) → Header
 headerOf l direction m = record { line = l; direction = direction; number = m .number; seen = m .seen; origin = m .edit .origin }
@@ -164,7 +165,42 @@ took w a (some (down l m)) = cond (eqb a l) (tookDown w l m) (hears w (w .heard)
 took w a (some (upAck l seen)) = cond (eqb a 0) (hears w (hearing w 0 l seen)) (hears w (w .heard))
 took w a (some (downAck l seen)) = cond (eqb a l) (hears w (hearing w l l seen)) (hears w (w .heard))
 
--- a call that was not refused
+-- of messages in their order those up to the first that does not fit into so many bytes
+unfoldable pub fittingMessages : {by : Rule} → ℕ → List (Message (editsBy by)) → List (Message (editsBy by))
+fittingMessages room [] = []
+fittingMessages room (m ∷ ms) =
+    cond (leb (length (messageBytes m)) room) (m ∷ fittingMessages (room - length (messageBytes m)) ms) []
+
+-- the messages of the pending edits of line l at end a: those after the last seen that it took there
+abbrev pub pendingMessages : {ranks : List ℕ} → Log ranks → ℕ → ℕ → List (Message (edits ranks))
+pendingMessages w a l =
+    let from = w .heard a l in
+    map (editMessage (w .history) a l) (numbersFrom (suc from) (madeAt (w .history) a l - from))
+
+-- end a writes a packet for line l into so many bytes
+abbrev pub packs : {ranks : List ℕ} → Log ranks → List (Message (edits ranks)) → Log ranks
+packs w ms =
+    record { history = w .history; shown = w .shown; undo = w .undo; heard = w .heard; messages = w .messages ++ ms; reports = w .reports }
+
+-- end a takes the first k messages of a packet; the packet reports how many
+unfoldable pub tookFirst : {ranks : List ℕ} → Log ranks → ℕ → ℕ → List ℕ → Log ranks
+tookFirst w a zero is = w
+tookFirst w a (suc k) [] = w
+tookFirst w a (suc k) (i ∷ is) = tookFirst (took w a (getElem? (w .messages) i)) a k is
+
+abbrev pub tookPacket : {ranks : List ℕ} → Log ranks → ℕ → ℕ → List ℕ → Log ranks
+tookPacket w a k is =
+    let then = tookFirst w a k is in
+    record {
+      history = then .history;
+      shown = then .shown;
+      undo = then .undo;
+      heard = then .heard;
+      messages = then .messages;
+      reports = w .reports ++ (counted k ∷ []);
+    }
+
+-- a call that was not refused; a packet is logged by how many of its messages were taken (`tookPacket`)
 unfoldable pub logged : {ranks : List ℕ} → Log ranks → Call → Log ranks
 logged {ranks} w (insert l p x) = edited w l (edit.Insert p x (rankOf ranks l))
 logged w (delete l p) = edited w l (edit.Delete p)
@@ -172,6 +208,8 @@ logged w (takeBack l) = edited w l (w .undo l)
 logged w (send a l number lent) = writes w (editMessage (w .history) a l number)
 logged w (tell a l lent) = writes w (ackMessage (w .history) a l)
 logged w (receive a i) = took w a (getElem? (w .messages) i)
+logged w (pack a l offset lent) = packs w (fittingMessages (length lent - offset) (pendingMessages w a l))
+logged w (packet a is tail) = w
 logged w (junk a bytes) = hears w (w .heard)
 
 -- a call that was refused: an editing or taking reports nothing
@@ -182,6 +220,8 @@ refusedLog w (takeBack l) = hears w (w .heard)
 refusedLog w (send a l number lent) = w
 refusedLog w (tell a l lent) = w
 refusedLog w (receive a i) = hears w (w .heard)
+refusedLog w (pack a l offset lent) = w
+refusedLog w (packet a is tail) = w
 refusedLog w (junk a bytes) = hears w (w .heard)
 
 -- the log after a call, by the number of its refusal or 0

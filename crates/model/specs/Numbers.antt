@@ -1,9 +1,9 @@
 -- The number that each call of a list is answered with (01: "The questions, in order"): the questions, asked of what the accepted calls
 -- before it left. Question 2 says yes to every end of such a list, and 8 to 10 to every message that 4 to 7 let through, so they are not here.
 use Prim.Native.Nat.{ℕ, zero, suc, _+_, _-_}
-use mathlib.Core.Bool.{Bool, true, false, not, _&&_, _||_}
+use mathlib.Core.Bool.{Bool, true, false, not, _&&_, _||_, cond}
 use mathlib.Core.Option.{Option, none, some}
-use mathlib.Core.List.{List, [], _∷_}
+use mathlib.Core.List.{List, [], _∷_, map}
 use lib.Dec.{leb, ltb, eqb}
 use lib.ListN.{length, getElem?}
 use Rattle.ot.specs.Edit as edit
@@ -13,14 +13,15 @@ use Rattle.jupiter.specs.Ends.{EditMessage}
 use Rattle.jupiter.specs.Run.{Message, up, down, upAck, downAck}
 use Rattle.jupiter.specs.History.{order}
 use Rattle.jupiter.specs.Claims.{inserts}
-use Rattle.model.specs.Limits.{maxInserts, maxEdits, maxPending, maxItems}
+use Rattle.model.specs.Limits.{maxInserts, maxEdits, maxPending, maxItems, maxPacket}
 use Rattle.model.specs.Questions.{Question, ask, asks, between}
 use Rattle.model.specs.Cross.{insertsOf}
+use Rattle.model.specs.Packets.{firstFits, known, packetFrom}
 use Rattle.model.specs.Ranks.{rankOf}
 use Rattle.model.specs.Inverse.{isNothing}
 use Rattle.model.specs.Edits.{edits, appliedNamed}
-use Rattle.model.specs.Sheet.{Call, insert, delete, takeBack, send, tell, receive, junk}
-use Rattle.model.specs.Log.{Log, namedBy, madeAt, takenAt, editMessage, messageBytes}
+use Rattle.model.specs.Sheet.{Call, insert, delete, takeBack, send, tell, receive, pack, packet, junk}
+use Rattle.model.specs.Log.{Log, namedBy, madeAt, takenAt, editMessage, pendingMessages, messageBytes, took}
 
 -- Line l is end a's own: the server has lines 1 to n.
 abbrev pub owns : ℕ → ℕ → ℕ → Bool
@@ -91,6 +92,28 @@ abbrev pub handing : {ranks : List ℕ} → ℕ → Log ranks → ℕ → Option
 handing n w a none = 0
 handing n w a (some x) = asks (taking n w a x)
 
+-- a packet's messages one after another: how many are taken, and the number of the first that is not; a tail gives 3
+pub record Handing : Type 0 where
+  pub count : ℕ
+  pub refusal : ℕ
+
+unfoldable pub handingOver : {ranks : List ℕ} → ℕ → Log ranks → ℕ → ℕ → List ℕ → List ℕ → Handing
+handingOver n w a count [] [] = record { count = count; refusal = 0 }
+handingOver n w a count [] (b ∷ bs) = record { count = count; refusal = 3 }
+handingOver n w a count (i ∷ is) tail =
+    let r = handing n w a (getElem? (w .messages) i) in
+    cond (eqb r 0) (handingOver n (took w a (getElem? (w .messages) i)) a (suc count) is tail) (record { count = count; refusal = r })
+
+-- 15, then each message's own
+abbrev pub packetHanded : {ranks : List ℕ} → ℕ → Log ranks → ℕ → List ℕ → List ℕ → Handing
+packetHanded n w a is tail =
+    let ms = map messageBytes (w .messages) in
+    cond (between 1 maxPacket (length (packetFrom ms is tail))) (handingOver n w a 0 (known (length ms) is) tail) (record { count = 0; refusal = 15 })
+
+-- a packet of end a for line l, with so much room
+abbrev pub packing : {ranks : List ℕ} → ℕ → Log ranks → ℕ → ℕ → ℕ → List Question
+packing n w a l room = ask 4 (owns n a l) ∷ ask 14 (firstFits room (map messageBytes (pendingMessages w a l))) ∷ []
+
 unfoldable pub number : {ranks : List ℕ} → ℕ → Log ranks → Call → ℕ
 number {ranks} n w (insert l p x) = asks (editing w l (edit.Insert p x (rankOf ranks l)))
 number n w (delete l p) = asks (editing w l (edit.Delete p))
@@ -98,4 +121,6 @@ number n w (takeBack l) = asks (undoing w l)
 number n w (send a l k lent) = asks (sending n w a l k lent)
 number n w (tell a l lent) = asks (telling n a l lent)
 number n w (receive a i) = handing n w a (getElem? (w .messages) i)
+number n w (pack a l offset lent) = asks (packing n w a l (length lent - offset))
+number n w (packet a is tail) = packetHanded n w a is tail .refusal
 number n w (junk a bytes) = 3

@@ -27,6 +27,8 @@ clientCalls =
       send = clients.sendClient;
       tell = clients.tellClient;
       take = clients.takeClient;
+      pack = clients.packClient;
+      takePacket = clients.packetClient;
     }
 
 abbrev pub serverCalls : ServerCalls
@@ -41,6 +43,8 @@ serverCalls =
       send = servers.sendServer;
       tell = servers.tellServer;
       take = servers.takeServer;
+      pack = servers.packServer;
+      takePacket = servers.packetServer;
     }
 
 abbrev pub ours : Sheet

@@ -16,8 +16,9 @@ use Rattle.wire.specs.Bytes.{bytesOf, parsed}
 use Rattle.model.specs.Limits.{maxLines, maxInserts, maxEdits, maxItems, maxInitial}
 use Rattle.model.specs.Questions.{Question, ask, asks, every, between, noReport, Answer, answer, Sent, sent}
 use Rattle.model.specs.Cross.{priority, insertsOf}
+use Rattle.model.specs.Packets.{packed, unpacked}
 use Rattle.model.specs.Ranks.{rankOf, ranking}
-use Rattle.model.specs.Line.{Line, noLine, other, lineTests, roomy, lineKeeps, lineMessage, sendQuestions, lineAcked, lineTaken, carried, lineReport, seenQuestions, takeQuestions}
+use Rattle.model.specs.Line.{Line, noLine, other, lineTests, roomy, lineKeeps, lineMessage, sendQuestions, pendingNumbers, lineAcked, lineTaken, carried, lineReport, seenQuestions, takeQuestions}
 
 pub record Server : Type 0 where
   pub n : ℕ
@@ -121,6 +122,12 @@ sendServer s line number lent =
     (bytesOf (serverMessage s line number))
     lent
 
+-- a packet of a line's pending edits, in number order, from an offset of the buffer on
+unfoldable pub packServer : Server → ℕ → List ℕ → ℕ → Sent
+packServer s line lent offset =
+    packed (ask 2 (soundServer s) ∷ ask 4 (between 1 (s .n) line) ∷ [])
+    (map (λ k. bytesOf (serverMessage s line k)) (pendingNumbers (lineOf s line))) offset lent
+
 abbrev pub tellServerQuestions : Server → ℕ → List ℕ → List Question
 tellServerQuestions s line lent =
     ask 2 (soundServer s) ∷ ask 4 (between 1 (s .n) line) ∷ ask 14 (leb 5 (length lent)) ∷ []
@@ -217,3 +224,7 @@ serverReads s (read.Message m) = serverTakes s m
 
 unfoldable pub takeServer : Server → List ℕ → Answer Server
 takeServer s bytes = serverReads s (parsed bytes)
+
+-- a packet: its messages taken one after another
+unfoldable pub packetServer : Server → List ℕ → Answer Server
+packetServer s bytes = unpacked soundServer takeServer s bytes

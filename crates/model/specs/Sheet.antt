@@ -26,6 +26,9 @@ pub record Sheet : Type 1 where
   pub tell : End → ℕ → List ℕ → Sent
   -- bytes
   pub take : End → List ℕ → Answer End
+  -- line, lent bytes, offset; the bytes of a packet (02: N2)
+  pub pack : End → ℕ → List ℕ → ℕ → Sent
+  pub takePacket : End → List ℕ → Answer End
 
 -- Any list of calls is made of these. End 0 is the server's, end l the client's on line l. Nothing in a call says that it is in order:
 -- whatever is refused is part of the list too.
@@ -40,5 +43,9 @@ pub data Call : Type 0 where
   tell : (a l : ℕ) (lent : List ℕ) → Call
   -- end a takes the message that was written as number i, counted from 0: at any end, in any order, however often
   receive : (a i : ℕ) → Call
+  -- end a writes a packet of the pending edits of line l, from an offset of these bytes on
+  pack : (a l offset : ℕ) (lent : List ℕ) → Call
+  -- end a takes a packet: messages that were written, by their numbers and in any order, end to end, and a tail with which no message begins
+  packet : (a : ℕ) (is tail : List ℕ) → Call
   -- end a takes bytes that no message has
   junk : (a : ℕ) (bytes : List ℕ) → Call

@@ -20,6 +20,8 @@ pub record ClientCalls : Type 1 where
   pub send : Client → ℕ → ℕ → List ℕ → Sent
   pub tell : Client → ℕ → List ℕ → Sent
   pub take : Client → List ℕ → Answer Client
+  pub pack : Client → ℕ → List ℕ → ℕ → Sent
+  pub takePacket : Client → List ℕ → Answer Client
 
 pub record ServerCalls : Type 1 where
   pub Server : Type 0
@@ -32,6 +34,8 @@ pub record ServerCalls : Type 1 where
   pub send : Server → ℕ → ℕ → List ℕ → Sent
   pub tell : Server → ℕ → List ℕ → Sent
   pub take : Server → List ℕ → Answer Server
+  pub pack : Server → ℕ → List ℕ → ℕ → Sent
+  pub takePacket : Server → List ℕ → Answer Server
 
 pub data End (C S : Type 0) : Type 0 where
   client : C → End C S
@@ -89,6 +93,14 @@ module _ (c : ClientCalls) (v : ServerCalls) where
   take (client e) bytes = answerAs client (c .take e bytes)
   take (server e) bytes = answerAs server (v .take e bytes)
 
+  abbrev pack : Ends → ℕ → List ℕ → ℕ → Sent
+  pack (client e) l lent offset = c .pack e l lent offset
+  pack (server e) l lent offset = v .pack e l lent offset
+
+  abbrev takePacket : Ends → List ℕ → Answer Ends
+  takePacket (client e) bytes = answerAs client (c .takePacket e bytes)
+  takePacket (server e) bytes = answerAs server (v .takePacket e bytes)
+
   abbrev pub sheetOf : Sheet
   sheetOf =
       record {
@@ -105,4 +117,6 @@ module _ (c : ClientCalls) (v : ServerCalls) where
         send = send;
         tell = tell;
         take = take;
+        pack = pack;
+        takePacket = takePacket;
       }

@@ -1,8 +1,9 @@
 -- Sheets that must not pass (01: promise c, and the slips at the bench). Each is ours with one fault.
-use Prim.Native.Nat.{ℕ, suc, _+_, _-_}
+use Prim.Native.Nat.{ℕ, zero, suc, _+_, _-_}
 use mathlib.Core.Bool.{not, _&&_, cond}
 use mathlib.Core.List.{List, [], _∷_, reverse}
 use lib.Dec.{ltb, eqb}
+use lib.ListN.{length, take, drop}
 use Rattle.ot.specs.Edit.{Edit, Nothing, Delete, Insert, transformed}
 use Rattle.list.specs.declared.Origin.{Origin}
 use Rattle.list.specs.Places.{Place, appliedBy}
@@ -12,10 +13,11 @@ use Rattle.wire.specs.declared.Read.{Read}
 use Rattle.wire.specs.declared.Read.the-variants as read
 use Rattle.wire.specs.Bytes.{parsed}
 use Rattle.model.specs.Questions.{asks, Report, noReport, Answer, answer}
+use Rattle.model.specs.Packets.{nextSize, counted, handedOver, unpacked}
 use Rattle.model.specs.Ranks.{lineRanks}
 use Rattle.model.specs.Line.{unacked, lineReport}
-use Rattle.model.specs.Client.{Client, with, insertClient, clientAcked, clientTaken, clientTakesAck, clientEditQuestions, inverseThen, clientReads, takeClient}
-use Rattle.model.specs.Server.{Server, lineOf, serverReads, takeServer}
+use Rattle.model.specs.Client.{Client, soundClient, with, insertClient, clientAcked, clientTaken, clientTakesAck, clientEditQuestions, inverseThen, clientReads, takeClient, packetClient}
+use Rattle.model.specs.Server.{Server, soundServer, lineOf, serverReads, takeServer}
 use Rattle.model.specs.Numbers.{allBut}
 use Rattle.model.specs.Sheet.{Sheet}
 use Rattle.model.specs.SheetOf.{ClientCalls, ServerCalls, sheetOf, answerAs}
@@ -23,9 +25,9 @@ use Rattle.model.specs.Claim.{Converges}
 use Rattle.model.specs.Consequences.{OneOrder}
 use Rattle.model.specs.Ours.{clientCalls, serverCalls}
 
--- ours, but a client inserts and takes in another way
-abbrev pub clientAs : (Client → ℕ → ℕ → Answer Client) → (Client → List ℕ → Answer Client) → ClientCalls
-clientAs insert take =
+-- ours, but a client inserts and takes in another way, a message and a packet
+abbrev pub clientAs : (Client → ℕ → ℕ → Answer Client) → (Client → List ℕ → Answer Client) → (Client → List ℕ → Answer Client) → ClientCalls
+clientAs insert take takePacket =
     record {
       Client = Client;
       items = clientCalls .items;
@@ -39,10 +41,12 @@ clientAs insert take =
       send = clientCalls .send;
       tell = clientCalls .tell;
       take = take;
+      pack = clientCalls .pack;
+      takePacket = takePacket;
     }
 
-abbrev pub serverAs : (Server → List ℕ → Answer Server) → ServerCalls
-serverAs take =
+abbrev pub serverAs : (Server → List ℕ → Answer Server) → (Server → List ℕ → Answer Server) → ServerCalls
+serverAs take takePacket =
     record {
       Server = Server;
       items = serverCalls .items;
@@ -53,14 +57,16 @@ serverAs take =
       send = serverCalls .send;
       tell = serverCalls .tell;
       take = take;
+      pack = serverCalls .pack;
+      takePacket = takePacket;
     }
 
 abbrev pub insertingAs : (Client → ℕ → ℕ → Answer Client) → Sheet
-insertingAs insert = sheetOf (clientAs insert takeClient) serverCalls
+insertingAs insert = sheetOf (clientAs insert takeClient packetClient) serverCalls
 
 -- both ends take in another way
 abbrev pub takingAs : (Client → List ℕ → Answer Client) → (Server → List ℕ → Answer Server) → Sheet
-takingAs client server = sheetOf (clientAs insertClient client) (serverAs server)
+takingAs client server = sheetOf (clientAs insertClient client (unpacked soundClient client)) (serverAs server (unpacked soundServer server))
 
 -- ---- the list
 
@@ -101,6 +107,8 @@ besideAs {A} right inserted deleted items total =
       send = λ e. clientCalls .send (e .now);
       tell = λ e. clientCalls .tell (e .now);
       take = λ e bytes. becoming e (having right) (takeClient (e .now) bytes);
+      pack = λ e. clientCalls .pack (e .now);
+      takePacket = λ e bytes. becoming e (having right) (clientCalls .takePacket (e .now) bytes);
     })
     serverCalls
 
@@ -260,6 +268,8 @@ rankingAs clientRanks serverRanks =
       send = clientCalls .send;
       tell = clientCalls .tell;
       take = clientCalls .take;
+      pack = clientCalls .pack;
+      takePacket = clientCalls .takePacket;
     })
     (record {
       Server = Server;
@@ -271,6 +281,8 @@ rankingAs clientRanks serverRanks =
       send = serverCalls .send;
       tell = serverCalls .tell;
       take = serverCalls .take;
+      pack = serverCalls .pack;
+      takePacket = serverCalls .takePacket;
     })
 
 -- The ranks are ignored: the lower line stays in a tie.
@@ -331,6 +343,32 @@ uncarried = carryingAs (λ c seen e. c .inverse)
 abbrev pub carriedPastArrived : Sheet
 carriedPastArrived = carryingAs (λ c seen e. transformed (c .inverse) e)
 
+-- ---- packets
+
+abbrev pub packetsAs : (Client → List ℕ → Answer Client) → (Server → List ℕ → Answer Server) → Sheet
+packetsAs takesClient takesServer = sheetOf (clientAs insertClient takeClient takesClient) (serverAs takeServer takesServer)
+
+-- A packet goes on after a refusal: the messages behind the refused one are taken too.
+unfoldable pub goesOn : {E : Type 0} → (E → List ℕ → Answer E) → ℕ → ℕ → ℕ → E → List ℕ → Answer E
+goesOn taking zero count first e bytes = record { refusal = first; end = e; report = counted count }
+goesOn taking (suc most) count first e bytes =
+    let a = taking e (take (nextSize bytes) bytes) in
+    let taken = eqb (a .refusal) 0 in
+    cond (eqb (length bytes) 0) (record { refusal = first; end = e; report = counted count })
+    (goesOn taking most (cond taken (suc count) count) (cond (eqb first 0) (a .refusal) first) (a .end) (drop (nextSize bytes) bytes))
+
+abbrev pub goingOn : Sheet
+goingOn = packetsAs (λ c bytes. goesOn takeClient (length bytes) 0 0 c bytes) (λ s bytes. goesOn takeServer (length bytes) 0 0 s bytes)
+
+-- What was taken before a refusal is forgotten: the end is handed back as it came.
+abbrev pub forgets : {E : Type 0} → (E → List ℕ → Answer E) → E → List ℕ → Answer E
+forgets taking e bytes =
+    let a = handedOver taking (length bytes) 0 e bytes in
+    cond (eqb (a .refusal) 0) a (record { refusal = a .refusal; end = e; report = noReport })
+
+abbrev pub forgetting : Sheet
+forgetting = packetsAs (forgets takeClient) (forgets takeServer)
+
 -- None of them has what is claimed.
 pub record Refuted : Type 0 where
   pub leaving-fails : Converges leaving → ⊥
@@ -357,6 +395,8 @@ pub record Refuted : Type 0 where
   pub gone-shown-fails : Converges goneShown → ⊥
   pub uncarried-fails : Converges uncarried → ⊥
   pub carried-past-arrived-fails : Converges carriedPastArrived → ⊥
+  pub going-on-fails : Converges goingOn → ⊥
+  pub forgetting-fails : Converges forgetting → ⊥
   -- not what is said of the order of steps
   pub turning-fails : OneOrder turning → ⊥
   pub mirroring-fails : OneOrder mirroring → ⊥
