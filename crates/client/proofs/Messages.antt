@@ -25,22 +25,22 @@ pub unsound-sending : (c : Client) (a : model.Sent) (lent : List ℕ) → sound 
 unfolding guardedSending
 unsound-sending c a lent h = rw h
 
-sound-sending : (c : Client) (a : model.Sent) (lent : List ℕ) → sound c ≡ true → a ≡ guardedSending c a lent
+pub sound-sending : (c : Client) (a : model.Sent) (lent : List ℕ) → sound c ≡ true → a ≡ guardedSending c a lent
 unfolding guardedSending
 sound-sending c a lent h = rw h
 
 -- questions 2 and 4 at a sound client, and those that follow
 module _ (c : Client) (s : Sound c) (line : ℕ) (rest : List model.Question) where
-  abbrev questions : List model.Question
+  abbrev pub questions : List model.Question
   questions = model.ask 2 (soundClient (view c)) ∷ model.ask 4 (eqb line (c .counts .line)) ∷ rest
 
   asked : (b : Bool) → eqb line (c .counts .line) ≡ b → cond b (model.asks rest) 4 ≡ model.asks questions
   asked b e = λ i. cond (sym (s .model) i) (cond (sym e i) (model.asks rest) 4) 2
 
-  other-line : (line ≡ c .counts .line → ⊥) → 4 ≡ model.asks questions
+  pub other-line : (line ≡ c .counts .line → ⊥) → 4 ≡ model.asks questions
   other-line n = asked false (ne-eqb line (c .counts .line) n)
 
-  own-line : line ≡ c .counts .line → model.asks rest ≡ model.asks questions
+  pub own-line : line ≡ c .counts .line → model.asks rest ≡ model.asks questions
   own-line e = asked true (eq-eqb line (c .counts .line) e)
 
 -- ---- a pending edit

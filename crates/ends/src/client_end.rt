@@ -1,8 +1,11 @@
 // A client that edits and takes by value. Each method lends its words to the call on lent words, and joins what comes back.
 ghost use mathlib.Core.Path.{_≡_};
+ghost use Rattle.line.specs.Sending.{answered};
 ghost use Rattle.client.specs.Answers.{inserted, deleted, takenBack, taken};
+ghost use Rattle.client_packet.specs.Packets.{packedEdits, packetTaken};
 use client::Answer;
 use client::Client;
+use line::sending::Sent;
 
 pub struct ClientEnd {
     pub client: Client,
@@ -42,5 +45,23 @@ impl ClientEnd {
         let mut words = self.client.words;
         let a = client_take::take(self.client.counts, &mut words, bytes);
         client::joined(a, words)
+    }
+
+    // Takes the messages of a packet, up to the first that is refused.
+    pub fn take_packet(self, packet: &[u8]) -> Answer
+        ensures { λ r. ⌜ r ≡ packetTaken (self .client) (now (packet .entry)) ⌝ }
+    {
+        let mut words = self.client.words;
+        let a = client_packet::take(self.client.counts, &mut words, packet);
+        client::joined(a, words)
+    }
+
+    // Writes the pending edits as a packet into the lent buffer, from an offset on.
+    pub fn pack(self, line: u8, out: &mut [u8], offset: usize) -> Sent
+        ensures { λ r. ⌜ answered r (now (out .exit)) ≡ packedEdits (self .client) line (now (out .entry)) offset ⌝ }
+    {
+        let counts = self.client.counts;
+        let words = self.client.words;
+        client_packet::pack(counts, &words, line, out, offset)
     }
 }

@@ -62,12 +62,12 @@ module _ (s : Server) (l : ℕ) where
       let y = yes-all (lineAsked s l) (eqb-false 2 0 refl, (eqb-false 4 0 refl, tt)) z in
       (y .0, between-true 1 (s .counts .n) l (y .1 .0))
 
-  model-sound : sound s ≡ true → model.soundServer (view s) ≡ true
+  pub model-sound : sound s ≡ true → model.soundServer (view s) ≡ true
   unfolding sound
   model-sound y = hold (soundTests s) y .0
 
   -- the model's, with others behind them
-  in-parts : sound s ≡ true → (rest : List Question)
+  pub in-parts : sound s ≡ true → (rest : List Question)
       → asks (ask 2 (model.soundServer (view s)) ∷ ask 4 (between 1 (view s .n) l) ∷ rest) ≡ thenAsked (asks (lineAsked s l)) (asks rest)
   unfolding view
   in-parts y rest =

@@ -18,7 +18,7 @@ use server_words::slots_at;
 use wire::Message;
 
 // Questions 2 and 4.
-fn ask_line(k: Counts, words: &[u32], line: u8) -> u8
+pub fn ask_line(k: Counts, words: &[u32], line: u8) -> u8
     requires { ⌜ Sizes k (now words) ⌝ }
     ensures answer { λ r. ⌜ r ≡ asks (lineAsked (serverOf k (now (words .entry))) line) ⌝ }
     ensures facts { λ r. ⌜ (r ≡ 0 → Sound (serverOf k (now (words .entry))) × OnLine k line) ⌝ }

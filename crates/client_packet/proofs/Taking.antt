@@ -1,0 +1,108 @@
+-- A packet at a client: one message by the code's answer, the loop over all, and what questions 2 and 15 refuse.
+use Prim.Native.Nat.{ℕ, _+_, _-_, _≤_, _<_}
+use mathlib.Core.Path.{_≡_, refl, ap, sym, _∙_}
+use mathlib.Core.Bool.{Bool, true, false, cond}
+use mathlib.Core.List.{List, [], _∷_}
+use lib.Dec.{eqb}
+use lib.ListN.{length, take, drop, drop-of-length-le}
+use lib.Seq.{take-nil}
+use Rattle.limits.specs.Limits.{maxLines, maxPacket}
+use Rattle.wire.specs.Bytes.{parsed}
+use Rattle.model.specs.Questions as model
+use Rattle.model.specs.Client as client
+use Rattle.model.specs.Client.{takeClient}
+use Rattle.ranks.proofs.Laws.{stored-length}
+use Rattle.line.specs.Taking.{reportIn}
+use Rattle.wire_packet.specs.Packet.{messageStart, messageEnd}
+use Rattle.wire_packet.proofs.Ends.{start-left}
+use Rattle.wire_packet.proofs.Handing.{Handing, refusedBy, handing-end, handing-stop, handing-turn, packet-refused, packet-asks, packet-few, message-refused, message-asks}
+use Rattle.client.specs.declared.Client.{Client}
+use Rattle.client.specs.declared.Counts.{Counts}
+use Rattle.client.specs.declared.Answer.{Answer}
+use Rattle.client.specs.declared.Changed.{Changed}
+use Rattle.client.specs.View.{clientOf, view, store, sound, Sound, Sizes}
+use Rattle.client.specs.Answers.{refusedWith, guarded, taken, answerOf, refusedCounts}
+use Rattle.client.proofs.Answers.{unsound}
+use Rattle.client_take.proofs.Takes.{read-refused}
+use Rattle.client_packet.specs.Packets.{clientAnswer, answerIn, taking, messagesTaken, packetTaken, takenAt, countedCounts}
+
+-- every taking asks question 2 first
+unsound-taking : (c : Client) → sound c ≡ false → (m : List ℕ) → taking c m ≡ refusedBy 2 c
+unsound-taking c h m = sym (ap clientAnswer (unsound c (takeClient (view c) m) h))
+
+-- a taking leaves as many ranks as there are lines
+ranks-taken : (c : Client) (bytes : List ℕ) → length (c .counts .ranks) ≡ maxLines → length (taken c bytes .client .counts .ranks) ≡ maxLines
+unfolding guarded
+ranks-taken c bytes h = go (sound c) (eqb (takeClient (view c) bytes .refusal) 0)
+  where
+    a : model.Answer client.Client
+    a = takeClient (view c) bytes
+
+    if : Bool → Answer
+    if done = record { refusal = a .refusal; report = reportIn (a .report); client = cond done (store (a .end)) c }
+
+    go : (s done : Bool) → length (cond s (if done) (refusedWith 2 c) .client .counts .ranks) ≡ maxLines
+    go true true = stored-length (a .end .ranks)
+    go true false = h
+    go false done = h
+
+-- ---- the loop
+
+pub sizes-taken : {k : Counts} {words : List ℕ} → Sizes k words → (bytes : List ℕ) (a : Changed) (after : List ℕ) → length after ≡ length words
+    → answerOf a after ≡ taken (clientOf k words) bytes → Sizes (a .counts) after
+sizes-taken {k} {words} z bytes a after long e =
+    record {
+      words = long ∙ z .words;
+      ranks = ap (λ (r : Answer). length (r .client .counts .ranks)) e ∙ ranks-taken (clientOf k words) bytes (z .ranks);
+    }
+
+module _ (start : Client) (bytes : List ℕ) {at count : ℕ} {k : Counts} {words : List ℕ} (h : Handing taking bytes start at count (clientOf k words)) where
+  pub all-end : length bytes ≤ at → (r : Changed) → r ≡ countedCounts 0 count k → answerOf r words ≡ messagesTaken start bytes
+  all-end g r er = ap (λ (q : Changed). answerOf q words) er ∙ ap answerIn (handing-end taking bytes start h g)
+
+  -- the message that begins here is lent and taken
+  module _ (more : at < length bytes) (to : ℕ) (et : to ≡ messageEnd bytes at) (a : Changed) (after : List ℕ)
+      (ea : answerOf a after ≡ taken (clientOf k words) (take (to - at) (drop at bytes))) where
+    pub all-stop : (a .refusal ≡ 0 → ⊥) → (r : Changed) → r ≡ countedCounts (a .refusal) count (a .counts) → answerOf r after ≡ messagesTaken start bytes
+    all-stop n r er =
+        ap (λ (q : Changed). answerOf q after) er
+        ∙ ap answerIn (handing-stop taking bytes start h more to et (clientAnswer (answerOf a after)) (ap clientAnswer ea) n)
+
+    pub all-turn : a .refusal ≡ 0 → Handing taking bytes start to (count + 1) (clientOf (a .counts) after)
+    all-turn z = handing-turn taking bytes start h more to et (clientAnswer (answerOf a after)) (ap clientAnswer ea) z
+
+-- ---- the calls
+
+module _ (k : Counts) (words bytes : List ℕ) where
+  abbrev c : Client
+  c = clientOf k words
+
+  pub packet-all : model.between 1 maxPacket (length bytes) ≡ true → messagesTaken (clientOf k words) bytes ≡ packetTaken (clientOf k words) bytes
+  packet-all l = ap answerIn (packet-asks sound taking c bytes l (unsound-taking c))
+
+  module _ (l : model.between 1 maxPacket (length bytes) ≡ false) (r : Changed)
+      (er : r ≡ refusedCounts (model.asks (model.ask 2 (sound (clientOf k words)) ∷ model.ask 15 false ∷ [])) k) where
+    pub packet-none : answerOf r words ≡ packetTaken (clientOf k words) bytes
+    packet-none = ap (λ (q : Changed). answerOf q words) er ∙ ap answerIn (packet-refused sound taking c bytes l)
+
+    pub message-none : (at : ℕ) → answerOf r words ≡ takenAt (clientOf k words) bytes at
+    message-none at = ap (λ (q : Changed). answerOf q words) er ∙ ap answerIn (message-refused sound taking c bytes at l)
+
+  pub message-one : (at from to : ℕ) → from ≡ messageStart bytes at → to ≡ messageEnd bytes from → model.between 1 maxPacket (length bytes) ≡ true
+      → taken (clientOf k words) (take (to - from) (drop from bytes)) ≡ takenAt (clientOf k words) bytes at
+  message-one at from to ef et l = ap answerIn (message-asks sound taking c bytes at from to ef et l (unsound-taking c))
+
+-- At the end of a packet and past it no message begins: question 3 says no.
+pub none-begins : (c : Client) → Sound c → (bytes : List ℕ) (at : ℕ) → model.between 1 maxPacket (length bytes) ≡ true → length bytes ≤ at
+    → refusedWith 3 c ≡ takenAt c bytes at
+unfolding parsed
+none-begins c s bytes at l past =
+    let from : ℕ = messageStart bytes at in
+    let to : ℕ = messageEnd bytes from in
+    let none : take (to - from) (drop from bytes) ≡ [] =
+    ap (take (to - from)) (start-left bytes at ∙ drop-of-length-le bytes {i = at} past) ∙ take-nil (to - from) in
+    read-refused c s [] refl ∙ sym (ap (taken c) none) ∙ message-one (c .counts) (c .words) bytes at from to refl refl l
+
+-- At most 1,400 messages are taken, so that their count fits 16 bits.
+pub taken-few : (c : Client) (bytes : List ℕ) → packetTaken c bytes .report .passed ≤ maxPacket
+taken-few c bytes = packet-few sound taking c bytes

@@ -1,0 +1,128 @@
+// A client's packets (02: N2): its pending edits in one packet, and the messages of a packet taken in order.
+ghost use Prim.Native.Nat.{_-_, _≤_};
+ghost use mathlib.Core.Path.{_≡_};
+ghost use mathlib.Core.Bool.{false};
+ghost use mathlib.Core.List.{[], _∷_};
+ghost use lib.ListN.{length};
+ghost use Rattle.limits.specs.Limits.{maxPacket};
+ghost use Rattle.model.specs.Questions.{ask, asks, between};
+ghost use Rattle.line.specs.Sending.{answered};
+ghost use Rattle.client.specs.View.{clientOf, sound, Sizes};
+ghost use Rattle.client.specs.Answers.{answerOf, refusedCounts};
+ghost use Rattle.client_packet.specs.Packets.{packedEdits, OwnOrigins, messagesTaken, packetTaken, takenAt, countedCounts};
+use client::Changed;
+use client::Client;
+use client::Counts;
+use line::sending::Sent;
+use line::taking::Report;
+use list::Origin;
+
+// Writes the origins of the pending edits, a word each: the client's line, and the numbers behind those acknowledged.
+fn fill_origins(line: u8, acked: u16, made: u16, origins: &mut [u32])
+    requires { ⌜ made - acked ≤ length (now origins) ⌝ }
+    ensures { λ r. ⌜ OwnOrigins line acked made (now (origins .exit)) ⌝ }
+{
+    let mut number = acked;
+    let mut i: usize = 0;
+    while number < made {
+        number += 1;
+        origins[i] = list::word_of(Origin { line, number });
+        i += 1;
+    }
+}
+
+// Writes the pending edits from an offset of the buffer on, in number order, as many as fit before its end, unless a question says no.
+pub fn pack(k: Counts, words: &[u32], line: u8, out: &mut [u8], offset: usize) -> Sent
+    requires { ⌜ Sizes k (now words) ⌝ }
+    ensures { λ r. ⌜ answered r (now (out .exit)) ≡ packedEdits (clientOf k (now (words .entry))) line (now (out .entry)) offset ⌝ }
+{
+    if client::is_sound(k, words) {
+        if line != k.line {
+            return line::sending::refused(4);
+        }
+        let mut origins = [0u32; Client::PENDING];
+        fill_origins(line, k.own.acked, k.own.made, &mut origins);
+        let slots = &words[Client::ITEMS..Client::ORIGINS];
+        return line_packet::pack(line, 0, k.own, slots, &origins, out, offset);
+    }
+    line::sending::refused(2)
+}
+
+// What a packet answers: 0 or the refusal of a message, how many were taken before it, and the numbers then.
+fn counted(refusal: u8, count: u16, k: Counts) -> Changed
+    ensures { λ r. ⌜ r ≡ countedCounts refusal count k ⌝ }
+{
+    Changed {
+        refusal,
+        report: Report {
+            passed: count,
+            arrived: 0,
+            applied: 0,
+        },
+        counts: k,
+    }
+}
+
+// Takes the messages one after another, up to the first that is refused.
+fn take_all(k: Counts, words: &mut [u32], packet: &[u8]) -> Changed
+    requires { ⌜ Sizes k (now words) × (length (now packet) ≤ maxPacket) ⌝ }
+    ensures { λ r. ⌜ answerOf r (now (words .exit)) ≡ messagesTaken (clientOf k (now (words .entry))) (now (packet .entry)) ⌝ }
+{
+    let mut counts = k;
+    let mut at: usize = 0;
+    let mut count: u16 = 0;
+    while at < packet.len() {
+        let end = wire_packet::message_end(packet, at);
+        let a = client_take::take(counts, words, &packet[at..end]);
+        counts = a.counts;
+        if a.refusal != 0 {
+            return counted(a.refusal, count, counts);
+        }
+        count += 1;
+        at = end;
+    }
+    counted(0, count, counts)
+}
+
+// Has a packet 1 to 1,400 bytes? That is question 15.
+fn has_length(packet: &[u8]) -> bool
+    ensures { λ r. ⌜ r ≡ between 1 maxPacket (length (now (packet .entry))) ⌝ }
+{
+    (1 <= packet.len()) & (packet.len() <= limits::PACKET)
+}
+
+// What a packet of another length answers: question 15, unless question 2 said no.
+fn refused_length(k: Counts, words: &[u32]) -> Changed
+    requires { ⌜ Sizes k (now words) ⌝ }
+    ensures { λ r. ⌜ r ≡ refusedCounts (asks (ask 2 (sound (clientOf k (now (words .entry)))) ∷ ask 15 false ∷ [])) k ⌝ }
+{
+    if client::is_sound(k, words) {
+        return client::refused(15, k);
+    }
+    client::refused(2, k)
+}
+
+// Takes the messages of a packet, in place, up to the first that is refused, and reports how many were taken. Question 2 comes before 15:
+// where the packet has its length, its first message asks it.
+pub fn take(k: Counts, words: &mut [u32], packet: &[u8]) -> Changed
+    requires { ⌜ Sizes k (now words) ⌝ }
+    ensures { λ r. ⌜ answerOf r (now (words .exit)) ≡ packetTaken (clientOf k (now (words .entry))) (now (packet .entry)) ⌝ }
+{
+    if has_length(packet) {
+        return take_all(k, words, packet);
+    }
+    refused_length(k, words)
+}
+
+// Takes the one message of a packet that begins at a place, in place. At the packet's end and past it there are no bytes, which are no message.
+pub fn take_at(k: Counts, words: &mut [u32], packet: &[u8], at: usize) -> Changed
+    requires { ⌜ Sizes k (now words) ⌝ }
+    ensures { λ r. ⌜ answerOf r (now (words .exit)) ≡ takenAt (clientOf k (now (words .entry))) (now (packet .entry)) at ⌝ }
+{
+    if has_length(packet) {
+        let start = wire_packet::message_start(packet, at);
+        let end = wire_packet::message_end(packet, start);
+        return client_take::take(k, words, &packet[start..end]);
+    }
+    refused_length(k, words)
+}

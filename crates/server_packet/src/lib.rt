@@ -1,0 +1,114 @@
+// The server's packets (02: N2): the pending edits of a line in one packet, and the messages of a packet taken in order.
+ghost use Prim.Native.Nat.{_≤_};
+ghost use mathlib.Core.Path.{_≡_};
+ghost use mathlib.Core.Bool.{false};
+ghost use mathlib.Core.List.{[], _∷_};
+ghost use lib.ListN.{length};
+ghost use Rattle.limits.specs.Limits.{maxPacket};
+ghost use Rattle.model.specs.Questions.{ask, asks, between};
+ghost use Rattle.line.specs.Sending.{answered};
+ghost use Rattle.server.specs.View.{serverOf, sound, Sizes};
+ghost use Rattle.server.specs.Answers.{answerOf, refusedCounts};
+ghost use Rattle.server_packet.specs.Packets.{packedEdits, messagesTaken, packetTaken, takenAt, countedCounts};
+use line::sending::Sent;
+use line::taking::Report;
+use server::Changed;
+use server::Counts;
+use server_words::makers_at;
+use server_words::slots_at;
+
+// Writes the pending edits of a line from an offset of the buffer on, in number order, as many as fit before its end, unless a question
+// says no. Their origins stand beside them.
+pub fn pack(k: Counts, words: &[u32], line: u8, out: &mut [u8], offset: usize) -> Sent
+    requires { ⌜ Sizes k (now words) ⌝ }
+    ensures { λ r. ⌜ answered r (now (out .exit)) ≡ packedEdits (serverOf k (now (words .entry))) line (now (out .entry)) offset ⌝ }
+{
+    let refusal = server::sending::ask_line(k, words, line);
+    if refusal != 0 {
+        return line::sending::refused(refusal);
+    }
+    let at = (line - 1) as usize;
+    let v = server::line_at(k, at);
+    let slots = slots_at(words, at);
+    let origins = makers_at(words, at);
+    line_packet::pack(line, 1, v, slots, origins, out, offset)
+}
+
+// What a packet answers: 0 or the refusal of a message, how many were taken before it, and the numbers then.
+fn counted(refusal: u8, count: u16, k: Counts) -> Changed
+    ensures { λ r. ⌜ r ≡ countedCounts refusal count k ⌝ }
+{
+    Changed {
+        refusal,
+        report: Report {
+            passed: count,
+            arrived: 0,
+            applied: 0,
+        },
+        counts: k,
+    }
+}
+
+// Takes the messages one after another, up to the first that is refused.
+fn take_all(k: Counts, words: &mut [u32], packet: &[u8]) -> Changed
+    requires { ⌜ Sizes k (now words) × (length (now packet) ≤ maxPacket) ⌝ }
+    ensures { λ r. ⌜ answerOf r (now (words .exit)) ≡ messagesTaken (serverOf k (now (words .entry))) (now (packet .entry)) ⌝ }
+{
+    let mut counts = k;
+    let mut at: usize = 0;
+    let mut count: u16 = 0;
+    while at < packet.len() {
+        let end = wire_packet::message_end(packet, at);
+        let a = server_take::take(counts, words, &packet[at..end]);
+        counts = a.counts;
+        if a.refusal != 0 {
+            return counted(a.refusal, count, counts);
+        }
+        count += 1;
+        at = end;
+    }
+    counted(0, count, counts)
+}
+
+// Has a packet 1 to 1,400 bytes? That is question 15.
+fn has_length(packet: &[u8]) -> bool
+    ensures { λ r. ⌜ r ≡ between 1 maxPacket (length (now (packet .entry))) ⌝ }
+{
+    (1 <= packet.len()) & (packet.len() <= limits::PACKET)
+}
+
+// What a packet of another length answers: question 15, unless question 2 said no.
+fn refused_length(k: Counts, words: &[u32]) -> Changed
+    requires { ⌜ Sizes k (now words) ⌝ }
+    ensures { λ r. ⌜ r ≡ refusedCounts (asks (ask 2 (sound (serverOf k (now (words .entry)))) ∷ ask 15 false ∷ [])) k ⌝ }
+{
+    if server::is_sound(k, words) {
+        return server::refused(15, k);
+    }
+    server::refused(2, k)
+}
+
+// Takes the messages of a packet, in place, up to the first that is refused, and reports how many were taken. Question 2 comes before 15:
+// where the packet has its length, its first message asks it.
+pub fn take(k: Counts, words: &mut [u32], packet: &[u8]) -> Changed
+    requires { ⌜ Sizes k (now words) ⌝ }
+    ensures { λ r. ⌜ answerOf r (now (words .exit)) ≡ packetTaken (serverOf k (now (words .entry))) (now (packet .entry)) ⌝ }
+{
+    if has_length(packet) {
+        return take_all(k, words, packet);
+    }
+    refused_length(k, words)
+}
+
+// Takes the one message of a packet that begins at a place, in place. At the packet's end and past it there are no bytes, which are no message.
+pub fn take_at(k: Counts, words: &mut [u32], packet: &[u8], at: usize) -> Changed
+    requires { ⌜ Sizes k (now words) ⌝ }
+    ensures { λ r. ⌜ answerOf r (now (words .exit)) ≡ takenAt (serverOf k (now (words .entry))) (now (packet .entry)) at ⌝ }
+{
+    if has_length(packet) {
+        let start = wire_packet::message_start(packet, at);
+        let end = wire_packet::message_end(packet, start);
+        return server_take::take(k, words, &packet[start..end]);
+    }
+    refused_length(k, words)
+}
