@@ -1,12 +1,12 @@
 -- The ways in which a call over lent bytes ends, and an answer taken apart.
-use Prim.Native.Nat.{ℕ, _/_, _%_, _≤_, _<_}
+use Prim.Native.Nat.{ℕ, _+_, _*_, _/_, _%_, _≤_, _<_}
 use native.Mathlib.Omega.{arith}
 use mathlib.Core.Path.{_≡_, refl, ap, ap₂, sym, _∙_, subst}
 use mathlib.Core.Bool.{Bool, true, false, cond}
 use mathlib.Core.List.{List, _++_}
 use lib.Dec.{eqb}
 use lib.ListN.{length, drop}
-use borrow.Author.Tests.{le-ltb, lt-ltb, ne-eqb, eq-eqb}
+use borrow.Author.Tests.{le-ltb, lt-ltb, ne-eqb, eq-eqb, eqb-true}
 use Rattle.wire.specs.declared.Message.{Message}
 use Rattle.wire.specs.declared.Message.the-variants.{Insert, Delete, Nothing, Ack}
 use Rattle.wire.specs.Bytes.{bytesOf}
@@ -15,7 +15,7 @@ use Rattle.line.specs.declared.sending.Sent as line
 use Rattle.line.specs.declared.taking.Report.{Report}
 use Rattle.line.specs.Sending.{answered}
 use Rattle.c_layout.specs.Words.{highFirst, itemsOf}
-use Rattle.c_layout.specs.Called.{Called, packed, packedReport, called, returned, laidOut, changing, opening, sending, Unpacks}
+use Rattle.c_layout.specs.Called.{Called, packed, packedReport, packedRead, called, returned, laidOut, changing, takingSome, takingOne, opening, sending, refusalOf, countOf, arrivedOf, appliedOf, readOf, Unpacks, Fits, UnpacksRead}
 use Rattle.c_layout.proofs.Words.{words-length}
 
 pub unpacks : Unpacks
@@ -26,6 +26,47 @@ unpacks =
       count = λ refusal k h h₂. omega arith;
       arrived = λ refusal k h h₂ h₃. omega arith;
       applied = λ refusal k h h₂ h₃ h₄. omega arith;
+    }
+
+-- whatever is added from bit 56 on
+module _ (refusal : ℕ) (k : Report) (more : ℕ) (small : refusal < 256) where
+  abbrev above : ℕ
+  above = packedReport refusal k + 72057594037927936 * more
+
+  refusal-under : refusalOf above ≡ refusal
+  refusal-under = omega arith
+
+  module _ (f : Fits k) where
+    read-above : readOf above ≡ more
+    read-above = omega (arith, f .passed, f .arrived, f .applied)
+
+    count-under : countOf above ≡ k .passed
+    count-under = omega (arith, f .passed)
+
+    arrived-under : arrivedOf above ≡ k .arrived
+    arrived-under = omega (arith, f .passed, f .arrived)
+
+    applied-under : appliedOf above ≡ k .applied
+    applied-under = omega (arith, f .passed, f .arrived, f .applied)
+
+-- what stands there: the bytes read, or 0
+read-either : (refusal : ℕ) (k : Report) (read : ℕ) (P : ℕ → Type 0) → ((more : ℕ) → P (packedReport refusal k + 72057594037927936 * more))
+    → P (packedRead refusal k read)
+read-either refusal k read P each = go (eqb refusal 0)
+  where
+    go : (b : Bool) → P (packedReport refusal k + cond b (72057594037927936 * read) 0)
+    go true = each read
+    go false = each 0
+
+pub unpacks-read : UnpacksRead
+unpacks-read =
+    record {
+      read = λ k read f. read-above 0 k read (omega arith) f;
+      none = λ refusal k read h n f. rw (ne-eqb refusal 0 n) (read-above refusal k 0 h f);
+      refusal = λ refusal k read h. read-either refusal k read (λ a. refusalOf a ≡ refusal) (λ more. refusal-under refusal k more h);
+      count = λ refusal k read h f. read-either refusal k read (λ a. countOf a ≡ k .passed) (λ more. count-under refusal k more h f);
+      arrived = λ refusal k read h f. read-either refusal k read (λ a. arrivedOf a ≡ k .arrived) (λ more. arrived-under refusal k more h f);
+      applied = λ refusal k read h f. read-either refusal k read (λ a. appliedOf a ≡ k .applied) (λ more. applied-under refusal k more h f);
     }
 
 -- ---- question 18
@@ -48,6 +89,36 @@ module _ (size refusal : ℕ) (report : Report) (new end : List ℕ) where
   pub changed-done : (r : ℕ) (after : List ℕ) → refusal ≡ 0 → r ≡ packedReport 0 report → after ≡ new ++ drop size end
       → returned r after ≡ changing size refusal report new end
   changed-done r after z e ea = ap₂ returned e ea ∙ rw z
+
+-- ---- packets
+
+module _ (size refusal : ℕ) (report : Report) (new end : List ℕ) where
+  -- no message was taken, or some were
+  pub some-none : (r : ℕ) → report .passed ≡ 0 → r ≡ packedReport refusal report → returned r end ≡ takingSome size refusal report new end
+  some-none r z e = ap (λ (k : ℕ). returned k end) e ∙ rw (eq-eqb (report .passed) 0 z)
+
+  pub some-taken : (r : ℕ) (after : List ℕ) → (report .passed ≡ 0 → ⊥) → r ≡ packedReport refusal report → after ≡ new ++ drop size end
+      → returned r after ≡ takingSome size refusal report new end
+  some-taken r after n e ea = ap₂ returned e ea ∙ rw (ne-eqb (report .passed) 0 n)
+
+  -- one message was refused, or taken
+  pub one-no : (r read : ℕ) → (refusal ≡ 0 → ⊥) → r ≡ packedReport refusal report → returned r end ≡ takingOne size refusal report read new end
+  one-no r read n e = let none : r ≡ packedReport refusal report + 0 = omega (arith, e) in ap (λ (k : ℕ). returned k end) none ∙ rw (ne-eqb refusal 0 n)
+
+  pub one-done : (r read : ℕ) (after : List ℕ) → refusal ≡ 0 → r ≡ packedRead 0 report read → after ≡ new ++ drop size end
+      → returned r after ≡ takingOne size refusal report read new end
+  one-done r read after z e ea = ap₂ returned e ea ∙ rw z
+
+  -- at a refusal the bytes of the message do not matter
+  pub one-read : (n m : ℕ) → (refusal ≡ 0 → n ≡ m) → takingOne size refusal report n new end ≡ takingOne size refusal report m new end
+  one-read n m same = go (eqb refusal 0) refl
+    where
+      if : Bool → ℕ → Called
+      if b read = record { answer = packedReport refusal report + cond b (72057594037927936 * read) 0; bytes = cond b (new ++ drop size end) end }
+
+      go : (b : Bool) → eqb refusal 0 ≡ b → if b n ≡ if b m
+      go true e = ap (if true) (same (eqb-true refusal 0 e))
+      go false e = refl
 
 -- ---- opening
 
@@ -131,7 +202,7 @@ module _ {E A M : Type 0} (k : Guarded E A M) where
 
   module _ (end : List ℕ) (long : k .size ≤ length end) (e : E) (is : e ≡ k .asRead (k .endIn end)) where
     -- the end as it was read gives the same answer
-    same-answer : (answers : E → Called) (out : List ℕ) → ((c : E) → k .sound c ≡ false → answers c ≡ called 2 0 out)
+    pub same-answer : (answers : E → Called) (out : List ℕ) → ((c : E) → k .sound c ≡ false → answers c ≡ called 2 0 out)
         → answers e ≡ laidOut (k .size) end out (answers (k .endIn end))
     same-answer answers out unsound =
         ap answers is ∙ alike (k .sound) answers (called 2 0 out) unsound (k .asRead (k .endIn end)) (k .endIn end) (k .read-sound end) (k .sound-read end)

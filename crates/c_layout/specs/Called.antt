@@ -21,6 +21,10 @@ packed refusal count = refusal + 256 * count
 abbrev pub packedReport : ℕ → Report → ℕ
 packedReport refusal k = packed refusal (k .passed) + 16777216 * k .arrived + 1099511627776 * k .applied
 
+-- and of one message of a packet how many bytes it has, in bits 56 to 63, 0 at a refusal
+abbrev pub packedRead : ℕ → Report → ℕ → ℕ
+packedRead refusal k read = packedReport refusal k + cond (eqb refusal 0) (72057594037927936 * read) 0
+
 abbrev pub called : ℕ → ℕ → List ℕ → Called
 called refusal count bytes = record { answer = packed refusal count; bytes = bytes }
 
@@ -36,6 +40,16 @@ laidOut size end bytes rest = cond (ltb (length end) size) (called 18 0 bytes) r
 abbrev pub changing : ℕ → ℕ → Report → List ℕ → List ℕ → Called
 changing size refusal report new bytes =
     record { answer = packedReport refusal report; bytes = cond (eqb refusal 0) (new ++ drop size bytes) bytes }
+
+-- A packet, which counts the messages taken: if there is any, the end that they left is written, beside a refusal too.
+abbrev pub takingSome : ℕ → ℕ → Report → List ℕ → List ℕ → Called
+takingSome size refusal report new bytes =
+    record { answer = packedReport refusal report; bytes = cond (eqb (report .passed) 0) bytes (new ++ drop size bytes) }
+
+-- One message of a packet: as a call that may change its end, and how many bytes the message has.
+abbrev pub takingOne : ℕ → ℕ → Report → ℕ → List ℕ → List ℕ → Called
+takingOne size refusal report read new bytes =
+    record { answer = packedRead refusal report read; bytes = cond (eqb refusal 0) (new ++ drop size bytes) bytes }
 
 -- Opening items are four bytes each. A cut one gives 1.
 abbrev pub opening : ℕ → List ℕ → List ℕ → Called → Called
@@ -58,6 +72,9 @@ arrivedOf answer = answer / 16777216 % 65536
 abbrev pub appliedOf : ℕ → ℕ
 appliedOf answer = answer / 1099511627776 % 65536
 
+abbrev pub readOf : ℕ → ℕ
+readOf answer = answer / 72057594037927936
+
 -- what was packed is taken out again
 pub record Unpacks : Type 0 where
   pub sent : (refusal count : ℕ) → refusal < 256 → count < 65536 → (refusalOf (packed refusal count) ≡ refusal) × (countOf (packed refusal count) ≡ count)
@@ -66,3 +83,18 @@ pub record Unpacks : Type 0 where
   pub arrived : (refusal : ℕ) (k : Report) → refusal < 256 → k .passed < 65536 → k .arrived < 65536 → arrivedOf (packedReport refusal k) ≡ k .arrived
   pub applied : (refusal : ℕ) (k : Report) → refusal < 256 → k .passed < 65536 → k .arrived < 65536 → k .applied < 65536
       → appliedOf (packedReport refusal k) ≡ k .applied
+
+-- the numbers of a report fit their bits
+pub record Fits (k : Report) : Type 0 where
+  pub passed : k .passed < 65536
+  pub arrived : k .arrived < 65536
+  pub applied : k .applied < 65536
+
+-- The same with the bytes of a message beside them: these are taken out, and the others as before.
+pub record UnpacksRead : Type 0 where
+  pub read : (k : Report) (read : ℕ) → Fits k → readOf (packedRead 0 k read) ≡ read
+  pub none : (refusal : ℕ) (k : Report) (read : ℕ) → refusal < 256 → (refusal ≡ 0 → ⊥) → Fits k → readOf (packedRead refusal k read) ≡ 0
+  pub refusal : (refusal : ℕ) (k : Report) (read : ℕ) → refusal < 256 → refusalOf (packedRead refusal k read) ≡ refusal
+  pub count : (refusal : ℕ) (k : Report) (read : ℕ) → refusal < 256 → Fits k → countOf (packedRead refusal k read) ≡ k .passed
+  pub arrived : (refusal : ℕ) (k : Report) (read : ℕ) → refusal < 256 → Fits k → arrivedOf (packedRead refusal k read) ≡ k .arrived
+  pub applied : (refusal : ℕ) (k : Report) (read : ℕ) → refusal < 256 → Fits k → appliedOf (packedRead refusal k read) ≡ k .applied

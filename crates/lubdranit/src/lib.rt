@@ -6,6 +6,7 @@ ghost use Rattle.c_client.specs.Layout.{size as clientSize};
 ghost use Rattle.c_client.specs.Calls as client;
 ghost use Rattle.c_server.specs.Layout.{size as serverSize};
 ghost use Rattle.c_server.specs.Calls as server;
+ghost use Rattle.c_packet.specs.Calls as packets;
 ghost use Rattle.sheet_print.specs.Sink.{Printed};
 ghost use Rattle.sheet_run.specs.Output.{output};
 
@@ -66,6 +67,27 @@ pub extern "C" fn lub_client_take(end: &mut [u8], message: &[u8]) -> u64
     c_client::take(end, message)
 }
 
+#[no_mangle]
+pub extern "C" fn lub_client_pack(end: &[u8], line: u8, out: &mut [u8], offset: usize) -> u64
+    ensures { λ r. ⌜ returned r (now (out .exit)) ≡ packets.clientPackedIn (now (end .entry)) line (now (out .entry)) offset ⌝ }
+{
+    c_packet::client_end::pack(end, line, out, offset)
+}
+
+#[no_mangle]
+pub extern "C" fn lub_client_take_packet(end: &mut [u8], packet: &[u8]) -> u64
+    ensures { λ r. ⌜ returned r (now (end .exit)) ≡ packets.clientPacketIn (now (end .entry)) (now (packet .entry)) ⌝ }
+{
+    c_packet::client_end::take_packet(end, packet)
+}
+
+#[no_mangle]
+pub extern "C" fn lub_client_take_at(end: &mut [u8], packet: &[u8], offset: usize) -> u64
+    ensures { λ r. ⌜ returned r (now (end .exit)) ≡ packets.clientTakenAtIn (now (end .entry)) (now (packet .entry)) offset ⌝ }
+{
+    c_packet::client_end::take_at(end, packet, offset)
+}
+
 // ---- the server
 
 #[no_mangle]
@@ -94,6 +116,27 @@ pub extern "C" fn lub_server_take(end: &mut [u8], message: &[u8]) -> u64
     ensures { λ r. ⌜ returned r (now (end .exit)) ≡ server.takenIn (now (end .entry)) (now (message .entry)) ⌝ }
 {
     c_server::take(end, message)
+}
+
+#[no_mangle]
+pub extern "C" fn lub_server_pack(end: &[u8], line: u8, out: &mut [u8], offset: usize) -> u64
+    ensures { λ r. ⌜ returned r (now (out .exit)) ≡ packets.serverPackedIn (now (end .entry)) line (now (out .entry)) offset ⌝ }
+{
+    c_packet::server_end::pack(end, line, out, offset)
+}
+
+#[no_mangle]
+pub extern "C" fn lub_server_take_packet(end: &mut [u8], packet: &[u8]) -> u64
+    ensures { λ r. ⌜ returned r (now (end .exit)) ≡ packets.serverPacketIn (now (end .entry)) (now (packet .entry)) ⌝ }
+{
+    c_packet::server_end::take_packet(end, packet)
+}
+
+#[no_mangle]
+pub extern "C" fn lub_server_take_at(end: &mut [u8], packet: &[u8], offset: usize) -> u64
+    ensures { λ r. ⌜ returned r (now (end .exit)) ≡ packets.serverTakenAtIn (now (end .entry)) (now (packet .entry)) offset ⌝ }
+{
+    c_packet::server_end::take_at(end, packet, offset)
 }
 
 // ---- the lengths of the layouts, and the run program

@@ -1,0 +1,53 @@
+-- `finish_one` meets its contract: the message was refused, or the server is written.
+use native.Mathlib.Omega.{arith}
+use denote.Ref.{now}
+use Rattle.server.specs.View.{serverOf}
+use Rattle.c_layout.proofs.Called.{one-no, one-done}
+use Rattle.c_server.specs.Layout.{size, bytesIn}
+use Rattle.c_packet.specs.Calls.{serverOne}
+use borrow.Author.Needs.{needs}
+use Rattle.c_packet.proofs.server_end.finish_one.Statement.{statement}
+use Rattle.c_packet.proofs.server_end.finish_one.Tie as tie
+
+abbrev written : tie.After-report-read → tie.After-write
+written c = c .before .before .before
+
+abbrev right : tie.After-write → tie.Else1
+right c = c .before .before .before
+
+abbrev start : tie.Else1 → tie.Start
+start c = c .before .before .before .before .before
+
+report-requires : tie.Need-report-requires
+report-requires c κs = search needs
+
+returns : tie.Need-returns
+unfolding serverOne
+returns c =
+    let a = c .before .before .before .before .before .before .args in
+    let new = bytesIn (serverOf (a .a .counts) (now (a .words))) in
+    one-no size (a .a .refusal) (a .a .report) new (now (a .end)) (c .report .result) (a .read) (λ z. c .before .if1 .taken (omega (arith, z))) (c .report .ensures)
+
+write-requires : tie.Need-write-requires
+write-requires c κs = search needs
+
+report-read-requires : tie.Need-report-read-requires
+report-read-requires c κs = search needs
+
+same-length : tie.Need-same-length
+same-length c = search needs
+
+returns-2 : tie.Need-returns-2
+unfolding serverOne
+returns-2 c =
+    let w = written c in
+    let r = right w in
+    let a = start r .args in
+    let new = bytesIn (serverOf (a .a .counts) (now (a .words))) in
+    one-done size (a .a .refusal) (a .a .report) new (now (a .end)) (c .report-read .result) (a .read) (w .write .last .0) (omega (arith, r .if1 .left))
+    (c .report-read .ensures) (w .write .ensures)
+
+pub finish-one-spec : {M : Type 1} → statement M
+finish-one-spec =
+    tie.close
+    (tie.spec report-requires returns write-requires report-read-requires same-length returns-2)
