@@ -13,6 +13,7 @@ use Rattle.model.specs.Ours as ours
 use Rattle.model.proofs.Tests.{hold}
 use Rattle.model.proofs.Sound.{keeps-sound}
 use Rattle.model.proofs.Alone.{ClientAlone, ServerAlone, edit-back, undo-back, client-back, server-back, client-alone, server-alone}
+use Rattle.model.proofs.Packets.{packet-law, packet-none}
 use Rattle.model.proofs.Converges as model-converges
 use Rattle.model.proofs.Consequences.{consequences}
 use Rattle.line.specs.Line.{countsOf}
@@ -20,17 +21,19 @@ use Rattle.client.specs.declared.Client.{Client}
 use Rattle.client.specs.View as clientView
 use Rattle.client.specs.Answers as client
 use Rattle.client.proofs.Stored as clientStored
+use Rattle.client_packet.specs.Packets as clientPackets
 use Rattle.server.specs.declared.Server.{Server}
 use Rattle.server.specs.View as serverView
 use Rattle.server.specs.Answers as server
 use Rattle.server.proofs.Stored as serverStored
+use Rattle.server_packet.specs.Packets as serverPackets
 use Rattle.c_client.proofs.Calls as clientLent
 use Rattle.c_server.proofs.Calls as serverLent
 use Rattle.convergence.specs.Built.{clientAnswer, serverAnswer, clientCalls, serverCalls, built, Claimed, BuiltCarried}
 use Rattle.convergence.proofs.Ranks.{ranks-bytes}
 use Rattle.convergence.proofs.Carry.{carries}
 use Rattle.convergence.proofs.Pairs.{ClientFollows, ServerFollows, Both, follows}
-use Rattle.convergence.proofs.Stored.{Stored, Stands, given, unsound, alike, sending-alike, opened-stands, answer-back, sending-alone}
+use Rattle.convergence.proofs.Stored.{Stored, Stands, given, unsound, alike, sending-alike, opened-stands, answer-back, sending-alone, packing-alone, unsound-refuses, odd-alike}
 
 -- ---- the client's calls
 
@@ -69,11 +72,15 @@ struct-client-alone =
       deletes = λ c p. answer-back clients c _ (edit-back (clientView.view c) _);
       takes-back = λ c. answer-back clients c _ (undo-back (clientView.view c));
       takes = λ c bytes. answer-back clients c _ (client-back (clientView.view c) _);
+      packets = packet-law clientView.sound clientPackets.taking (unsound-refuses clients model.takeClient);
+      no-packets = packet-none clientView.sound clientPackets.taking (unsound-refuses clients model.takeClient);
+      packs = λ c l lent offset. packing-alone clients c lent offset _ (client-alone .packs (clientView.view c) l lent offset);
       sends = λ c l number lent. sending-alone clients c lent _ (client-alone .sends (clientView.view c) _ _ lent);
       tells = λ c l lent. sending-alone clients c lent _ (client-alone .tells (clientView.view c) _ lent);
     }
 
 client-follows : ClientFollows clientCalls ours.clientCalls (Stands clients)
+unfolding model.packetClient
 client-follows =
     record {
       items = λ c m r. ap (λ (x : Client). clientView.view x .items) (r .0) ∙ ap (λ (v : model.Client). v .items) (clientStored.client-view m (r .1));
@@ -87,6 +94,8 @@ client-follows =
       deletes = λ c m r p. alike clients c m r (λ v. model.deleteClient v p) (edit-back m _) (keeps-sound .deletes m p (r .1));
       takes-back = λ c m r. alike clients c m r model.takeBackClient (undo-back m) (keeps-sound .takes-back m (r .1));
       takes = λ c m r bytes. alike clients c m r (λ v. model.takeClient v bytes) (client-back m bytes) (keeps-sound .client-takes m bytes (r .1));
+      packets = odd-alike clients clientPackets.taking model.takeClient;
+      packs = λ c m r l lent offset. sending-alike clients c m r (λ v. model.packClient v l lent offset) lent;
       sends = λ c m r l number lent. sending-alike clients c m r (λ v. model.sendClient v l number lent) lent;
       tells = λ c m r l lent. sending-alike clients c m r (λ v. model.tellClient v l lent) lent;
       alone = struct-client-alone;
@@ -126,6 +135,9 @@ pub struct-server-alone : ServerAlone serverCalls
 struct-server-alone =
     record {
       takes = λ s bytes. answer-back servers s _ (server-back (serverView.view s) _);
+      packets = packet-law serverView.sound serverPackets.taking (unsound-refuses servers models.takeServer);
+      no-packets = packet-none serverView.sound serverPackets.taking (unsound-refuses servers models.takeServer);
+      packs = λ s l lent offset. packing-alone servers s lent offset _ (server-alone .packs (serverView.view s) l lent offset);
       sends = λ s l number lent. sending-alone servers s lent _ (server-alone .sends (serverView.view s) _ _ lent);
       tells = λ s l lent. sending-alone servers s lent _ (server-alone .tells (serverView.view s) _ lent);
     }
@@ -142,7 +154,7 @@ unfolding serverView.store
 server-total s m r = ap (λ (x : Server). x .counts .total) (r .0)
 
 server-follows : ServerFollows serverCalls ours.serverCalls (Stands servers)
-unfolding serverView.view
+unfolding serverView.view models.packetServer
 server-follows =
     record {
       items = λ s m r. ap (λ (x : Server). serverView.view x .items) (r .0) ∙ ap (λ (v : models.Server). v .items) (serverStored.view-store m (r .1));
@@ -153,6 +165,8 @@ server-follows =
       opens = λ n ranks xs e.
           opened-stands servers (serverView.store models.noServer) (models.openServer n ranks xs) e (keeps-sound .opens-server n ranks xs e);
       takes = λ s m r bytes. alike servers s m r (λ v. models.takeServer v bytes) (server-back m bytes) (keeps-sound .server-takes m bytes (r .1));
+      packets = odd-alike servers serverPackets.taking models.takeServer;
+      packs = λ s m r l lent offset. sending-alike servers s m r (λ v. models.packServer v l lent offset) lent;
       sends = λ s m r l number lent. sending-alike servers s m r (λ v. models.sendServer v l number lent) lent;
       tells = λ s m r l lent. sending-alike servers s m r (λ v. models.tellServer v l lent) lent;
       alone = struct-server-alone;

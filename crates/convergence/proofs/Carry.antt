@@ -6,18 +6,20 @@ use mathlib.Core.List.{List, [], _∷_, _++_, map}
 use Prim.Native.Nat.{ℕ, zero, suc, _≤_}
 use native.Mathlib.Omega.{arith}
 use lib.Dec.{eqb, leb, ltb}
-use lib.ListN.{take, getElem?}
+use lib.ListN.{length, take, drop, getElem?}
 use borrow.Author.Tests.{leb-true}
 use Rattle.list.specs.Places.{Place}
 use Rattle.wire.specs.Bytes.{parsed}
 use Rattle.jupiter.specs.Form.{replay}
 use Rattle.jupiter.specs.History.{History, order, missing}
 use Rattle.jupiter.specs.Origins.{Once}
+use Rattle.model.specs.Limits.{maxPacket}
 use Rattle.model.specs.Questions.{Report, Answer, Sent, between}
+use Rattle.model.specs.Packets.{nextSize, messagesIn, known, packetFrom, counted, handedOver}
 use Rattle.model.specs.Edits.{nameOf, edits}
-use Rattle.model.specs.Sheet.{Sheet, Call, insert, delete, takeBack, send, tell, receive, junk}
-use Rattle.model.specs.Log.{Log, log}
-use Rattle.model.specs.Run.{State, areBytes, unreadable, callable, answered, written, handed, call, handedNumber, numberOf, run, opened, start}
+use Rattle.model.specs.Sheet.{Sheet, Call, insert, delete, takeBack, send, tell, receive, pack, packet, junk}
+use Rattle.model.specs.Log.{Log, log, tookPacket}
+use Rattle.model.specs.Run.{State, areBytes, unreadable, callable, answered, written, handed, packedInto, packetOf, packetTaken, call, handedNumber, numberOf, run, opened, start}
 use Rattle.model.specs.Claim.{Delivered, Enough, OnLine, Holds, LeavesAlone, Opened, Converges}
 use Rattle.model.proofs.Tests.{and-left, between-true}
 use Rattle.model.proofs.Sound.{three}
@@ -41,11 +43,61 @@ module _ (S T : Sheet) (R : S .End → T .End → Type 0) where
     pub deletes : (a : S .End) (b : T .End) → R a b → (p : ℕ) → Alike R (S .delete a p) (T .delete b p)
     pub takes-back : (a : S .End) (b : T .End) → R a b → Alike R (S .takeBack a) (T .takeBack b)
     pub takes : (a : S .End) (b : T .End) → R a b → (bytes : List ℕ) → Alike R (S .take a bytes) (T .take b bytes)
+    -- a packet that is too short or too long; any other is its messages handed over
+    pub packets : (a : S .End) (b : T .End) → R a b → (bytes : List ℕ) → between 1 maxPacket (length bytes) ≡ false → S .takePacket a bytes .refusal ≡ T .takePacket b bytes .refusal
+    pub packs : (a : S .End) (b : T .End) → R a b → (l : ℕ) (lent : List ℕ) (offset : ℕ) → S .pack a l lent offset ≡ T .pack b l lent offset
     pub sends : (a : S .End) (b : T .End) → R a b → (l number : ℕ) (lent : List ℕ) → S .send a l number lent ≡ T .send b l number lent
     pub tells : (a : S .End) (b : T .End) → R a b → (l : ℕ) (lent : List ℕ) → S .tell a l lent ≡ T .tell b l lent
     pub alone : LeavesAlone S
 
-  module _ (f : Follows) (n : ℕ) (ranks : List ℕ) where
+  module _ (f : Follows) where
+    -- the messages of a packet are handed over alike
+    handed-alike : (most count : ℕ) (a : S .End) (b : T .End) → R a b → (bytes : List ℕ) → Alike R (handedOver (S .take) most count a bytes) (handedOver (T .take) most count b bytes)
+    unfolding handedOver
+    handed-alike zero count a b r bytes = record { refusal = refl; report = refl; ends = r }
+    handed-alike (suc most) count a b r bytes =
+        let part = take (nextSize bytes) bytes in
+        let rest = drop (nextSize bytes) bytes in
+        let k = f .takes a b r part in
+        go (eqb (length bytes) 0) (S .take a part) (T .take b part) k (handed-alike most (suc count) (S .take a part .end) (T .take b part .end) (k .ends) rest)
+      where
+        go : (z : Bool) (x : Answer (S .End)) (y : Answer (T .End)) → Alike R x y
+            → Alike R (handedOver (S .take) most (suc count) (x .end) (drop (nextSize bytes) bytes)) (handedOver (T .take) most (suc count) (y .end) (drop (nextSize bytes) bytes))
+            → Alike R
+            (cond {A = Answer (S .End)} z (record { refusal = 0; end = a; report = counted count })
+            (cond (eqb (x .refusal) 0) (handedOver (S .take) most (suc count) (x .end) (drop (nextSize bytes) bytes)) (record { refusal = x .refusal; end = x .end; report = counted count })))
+            (cond {A = Answer (T .End)} z (record { refusal = 0; end = b; report = counted count })
+            (cond (eqb (y .refusal) 0) (handedOver (T .take) most (suc count) (y .end) (drop (nextSize bytes) bytes)) (record { refusal = y .refusal; end = y .end; report = counted count })))
+        go true x y k more = record { refusal = refl; report = refl; ends = r }
+        go false x y k more =
+            subst (λ (m : ℕ). Alike R
+            (cond {A = Answer (S .End)} (eqb m 0) (handedOver (S .take) most (suc count) (x .end) (drop (nextSize bytes) bytes)) (record { refusal = m; end = x .end; report = counted count }))
+            (cond {A = Answer (T .End)} (eqb (y .refusal) 0) (handedOver (T .take) most (suc count) (y .end) (drop (nextSize bytes) bytes)) (record { refusal = y .refusal; end = y .end; report = counted count })))
+            (sym (k .refusal)) (step (eqb (y .refusal) 0))
+          where
+            step : (z : Bool) → Alike R
+                (cond {A = Answer (S .End)} z (handedOver (S .take) most (suc count) (x .end) (drop (nextSize bytes) bytes)) (record { refusal = y .refusal; end = x .end; report = counted count }))
+                (cond {A = Answer (T .End)} z (handedOver (T .take) most (suc count) (y .end) (drop (nextSize bytes) bytes)) (record { refusal = y .refusal; end = y .end; report = counted count }))
+            step true = more
+            step false = record { refusal = refl; report = refl; ends = k .ends }
+
+    packet-alike : LeavesAlone T → (a : S .End) (b : T .End) → R a b → (bytes : List ℕ) → Alike R (S .takePacket a bytes) (T .takePacket b bytes)
+    packet-alike g a b r bytes = go (between 1 maxPacket (length bytes)) refl
+      where
+        go : (z : Bool) → between 1 maxPacket (length bytes) ≡ z → Alike R (S .takePacket a bytes) (T .takePacket b bytes)
+        go true e =
+            subst (λ (x : Answer (S .End)). Alike R x (T .takePacket b bytes)) (sym (f .alone .packets a bytes e))
+            (subst (Alike R (handedOver (S .take) (length bytes) 0 a bytes)) (sym (g .packets b bytes e)) (handed-alike (length bytes) 0 a b r bytes))
+        go false e =
+            let x = f .alone .no-packets a bytes e in
+            let y = g .no-packets b bytes e in
+            record {
+              refusal = f .packets a b r bytes e;
+              report = x .2 ∙ sym (y .2);
+              ends = subst (λ (d : S .End). R d (T .takePacket b bytes .end)) (sym (x .1)) (subst (R a) (sym (y .1)) r);
+            }
+
+  module _ (f : Follows) (g : LeavesAlone T) (n : ℕ) (ranks : List ℕ) where
     pub record Same (s : State S ranks) (t : State T ranks) : Type 0 where
       pub ends : (a : ℕ) → a ≤ n → R (s .ends a) (t .ends a)
       pub messages : s .messages ≡ t .messages
@@ -74,6 +126,35 @@ module _ (S T : Sheet) (R : S .End → T .End → Type 0) where
           recorded = ap₂ (λ (w : Log ranks) (r : Sent). log w c (r .refusal)) (m .recorded) e;
         }
 
+    same-packed : (s : State S ranks) (t : State T ranks) → Same s t → (c : Call) (offset : ℕ) (x y : Sent) → x ≡ y → Same (packedInto S s c offset x) (packedInto T t c offset y)
+    same-packed s t m c offset x y e =
+        record {
+          ends = m .ends;
+          messages = ap₂ (λ (ms : List (List ℕ)) (r : Sent). ms ++ messagesIn (r .written) (take (r .written) (drop offset (r .buffer)))) (m .messages) e;
+          reports = m .reports;
+          recorded = ap₂ (λ (w : Log ranks) (r : Sent). log w c (r .refusal)) (m .recorded) e;
+        }
+
+    -- the packet of the same numbers is taken at both
+    packets-alike : (s : State S ranks) (t : State T ranks) → Same s t → (a : ℕ) → a ≤ n → (is tail : List ℕ)
+        → Alike R (S .takePacket (s .ends a) (packetOf S s is tail)) (T .takePacket (t .ends a) (packetOf T t is tail))
+    packets-alike s t m a h is tail =
+        subst (λ (ms : List (List ℕ)). Alike R (S .takePacket (s .ends a) (packetFrom ms is tail)) (T .takePacket (t .ends a) (packetFrom (t .messages) is tail))) (sym (m .messages))
+        (packet-alike f g (s .ends a) (t .ends a) (m .ends a h) (packetFrom (t .messages) is tail))
+
+    same-packet : (s : State S ranks) (t : State T ranks) → Same s t → (a : ℕ) (is : List ℕ) (x : Answer (S .End)) (y : Answer (T .End)) → Alike R x y → Same (packetTaken S s a is x) (packetTaken T t a is y)
+    same-packet s t m a is x y k =
+        record {
+          ends = λ j h. go j h (eqb a j);
+          messages = m .messages;
+          reports = ap₂ (λ (ks : List Report) (i : Report). ks ++ (i ∷ [])) (m .reports) (k .report);
+          recorded = λ i. tookPacket (m .recorded i) a (k .report i .passed) (known (length (m .messages i)) is);
+        }
+      where
+        go : (j : ℕ) → j ≤ n → (b : Bool) → R (cond b (x .end) (s .ends j)) (cond b (y .end) (t .ends j))
+        go j h true = k .ends
+        go j h false = m .ends j h
+
     same-call : (s : State S ranks) (t : State T ranks) → Same s t → (c : Call) → callable n c ≡ true → Same (call S s c) (call T t c)
     unfolding call callable handed
     same-call s t m (insert l p x) ok =
@@ -97,6 +178,12 @@ module _ (S T : Sheet) (R : S .End → T .End → Type 0) where
         go : (b : Option (List ℕ)) → Same (handed S s a (receive a i) b) (handed T t a (receive a i) b)
         go none = m
         go (some b) = same-answered s t m a (receive a i) (S .take (s .ends a) b) (T .take (t .ends a) b) (f .takes (s .ends a) (t .ends a) (m .ends a (leb-true a n ok)) b)
+    same-call s t m (pack a l offset lent) ok =
+        let h = leb-true a n (three (leb a n) (ltb l 256) (areBytes lent) ok .0) in
+        same-packed s t m (pack a l offset lent) offset (S .pack (s .ends a) l lent offset) (T .pack (t .ends a) l lent offset) (f .packs (s .ends a) (t .ends a) (m .ends a h) l lent offset)
+    same-call s t m (packet a is tail) ok =
+        let h = leb-true a n (three (leb a n) (areBytes tail) (unreadable (parsed (take (nextSize tail) tail))) ok .0) in
+        same-packet s t m a is (S .takePacket (s .ends a) (packetOf S s is tail)) (T .takePacket (t .ends a) (packetOf T t is tail)) (packets-alike s t m a h is tail)
     same-call s t m (junk a bytes) ok =
         let h = leb-true a n (three (leb a n) (areBytes bytes) (unreadable (parsed bytes)) ok .0) in
         same-answered s t m a (junk a bytes) (S .take (s .ends a) bytes) (T .take (t .ends a) bytes) (f .takes (s .ends a) (t .ends a) (m .ends a h) bytes)
@@ -130,6 +217,11 @@ module _ (S T : Sheet) (R : S .End → T .End → Type 0) where
         go : (b : Option (List ℕ)) → handedNumber S s a b ≡ handedNumber T t a b
         go none = refl
         go (some b) = f .takes (s .ends a) (t .ends a) (m .ends a (leb-true a n ok)) b .refusal
+    same-number s t m (pack a l offset lent) ok =
+        let h = leb-true a n (three (leb a n) (ltb l 256) (areBytes lent) ok .0) in
+        ap (λ (x : Sent). x .refusal) (f .packs (s .ends a) (t .ends a) (m .ends a h) l lent offset)
+    same-number s t m (packet a is tail) ok =
+        packets-alike s t m a (leb-true a n (three (leb a n) (areBytes tail) (unreadable (parsed (take (nextSize tail) tail))) ok .0)) is tail .refusal
     same-number s t m (junk a bytes) ok =
         let h = leb-true a n (three (leb a n) (areBytes bytes) (unreadable (parsed bytes)) ok .0) in
         f .takes (s .ends a) (t .ends a) (m .ends a h) bytes .refusal
@@ -145,6 +237,10 @@ module _ (S T : Sheet) (R : S .End → T .End → Type 0) where
           rises = ap (λ (x : Sent). S .taken (S .take a′ (take (x .written) (x .buffer)) .end) l) same
               ∙ f .taken (S .take a′ bytes .end) (T .take b′ bytes .end) (f .takes a′ b′ r′ bytes .ends) l ∙ d .rises ∙ ap suc (sym (f .taken a′ b′ r′ l));
         }
+
+    packet-end : (a : ℕ) (is tail : List ℕ) → callable n (packet a is tail) ≡ true → a ≤ n
+    unfolding callable
+    packet-end a is tail ok = leb-true a n (three (leb a n) (areBytes tail) (unreadable (parsed (take (nextSize tail) tail))) ok .0)
 
     module _ (ends : ℕ → S .End) (t : State T ranks) (related : (a : ℕ) → a ≤ n → R (ends a) (t .ends a)) where
       abbrev beside : State S ranks
@@ -188,6 +284,7 @@ module _ (S T : Sheet) (R : S .End → T .End → Type 0) where
             read-back = o .read-back;
             numbers = λ c ok. same-number beside t (record { ends = related; messages = refl; reports = refl; recorded = refl }) c ok ∙ o .numbers c ok;
             reports = o .reports;
+            packets = λ a is tail ok. packet-alike f g (ends a) (t .ends a) (related a (packet-end a is tail ok)) (packetOf T t is tail) .report ∙ o .packets a is tail ok;
             lines = λ l lo hi. holds-line l lo hi (o .lines l lo hi);
           }
 
@@ -219,5 +316,5 @@ module _ (S T : Sheet) (R : S .End → T .End → Type 0) where
             } in
             let s = start S n ranks items in
             let t = start T n ranks items in
-            holds-same f n ranks (run S n s calls) (run T n t calls) (same-run f n ranks calls s t (starts f n ranks items o′)) (c .holds n ranks items o′ calls);
+            holds-same f (c .alone) n ranks (run S n s calls) (run T n t calls) (same-run f (c .alone) n ranks calls s t (starts f (c .alone) n ranks items o′)) (c .holds n ranks items o′ calls);
       }

@@ -1,8 +1,11 @@
 -- A sheet made of a client and a server follows another one if the client follows the client and the server the server.
 use mathlib.Core.Path.{_≡_, refl}
+use mathlib.Core.Bool.{false}
 use mathlib.Core.List.{List}
 use Prim.Native.Nat.{ℕ}
-use Rattle.model.specs.Questions.{noReport}
+use lib.ListN.{length}
+use Rattle.model.specs.Limits.{maxPacket}
+use Rattle.model.specs.Questions.{between, noReport}
 use Rattle.model.specs.SheetOf.{ClientCalls, ServerCalls, End, client, server, answerAs, sheetOf}
 use Rattle.model.proofs.Alone.{ClientAlone, ServerAlone, both-alone}
 use Rattle.convergence.proofs.Carry.{Alike, Follows}
@@ -18,6 +21,8 @@ pub record ClientFollows (c d : ClientCalls) (R : c .Client → d .Client → Ty
   pub deletes : (a : c .Client) (b : d .Client) → R a b → (p : ℕ) → Alike R (c .delete a p) (d .delete b p)
   pub takes-back : (a : c .Client) (b : d .Client) → R a b → Alike R (c .takeBack a) (d .takeBack b)
   pub takes : (a : c .Client) (b : d .Client) → R a b → (bytes : List ℕ) → Alike R (c .take a bytes) (d .take b bytes)
+  pub packets : (a : c .Client) (b : d .Client) → R a b → (bytes : List ℕ) → between 1 maxPacket (length bytes) ≡ false → c .takePacket a bytes .refusal ≡ d .takePacket b bytes .refusal
+  pub packs : (a : c .Client) (b : d .Client) → R a b → (l : ℕ) (lent : List ℕ) (offset : ℕ) → c .pack a l lent offset ≡ d .pack b l lent offset
   pub sends : (a : c .Client) (b : d .Client) → R a b → (l number : ℕ) (lent : List ℕ) → c .send a l number lent ≡ d .send b l number lent
   pub tells : (a : c .Client) (b : d .Client) → R a b → (l : ℕ) (lent : List ℕ) → c .tell a l lent ≡ d .tell b l lent
   pub alone : ClientAlone c
@@ -30,6 +35,8 @@ pub record ServerFollows (v w : ServerCalls) (R : v .Server → w .Server → Ty
   pub opens-refusal : (n : ℕ) (ranks xs : List ℕ) → v .opens n ranks xs .refusal ≡ w .opens n ranks xs .refusal
   pub opens : (n : ℕ) (ranks xs : List ℕ) → w .opens n ranks xs .refusal ≡ 0 → R (v .opens n ranks xs .end) (w .opens n ranks xs .end)
   pub takes : (a : v .Server) (b : w .Server) → R a b → (bytes : List ℕ) → Alike R (v .take a bytes) (w .take b bytes)
+  pub packets : (a : v .Server) (b : w .Server) → R a b → (bytes : List ℕ) → between 1 maxPacket (length bytes) ≡ false → v .takePacket a bytes .refusal ≡ w .takePacket b bytes .refusal
+  pub packs : (a : v .Server) (b : w .Server) → R a b → (l : ℕ) (lent : List ℕ) (offset : ℕ) → v .pack a l lent offset ≡ w .pack b l lent offset
   pub sends : (a : v .Server) (b : w .Server) → R a b → (l number : ℕ) (lent : List ℕ) → v .send a l number lent ≡ w .send b l number lent
   pub tells : (a : v .Server) (b : w .Server) → R a b → (l : ℕ) (lent : List ℕ) → v .tell a l lent ≡ w .tell b l lent
   pub alone : ServerAlone v
@@ -70,6 +77,8 @@ module _ (c d : ClientCalls) (v w : ServerCalls) (P : c .Client → d .Client �
         deletes = either (λ a b r. (p : ℕ) → Alike Both (sheetOf c v .delete a p) (sheetOf d w .delete b p)) (λ a b r p. asClient _ _ (f .deletes a b r p)) (λ a b r p. unmade a b r);
         takes-back = either (λ a b r. Alike Both (sheetOf c v .takeBack a) (sheetOf d w .takeBack b)) (λ a b r. asClient _ _ (f .takes-back a b r)) unmade;
         takes = either (λ a b r. (bytes : List ℕ) → Alike Both (sheetOf c v .take a bytes) (sheetOf d w .take b bytes)) (λ a b r bytes. asClient _ _ (f .takes a b r bytes)) (λ a b r bytes. asServer _ _ (g .takes a b r bytes));
+        packets = either (λ a b r. (bytes : List ℕ) → between 1 maxPacket (length bytes) ≡ false → sheetOf c v .takePacket a bytes .refusal ≡ sheetOf d w .takePacket b bytes .refusal) (f .packets) (g .packets);
+        packs = either (λ a b r. (l : ℕ) (lent : List ℕ) (offset : ℕ) → sheetOf c v .pack a l lent offset ≡ sheetOf d w .pack b l lent offset) (f .packs) (g .packs);
         sends = either (λ a b r. (l number : ℕ) (lent : List ℕ) → sheetOf c v .send a l number lent ≡ sheetOf d w .send b l number lent) (f .sends) (g .sends);
         tells = either (λ a b r. (l : ℕ) (lent : List ℕ) → sheetOf c v .tell a l lent ≡ sheetOf d w .tell b l lent) (f .tells) (g .tells);
         alone = both-alone c v (f .alone) (g .alone);

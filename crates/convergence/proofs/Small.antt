@@ -1,10 +1,10 @@
 -- What every answer of the structs has: its refusal and its report fit the number that an exported call answers, and a new end has its
 -- lengths.
-use Prim.Native.Nat.{ℕ, _+_, _≤_, _<_}
+use Prim.Native.Nat.{ℕ, _+_, _-_, _≤_, _<_}
 use native.Mathlib.Omega.{arith}
 use mathlib.Core.Path.{_≡_, refl, sym, subst}
 use mathlib.Core.Bool.{Bool, true, false, _&&_, cond}
-use mathlib.Core.List.{List, [], _∷_}
+use mathlib.Core.List.{List, [], _∷_, _++_, map}
 use lib.Dec.{eqb, leb}
 use lib.ListN.{length}
 use borrow.Author.Tests.{eq-eqb, leb-true}
@@ -20,22 +20,26 @@ use Rattle.wire.specs.Message.{inRange}
 use Rattle.wire.specs.Bytes.{bytesOf, parsed}
 use Rattle.wire.proofs.Codec.{codec}
 use Rattle.model.specs.Cross.{priority}
+use Rattle.model.specs.Limits.{maxPending}
 use Rattle.model.specs.Questions.{Question, ask, asks, between, Report, noReport, Answer, answer, Sent, sent}
 use Rattle.model.specs.Ranks.{rankOf}
-use Rattle.model.specs.Line.{noLine, carried, positionAt, lineReport}
+use Rattle.model.specs.Packets.{firstFits, packed}
+use Rattle.model.specs.Line.{noLine, numbersFrom, carried, positionAt, lineReport}
 use Rattle.model.specs.Claim.{Back}
 use Rattle.model.specs.Client as model
 use Rattle.model.specs.Server as models
-use Rattle.model.proofs.Tests.{and-right, yes-all, between-true, four}
+use Rattle.model.proofs.Tests.{Numbered, and-right, yes-all, between-true, four}
+use Rattle.model.proofs.WritesPackets.{packed-number}
 use Rattle.model.proofs.Outcome as outcomes
 use Rattle.model.proofs.Outcome.{Outcome, outcome, Posted, posted}
 use Rattle.model.proofs.Sound.{three}
 use Rattle.model.proofs.SoundClient.{client-facts}
 use Rattle.model.proofs.SoundServer.{server-facts, line-fact}
 use Rattle.line.specs.Taking.{arrivalOf}
+use Rattle.line_packet.proofs.Packing.{written-small}
 use Rattle.line.proofs.Decisions.{arrival-position}
 use Rattle.c_layout.proofs.Called.{sent-few}
-use Rattle.convergence.proofs.Stored.{Stored, Alone, given, answer-either, sending-either, answer-back, sending-alone}
+use Rattle.convergence.proofs.Stored.{Stored, given, answer-either, sending-either, answer-back}
 use Rattle.convergence.proofs.Unpack.{Form, Narrow, Little, Fits, Changing, Sending}
 
 -- ---- questions have small numbers
@@ -139,6 +143,27 @@ pub client-tell-little : (m : model.Client) (l : ℕ) (lent : List ℕ) → Litt
 unfolding model.tellClient
 client-tell-little m l lent = sent-little (model.tellClientQuestions m l lent) (message.Ack (m .line) 0 (m .own .taken)) lent (omega arith)
 
+-- a packet: at most 64 edits are pending where question 2 says yes
+packed-little : (qs : List Question) (f : ℕ → Message) (from count offset : ℕ) (lent : List ℕ) → Numbers qs → Numbered qs → (asks qs ≡ 0 → count ≤ maxPending)
+    → Little (packed qs (map (λ k. bytesOf (f k)) (numbersFrom from count)) offset lent)
+packed-little qs f from count offset lent h numbered few =
+    let ms = map (λ k. bytesOf (f k)) (numbersFrom from count) in
+    record {
+      refusal = subst (λ (r : ℕ). r < 256) (sym (packed-number qs ms offset lent)) (asks-small (qs ++ (ask 14 (firstFits (length lent - offset) ms) ∷ [])) (numbers-append qs (ask 14 (firstFits (length lent - offset) ms) ∷ []) h (omega arith, tt)));
+      written = omega (arith, written-small qs f from count offset lent numbered few);
+    }
+  where
+    numbers-append : (qs ps : List Question) → Numbers qs → Numbers ps → Numbers (qs ++ ps)
+    numbers-append [] ps h k = k
+    numbers-append (q ∷ qs) ps h k = (h .0, numbers-append qs ps (h .1) k)
+
+pub client-pack-little : (m : model.Client) (l : ℕ) (lent : List ℕ) (offset : ℕ) → Little (model.packClient m l lent offset)
+unfolding model.packClient
+client-pack-little m l lent offset =
+    let qs : List Question = ask 2 (model.soundClient m) ∷ ask 4 (eqb l (m .line)) ∷ [] in
+    packed-little qs (model.clientMessage m) (m .own .acked + 1) (m .own .made - m .own .acked) offset lent (omega arith) (omega arith)
+    (λ z. client-facts m (yes-all qs (omega arith) z .0) .own .room)
+
 -- ---- the server's answers
 
 server-takes-edit : (m : models.Server) (h : Header) (e : Edit) → positionAt e < 65536 → Small (models.serverTakesEdit m h e)
@@ -185,6 +210,16 @@ pub server-tell-little : (m : models.Server) (l : ℕ) (lent : List ℕ) → Lit
 unfolding models.tellServer
 server-tell-little m l lent = sent-little (models.tellServerQuestions m l lent) (message.Ack l 1 (models.lineOf m l .taken)) lent (omega arith)
 
+pub server-pack-little : (m : models.Server) (l : ℕ) (lent : List ℕ) (offset : ℕ) → Little (models.packServer m l lent offset)
+unfolding models.packServer
+server-pack-little m l lent offset =
+    let qs : List Question = ask 2 (models.soundServer m) ∷ ask 4 (between 1 (m .n) l) ∷ [] in
+    packed-little qs (models.serverMessage m l) (models.lineOf m l .acked + 1) (models.lineOf m l .made - models.lineOf m l .acked) offset lent (omega arith) (omega arith)
+    (λ z.
+    let y = yes-all qs (omega arith) z in
+    let on = between-true 1 (m .n) l (y .1 .0) in
+    line-fact m (server-facts m (y .0)) l (on .0) (on .1) .line .room)
+
 -- ---- the calls of the structs, whichever end
 
 module _ {E M : Type 0} (k : Stored E M) (form : Form E) (stored-whole : (m : M) → k .soundEnd m ≡ true → form .Whole (k .store m)) where
@@ -209,10 +244,12 @@ module _ {E M : Type 0} (k : Stored E M) (form : Form E) (stored-whole : (m : M)
         back = λ e. answer-back k e (call (k .view e)) (back (k .view e));
       }
 
-  pub sending : (out : List ℕ) (call : M → Sent) → ((m : M) → Little (call m)) → ((m : M) → Alone out (call m))
-      → Sending form out (λ e. k .sending e (call (k .view e)) out)
-  sending out call little alone =
+  -- a sending, with what it leaves alone
+  pub sending : (A : Sent → Type 0) (out : List ℕ) → ((r : ℕ) → A (record { refusal = r; written = 0; buffer = out })) → (call : M → Sent) → ((m : M) → Little (call m)) → ((m : M) → A (call m))
+      → Sending form A out (λ e. k .sending e (call (k .view e)) out)
+  sending A out refused call little alone =
       record {
         little = λ e. sending-either k Little e (call (k .view e)) out (little (k .view e)) (record { refusal = omega arith; written = omega arith });
-        alone = λ e. sending-alone k e out (call (k .view e)) (alone (k .view e));
+        alone = λ e. sending-either k A e (call (k .view e)) out (alone (k .view e)) (refused 2);
+        refused = refused;
       }

@@ -3,11 +3,16 @@
 use mathlib.Core.Path.{_≡_, refl, ap, sym, _∙_, subst}
 use mathlib.Core.Bool.{Bool, true, false, cond}
 use mathlib.Core.List.{List}
-use Prim.Native.Nat.{ℕ}
+use Prim.Native.Nat.{ℕ, _<_}
+use native.Mathlib.Omega.{arith}
 use lib.Dec.{eqb}
+use lib.ListN.{length}
 use borrow.Author.Tests.{eqb-false, eq-eqb, ne-eqb}
-use Rattle.model.specs.Questions.{noReport, Answer, Sent}
-use Rattle.model.specs.Claim.{Back, Unwritten, PastStays}
+use Rattle.model.specs.Limits.{maxPacket}
+use Rattle.model.specs.Questions.{between, noReport, Answer, Sent}
+use Rattle.model.specs.Packets.{handedOver, unpacked}
+use Rattle.model.specs.Claim.{Back, Unwritten, PastStays, StretchAlone}
+use Rattle.model.proofs.Packets.{unpacked-sound}
 use Rattle.convergence.proofs.Carry.{Alike}
 
 -- the model's answer in structs: on a refusal the end is the one that came
@@ -39,6 +44,16 @@ pub record Stored (E M : Type 0) : Type 0 where
 -- what a sending leaves alone
 abbrev pub Alone : List ℕ → Sent → Type 0
 Alone lent r = Unwritten lent r × PastStays lent r
+
+-- and what a packet that is written does
+abbrev pub Stretch : ℕ → List ℕ → Sent → Type 0
+Stretch offset lent r = Unwritten lent r × StretchAlone offset lent r
+
+pub unsent-alone : (lent : List ℕ) (r : ℕ) → Alone lent (record { refusal = r; written = 0; buffer = lent })
+unsent-alone lent r = (λ n. (refl, refl), refl)
+
+pub unsent-stretch : (offset : ℕ) (lent : List ℕ) (r : ℕ) → Stretch offset lent (record { refusal = r; written = 0; buffer = lent })
+unsent-stretch offset lent r = (λ n. (refl, refl), (refl, refl))
 
 module _ {E M : Type 0} (k : Stored E M) where
   -- the struct is the one for a sound end of the model
@@ -97,4 +112,41 @@ module _ {E M : Type 0} (k : Stored E M) where
       answer-either (Back e) e a (λ s n. (ap (λ (b : Bool). cond b (k .store (a .end)) e) (ne-eqb (a .refusal) 0 n), h n .1)) (λ n. (refl, refl))
 
   pub sending-alone : (e : E) (lent : List ℕ) (a : Sent) → Alone lent a → Alone lent (k .sending e a lent)
-  sending-alone e lent a h = sending-either (Alone lent) e a lent h (λ n. (refl, refl), refl)
+  sending-alone e lent a h = sending-either (Alone lent) e a lent h (unsent-alone lent 2)
+
+  pub packing-alone : (e : E) (lent : List ℕ) (offset : ℕ) (a : Sent) → Stretch offset lent a → Stretch offset lent (k .sending e a lent)
+  packing-alone e lent offset a h = sending-either (Stretch offset lent) e a lent h (unsent-stretch offset lent 2)
+
+  -- ---- packets
+
+  -- one message at a struct that is not sound
+  pub unsound-refuses : (call : M → List ℕ → Answer M) (e : E) → k .sound e ≡ false → (b : List ℕ)
+      → (k .answer e (call (k .view e) b) .refusal ≡ 2) × (k .answer e (call (k .view e) b) .end ≡ e)
+  unsound-refuses call e s b =
+      let is = k .answer-is e (call (k .view e) b) ∙ ap (λ (t : Bool). cond t (given (k .store) e (call (k .view e) b)) (unsound e)) s in
+      (ap (λ (a : Answer E). a .refusal) is, ap (λ (a : Answer E). a .end) is)
+
+  -- a packet that is too short or too long
+  module _ (taking : E → List ℕ → Answer E) (bytes : List ℕ) (out : between 1 maxPacket (length bytes) ≡ false) where
+    pub odd-refused : (e : E) → k .sound e ≡ true → unpacked (k .sound) taking e bytes .refusal ≡ 15
+    odd-refused e s =
+        ap (λ (a : Answer E). a .refusal) (unpacked-sound (k .sound) taking e bytes s)
+        ∙ ap (λ (t : Bool). (cond {A = Answer E} t (handedOver taking (length bytes) 0 e bytes) (record { refusal = 15; end = e; report = noReport })) .refusal) out
+
+    pub odd-small : (e : E) → unpacked (k .sound) taking e bytes .refusal < 256
+    unfolding unpacked
+    odd-small e = subst (λ (t : Bool). told (cond (k .sound e) (cond t 0 15) 2) .refusal < 256) (sym out) (go (k .sound e))
+      where
+        told : ℕ → Answer E
+        told r = cond (eqb r 0) (handedOver taking (length bytes) 0 e bytes) (record { refusal = r; end = e; report = noReport })
+
+        go : (t : Bool) → told (cond t 15 2) .refusal < 256
+        go true = omega arith
+        go false = omega arith
+
+  pub odd-alike : (taking : E → List ℕ → Answer E) (call : M → List ℕ → Answer M) (e : E) (m : M) → Stands e m → (bytes : List ℕ) → between 1 maxPacket (length bytes) ≡ false
+      → unpacked (k .sound) taking e bytes .refusal ≡ unpacked (k .soundEnd) call m bytes .refusal
+  odd-alike taking call e m r bytes out =
+      odd-refused taking bytes out e (ap (k .sound) (r .0) ∙ k .store-sound m (r .1))
+      ∙ sym (ap (λ (a : Answer M). a .refusal) (unpacked-sound (k .soundEnd) call m bytes (r .1))
+      ∙ ap (λ (t : Bool). (cond {A = Answer M} t (handedOver call (length bytes) 0 m bytes) (record { refusal = 15; end = m; report = noReport })) .refusal) out)

@@ -1,16 +1,22 @@
 -- An exported call's answer, taken apart, is the answer of the struct's call.
-use Prim.Native.Nat.{ℕ, _%_, _≤_, _<_}
+use Prim.Native.Nat.{ℕ, zero, suc, _+_, _%_, _≤_, _<_}
+use native.Mathlib.Nat.{le-refl}
 use native.Mathlib.Omega.{arith}
-use mathlib.Core.Path.{_≡_, refl, ap, sym, _∙_, subst}
+use mathlib.Core.Path.{_≡_, refl, ap, ap₂, sym, _∙_, subst}
 use mathlib.Core.Bool.{Bool, true, false, cond}
 use mathlib.Core.List.{List, _++_}
 use lib.Dec.{eqb, ltb}
-use lib.ListN.{length, drop, length-append}
-use borrow.Author.Tests.{eq-eqb, ne-eqb, eqb-true, eqb-false, le-ltb}
-use Rattle.model.specs.Questions.{Report, Answer, Sent}
+use lib.ListN.{length, take as take-list, drop, length-append}
+use lib.Seq.{drop-append-seam}
+use borrow.Author.Tests.{eq-eqb, ne-eqb, eqb-true, eqb-false, le-ltb, ltb-false}
+use Rattle.model.specs.Limits.{maxPacket}
+use Rattle.model.specs.Questions.{between, Report, noReport, Answer, Sent}
+use Rattle.model.specs.Packets.{nextSize, counted, handedOver}
 use Rattle.model.specs.Claim.{Back}
+use Rattle.model.proofs.Tests.{between-true}
+use Rattle.model.proofs.Packets.{refused-first}
 use Rattle.line.specs.Taking.{reportIn}
-use Rattle.c_layout.specs.Called.{Called, called, laidOut, changing, opening, sending}
+use Rattle.c_layout.specs.Called.{Called, called, laidOut, changing, takingSome, opening, sending}
 use Rattle.c_layout.specs.Words.{itemsOf}
 use Rattle.c_layout.specs.ItemBytes.{itemBytes}
 use Rattle.c_layout.proofs.Called.{unpacks}
@@ -50,9 +56,11 @@ module _ {E : Type 0} (form : Form E) where
     pub fits : (e : E) → Fits (form .Whole) (call e)
     pub back : (e : E) → Back e (call e)
 
-  pub record Sending (out : List ℕ) (call : E → Sent) : Type 0 where
+  -- a sending, and what it leaves alone, as every refused one does
+  pub record Sending (A : Sent → Type 0) (out : List ℕ) (call : E → Sent) : Type 0 where
     pub little : (e : E) → Little (call e)
-    pub alone : (e : E) → Alone out (call e)
+    pub alone : (e : E) → A (call e)
+    pub refused : (r : ℕ) → A (record { refusal = r; written = 0; buffer = out })
 
   -- the bytes are this end
   abbrev pub Are : List ℕ → E → Type 0
@@ -120,6 +128,188 @@ module _ {E : Type 0} (form : Form E) where
         go true = λ h. (refl, refl)
         go false = answer-back answer b (c .fits (form .read b)) (form .read b) (c .back (form .read b))
 
+  -- ---- packets
+
+  -- A packet in lent bytes: question 18, then the packet at the end that the bytes are. The end is written if any message was taken.
+  module _ (take : E → List ℕ → Answer E) (c : (m : List ℕ) → Changing (λ e. take e m)) where
+    abbrev lentTake : List ℕ → List ℕ → Answer (List ℕ)
+    lentTake b m = answerOf (laidOut (form .size) b b (packedAnswer (take (form .read b) m) b))
+
+    -- the bytes that a packet leaves which began with so many messages taken
+    abbrev left : ℕ → List ℕ → Answer E → List ℕ
+    left count b a = cond (eqb (a .report .passed) count) b (form .write (a .end) ++ drop (form .size) b)
+
+    -- what is known of a packet's answer
+    record Handed (most count : ℕ) (e : E) (a : Answer E) : Type 0 where
+      refusal : a .refusal < 256
+      report : a .report ≡ counted (a .report .passed)
+      low : count ≤ a .report .passed
+      high : a .report .passed ≤ count + most
+      none : a .report .passed ≡ count → a .end ≡ e
+
+    stopped : (most count : ℕ) (e d : E) (r : ℕ) → r < 256 → d ≡ e → Handed most count e (record { refusal = r; end = d; report = counted count })
+    stopped most count e d r small same = record { refusal = small; report = refl; low = omega arith; high = omega arith; none = λ z. same }
+
+    handed-facts : (most count : ℕ) (e : E) (bytes : List ℕ) → Handed most count e (handedOver take most count e bytes)
+    unfolding handedOver
+    handed-facts zero count e bytes = stopped 0 count e e 0 (omega arith) refl
+    handed-facts (suc most) count e bytes =
+        let part = take-list (nextSize bytes) bytes in
+        go (eqb (length bytes) 0) (eqb (take e part .refusal) 0) refl (handed-facts most (suc count) (take e part .end) (drop (nextSize bytes) bytes))
+      where
+        go : (z y : Bool) → eqb (take e (take-list (nextSize bytes) bytes) .refusal) 0 ≡ y
+            → Handed most (suc count) (take e (take-list (nextSize bytes) bytes) .end) (handedOver take most (suc count) (take e (take-list (nextSize bytes) bytes) .end) (drop (nextSize bytes) bytes))
+            → Handed (suc most) count e (cond {A = Answer E} z (record { refusal = 0; end = e; report = counted count })
+            (cond y (handedOver take most (suc count) (take e (take-list (nextSize bytes) bytes) .end) (drop (nextSize bytes) bytes))
+            (record { refusal = take e (take-list (nextSize bytes) bytes) .refusal; end = take e (take-list (nextSize bytes) bytes) .end; report = counted count })))
+        go true y q more = stopped (suc most) count e e 0 (omega arith) refl
+        go false true q more =
+            record { refusal = more .refusal; report = more .report; low = omega (arith, more .low); high = omega (arith, more .high); none = λ z. absurd (omega (arith, more .low, z)) }
+        go false false q more =
+            let part = take-list (nextSize bytes) bytes in
+            stopped (suc most) count e (take e part .end) (take e part .refusal) (c part .fits e .refusal) (c part .back e (eqb-false (take e part .refusal) 0 q) .0)
+
+    -- the bytes of the end, and behind them those of before
+    rewritten : (b : List ℕ) (x y : E) → form .Whole x → form .write y ++ drop (form .size) (form .write x ++ drop (form .size) b) ≡ form .write y ++ drop (form .size) b
+    rewritten b x y w =
+        ap (λ (r : List ℕ). form .write y ++ r)
+        (ap (λ (k : ℕ). drop k (form .write x ++ drop (form .size) b)) (sym (form .long x w)) ∙ drop-append-seam (form .write x) (drop (form .size) b))
+
+    -- so are those that a packet leaves which took one message first
+    left-on : (most count : ℕ) (b : List ℕ) (x : E) (a : Answer E) → form .Whole x → Handed most (suc count) x a
+        → left (suc count) (form .write x ++ drop (form .size) b) a ≡ left count b a
+    left-on most count b x a w h =
+        go (eqb (a .report .passed) (suc count)) refl
+        ∙ sym (ap (λ (t : Bool). cond t b (form .write (a .end) ++ drop (form .size) b)) (ne-eqb (a .report .passed) count (λ z. omega (arith, h .low, z))))
+      where
+        go : (t : Bool) → eqb (a .report .passed) (suc count) ≡ t
+            → cond t (form .write x ++ drop (form .size) b) (form .write (a .end) ++ drop (form .size) (form .write x ++ drop (form .size) b)) ≡ form .write (a .end) ++ drop (form .size) b
+        go true e = ap (λ (y : E). form .write y ++ drop (form .size) b) (sym (h .none (eqb-true (a .report .passed) (suc count) e)))
+        go false e = rewritten b x (a .end) w
+
+    abbrev lentAnswer : ℕ → List ℕ → Answer E → Answer (List ℕ)
+    lentAnswer count b a = record { refusal = a .refusal; end = left count b a; report = a .report }
+
+    -- a packet that took nothing leaves the bytes
+    left-none : (count : ℕ) (b : List ℕ) (r : ℕ) (e : E) → record { refusal = r; end = b; report = counted count } ≡ lentAnswer count b (record { refusal = r; end = e; report = counted count })
+    left-none count b r e = ap (λ (t : Bool). record { refusal = r; end = cond t b (form .write e ++ drop (form .size) b); report = counted count }) (sym (eq-eqb count count refl))
+
+    -- one message at lent bytes
+    lent-one : (b m : List ℕ) → form .size ≤ length b → (x : Answer E) → take (form .read b) m ≡ x
+        → (lentTake b m .refusal ≡ x .refusal) × (lentTake b m .end ≡ after (eqb (x .refusal) 0) (x .end) b)
+    unfolding laidOut
+    lent-one b m long x is =
+        let y = take (form .read b) m in
+        let short = le-ltb (length b) (form .size) long in
+        subst (λ (z : Answer E). (lentTake b m .refusal ≡ z .refusal) × (lentTake b m .end ≡ after (eqb (z .refusal) 0) (z .end) b)) is
+        (ap (λ (t : Bool). answerOf (cond t (called 18 0 b) (packedAnswer y b)) .refusal) short ∙ same-refusal y b (c m .fits (form .read b)), ap (λ (t : Bool). answerOf (cond t (called 18 0 b) (packedAnswer y b)) .end) short)
+
+    -- Handed over to lent bytes, the messages do what they do to the end.
+    lent-handed : (most count : ℕ) (b : List ℕ) (e : E) → Are b e → (bytes : List ℕ) → handedOver lentTake most count b bytes ≡ lentAnswer count b (handedOver take most count e bytes)
+    unfolding handedOver
+    lent-handed zero count b e r bytes = left-none count b 0 e
+    lent-handed (suc most) count b e r bytes =
+        let part = take-list (nextSize bytes) bytes in
+        let rest = drop (nextSize bytes) bytes in
+        let x = take e part in
+        let next = form .write (x .end) ++ drop (form .size) b in
+        let one = lent-one b part (r .1) x (ap (λ (d : E). take d part) (r .0)) in
+        ap₂ (λ (k : ℕ) (d : List ℕ). cond {A = Answer (List ℕ)} (eqb (length bytes) 0) (record { refusal = 0; end = b; report = counted count })
+        (cond (eqb k 0) (handedOver lentTake most (suc count) d rest) (record { refusal = k; end = d; report = counted count }))) (one .0) (one .1)
+        ∙ go (eqb (length bytes) 0) (eqb (x .refusal) 0) refl
+        (λ z. lent-handed most (suc count) next (x .end) (form .read-back (x .end) (drop (form .size) b) (c part .fits e .whole z), simp length-append (omega (arith, form .long (x .end) (c part .fits e .whole z)))) rest)
+      where
+        go : (z y : Bool) → eqb (take e (take-list (nextSize bytes) bytes) .refusal) 0 ≡ y
+            → (take e (take-list (nextSize bytes) bytes) .refusal ≡ 0
+            → handedOver lentTake most (suc count) (form .write (take e (take-list (nextSize bytes) bytes) .end) ++ drop (form .size) b) (drop (nextSize bytes) bytes)
+            ≡ lentAnswer (suc count) (form .write (take e (take-list (nextSize bytes) bytes) .end) ++ drop (form .size) b) (handedOver take most (suc count) (take e (take-list (nextSize bytes) bytes) .end) (drop (nextSize bytes) bytes)))
+            → cond {A = Answer (List ℕ)} z (record { refusal = 0; end = b; report = counted count })
+            (cond y (handedOver lentTake most (suc count) (after y (take e (take-list (nextSize bytes) bytes) .end) b) (drop (nextSize bytes) bytes))
+            (record { refusal = take e (take-list (nextSize bytes) bytes) .refusal; end = after y (take e (take-list (nextSize bytes) bytes) .end) b; report = counted count }))
+            ≡ lentAnswer count b (cond {A = Answer E} z (record { refusal = 0; end = e; report = counted count })
+            (cond y (handedOver take most (suc count) (take e (take-list (nextSize bytes) bytes) .end) (drop (nextSize bytes) bytes))
+            (record { refusal = take e (take-list (nextSize bytes) bytes) .refusal; end = take e (take-list (nextSize bytes) bytes) .end; report = counted count })))
+        go true y q more = left-none count b 0 e
+        go false true q more =
+            let part = take-list (nextSize bytes) bytes in
+            let x = take e part in
+            let z = eqb-true (x .refusal) 0 q in
+            let a = handedOver take most (suc count) (x .end) (drop (nextSize bytes) bytes) in
+            more z ∙ ap (λ (d : List ℕ). record { refusal = a .refusal; end = d; report = a .report })
+            (left-on most count b (x .end) a (c part .fits e .whole z) (handed-facts most (suc count) (x .end) (drop (nextSize bytes) bytes)))
+        go false false q more = left-none count b (take e (take-list (nextSize bytes) bytes) .refusal) (take e (take-list (nextSize bytes) bytes) .end)
+
+    -- what is asked of the struct's packets
+    pub record Packets (packet : E → List ℕ → Answer E) : Type 0 where
+      pub law : (e : E) (bytes : List ℕ) → between 1 maxPacket (length bytes) ≡ true → packet e bytes ≡ handedOver take (length bytes) 0 e bytes
+      pub refused : (e : E) (bytes : List ℕ) → between 1 maxPacket (length bytes) ≡ false
+          → (packet e bytes .refusal ≡ 0 → ⊥) × (packet e bytes .end ≡ e) × (packet e bytes .report ≡ noReport)
+      pub small : (e : E) (bytes : List ℕ) → between 1 maxPacket (length bytes) ≡ false → packet e bytes .refusal < 256
+
+    module _ (packet : E → List ℕ → Answer E) (p : Packets packet) (b bytes : List ℕ) where
+      abbrev packed : Answer E → Called
+      packed a = takingSome (form .size) (a .refusal) (reportIn (a .report)) (form .write (a .end)) b
+
+      abbrev lentPacket : Answer (List ℕ)
+      lentPacket = answerOf (laidOut (form .size) b b (packed (packet (form .read b) bytes)))
+
+      same-packed : (a : Answer E) → a .refusal < 256 → Narrow (a .report) → answerOf (packed a) ≡ lentAnswer 0 b a
+      same-packed a small n =
+          let k = reportIn (a .report) in
+          let refusal = unpacks .refusal (a .refusal) k small in
+          let passed = unpacks .count (a .refusal) k small (n .passed) in
+          let arrived = unpacks .arrived (a .refusal) k small (n .passed) (n .arrived) in
+          let applied = unpacks .applied (a .refusal) k small (n .passed) (n .arrived) (n .applied) in
+          λ i. record { refusal = refusal i; end = left 0 b a; report = record { passed = passed i; arrived = arrived i; applied = applied i } }
+
+      -- fewer than 65,536 messages are counted
+      few : (a : Answer E) → between 1 maxPacket (length bytes) ≡ true → Handed (length bytes) 0 (form .read b) a → Narrow (a .report)
+      few a ok h =
+          let most = between-true 1 maxPacket (length bytes) ok .1 in
+          subst Narrow (sym (h .report)) (record { passed = omega (arith, h .high); arrived = omega arith; applied = omega arith })
+
+      pub packet-same : between 1 maxPacket (length bytes) ≡ true → lentPacket ≡ handedOver lentTake (length bytes) 0 b bytes
+      unfolding laidOut
+      packet-same ok = go (ltb (length b) (form .size)) refl
+        where
+          e : E
+          e = form .read b
+
+          go : (t : Bool) → ltb (length b) (form .size) ≡ t → answerOf (cond t (called 18 0 b) (packed (packet e bytes))) ≡ handedOver lentTake (length bytes) 0 b bytes
+          go true s =
+              sym (refused-first lentTake b 17 (λ m.
+              let is = ap (λ (t : Bool). answerOf (cond t (called 18 0 b) (packedAnswer (take e m) b))) s in
+              (ap (λ (a : Answer (List ℕ)). a .refusal) is, ap (λ (a : Answer (List ℕ)). a .end) is)) (length bytes) bytes (between-true 1 maxPacket (length bytes) ok .0) (le-refl (length bytes)))
+          go false s =
+              let a = handedOver take (length bytes) 0 e bytes in
+              let h = handed-facts (length bytes) 0 e bytes in
+              ap (λ (x : Answer E). answerOf (packed x)) (p .law e bytes ok) ∙ same-packed a (h .refusal) (few a ok h) ∙ sym (lent-handed (length bytes) 0 b e (refl, ltb-false (length b) (form .size) s) bytes)
+
+      -- one that is too short or too long
+      packet-at : between 1 maxPacket (length bytes) ≡ false → answerOf (packed (packet (form .read b) bytes)) ≡ record { refusal = packet (form .read b) bytes .refusal; end = b; report = noReport }
+      packet-at out =
+          let a = packet (form .read b) bytes in
+          let quiet = p .refused (form .read b) bytes out .2 in
+          same-packed a (p .small (form .read b) bytes out) (subst Narrow (sym quiet) (record { passed = omega arith; arrived = omega arith; applied = omega arith }))
+          ∙ ap (λ (k : Report). record { refusal = a .refusal; end = cond (eqb (k .passed) 0) b (form .write (a .end) ++ drop (form .size) b); report = k }) quiet
+
+      pub packet-none : between 1 maxPacket (length bytes) ≡ false → (lentPacket .refusal ≡ 0 → ⊥) × (lentPacket .end ≡ b) × (lentPacket .report ≡ noReport)
+      unfolding laidOut
+      packet-none out = go (ltb (length b) (form .size))
+        where
+          Refused : Answer (List ℕ) → Type 0
+          Refused a = (a .refusal ≡ 0 → ⊥) × (a .end ≡ b) × (a .report ≡ noReport)
+
+          go : (t : Bool) → Refused (answerOf (cond t (called 18 0 b) (packed (packet (form .read b) bytes))))
+          go true = (λ z. omega (arith, z), refl, refl)
+          go false = subst Refused (sym (packet-at out)) (p .refused (form .read b) bytes out .0, refl, refl)
+
+      pub packet-refusal : (e : E) → Are b e → between 1 maxPacket (length bytes) ≡ false → lentPacket .refusal ≡ packet e bytes .refusal
+      unfolding laidOut
+      packet-refusal e r out =
+          ap (λ (t : Bool). answerOf (cond t (called 18 0 b) (packed (packet (form .read b) bytes))) .refusal) (le-ltb (length b) (form .size) (r .1))
+          ∙ ap (λ (a : Answer (List ℕ)). a .refusal) (packet-at out) ∙ ap (λ (d : E). packet d bytes .refusal) (r .0)
+
   -- an opening in lent bytes: its items are whole, and those that were meant
   module _ (b : List ℕ) (h : form .size ≤ length b) (opens : List ℕ → Answer E) where
     abbrev askedOpening : Bool → Bool → List ℕ → Called
@@ -141,7 +331,7 @@ module _ {E : Type 0} (form : Form E) where
       let u = unpacks .sent (s .refusal) (s .written) (h .refusal) (h .written) in
       λ i. record { refusal = u .0 i; written = u .1 i; buffer = s .buffer }
 
-  module _ (out : List ℕ) (call : E → Sent) (c : Sending out call) (b : List ℕ) where
+  module _ (A : Sent → Type 0) (out : List ℕ) (call : E → Sent) (c : Sending A out call) (b : List ℕ) where
     abbrev sent : Sent
     sent = call (form .read b)
 
@@ -152,10 +342,10 @@ module _ {E : Type 0} (form : Form E) where
     unfolding laidOut
     sending-same e r = ap lent (le-ltb (length b) (form .size) (r .1)) ∙ same-sent sent (c .little (form .read b)) ∙ ap call (r .0)
 
-    pub sending-alone : Alone out (sentOf (laidOut (form .size) b out (sending sent)))
+    pub sending-alone : A (sentOf (laidOut (form .size) b out (sending sent)))
     unfolding laidOut
     sending-alone = go (ltb (length b) (form .size))
       where
-        go : (t : Bool) → Alone out (lent t)
-        go true = (λ h. (refl, refl), refl)
-        go false = subst (Alone out) (sym (same-sent sent (c .little (form .read b)))) (c .alone (form .read b))
+        go : (t : Bool) → A (lent t)
+        go true = c .refused 18
+        go false = subst A (sym (same-sent sent (c .little (form .read b)))) (c .alone (form .read b))

@@ -3,7 +3,7 @@ use Prim.Native.Nat.{ℕ, _-_}
 use mathlib.Core.Path.{_≡_}
 use mathlib.Core.Bool.{true}
 use mathlib.Core.List.{List}
-use Rattle.model.specs.Questions.{Answer, Report}
+use Rattle.model.specs.Questions.{Answer}
 use Rattle.model.specs.Sheet.{Sheet}
 use Rattle.model.specs.SheetOf as sheets
 use Rattle.model.specs.SheetOf.{ClientCalls, ServerCalls, End, answerAs, sheetOf}
@@ -11,25 +11,18 @@ use Rattle.model.specs.Run.{areBytes}
 use Rattle.model.specs.Claim.{Opened, Converges}
 use Rattle.model.specs.Consequences.{Consistent, OneOrder, TakingRefusals, TakesBack, Agree}
 use Rattle.model.specs.Ours.{ours}
-use Rattle.line.specs.declared.taking.Report as lines
 use Rattle.client.specs.declared.Client.{Client}
 use Rattle.client.specs.declared.Answer as clients
 use Rattle.client.specs.View as clientView
 use Rattle.client.specs.Answers as client
+use Rattle.client_packet.specs.Packets as clientPackets
+pub use Rattle.client_packet.specs.Packets.{clientAnswer}
 use Rattle.server.specs.declared.Server.{Server}
 use Rattle.server.specs.declared.Answer as servers
 use Rattle.server.specs.View as serverView
 use Rattle.server.specs.Answers as server
-
--- the report of a method as the model's
-abbrev pub reportOf : lines.Report → Report
-reportOf k = record { passed = k .passed; arrived = k .arrived; applied = k .applied }
-
-abbrev pub clientAnswer : clients.Answer → Answer Client
-clientAnswer a = record { refusal = a .refusal; end = a .client; report = reportOf (a .report) }
-
-abbrev pub serverAnswer : servers.Answer → Answer Server
-serverAnswer a = record { refusal = a .refusal; end = a .server; report = reportOf (a .report) }
+use Rattle.server_packet.specs.Packets as serverPackets
+pub use Rattle.server_packet.specs.Packets.{serverAnswer}
 
 -- Lists and counts are read off the structs.
 abbrev pub clientCalls : ClientCalls
@@ -47,6 +40,8 @@ clientCalls =
       send = client.sentEdit;
       tell = client.sentAck;
       take = λ c bytes. clientAnswer (client.taken c bytes);
+      pack = clientPackets.packedEdits;
+      takePacket = λ c bytes. clientAnswer (clientPackets.packetTaken c bytes);
     }
 
 abbrev pub serverCalls : ServerCalls
@@ -61,6 +56,8 @@ serverCalls =
       send = server.sentEdit;
       tell = server.sentAck;
       take = λ s bytes. serverAnswer (server.taken s bytes);
+      pack = serverPackets.packedEdits;
+      takePacket = λ s bytes. serverAnswer (serverPackets.packetTaken s bytes);
     }
 
 abbrev pub built : Sheet

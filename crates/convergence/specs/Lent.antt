@@ -11,6 +11,7 @@ use Rattle.c_client.specs.Layout as clients
 use Rattle.c_client.specs.Calls as client
 use Rattle.c_server.specs.Layout as servers
 use Rattle.c_server.specs.Calls as server
+use Rattle.c_packet.specs.Calls as packets
 use Rattle.convergence.specs.Built.{clientCalls, serverCalls, built, Carried}
 
 -- An answer, taken apart.
@@ -42,6 +43,8 @@ clientsLent lent =
       send = λ b l number out. sentOf (client.sentIn b l number out);
       tell = λ b l out. sentOf (client.acknowledgedIn b l out);
       take = λ b message. answerOf (client.takenIn b message);
+      pack = λ b l out offset. sentOf (packets.clientPackedIn b l out offset);
+      takePacket = λ b packet. answerOf (packets.clientPacketIn b packet);
     }
 
 abbrev pub serverLent : List ℕ → ServerCalls
@@ -56,6 +59,8 @@ serverLent lent =
       send = λ b l number out. sentOf (server.sentIn b l number out);
       tell = λ b l out. sentOf (server.acknowledgedIn b l out);
       take = λ b message. answerOf (server.takenIn b message);
+      pack = λ b l out offset. sentOf (packets.serverPackedIn b l out offset);
+      takePacket = λ b packet. answerOf (packets.serverPacketIn b packet);
     }
 
 -- the bytes lent for the client on each line, and for the server

@@ -54,6 +54,18 @@ pub fn client_take(c: Client, bytes: &[u8]) -> client::Answer
     ClientEnd { client: c }.take(bytes)
 }
 
+pub fn client_pack(c: Client, line: u8, out: &mut [u8], offset: usize) -> Sent
+    ensures { λ r. ⌜ answered r (now (out .exit)) ≡ built .pack (ofClient c) line (now (out .entry)) offset ⌝ }
+{
+    ClientEnd { client: c }.pack(line, out, offset)
+}
+
+pub fn client_take_packet(c: Client, packet: &[u8]) -> client::Answer
+    ensures { λ r. ⌜ fromClient r ≡ built .takePacket (ofClient c) (now (packet .entry)) ⌝ }
+{
+    ClientEnd { client: c }.take_packet(packet)
+}
+
 // ---- the server
 
 pub fn server_open(n: u8, ranks: &[u8], items: &[u32]) -> server::Answer
@@ -78,4 +90,16 @@ pub fn server_take(s: Server, bytes: &[u8]) -> server::Answer
     ensures { λ r. ⌜ fromServer r ≡ built .take (ofServer s) (now (bytes .entry)) ⌝ }
 {
     ServerEnd { server: s }.take(bytes)
+}
+
+pub fn server_pack(s: Server, line: u8, out: &mut [u8], offset: usize) -> Sent
+    ensures { λ r. ⌜ answered r (now (out .exit)) ≡ built .pack (ofServer s) line (now (out .entry)) offset ⌝ }
+{
+    ServerEnd { server: s }.pack(line, out, offset)
+}
+
+pub fn server_take_packet(s: Server, packet: &[u8]) -> server::Answer
+    ensures { λ r. ⌜ fromServer r ≡ built .takePacket (ofServer s) (now (packet .entry)) ⌝ }
+{
+    ServerEnd { server: s }.take_packet(packet)
 }
