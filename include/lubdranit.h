@@ -24,11 +24,22 @@
  *     else if (lub_applied(answer) != 0 && lub_applied(answer) != lub_arrived(answer))
  *         mark(lub_applied(answer));                            the edit landed elsewhere than its message put it
  *
- * Every call returns one number: bits 0 to 7 are the refusal, 0 for none, and bits 8 to 23 a count or a length. If the call took an
- * edit, bits 24 to 39 are the position that arrived and bits 40 to 55 the position applied. All other bits are 0. A call that is
- * refused changes no lent byte, neither of the end nor of the buffer, and answers the refusal alone. What each call does is proved;
- * docs/PROMISES.md says what that covers. An end's bytes may be stored and lent again later: the promise that all copies agree holds
- * while each call gets the bytes that the last call on that end left.
+ * Where packets are few, several messages go in one: lub_client_pack and lub_server_pack write all that a line owes, and the other end
+ * takes the packet as a whole, or message by message:
+ *
+ *     uint8_t packet[LUB_PACKET_BYTES];
+ *     answer = lub_client_pack(end, sizeof end, 1, packet, sizeof packet, 0);
+ *     if (lub_count(answer) != 0)                               0: nothing is pending
+ *         carry(packet, lub_count(answer));
+ *     answer = lub_client_take_packet(end, sizeof end, received, received_length);
+ *     lub_count(answer);                                        how many messages were taken, also if the next one was refused
+ *
+ * Every call returns one number: bits 0 to 7 are the refusal, 0 for none, and bits 8 to 23 a count or a length. If the call took one
+ * edit, bits 24 to 39 are the position that arrived and bits 40 to 55 the position applied. If it took a message by its offset in a
+ * packet, bits 56 to 63 are that message's length. All other bits are 0. A call that is refused changes no lent byte, neither of the end
+ * nor of the buffer, and answers the refusal alone; but a packet that is refused at some message has had those before it taken, and
+ * counts them. What each call does is proved; docs/PROMISES.md says what that covers. An end's bytes may be stored and lent again later:
+ * the promise that all copies agree holds while each call gets the bytes that the last call on that end left.
  *
  * What a call is lent may not overlap, and no pointer is NULL, not even one with length 0. One call at a time on an end; two ends
  * share nothing.
@@ -55,6 +66,8 @@ extern "C" {
 #define LUB_CLIENT_BYTES 4656u  /* a client's end */
 #define LUB_SERVER_BYTES 10392u /* the server's end */
 #define LUB_MESSAGE_BYTES 17u   /* the longest message: an insert has 17 bytes, a delete 12, an edit that became nothing 10 */
+#define LUB_PACKET_BYTES 1400u  /* the longest packet that is taken */
+#define LUB_PACKED_BYTES 1088u  /* the longest packet that is written: 64 inserts */
 #define LUB_RUN_BYTES 262144u   /* room for any output of lub_run */
 
 /* ---- refusals: the number of the question that said no, in the order in which a call asks them */
@@ -74,7 +87,8 @@ enum lub_refusal_number {
     LUB_REFUSED_EDITS = 11,        /* 400 edits were made */
     LUB_REFUSED_PENDING = 12,      /* 64 edits are pending here, or at the server on another line */
     LUB_REFUSED_NOT_PENDING = 13,  /* that number is not pending */
-    LUB_REFUSED_SHORT_BUFFER = 14, /* the message does not fit */
+    LUB_REFUSED_SHORT_BUFFER = 14, /* the message does not fit, or the first one of a packet */
+    LUB_REFUSED_PACKET = 15,       /* a packet of no bytes, or of more than 1,400; asked after 2 */
     LUB_REFUSED_RANKS = 16,        /* the ranks are not 1 to n, each used once; asked after 1 */
     LUB_REFUSED_NOTHING = 17,      /* no edit was made yet, or what is to be taken back became nothing; asked after 2 */
     LUB_REFUSED_SHORT_END = 18     /* the end's lent bytes are shorter than its layout; asked before all others */
@@ -116,6 +130,24 @@ uint64_t lub_client_acknowledge(const uint8_t *end, size_t end_length, uint8_t l
  * line: drop the message. */
 uint64_t lub_client_take(uint8_t *end, size_t end_length, const uint8_t *message, size_t message_length);
 
+/* Writes a packet for the server: the messages of all pending edits in number order, end to end, into `out` from `offset` on, up to the
+ * first that does not fit before the end of `out`. Counts the bytes written, at most LUB_PACKED_BYTES. The bytes before and behind them
+ * stay: an acknowledgement may stand in front. Nothing pending writes nothing and is no refusal, at any offset, past the end too. Changes
+ * no end, and may be repeated. `line` is the client's own. Refusals: 18 2 4 14. 14: something is pending, and the first message does not
+ * fit. */
+uint64_t lub_client_pack(const uint8_t *end, size_t end_length, uint8_t line, uint8_t *out, size_t out_length, size_t offset);
+
+/* Takes a packet of the server: its messages one after another, up to the first that is refused. Answers that refusal, or 0, and counts
+ * the messages taken, beside a refusal too; it has no positions. The end is as after those that were taken; if none was, no byte has
+ * changed. Refusals: 18 2 15, then those of lub_client_take. 3: a message with fields out of range, a byte that is no message's first,
+ * or a message that is cut off at the packet's end. 5: the packet, or its front, was taken before. */
+uint64_t lub_client_take_packet(uint8_t *end, size_t end_length, const uint8_t *packet, size_t packet_length);
+
+/* Takes the one message of a packet that begins at `offset`, 0 for the first, as lub_client_take does: to learn of each edit where it was
+ * applied, or to pass over a message that is refused. lub_read tells how many bytes it has: the next one begins behind them. Refusals:
+ * 18 2 15 3 4 5 6 7 8 9. 3: no message begins there, as at the packet's end and past it. A refusal changes no byte. */
+uint64_t lub_client_take_at(uint8_t *end, size_t end_length, const uint8_t *packet, size_t packet_length, size_t offset);
+
 /* ---- the server
  * `end` is the server's end: LUB_SERVER_BYTES lent bytes. */
 
@@ -136,6 +168,19 @@ uint64_t lub_server_acknowledge(const uint8_t *end, size_t end_length, uint8_t l
  * 12. */
 uint64_t lub_server_take(uint8_t *end, size_t end_length, const uint8_t *message, size_t message_length);
 
+/* Writes a packet of the edits pending on `line` for its client, as lub_client_pack does. Counts the bytes written. Changes no end.
+ * Refusals: 18 2 4 14. */
+uint64_t lub_server_pack(const uint8_t *end, size_t end_length, uint8_t line, uint8_t *out, size_t out_length, size_t offset);
+
+/* Takes a packet of a client, as lub_client_take_packet does; it may hold messages of several lines. Answers the first refusal, or 0, and
+ * counts the messages taken. Refusals: 18 2 15, then those of lub_server_take. 12: the messages before it are taken; the bay sends the
+ * rest again. */
+uint64_t lub_server_take_packet(uint8_t *end, size_t end_length, const uint8_t *packet, size_t packet_length);
+
+/* Takes the one message of a packet that begins at `offset`, as lub_server_take does; lub_read tells how many bytes it has. Refusals: 18 2
+ * 15 3 4 5 6 7 8 9 10 12. A refusal changes no byte. */
+uint64_t lub_server_take_at(uint8_t *end, size_t end_length, const uint8_t *packet, size_t packet_length, size_t offset);
+
 /* ---- the lengths as the library has them, and the run program */
 
 uint64_t lub_client_bytes(void);
@@ -153,10 +198,25 @@ static inline unsigned lub_count(uint64_t answer) { return (unsigned)(answer >> 
 
 /* Of a taking: the position of the edit in its message, and the position at which it was applied here. Each pending edit that it passed
  * moved it up by one, down by one or not at all; or it was a delete whose item is gone, which arrives at a position and is applied at
- * none, 0. An edit that became nothing before has 0 for both, and so have a refusal, an acknowledgement and every call but a taking. */
+ * none, 0. An edit that became nothing before has 0 for both, and so have a refusal, an acknowledgement, a whole packet and every call
+ * but a taking. */
 static inline unsigned lub_arrived(uint64_t answer) { return (unsigned)(answer >> 24 & 0xffff); }
 
 static inline unsigned lub_applied(uint64_t answer) { return (unsigned)(answer >> 40 & 0xffff); }
+
+/* Of a taking by an offset: how many bytes of the packet the message has; 0 at a refusal. */
+static inline unsigned lub_read(uint64_t answer) { return (unsigned)(answer >> 56); }
+
+/* ---- a packet taken apart */
+
+/* How many bytes the message at an offset of a packet has, taken or refused: its first byte tells. What begins with no message's first
+ * byte, or is cut off, has the rest of the packet; at its end and past it there is none, 0. */
+static inline size_t lub_message_length(const uint8_t *packet, size_t packet_length, size_t offset) {
+    size_t rest = offset < packet_length ? packet_length - offset : 0;
+    unsigned kind = rest > 0 ? packet[offset] : 0;
+    size_t length = kind == 4 ? 5 : kind == 5 ? 17 : kind == 7 ? 12 : kind == 8 ? 10 : rest;
+    return length < rest ? length : rest;
+}
 
 /* ---- reading an end (docs/LAYOUT.md)
  * These ask nothing of the bytes: the end has to be one that the last call on it left. A position outside the list reads 0. */

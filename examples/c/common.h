@@ -15,17 +15,19 @@ extern const uint8_t opening[6 * 4];  /* the list 10 20 30 40 50 60, four bytes 
 
 /* ---- when to send: for the loopback. On your network a resend should wait for some round trips. */
 
-#define RESEND_MS 25  /* what is not acknowledged by then is sent again */
-#define WINDOW 8     /* edits of a line that are under way at a time: behind a lost one all others come in vain */
+#define RESEND_MS 25  /* what is not acknowledged by then is sent again, in one packet */
+#define WINDOW 8     /* edits of a line that are sent one by one before that: behind a lost one all others come in vain */
 
-/* ---- packets: one message each */
+/* ---- packets: one message each, or several end to end */
+
+#define PACKET 1400   /* bytes of the longest */
 
 struct net {
     int socket;
     uint64_t random;
     unsigned loss;               /* percent of the packets that get lost; of the rest so many are repeated, and so many held back */
     struct sockaddr_in held_to;  /* the one packet that is held back, its length, and how many others go first */
-    uint8_t held[32];
+    uint8_t held[PACKET];
     size_t held_length;
     unsigned held_for;
     unsigned sent, lost, repeated, overtaken;

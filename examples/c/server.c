@@ -35,15 +35,28 @@ static void send_edit(unsigned line, unsigned number) {
     lines[line].owed = 0; /* an edit says as well how many were taken from that bay */
 }
 
-/* Sends a bay the edits that it has not been sent, or again all that it has not acknowledged; if there are none, what it waits for. */
+/* One packet with an acknowledgement and behind it all edits that the bay has not acknowledged. */
+static void send_again(unsigned line) {
+    uint8_t packet[PACKET];
+    unsigned length = written(lub_server_acknowledge(end, sizeof end, (uint8_t)line, packet, sizeof packet));
+    length += written(lub_server_pack(end, sizeof end, (uint8_t)line, packet, sizeof packet, length));
+    net_send(&net, &lines[line].bay, packet, length);
+    lines[line].sent = lub_server_made(end, line);
+    lines[line].owed = 0;
+}
+
+/* Sends a bay the edits that it has not been sent, each by itself, or again all that it has not acknowledged; if there are none, what it
+ * waits for. */
 static void talk(unsigned line, int again) {
     unsigned acked = lub_server_acked(end, line), made = lub_server_made(end, line);
     unsigned *sent = &lines[line].sent;
     if (lines[line].bay.sin_port == 0)
         return;
-    if (again || *sent < acked)
+    if (again && (acked != made || lines[line].owed))
+        send_again(line);
+    if (*sent < acked)
         *sent = acked;
-    if (lines[line].owed && (again || *sent == made || *sent >= acked + WINDOW))
+    if (lines[line].owed && (*sent == made || *sent >= acked + WINDOW))
         acknowledge(line);
     while (*sent < made && *sent < acked + WINDOW)
         send_edit(line, ++*sent);
@@ -63,29 +76,41 @@ static void on_refusal(unsigned line, unsigned refusal) {
     case LUB_REFUSED_SHORT_END:
         give_up("the server's end is damaged", refusal);
         break;
-    default: /* 3 4: somebody else's packet. 8 9 10: from a bay that is not of this sheet, or that older bytes were put back into. */
+    default: /* 3 4 15: somebody else's packet. 8 9 10: from a bay that is not of this sheet, or that older bytes were put back into. */
         fprintf(stderr, "server: a packet for line %u was dropped (%u)\n", line, refusal);
     }
 }
 
-static void take(const struct sockaddr_in *from, const uint8_t *packet, size_t length) {
-    unsigned line = length > 1 && packet[1] <= LINES ? packet[1] : 0; /* byte 1 of every message is its line */
+/* Takes the message at an offset of a packet: its refusal, or 0. */
+static unsigned take_message(const struct sockaddr_in *from, const uint8_t *packet, size_t length, size_t offset) {
+    unsigned line = offset + 1 < length && packet[offset + 1] <= LINES ? packet[offset + 1] : 0; /* byte 1 of every message is its line */
     unsigned before = lub_server_taken(end, line);
-    uint64_t answer = lub_server_take(end, sizeof end, packet, length);
+    uint64_t answer = lub_server_take_at(end, sizeof end, packet, length, offset);
     refusals[lub_refusal(answer)]++;
     if (lub_refusal(answer) != 0) {
         on_refusal(line, lub_refusal(answer));
-        return;
+        return lub_refusal(answer);
     }
     /* A bay that was started again has another port. Who may speak for a line, check here: the library does not know. */
     lines[line].bay = *from;
     if (lub_server_taken(end, line) != before) /* an edit. Answering acknowledgements as well would never end. */
         lines[line].owed = 1;
+    return 0;
+}
+
+/* Takes a packet. Messages that were taken before may stand at its front: behind them it goes on. */
+static void take(const struct sockaddr_in *from, const uint8_t *packet, size_t length) {
+    size_t offset = 0;
+    unsigned refusal;
+    do {
+        refusal = take_message(from, packet, length, offset);
+        offset += lub_message_length(packet, length, offset);
+    } while (offset < length && (refusal == 0 || refusal == LUB_REFUSED_REPEAT));
 }
 
 static void take_all(void) {
     struct sockaddr_in from;
-    uint8_t packet[LUB_MESSAGE_BYTES + 1]; /* one more: a packet that is too long must not be cut to a message */
+    uint8_t packet[PACKET + 1]; /* one more: a packet that is too long must not be cut to one that is not */
     long length;
     while ((length = net_receive(&net, &from, packet, sizeof packet)) >= 0)
         take(&from, packet, (size_t)length);

@@ -42,15 +42,27 @@ static void send_edit(unsigned number) {
     owed = 0; /* an edit says as well how many were taken here */
 }
 
-/* Sends the edits that are new, or again all that are not acknowledged. An acknowledgement goes by itself when no edit does. It also goes
- * ahead of edits that are sent again: the server reads nothing from an edit that it refuses, and with two bays 64 behind it refuses the edits
- * of both until one acknowledges. Sent now and then when all is quiet, it tells the server where this bay is. */
+/* One packet with an acknowledgement and behind it all edits that are not acknowledged, if there are any. The acknowledgement comes first: the
+ * server reads nothing from an edit that it refuses, and with two bays 64 behind it refuses the edits of both until one acknowledges. Sent
+ * now and then when all is quiet, it tells the server where this bay is. */
+static void send_again(void) {
+    uint8_t packet[PACKET];
+    unsigned length = written(lub_client_acknowledge(end, sizeof end, (uint8_t)set.line, packet, sizeof packet));
+    length += written(lub_client_pack(end, sizeof end, (uint8_t)set.line, packet, sizeof packet, length));
+    net_send(&net, &server, packet, length);
+    sent = lub_client_made(end);
+    owed = 0;
+}
+
+/* Sends the edits that are new, each by itself, or again all that are not acknowledged. An acknowledgement goes by itself when no edit does. */
 static void talk(int again) {
     unsigned acked = lub_client_acked(end), made = lub_client_made(end);
     save();
-    if (again || sent < acked)
+    if (again)
+        send_again();
+    if (sent < acked)
         sent = acked;
-    if (again || (owed && (sent == made || sent >= acked + WINDOW)))
+    if (owed && (sent == made || sent >= acked + WINDOW))
         acknowledge();
     while (sent < made && sent < acked + WINDOW)
         send_edit(++sent);
@@ -67,6 +79,7 @@ static void on_refusal(unsigned refusal) {
         break;
     case LUB_REFUSED_NO_MESSAGE: /* not from our server, though its address says so */
     case LUB_REFUSED_MISDIRECTED:
+    case LUB_REFUSED_PACKET:
         fprintf(stderr, "terminal %u: a packet was dropped (%u)\n", set.line, refusal);
         break;
     default: /* 2 18: our bytes are damaged. 8 9: not the server of this sheet, or older bytes were put back, here or there. Do not go on. */
@@ -83,24 +96,36 @@ static void show_move(uint64_t answer) {
         printf("moved %u to %u, past %u edits of this bay\n", lub_arrived(answer), lub_applied(answer), lub_count(answer));
 }
 
-static void take(const uint8_t *packet, size_t length) {
+/* Takes the message at an offset of a packet: its refusal, or 0. */
+static unsigned take_message(const uint8_t *packet, size_t length, size_t offset) {
     unsigned before = lub_client_taken(end);
-    uint64_t answer = lub_client_take(end, sizeof end, packet, length);
+    uint64_t answer = lub_client_take_at(end, sizeof end, packet, length, offset);
     refusals[lub_refusal(answer)]++;
     if (lub_refusal(answer) != 0) {
         on_refusal(lub_refusal(answer));
-        return;
+        return lub_refusal(answer);
     }
     unsaved = 1;
     if (lub_client_taken(end) != before) { /* an edit. Answering acknowledgements as well would never end. */
         owed = 1;
         show_move(answer);
     }
+    return 0;
+}
+
+/* Takes a packet. Messages that were taken before may stand at its front: behind them it goes on. */
+static void take(const uint8_t *packet, size_t length) {
+    size_t offset = 0;
+    unsigned refusal;
+    do {
+        refusal = take_message(packet, length, offset);
+        offset += lub_message_length(packet, length, offset);
+    } while (offset < length && (refusal == 0 || refusal == LUB_REFUSED_REPEAT));
 }
 
 static void take_all(void) {
     struct sockaddr_in from;
-    uint8_t packet[LUB_MESSAGE_BYTES + 1]; /* one more: a packet that is too long must not be cut to a message */
+    uint8_t packet[PACKET + 1]; /* one more: a packet that is too long must not be cut to one that is not */
     long length;
     while ((length = net_receive(&net, &from, packet, sizeof packet)) >= 0)
         if (from.sin_port == server.sin_port && from.sin_addr.s_addr == server.sin_addr.s_addr)

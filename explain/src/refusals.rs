@@ -31,7 +31,9 @@ pub fn refused(number: u8) -> Refusal {
         12 => refusal("64 edits pending", "64 edits of a line are not acknowledged", "acknowledge, then try again"),
         13 => refusal("not pending", "that number is not pending", "send a number that is pending"),
         14 => refusal("short buffer", "the message does not fit the lent buffer", "lend 17 bytes"),
+        15 => refusal("no packet", "a packet has 1 to 1,400 bytes", "log it and drop it"),
         16 => refusal("bad ranks", "the ranks are not 1 to n, each used once", "correct the ranks"),
+        17 => refusal("nothing to take back", "no edit was made yet, or another bay deleted its step", "nothing: edit again"),
         18 => refusal("short end", "the lent bytes of the end are too few", "lend as many bytes as the layout has"),
         _ => refusal("unknown", "a number that this tool does not know", "look into the header of the library"),
     }

@@ -11,7 +11,7 @@ harness mutants [--slip NAME]                          every slip has to be noti
 harness bench [--out FOLDER]                           times and bytes, as tables and a plot (target/bench)
 harness --help                                         this text
 
-SORT is Cases, Openings, Shortest, Crafted, Honest, Limits, Hostile, Bytes, Noise, Ends, Words or Script. The first seed is 1.
+SORT is Cases, Openings, Shortest, Packets, Crafted, Honest, Limits, Hostile, Bytes, Noise, Ends, Words or Script. The first seed is 1.
 With --slip NAME, check, long, one and replay also run the implementation that slips so, to show what a failure prints;
 `mutants` prints the names. The proved library is under test in a build with --features proved.";
 

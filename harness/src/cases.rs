@@ -152,13 +152,13 @@ fn takings(subject: &dyn Calls, list: &List) -> Result<Vec<(u8, u16, u16, u16)>,
     let mut at = 0;
     let mut all = Vec::new();
     for call in &list.calls {
-        let Answer { refusal, count, arrived, applied, rest } = Answer::of(&out[at..]);
+        let Answer { refusal, count, arrived, applied, read } = Answer::of(&out[at..]);
         if call.op == TAKE {
             all.push((refusal, count, arrived, applied));
         } else {
             equal((0, 0), (arrived, applied)).map_err(|text| format!("{}: {text}", call.words()))?;
         }
-        equal(0, rest)?;
+        equal(0, read)?;
         at += call.answer_length();
     }
     Ok(all)
@@ -216,6 +216,79 @@ fn sent_on(subject: &dyn Calls) -> Result<(), String> {
         equal(bytes, shown(subject, list, 1, bytes.len())?)?;
     }
     Ok(())
+}
+
+/// What a list's last call answers: refusal, count, bytes read.
+fn last_answer(subject: &dyn Calls, list: &List) -> Result<(u8, u16, u8), String> {
+    let out = calls::output(subject, list)?;
+    let Answer { refusal, count, read, .. } = Answer::of(&out[out.len() - ANSWER..]);
+    Ok((refusal, count, read))
+}
+
+/// Three edits of client 1 in one packet behind two bytes that stay: an insert, a delete and one that became nothing.
+fn packet_written(subject: &dyn Calls) -> Result<(), String> {
+    let expected = [
+        &[0, 41, FRESH, FRESH][..],
+        &[5, 1, 0, 0, 1, 0, 1, 0, 1, 0, 0, 0, 40, 1, 1, 0, 1],
+        &[7, 1, 0, 0, 2, 0, 1, 0, 2, 1, 0, 2],
+        &[8, 1, 0, 0, 3, 0, 1, 1, 0, 3],
+        &[FRESH],
+    ]
+    .concat();
+    let mut list = three_pending();
+    list.calls.push(Call::pack(1, 1, 0, 50, 2));
+    equal((0, 39, 0), last_answer(subject, &list)?)?;
+    list.calls.push(Call::show_packet(0));
+    let out = calls::output(subject, &list)?;
+    equal(&expected[..], &out[out.len() - 2 - PACKET..][..expected.len()])
+}
+
+/// Client 1 deletes what client 2 has deleted, and takes that.
+fn three_pending() -> List {
+    let mut list = List::opened(2, vec![10, 20, 30]);
+    list.calls.extend([Call::delete(2, 2), Call::insert(1, 1, 40), Call::delete(1, 2), Call::delete(1, 2)]);
+    handed(&mut list, &[(2, 2, 1), (0, 1, 1)]);
+    list
+}
+
+/// The packet goes up: three are taken, then none and 5; with an edit more by its offset alone, or by itself once the others are acknowledged.
+fn packet_taken(subject: &dyn Calls) -> Result<(), String> {
+    let mut list = three_pending();
+    let mut then = |calls: &[Call], expected: (u8, u16, u8)| {
+        list.calls.extend_from_slice(calls);
+        equal(expected, last_answer(subject, &list)?).map_err(|text| format!("{}: {text}", calls[calls.len() - 1].words()))
+    };
+    let pack = Call::pack(1, 1, 0, PACKET as u16, 0);
+    then(&[pack, Call::take_packet(0, 0)], (0, 3, 0))?;
+    then(&[Call::take_packet(0, 0)], (5, 0, 0))?;
+    then(&[Call::insert(1, 2, 41), pack], (0, 56, 0))?;
+    then(&[Call::take_packet(0, 0)], (5, 0, 0))?;
+    then(&[Call::take_at(0, 0, 17)], (5, 0, 0))?;
+    then(&[Call::take_at(0, 0, 39)], (0, 0, 17))?;
+    then(&[Call::take_at(0, 0, 56)], (3, 0, 0))?;
+    then(&[Call::acknowledge(0, 1, 0, MESSAGE), Call::take(1, 0), pack], (0, 0, 0))?;
+    then(&[Call::pack(0, 2, 1, PACKET as u16, 0)], (0, 56, 0))?;
+    then(&[Call::delete(1, 1), pack, Call::take_packet(2, 0)], (4, 0, 0))?;
+    then(&[Call::take_packet(2, 1)], (0, 4, 0))?;
+    let (both, all) = (vec![(40, 1, 1), (41, 1, 4), (30, 0, 3)], lists(subject, &list));
+    equal((&both, &both), (&all[0], &all[2]))
+}
+
+/// A packet written behind 65,536 bytes and read in as many: what is small in 16 bits is not taken for it.
+fn far_packets(subject: &dyn Calls) -> Result<(), String> {
+    let mut world = World::unwatched(subject);
+    let list = three_pending();
+    list.calls.iter().for_each(|call| world.perform(call, &list.initial, &mut Vec::new()));
+    let (client, mut server) = (world.end(1).to_vec(), world.end(0).to_vec());
+    let mut out = vec![FRESH; 70_000];
+    equal(39 << 8, subject.client_pack(&client, 1, &mut out, 65_536))?;
+    equal(true, out[..65_536].iter().chain(&out[65_575..]).all(|&byte| byte == FRESH))?;
+    let packet = out[65_536..65_575].to_vec();
+    out[..39].copy_from_slice(&packet);
+    let before = server.clone();
+    equal((15, 15), (subject.server_take_packet(&mut server, &out[..65_575]), subject.server_take_at(&mut server, &out[..65_575], 0)))?;
+    equal(true, server == before)?;
+    equal(3 << 8, subject.server_take_packet(&mut server, &packet))
 }
 
 /// 128 opening items: line 0, and the places as numbers.
@@ -396,6 +469,9 @@ fn on(subject: &dyn Calls) -> bool {
         ("an edit taken back", taken_back(subject)),
         ("taken back past other edits", taken_back_later(subject)),
         ("nothing to take back", nothing_to_take_back(subject)),
+        ("a packet written", packet_written(subject)),
+        ("a packet taken", packet_taken(subject)),
+        ("packets in far more bytes", far_packets(subject)),
         ("inserts", script(&inserts.0, &inserts.1)),
         ("pending", script(&pending.0, &pending.1)),
         ("the layouts' lengths", equal((4656, 10392), (subject.client_bytes(), subject.server_bytes()))),

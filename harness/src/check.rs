@@ -5,15 +5,16 @@ use crate::describe::difference;
 use crate::list::*;
 use crate::oracle::{self, Report, Wrong};
 use crate::report;
-use crate::{cases, clock, crafted, damage, edges, ends, generate, hostile, openings, scripts, shortest, steady};
+use crate::{cases, clock, crafted, damage, edges, ends, generate, hostile, openings, packets, scripts, shortest, steady};
 use std::time::{Duration, Instant};
 
-/// The sorts of input; all but the first four are made from a seed.
+/// The sorts of input; all but the first five are made from a seed.
 #[derive(Clone, Copy, PartialEq, Eq, Debug)]
 pub enum Sort {
     Cases,
     Openings,
     Shortest,
+    Packets,
     Crafted,
     Honest,
     Limits,
@@ -27,7 +28,7 @@ pub enum Sort {
 
 use Sort::*;
 
-pub const SORTS: [Sort; 12] = [Cases, Openings, Shortest, Crafted, Honest, Limits, Hostile, Bytes, Noise, Ends, Words, Script];
+pub const SORTS: [Sort; 13] = [Cases, Openings, Shortest, Packets, Crafted, Honest, Limits, Hostile, Bytes, Noise, Ends, Words, Script];
 
 impl Sort {
     /// The call lists of a seed; cases and scripts have none.
@@ -36,6 +37,7 @@ impl Sort {
             Cases | Script => vec![],
             Openings => openings::all(),
             Shortest => shortest::all(),
+            Packets => packets::all(),
             Crafted => crafted::all(),
             Honest => vec![generate::honest(seed)],
             Limits => vec![edges::limits(seed)],
@@ -68,6 +70,12 @@ pub struct Tally {
     gone: u64,
     /// Edits that were taken back.
     taken_back: u64,
+    /// Packets written and taken that had something in them, how many messages were taken of one at most, and how many were taken beside a
+    /// refusal.
+    packed: u64,
+    unpacked: u64,
+    most_messages: u16,
+    beside_refusal: u64,
 }
 
 impl Default for Tally {
@@ -83,6 +91,10 @@ impl Default for Tally {
             furthest: 0,
             gone: 0,
             taken_back: 0,
+            packed: 0,
+            unpacked: 0,
+            most_messages: 0,
+            beside_refusal: 0,
         }
     }
 }
@@ -97,8 +109,15 @@ impl Tally {
                 self.calls += 1;
                 self.refusals[out[at] as usize] += 1;
             }
-            if call.op == TAKE {
-                self.taking(Answer::of(&out[at..]));
+            let answer = Answer::of(&out[at..]);
+            if call.takes_one() {
+                self.taking(answer);
+            }
+            self.packed += (call.op == PACK && answer.count != 0) as u64;
+            if call.op == TAKE_PACKET && answer.count != 0 {
+                self.unpacked += 1;
+                self.most_messages = self.most_messages.max(answer.count);
+                self.beside_refusal += if answer.refusal == 0 { 0 } else { answer.count as u64 };
             }
             self.taken_back += (call.op == TAKE_BACK && out[at] == 0) as u64;
             at += call.answer_length();
@@ -132,6 +151,10 @@ impl Tally {
         println!("most edits passed by one taking: {}", self.most_passed);
         println!("takings that moved their edit: {}, {} places at most; whose edit was gone: {}", self.moved, self.furthest, self.gone);
         println!("edits taken back: {}", self.taken_back);
+        println!(
+            "packets written: {}, taken: {}, {} messages of one at most; messages taken of packets that were refused then: {}",
+            self.packed, self.unpacked, self.most_messages, self.beside_refusal
+        );
     }
 }
 
@@ -242,7 +265,7 @@ pub fn replay(bytes: &[u8], subjects: &[&dyn Calls]) -> bool {
 pub fn timed(seconds: u64, first: u64, subjects: &[&dyn Calls]) -> bool {
     let start = Instant::now();
     let mut tally = Tally::default();
-    let fine = [Cases, Openings, Shortest, Crafted].into_iter().all(|sort| seed(sort, first, subjects, &mut tally));
+    let fine = [Cases, Openings, Shortest, Packets, Crafted].into_iter().all(|sort| seed(sort, first, subjects, &mut tally));
     // honest runs, limits and hostile ends get most of the time
     let turns = [Honest, Honest, Hostile, Script, Noise, Honest, Hostile, Limits, Script, Honest, Hostile, Bytes, Words, Ends];
     let going = |_: &Tally| start.elapsed() < Duration::from_secs(seconds);

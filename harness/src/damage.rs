@@ -67,6 +67,20 @@ fn tried(prefix: &List, slot: u8, pokes: &[Call], end: u8) -> List {
     list
 }
 
+/// The message twice in a packet, the first time with another byte.
+fn tried_in_packet(prefix: &List, slot: u8, at: u16, byte: u8, length: u8, end: u8) -> List {
+    let mut list = prefix.clone();
+    list.calls.extend([Call::add(slot, 0, 2), Call::poke_packet(0, at, byte, 2 * length as u16)]);
+    list.calls.extend([
+        Call::dump(end),
+        Call::take_packet(end, 0),
+        Call::dump(end),
+        Call::take_at(end, 0, length as usize),
+        Call::dump(end),
+    ]);
+    list
+}
+
 /// Every single-bit change of one real message, every value of every byte of it, every shorter or longer length,
 /// and lengths that are its own in 8 or 16 bits.
 pub fn bytes(seed: u64) -> Vec<List> {
@@ -80,6 +94,7 @@ pub fn bytes(seed: u64) -> Vec<List> {
         for value in (0..=255).filter(|&value| value != byte) {
             let poke = [Call::poke(slot, at as u16, value, length)];
             lists.push(tried(&prefix, slot, &poke, end));
+            lists.push(tried_in_packet(&prefix, slot, at as u16, value, length, end));
             if (value ^ byte).count_ones() == 1 {
                 let other = Rng::new(seed ^ value as u64).below(9) as u8;
                 lists.push(tried(&prefix, slot, &poke, other));
@@ -111,9 +126,14 @@ pub fn noise(seed: u64) -> List {
             *kind = rng.between(0, 9) as u8;
         }
         run.give(0, &bytes);
+        // by itself, and in a packet behind those before
+        run.call(Call::add(0, 0, 1));
         for end in 0..=3 {
             run.call(Call::dump(end));
             run.call(Call::take(end, 0));
+            run.call(Call::dump(end));
+            run.call(Call::take_packet(end, 0));
+            run.call(Call::take_at(end, 0, length));
             run.call(Call::dump(end));
         }
     }

@@ -8,6 +8,7 @@ impl Call {
     pub fn words(&self) -> String {
         let end = |end: u8| if end == 0 { "server".to_string() } else { format!("client {end}") };
         let who = end(self.end);
+        let tail = || if self.number == 0 { String::new() } else { format!(" and {} bytes after it", TAIL * self.number as usize) };
         let text = match self.op {
             OPEN => {
                 let ranks = self.ranks();
@@ -20,8 +21,16 @@ impl Call {
             TAKE_BACK => format!("{who} takes its latest edit back"),
             SEND => format!("{who} sends number {} of line {} into {} bytes of slot {}", self.number, self.line, self.size, self.slot),
             ACKNOWLEDGE => format!("{who} acknowledges line {} into {} bytes of slot {}", self.line, self.size, self.slot),
-            TAKE if self.number == 0 => format!("{who} takes slot {}", self.slot),
-            TAKE => format!("{who} takes slot {} and {} bytes after it", self.slot, TAIL * self.number as usize),
+            TAKE => format!("{who} takes slot {}{}", self.slot, tail()),
+            PACK => {
+                let (room, packet, offset) = (self.position, self.slot, self.offset());
+                format!("{who} packs line {} into {room} bytes of packet {packet} from {offset} on", self.line)
+            }
+            TAKE_PACKET => format!("{who} takes packet {}{}", self.slot, tail()),
+            TAKE_AT => format!("{who} takes the message at {} of packet {}{}", self.offset(), self.slot, tail()),
+            ADD => format!("slot {} goes behind packet {}, {} times", self.slot, self.size, self.number),
+            POKE_PACKET => format!("packet {} byte {} becomes {}, length {}", self.slot, self.number, self.value & 255, self.position),
+            SHOW_PACKET => format!("packet {} is shown", self.slot),
             POKE => format!("slot {} byte {} becomes {}, length {}", self.slot, self.number, self.value & 255, self.size),
             SET => format!("{who}'s {} (word {}) becomes {}", layout::name(self.end, self.number), self.number, self.value),
             DUMP => format!("{who} is dumped"),
@@ -46,11 +55,15 @@ pub fn difference(call: &Call, one: &[u8], other: &[u8]) -> Option<(String, [Str
         return Some(("answer".to_string(), both(&|bytes| in_words(bytes))));
     }
     if byte < ANSWER {
-        return Some(("changed that had to stay".to_string(), both(&|bytes| had_to_stay(bytes[ANSWER - 1]))));
+        return Some(("broken".to_string(), both(&|bytes| broken(bytes[ANSWER - 1]))));
     }
     let at = byte - ANSWER;
     if call.op == SHOW {
         let name = if at == 0 { "the slot's length".to_string() } else { format!("the slot's byte {}", at - 1) };
+        return Some((name, both(&|bytes| bytes[byte].to_string())));
+    }
+    if call.op == SHOW_PACKET {
+        let name = if at < 2 { "the packet's length".to_string() } else { format!("the packet's byte {}", at - 2) };
         return Some((name, both(&|bytes| bytes[byte].to_string())));
     }
     let word = (at / 4) as u16;
@@ -58,20 +71,25 @@ pub fn difference(call: &Call, one: &[u8], other: &[u8]) -> Option<(String, [Str
     Some((format!("{} (word {word})", layout::name(call.end, word)), both(&value)))
 }
 
-/// The bytes that had to stay, in words.
-pub fn had_to_stay(bits: u8) -> String {
-    let names = [(END, "bytes of the end"), (AROUND, "bytes around the end"), (OUT, "bytes of the slot")];
+/// What did not hold, in words.
+pub fn broken(bits: u8) -> String {
+    let names = [
+        (END, "bytes of the end changed"),
+        (AROUND, "bytes around the end changed"),
+        (OUT, "bytes of the buffer changed"),
+        (LAW, "message by message it is otherwise"),
+    ];
     let there: Vec<&str> = names.iter().filter(|(bit, _)| bits & bit != 0).map(|(_, name)| *name).collect();
     if there.is_empty() {
-        "no byte".to_string()
+        "nothing".to_string()
     } else {
         there.join(" and ")
     }
 }
 
 fn in_words(bytes: &[u8]) -> String {
-    let Answer { refusal, count, arrived, applied, rest } = Answer::of(bytes);
+    let Answer { refusal, count, arrived, applied, read } = Answer::of(bytes);
     let positions = if arrived == 0 && applied == 0 { String::new() } else { format!(", arrived {arrived}, applied {applied}") };
-    let rest = if rest == 0 { String::new() } else { format!(", and {rest:#x} past the positions") };
-    format!("refusal {refusal}, count {count}{positions}{rest}")
+    let read = if read == 0 { String::new() } else { format!(", {read} bytes read") };
+    format!("refusal {refusal}, count {count}{positions}{read}")
 }

@@ -3,7 +3,7 @@
 
 use crate::generate::Run;
 use crate::limits::*;
-use crate::list::{Call, List, MESSAGE};
+use crate::list::{Call, List, MESSAGE, PACKET};
 use crate::rng::Rng;
 
 pub fn limits(seed: u64) -> List {
@@ -27,7 +27,7 @@ fn full_list(mut rng: Rng) -> Run {
             let position = run.rng.between(1, run.world.length(l) as usize + 1) as u16;
             run.call_and_look(Call::insert(l as u8, position, l as u32));
             if run.rng.once_in(2) {
-                exchange(&mut run, l);
+                exchange_somehow(&mut run, l);
             }
         }
     }
@@ -107,7 +107,7 @@ fn silent_line(rng: Rng) -> Run {
         let edit = any_edit(&mut run, l);
         run.call_and_look(edit);
         if l != silent {
-            exchange(&mut run, l);
+            exchange_somehow(&mut run, l);
         } else if run.rng.once_in(4) {
             // the silent line sends up and acknowledges nothing new: 12 is asked of the other lines only
             run.hand_over(l, l, run.world.server(l).taken + 1);
@@ -129,7 +129,7 @@ fn full_buffers(mut rng: Rng) -> Run {
         }
         ask_edges(&mut run);
         if run.rng.once_in(2) {
-            exchange(&mut run, l);
+            exchange_somehow(&mut run, l);
         }
     }
     run.deliver_all();
@@ -150,6 +150,33 @@ pub fn exchange(run: &mut Run, l: usize) {
     run.call(Call::take(0, 0));
     run.call(Call::acknowledge(0, l as u8, 1, MESSAGE));
     run.call(Call::take(l as u8, 1));
+}
+
+/// The same, now and then in packets.
+fn exchange_somehow(run: &mut Run, l: usize) {
+    if run.rng.once_in(3) {
+        exchange_packets(run, l as u8);
+    } else {
+        exchange(run, l);
+    }
+}
+
+/// The same in packets. What the other end has taken before is acknowledged first, or it would stop the packet as a repeat.
+fn exchange_packets(run: &mut Run, l: u8) {
+    run.call(Call::acknowledge(0, l, 1, MESSAGE));
+    run.call(Call::take(l, 1));
+    run.call(Call::pack(l, l, 0, PACKET as u16, 0));
+    run.call(Call::take_packet(0, 0));
+    // its acknowledgement stands in front
+    for (from, to) in [(l, 0), (0, l)] {
+        run.call(Call::acknowledge(from, l, 0, MESSAGE));
+        run.call(Call::poke_packet(0, 0, 0, 0));
+        run.call(Call::add(0, 0, 1));
+        run.call(Call::pack(from, l, 0, PACKET as u16, 5));
+        run.call(Call::take_packet(to, 0));
+    }
+    run.call(Call::acknowledge(l, l, 0, MESSAGE));
+    run.call(Call::take(0, 0));
 }
 
 /// Edits at every edge of the list, at every client, and takings back.

@@ -65,6 +65,14 @@ fn probes(end: u8, list: &mut List) {
         Call::send(end, end.max(1), 2, 20, MESSAGE),
         Call::acknowledge(end, end.max(1), 21, MESSAGE),
     ];
+    // packet 3 has no bytes, packet 2 one that is no message
+    list.calls.push(Call::poke_packet(2, 0, 9, 1));
+    calls.extend([
+        Call::pack(end, end.max(1), 1, PACKET as u16, 0),
+        Call::take_packet(end, 3),
+        Call::take_packet(end, 2),
+        Call::take_at(end, 2, 0),
+    ]);
     calls.extend(slots.iter().map(|&slot| Call::take(end, slot)));
     if end != 0 {
         calls.extend([Call::take_back(end), Call::insert(end, 1, 5), Call::take_back(end), Call::take_back(end)]);

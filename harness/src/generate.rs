@@ -3,10 +3,12 @@
 use crate::layout;
 use crate::limits::*;
 use crate::list::*;
+use crate::literal;
 use crate::plain::slip::Plain;
 use crate::rankings;
 use crate::rng::Rng;
 use crate::world::World;
+use std::collections::HashSet;
 
 /// What a run is like: of a hundred actions, how many are of which sort.
 #[derive(Clone, Copy, Debug)]
@@ -18,6 +20,8 @@ struct Mood {
     /// Send the next edit of a line; half of these are taken at once.
     exchanges: usize,
     acknowledgements: usize,
+    /// Pack the pending edits of a line; or put messages behind each other and have them taken as one packet.
+    packets: usize,
     /// Take whatever lies in a slot: late, repeated, or never meant for that end.
     strays: usize,
     /// Positions, numbers and lengths at and past their edges.
@@ -40,6 +44,8 @@ pub struct Run {
     mood: Mood,
     since_dump: usize,
     scratch: Vec<u8>,
+    /// Every message that an end wrote.
+    written: HashSet<Vec<u8>>,
 }
 
 /// A run that stays within the third demand; at its end everything is delivered.
@@ -73,6 +79,7 @@ impl Run {
             takes_back: rng.pick(&[0, 3, 10, 30]),
             exchanges: rng.between(5, 60),
             acknowledgements: rng.pick(&[0, 2, 10]),
+            packets: rng.pick(&[0, 3, 10, 30]),
             strays: rng.pick(&[0, 5, 20]),
             odd: rng.pick(&[0, 3, 10]),
             dump_every: rng.pick(&[1, 1, 4]),
@@ -82,7 +89,8 @@ impl Run {
         let ranks = rankings::random(&mut rng, n);
         let opened = List::ranked(&ranks, initial.clone());
         let list = List { initial, calls: Vec::new() };
-        let mut run = Run { list, world: World::unwatched(&Plain), rng, n, ranks, mood, since_dump: 0, scratch: Vec::new() };
+        let world = World::unwatched(&Plain);
+        let mut run = Run { list, world, rng, n, ranks, mood, since_dump: 0, scratch: Vec::new(), written: HashSet::new() };
         for call in opened.calls {
             run.call(Call { lent: mood.spare, ..call });
         }
@@ -94,7 +102,19 @@ impl Run {
         self.list.calls.push(call);
         self.scratch.clear();
         self.world.perform(&call, &self.list.initial, &mut self.scratch);
-        self.scratch[0]
+        let answer = Answer::of(&self.scratch);
+        if call.sends() && answer.refusal == 0 {
+            let from = if call.op == PACK { call.offset().min(PACKET) } else { 0 };
+            let held = if call.op == PACK { self.world.packet(call.slot) } else { self.world.message(call.slot) };
+            let new = held.get(from..).filter(|_| answer.count != 0).unwrap_or_default();
+            self.written.extend(literal::messages(new).into_iter().map(<[u8]>::to_vec));
+        }
+        answer.refusal
+    }
+
+    /// Whether bytes are no message or one that an end wrote: a run that takes them stays within the third demand.
+    fn is_honest(&self, message: &[u8]) -> bool {
+        literal::read(message).is_none() || self.written.contains(message)
     }
 
     /// The same with the run's lent bytes, now and then fewer than the layout's, and a dump of the end every so often.
@@ -104,8 +124,8 @@ impl Run {
         self.since_dump += 1;
         if self.since_dump >= self.mood.dump_every {
             self.since_dump = 0;
-            if matches!(call.op, SEND | ACKNOWLEDGE) && self.rng.once_in(2) {
-                self.call(Call::show(call.slot));
+            if call.sends() && self.rng.once_in(2) {
+                self.call(if call.op == PACK { Call::show_packet(call.slot) } else { Call::show(call.slot) });
             }
             self.call(Call::dump(call.end));
         }
@@ -146,6 +166,8 @@ impl Run {
             (mood.takes_back, Run::take_back),
             (mood.exchanges, Run::exchange),
             (mood.acknowledgements, Run::acknowledge),
+            (mood.packets, Run::pack),
+            (mood.packets, Run::gather),
             (mood.strays, Run::stray),
             (mood.odd, Run::nonsense),
         ];
@@ -204,6 +226,116 @@ impl Run {
         }
     }
 
+    /// Packs a line's pending edits, mostly behind what the packet holds or from its front on, and often has the packet taken at once.
+    fn pack(&mut self) {
+        let (l, up, packet) = (self.line() as u8, self.rng.once_in(2), self.rng.below(PACKETS) as u8);
+        let length = self.world.packet(packet).len();
+        let offset = if self.odd() {
+            let past = PACKET + self.rng.below(3);
+            self.rng.pick(&[1, length, PACKET - 1, past, 256, 65_536, u32::MAX as usize, 0x0101_0101 << 32, usize::MAX - 9, usize::MAX])
+        } else {
+            self.rng.pick(&[0, length])
+        };
+        let room = match self.rng.below(4) {
+            0 => self.rng.below(PACKET + 1),
+            // for some of the first messages
+            1 => offset.saturating_add(self.rng.below(60)).min(PACKET),
+            _ => PACKET,
+        };
+        let (from, to) = if up { (l, 0) } else { (0, l) };
+        self.call_and_look(Call::pack(from, l, packet, room as u16, offset));
+        if self.rng.below(3) > 0 {
+            self.take_packet(to, packet);
+        }
+    }
+
+    /// Messages for one end behind each other: of each line the next edits, now and then an acknowledgement, a repeat, or whatever lies in a slot;
+    /// sometimes with a tail that is no message.
+    fn gather(&mut self) {
+        let (packet, up) = (self.rng.below(PACKETS) as u8, self.rng.once_in(2));
+        let to = if up { 0 } else { self.line() as u8 };
+        if self.rng.below(4) > 0 {
+            self.call(Call::poke_packet(packet, 0, FRESH, 0));
+        }
+        let mut slot = self.slot();
+        let mut further = [0; LINES + 1];
+        for _ in 0..self.rng.between(1, 12) {
+            let l = if up { self.line() } else { to as usize };
+            let from = if up { l as u8 } else { 0 };
+            let taken = if up { self.world.server(l) } else { self.world.client(l) }.taken;
+            match self.rng.below(12) {
+                0 => {}
+                1 => slot = self.slot(),
+                2 | 3 => {
+                    slot = self.slot();
+                    self.call(Call::acknowledge(from, l as u8, slot, MESSAGE));
+                }
+                _ => {
+                    slot = self.slot();
+                    further[l] += 1;
+                    self.call(Call::send(from, l as u8, (taken + further[l]) as u16, slot, MESSAGE));
+                }
+            }
+            let times = if self.rng.once_in(60) { self.rng.between(2, 300) } else { 1 };
+            self.call(Call::add(slot, packet, times as u16));
+        }
+        if self.rng.once_in(4) {
+            self.spoil_tail(packet);
+        }
+        let to = if self.odd() { self.rng.below(self.n + 1) as u8 } else { to };
+        self.take_packet(to, packet);
+    }
+
+    /// Cuts some bytes off a packet, or puts some behind it of which the first is no kind.
+    fn spoil_tail(&mut self, packet: u8) {
+        let held = self.world.packet(packet).to_vec();
+        if self.rng.once_in(2) {
+            let length = held.len().saturating_sub(self.rng.between(1, MESSAGE as usize));
+            self.call(Call::poke_packet(packet, 0, held.first().copied().unwrap_or(FRESH), length as u16));
+            return;
+        }
+        let first = self.rng.pick(&[0, 1, 2, 3, 6, 9, 255]);
+        let tail = (0..self.rng.between(1, 8)).map(|at| if at == 0 { first } else { self.rng.below(9) as u8 });
+        let tail: Vec<u8> = tail.collect();
+        for (at, byte) in (held.len()..PACKET).zip(tail) {
+            self.call(Call::poke_packet(packet, at as u16, byte, at as u16 + 1));
+        }
+    }
+
+    /// Has a packet taken: as a whole, or message by message with repeats passed over, or at places where no message begins.
+    fn take_packet(&mut self, end: u8, packet: u8) {
+        if !literal::messages(self.world.packet(packet)).iter().all(|message| self.is_honest(message)) {
+            return;
+        }
+        match self.rng.below(6) {
+            0 | 1 => self.walk(end, packet),
+            2 if self.odd() => self.take_odd(end, packet),
+            _ => _ = self.call_and_look(Call::take_packet(end, packet)),
+        }
+    }
+
+    /// Takes the messages of a packet by their offsets, up to the first that is refused and no repeat.
+    fn walk(&mut self, end: u8, packet: u8) {
+        let held = self.world.packet(packet).to_vec();
+        let mut offset = 0;
+        while offset < held.len() {
+            if !matches!(self.call_and_look(Call::take_at(end, packet, offset)), 0 | 5) {
+                break;
+            }
+            offset += literal::first(&held[offset..]).len();
+        }
+    }
+
+    /// Takes what stands at an offset where no message begins, or past the packet's end.
+    fn take_odd(&mut self, end: u8, packet: u8) {
+        let held = self.world.packet(packet).to_vec();
+        let within = self.rng.below(held.len() + 2);
+        let offset = self.rng.pick(&[within, held.len(), held.len() + 256, held.len() + 65_536, 0x0101_0101 << 32, usize::MAX]);
+        if self.is_honest(literal::first(held.get(offset..).unwrap_or_default())) {
+            self.call_and_look(Call::take_at(end, packet, offset));
+        }
+    }
+
     fn acknowledge(&mut self) {
         let (l, up, slot, room) = (self.line() as u8, self.rng.once_in(2), self.slot(), self.room());
         self.call_and_look(Call::acknowledge(if up { l } else { 0 }, l, slot, room));
@@ -225,11 +357,11 @@ impl Run {
     fn nonsense(&mut self) {
         let (end, slot) = (self.rng.below(LINES + 1) as u8, self.slot());
         let line = self.rng.below(LINES + 2) as u8;
-        let call = match self.rng.below(13) {
+        let call = match self.rng.below(16) {
             0 => Call::insert(end.max(1), 1, 5),
             1 => Call::send(end, line, 1, slot, 20),
             2 => Call::acknowledge(end, line, slot, 20),
-            3 => Call { op: self.rng.between(TAKE_BACK as usize + 1, 255) as u8, ..Call::dump(end) },
+            3 => Call { op: self.rng.between(SHOW_PACKET as usize + 1, 255) as u8, ..Call::dump(end) },
             4 => Call::insert(0, 1, 5),
             5 => Call::take(end, slot | 64),
             6 => Call::acknowledge(end, line, slot, SLOT as u8 + 1),
@@ -237,11 +369,17 @@ impl Run {
             8 | 11 => self.refused_opening(end),
             9 => Call::take_back(end.max(1)),
             10 => Call::take_back(0),
+            12 => Call::pack(end, line, slot % PACKETS as u8, self.rng.below(40) as u16, self.rng.below(40)),
+            13 => self.badly_sized(end, slot % PACKETS as u8),
+            14 => Call::take_packet(end, PACKETS as u8 + slot),
             _ => {
                 // a byte changed so that the slot most likely holds no message
                 let (at, length) = (self.rng.below(3) as u16, self.world.message(slot).len() as u8);
                 let byte = self.rng.pick(&[0, 9, 77, 255]);
                 self.call(Call::poke(slot, at, byte, length));
+                if !self.is_honest(self.world.message(slot)) {
+                    self.call(Call::poke(slot, 0, byte, length));
+                }
                 let end = self.rng.below(self.n + 1) as u8;
                 Call::take(end, slot)
             }
@@ -250,6 +388,15 @@ impl Run {
         if call.op == TAKE && self.rng.once_in(2) {
             self.call(Call::poke(slot, 0, 0, 0));
         }
+    }
+
+    /// Taking a packet that has no bytes, or more than a packet may have, or one that is small in 16 bits.
+    fn badly_sized(&mut self, end: u8, packet: u8) -> Call {
+        let number = self.rng.pick(&[0, 0, 0, 6, 256]);
+        let length = if number == 6 { 0 } else { self.rng.pick(&[0, LONGEST_PACKET as u16 + 1, PACKET as u16]) };
+        self.call(Call::poke_packet(packet, 0, 4, length));
+        let call = if self.rng.once_in(2) { Call::take_packet(end, packet) } else { Call::take_at(end, packet, self.rng.below(3)) };
+        Call { number, ..call }
     }
 
     /// An opening that question 1 refuses, or with a cut item, or that question 16 refuses, at an end that may be open. Half of those that

@@ -120,7 +120,28 @@ impl Run {
         self.give(1, &bytes);
         let end = if up { 0 } else { l as u8 };
         self.call(Call::dump(end));
-        self.call(Call::take(end, 1));
+        if self.rng.below(3) > 0 {
+            self.call(Call::take(end, 1));
+        } else {
+            self.forge_packet(end);
+        }
         self.call(Call::dump(end));
+    }
+
+    /// The forged message in a packet among others, or twice, which is taken as a whole or at any offset.
+    fn forge_packet(&mut self, end: u8) {
+        let packet = self.rng.below(PACKETS) as u8;
+        let length = self.rng.pick(&[0, 0, 0, LONGEST_PACKET as u16 - 17]);
+        self.call(Call::poke_packet(packet, 0, 4, length));
+        for _ in 0..self.rng.between(1, 4) {
+            let slot = if self.rng.once_in(2) { 1 } else { self.rng.below(SLOTS) as u8 };
+            self.call(Call::add(slot, packet, 1));
+        }
+        if self.rng.once_in(3) {
+            let offset = self.rng.below(40);
+            self.call(Call::take_at(end, packet, offset));
+        } else {
+            self.call(Call::take_packet(end, packet));
+        }
     }
 }

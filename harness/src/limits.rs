@@ -9,3 +9,5 @@ pub const INSERTS: u16 = 48;
 pub const EDITS: u16 = 400;
 /// Edits of the seven other clients; also the highest number coming down.
 pub const OTHERS: u16 = 2800;
+/// Bytes of the longest packet that is taken.
+pub const LONGEST_PACKET: usize = 1400;

@@ -12,14 +12,18 @@ pub const MESSAGE: u8 = 17;
 pub const FRESH: u8 = 170;
 /// Bytes past the layout that a call may lend.
 pub const SPARE: usize = 40;
-/// A message with a tail has this many bytes more, times the call's number.
+/// A message or a packet with a tail has this many bytes more, times the call's number.
 pub const TAIL: usize = 256;
+pub const PACKETS: usize = 4;
+/// Bytes of a buffer for packets: more than the longest that is taken, and an odd number.
+pub const PACKET: usize = 1411;
 const CALL: usize = 16;
 const MAGIC: &[u8; 8] = b"calls 2\n";
 
-/// An answer: the 8 bytes of the exported call's number, and one that says which bytes it changed that had to stay.
+/// An answer: the 8 bytes of the exported call's number, and one that says what did not hold: bytes that had to stay, the law of packets.
 pub const ANSWER: usize = 9;
 const SHOWN: usize = 1 + SLOT;
+const PACKET_SHOWN: usize = 2 + PACKET;
 /// The refusal of what is no call.
 pub const NO_CALL: u8 = 255;
 
@@ -36,6 +40,12 @@ pub const SHOW: u8 = 9;
 pub const FILL: u8 = 10;
 pub const COPY: u8 = 11;
 pub const TAKE_BACK: u8 = 12;
+pub const PACK: u8 = 13;
+pub const TAKE_PACKET: u8 = 14;
+pub const TAKE_AT: u8 = 15;
+pub const ADD: u8 = 16;
+pub const POKE_PACKET: u8 = 17;
+pub const SHOW_PACKET: u8 = 18;
 
 #[derive(Clone, Copy, PartialEq, Eq, Debug, Default)]
 pub struct Call {
@@ -93,6 +103,44 @@ impl Call {
         Call { op: TAKE, end, slot, ..Call::default() }
     }
 
+    /// Into the first `room` bytes of a packet.
+    pub fn pack(end: u8, line: u8, packet: u8, room: u16, offset: usize) -> Call {
+        Call { op: PACK, end, line, slot: packet, position: room, ..Call::default() }.at(offset)
+    }
+
+    pub fn take_packet(end: u8, packet: u8) -> Call {
+        Call { op: TAKE_PACKET, end, slot: packet, ..Call::default() }
+    }
+
+    pub fn take_at(end: u8, packet: u8, offset: usize) -> Call {
+        Call { op: TAKE_AT, end, slot: packet, ..Call::default() }.at(offset)
+    }
+
+    /// The same call at another offset. Its upper four bytes are alike.
+    pub fn at(self, offset: usize) -> Call {
+        let call = Call { value: offset as u32, size: (offset >> 32) as u8, ..self };
+        debug_assert_eq!(call.offset(), offset);
+        call
+    }
+
+    /// The offset of a packet's call: the value, and in each of the four bytes above it the size.
+    pub fn offset(&self) -> usize {
+        self.value as usize | (self.size as usize * 0x0101_0101) << 32
+    }
+
+    /// The message in a slot goes behind what a packet holds, so many times.
+    pub fn add(slot: u8, packet: u8, times: u16) -> Call {
+        Call { op: ADD, slot, number: times, size: packet, ..Call::default() }
+    }
+
+    pub fn poke_packet(packet: u8, index: u16, byte: u8, length: u16) -> Call {
+        Call { op: POKE_PACKET, slot: packet, number: index, position: length, value: byte as u32, ..Call::default() }
+    }
+
+    pub fn show_packet(packet: u8) -> Call {
+        Call { op: SHOW_PACKET, slot: packet, ..Call::default() }
+    }
+
     pub fn poke(slot: u8, index: u16, byte: u8, length: u8) -> Call {
         Call { op: POKE, slot, number: index, value: byte as u32, size: length, ..Call::default() }
     }
@@ -148,7 +196,22 @@ impl Call {
 
     /// Whether this is one of the exported calls.
     pub fn exported(&self) -> bool {
-        matches!(self.op, OPEN | INSERT | DELETE | SEND | ACKNOWLEDGE | TAKE | TAKE_BACK)
+        matches!(self.op, OPEN | INSERT | DELETE | SEND | ACKNOWLEDGE | TAKE | TAKE_BACK) || self.is_of_packet()
+    }
+
+    /// Whether this is one of those that write or take packets.
+    pub fn is_of_packet(&self) -> bool {
+        matches!(self.op, PACK | TAKE_PACKET | TAKE_AT)
+    }
+
+    /// Whether this call writes messages and changes no end.
+    pub fn sends(&self) -> bool {
+        matches!(self.op, SEND | ACKNOWLEDGE | PACK)
+    }
+
+    /// Whether this call takes one message.
+    pub fn takes_one(&self) -> bool {
+        matches!(self.op, TAKE | TAKE_AT)
     }
 
     /// Whether this is a client's edit.
@@ -158,22 +221,27 @@ impl Call {
 
     /// Whether the call names an end.
     pub fn has_end(&self) -> bool {
-        !matches!(self.op, POKE | SHOW)
+        !matches!(self.op, POKE | SHOW | ADD | POKE_PACKET | SHOW_PACKET)
     }
 
     /// Whether everything that the call names is there.
     pub fn is_one(&self) -> bool {
-        let of_slot = matches!(self.op, SEND | ACKNOWLEDGE | TAKE | POKE | SHOW);
+        let of_slot = matches!(self.op, SEND | ACKNOWLEDGE | TAKE | POKE | SHOW | ADD);
+        let of_packet = self.is_of_packet() || matches!(self.op, POKE_PACKET | SHOW_PACKET);
         let sized = matches!(self.op, SEND | ACKNOWLEDGE | POKE);
-        self.op <= TAKE_BACK
+        self.op <= SHOW_PACKET
             && (!self.has_end() || self.end as usize <= LINES)
             && !(self.edits() && self.end == 0)
             && !(of_slot && self.slot as usize >= SLOTS)
+            && !(of_packet && self.slot as usize >= PACKETS)
             && !(sized && self.size as usize > SLOT)
             && match self.op {
                 OPEN => self.slot < 4,
-                TAKE => self.number as usize <= TAIL,
+                TAKE | TAKE_PACKET | TAKE_AT => self.number as usize <= TAIL,
                 POKE => (self.number as usize) < SLOT,
+                PACK => self.position as usize <= PACKET,
+                ADD => (self.size as usize) < PACKETS,
+                POKE_PACKET => (self.number as usize) < PACKET && self.position as usize <= PACKET,
                 SET => (self.number as usize) < layout::words(self.end),
                 COPY => self.line as usize <= LINES && (self.line == 0) == (self.end == 0),
                 _ => true,
@@ -187,17 +255,20 @@ impl Call {
             _ if !self.is_one() => ANSWER,
             DUMP => ANSWER + layout::bytes(self.end),
             SHOW => ANSWER + SHOWN,
+            SHOW_PACKET => ANSWER + PACKET_SHOWN,
             _ => ANSWER,
         }
     }
 }
 
-/// Bytes that a call changed and that had to stay, in an answer's last byte: the end's, by a refused call or by a sending.
+/// Bytes that a call changed and that had to stay, in an answer's last byte: the end's, by a call that took or made nothing.
 pub const END: u8 = 1;
 /// Those around the layout, lent or not.
 pub const AROUND: u8 = 2;
-/// The slot's: those past a message that was written, else any.
+/// The slot's or the packet's: those outside what was written.
 pub const OUT: u8 = 4;
+/// There too: a call on a packet does otherwise than the calls on its messages, one after another.
+pub const LAW: u8 = 8;
 
 /// An exported call's answer taken apart.
 #[derive(Clone, Copy, PartialEq, Eq, Debug, Default)]
@@ -208,21 +279,21 @@ pub struct Answer {
     /// The position of the edit that a taking took, in its message and as it was applied; 0 for nothing.
     pub arrived: u16,
     pub applied: u16,
-    /// The bits past these.
-    pub rest: u8,
+    /// The bytes of the message that was taken out of a packet by its offset.
+    pub read: u8,
 }
 
 impl Answer {
     /// From the first 8 bytes.
     pub fn of(bytes: &[u8]) -> Answer {
         let two = |at: usize| u16::from_le_bytes([bytes[at], bytes[at + 1]]);
-        Answer { refusal: bytes[0], count: two(1), arrived: two(3), applied: two(5), rest: bytes[7] }
+        Answer { refusal: bytes[0], count: two(1), arrived: two(3), applied: two(5), read: bytes[7] }
     }
 
-    /// The number: refusal in bits 0 to 7, count in 8 to 23, positions in 24 to 39 and 40 to 55.
+    /// The number: refusal in bits 0 to 7, count in 8 to 23, positions in 24 to 39 and 40 to 55, the message's bytes in 56 to 63.
     pub fn number(&self) -> u64 {
         let [count, arrived, applied] = [self.count, self.arrived, self.applied].map(u64::from);
-        self.refusal as u64 | count << 8 | arrived << 24 | applied << 40 | (self.rest as u64) << 56
+        self.refusal as u64 | count << 8 | arrived << 24 | applied << 40 | (self.read as u64) << 56
     }
 }
 
@@ -300,8 +371,15 @@ mod tests {
 
     #[test]
     fn answers() {
-        let answer = Answer { refusal: 1, count: 0x0203, arrived: 0x0405, applied: 0x0607, rest: 8 };
+        let answer = Answer { refusal: 1, count: 0x0203, arrived: 0x0405, applied: 0x0607, read: 8 };
         assert_eq!(answer.number(), 0x08_0607_0405_0203_01);
         assert_eq!(Answer::of(&answer.number().to_le_bytes()), answer);
+    }
+
+    #[test]
+    fn offsets() {
+        for offset in [0, 3, 1 << 16, u32::MAX as usize, 0x0101_0101_0000_0003, usize::MAX - 4, usize::MAX] {
+            assert_eq!(Call::take_at(0, 0, offset).offset(), offset);
+        }
     }
 }

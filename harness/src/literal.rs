@@ -50,6 +50,27 @@ fn layout(kind: u8) -> Option<&'static [(&'static str, usize)]> {
     }
 }
 
+/// How many bytes a message of that kind has, the kind's byte included.
+fn length(kind: u8) -> Option<usize> {
+    Some(1 + layout(kind)?.iter().map(|field| field.1).sum::<usize>())
+}
+
+/// The message at the front of a packet's bytes. A byte that is no kind, and a message that is cut off, take the rest.
+pub fn first(bytes: &[u8]) -> &[u8] {
+    let length = bytes.first().and_then(|&kind| length(kind));
+    &bytes[..length.unwrap_or(bytes.len()).min(bytes.len())]
+}
+
+/// The messages of a packet, one behind the other.
+pub fn messages(packet: &[u8]) -> Vec<&[u8]> {
+    let (mut all, mut rest) = (Vec::new(), packet);
+    while !rest.is_empty() {
+        all.push(first(rest));
+        rest = &rest[first(rest).len()..];
+    }
+    all
+}
+
 fn in_range(name: &str, value: u64, up: bool) -> bool {
     match name {
         "line" | "priority" | "maker" => (1..=8).contains(&value),
@@ -65,7 +86,6 @@ fn in_range(name: &str, value: u64, up: bool) -> bool {
 /// Exactly one message with its fields in range, or none.
 pub fn read(bytes: &[u8]) -> Option<Message> {
     let fields = layout(*bytes.first()?)?;
-    let mut at = 1;
     let value = |name: &str| -> Option<u64> {
         let mut at_field = 1;
         for &(field, width) in fields {
@@ -77,10 +97,7 @@ pub fn read(bytes: &[u8]) -> Option<Message> {
         }
         None
     };
-    for &(_, width) in fields {
-        at += width;
-    }
-    if bytes.len() != at {
+    if Some(bytes.len()) != length(bytes[0]) {
         return None;
     }
     let up = value("direction")? == 0;
@@ -105,7 +122,7 @@ pub fn read(bytes: &[u8]) -> Option<Message> {
 #[cfg(test)]
 mod tests {
     use super::*;
-    use crate::plain::{codec, slip::Plain};
+    use crate::plain::{codec, packets, slip::Plain};
     use crate::rng::Rng;
 
     #[test]
@@ -124,6 +141,22 @@ mod tests {
         let nothing = Numbered { edit: Edit::Nothing, ..delete };
         let bytes = [8, 2, 1, 1, 44, 0, 5, 3, 1, 1];
         assert_eq!(write(&Message { line: 2, direction: 1, numbered: Some(nothing), seen: 5 }), bytes);
+    }
+
+    #[test]
+    fn packets() {
+        let ack = [4, 2, 1, 0, 3];
+        let nothing = [8, 2, 1, 1, 44, 0, 5, 3, 1, 1];
+        let both = [&nothing[..], &ack].concat();
+        assert_eq!(messages(&both), [&nothing[..], &ack]);
+        assert_eq!(messages(&both[..14]), [&nothing[..], &ack[..4]]);
+        assert_eq!(messages(&[&ack[..], &[6], &ack].concat()), [&ack[..], &[6, 4, 2, 1, 0, 3]]);
+        assert_eq!(messages(&[]), Vec::<&[u8]>::new());
+        assert_eq!(first(&[]), []);
+        for (kind, length) in [(4, 5), (5, 17), (7, 12), (8, 10)] {
+            assert_eq!(first(&[kind; 40]).len(), length);
+            assert_eq!(packets::next_size(&[kind; 40]), length);
+        }
     }
 
     /// Kinds 1 to 3 are no longer messages, nor are 6 and those above 8.

@@ -18,6 +18,7 @@ mod forged;
 mod form;
 mod generate;
 mod hostile;
+mod law;
 mod layout;
 mod limits;
 mod list;
@@ -25,6 +26,7 @@ mod literal;
 mod mutants;
 mod openings;
 mod oracle;
+mod packets;
 mod plain;
 #[cfg(feature = "proved")]
 mod proved;

@@ -93,6 +93,10 @@ fn called(end: u8, sound: bool) -> List {
     let mut calls =
         vec![Call::take(end, slot), Call::take(end, 3), Call::send(end, line, number, 5, MESSAGE), Call::send(end, line, 1, 5, 0)];
     calls.extend([Call::acknowledge(end, line, 5, 5), Call::acknowledge(end, 9, 5, 5), Call::acknowledge(end, line, 5, 4)]);
+    // packet 0 has the message twice, packet 1 nothing
+    list.calls.push(Call::add(slot, 0, 2));
+    calls.extend([Call::take_packet(end, 0), Call::take_at(end, 0, 0), Call::take_packet(end, 1), Call::take_at(end, 1, 0)]);
+    calls.extend([Call::pack(end, line, 2, PACKET as u16, 3), Call::pack(end, 9, 2, 3, 3), Call::pack(end, line, 2, 3, 3)]);
     if end != 0 {
         calls.extend([Call::insert(end, 1, 7), Call::insert(end, 0, 7), Call::delete(end, 1), Call::delete(end, 99)]);
     }

@@ -20,6 +20,9 @@ extern "C" {
     fn lub_client_send(end: *const u8, bytes: usize, line: u8, number: u16, out: *mut u8, out_bytes: usize) -> u64;
     fn lub_client_acknowledge(end: *const u8, bytes: usize, line: u8, out: *mut u8, out_bytes: usize) -> u64;
     fn lub_client_take(end: *mut u8, bytes: usize, message: *const u8, message_bytes: usize) -> u64;
+    fn lub_client_pack(end: *const u8, bytes: usize, line: u8, out: *mut u8, out_bytes: usize, offset: usize) -> u64;
+    fn lub_client_take_packet(end: *mut u8, bytes: usize, packet: *const u8, packet_bytes: usize) -> u64;
+    fn lub_client_take_at(end: *mut u8, bytes: usize, packet: *const u8, packet_bytes: usize, offset: usize) -> u64;
     fn lub_server_open(
         end: *mut u8,
         bytes: usize,
@@ -32,6 +35,9 @@ extern "C" {
     fn lub_server_send(end: *const u8, bytes: usize, line: u8, number: u16, out: *mut u8, out_bytes: usize) -> u64;
     fn lub_server_acknowledge(end: *const u8, bytes: usize, line: u8, out: *mut u8, out_bytes: usize) -> u64;
     fn lub_server_take(end: *mut u8, bytes: usize, message: *const u8, message_bytes: usize) -> u64;
+    fn lub_server_pack(end: *const u8, bytes: usize, line: u8, out: *mut u8, out_bytes: usize, offset: usize) -> u64;
+    fn lub_server_take_packet(end: *mut u8, bytes: usize, packet: *const u8, packet_bytes: usize) -> u64;
+    fn lub_server_take_at(end: *mut u8, bytes: usize, packet: *const u8, packet_bytes: usize, offset: usize) -> u64;
     fn lub_client_bytes() -> u64;
     fn lub_server_bytes() -> u64;
     fn lub_run(input: *const u8, input_bytes: usize, out: *mut u8, out_bytes: usize) -> u64;
@@ -73,6 +79,18 @@ impl Calls for Proved {
         unsafe { lub_client_take(end.as_mut_ptr(), end.len(), message.as_ptr(), message.len()) }
     }
 
+    fn client_pack(&self, end: &[u8], line: u8, out: &mut [u8], offset: usize) -> u64 {
+        unsafe { lub_client_pack(end.as_ptr(), end.len(), line, out.as_mut_ptr(), out.len(), offset) }
+    }
+
+    fn client_take_packet(&self, end: &mut [u8], packet: &[u8]) -> u64 {
+        unsafe { lub_client_take_packet(end.as_mut_ptr(), end.len(), packet.as_ptr(), packet.len()) }
+    }
+
+    fn client_take_at(&self, end: &mut [u8], packet: &[u8], offset: usize) -> u64 {
+        unsafe { lub_client_take_at(end.as_mut_ptr(), end.len(), packet.as_ptr(), packet.len(), offset) }
+    }
+
     fn server_open(&self, end: &mut [u8], n: u8, ranks: &[u8], items: &[u8]) -> u64 {
         unsafe { lub_server_open(end.as_mut_ptr(), end.len(), n, ranks.as_ptr(), ranks.len(), items.as_ptr(), items.len()) }
     }
@@ -87,6 +105,18 @@ impl Calls for Proved {
 
     fn server_take(&self, end: &mut [u8], message: &[u8]) -> u64 {
         unsafe { lub_server_take(end.as_mut_ptr(), end.len(), message.as_ptr(), message.len()) }
+    }
+
+    fn server_pack(&self, end: &[u8], line: u8, out: &mut [u8], offset: usize) -> u64 {
+        unsafe { lub_server_pack(end.as_ptr(), end.len(), line, out.as_mut_ptr(), out.len(), offset) }
+    }
+
+    fn server_take_packet(&self, end: &mut [u8], packet: &[u8]) -> u64 {
+        unsafe { lub_server_take_packet(end.as_mut_ptr(), end.len(), packet.as_ptr(), packet.len()) }
+    }
+
+    fn server_take_at(&self, end: &mut [u8], packet: &[u8], offset: usize) -> u64 {
+        unsafe { lub_server_take_at(end.as_mut_ptr(), end.len(), packet.as_ptr(), packet.len(), offset) }
     }
 
     fn client_bytes(&self) -> u64 {

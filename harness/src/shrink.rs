@@ -1,6 +1,6 @@
 //! Shorter lists of calls that still fail. What may be tried is counted in calls, never in seconds: every machine finds the same list.
 
-use crate::list::{Call, List, ACKNOWLEDGE, DELETE, DUMP, INSERT, MESSAGE, SEND, SHOW};
+use crate::list::{Call, List, ACKNOWLEDGE, DELETE, DUMP, INSERT, MESSAGE, PACK, PACKET, SEND, SHOW, SHOW_PACKET};
 use crate::rankings;
 
 /// Whether a list still fails, asked until so many calls were run.
@@ -37,7 +37,7 @@ pub fn shrink(list: &List, calls: usize, fails: &dyn Fn(&List) -> bool) -> List 
     let mut bare = list.clone();
     let last = list.calls.len() - 1;
     let mut index = 0..;
-    bare.calls.retain(|call| index.next() == Some(last) || !matches!(call.op, DUMP | SHOW));
+    bare.calls.retain(|call| index.next() == Some(last) || !matches!(call.op, DUMP | SHOW | SHOW_PACKET));
     tries.betters(&mut best, bare);
     fewer_calls(&mut best, &mut tries);
     fewer_lines(&mut best, &mut tries);
@@ -108,6 +108,7 @@ fn plainer(best: &mut List, tries: &mut Tries) {
         attempt(&|call| call.lent = 0);
         attempt(&|call| match call.op {
             SEND | ACKNOWLEDGE => call.size = MESSAGE,
+            PACK => call.position = PACKET as u16,
             INSERT if call.value > 1000 => call.value = index as u32,
             _ => {}
         });

@@ -2,7 +2,7 @@
 //! when 18, 1 and 16 are given, that a refusal changes nothing, that a taking changes the list at the position applied, and that taking back right
 //! after an edit leaves the items as they were before it.
 
-use crate::describe::had_to_stay;
+use crate::describe::broken;
 use crate::layout::{self, Field};
 use crate::limits::*;
 use crate::list::*;
@@ -289,15 +289,18 @@ fn seen(known: &mut Known, call: &Call, now: &[u8]) -> Result<(), String> {
     Ok(())
 }
 
-/// What an answer says beside its refusal: nothing at one; positions at a taking alone, at most 512, which differ by at most one for each pending
-/// edit passed unless the edit is gone past one of them.
+/// What an answer says beside its refusal: nothing at one, but for the messages of a packet that were taken before it; positions at the taking of
+/// one message alone, at most 512, which differ by at most one for each pending edit passed unless the edit is gone past one of them; how long
+/// the message is only if it was taken at an offset.
 fn said(call: &Call, answer: Answer) -> Result<(), String> {
-    let Answer { refusal, count, arrived, applied, rest } = answer;
+    let Answer { refusal, count, arrived, applied, read } = answer;
     let far = arrived.abs_diff(applied);
+    let counts = refusal == 0 || call.op == TAKE_PACKET;
+    let sized = if refusal == 0 && call.op == TAKE_AT { matches!(read, 5 | 10 | 12 | 17) } else { read == 0 };
     let expected = match () {
-        _ if refusal != 0 && answer != (Answer { refusal, ..Answer::default() }) => "no count and no positions at a refusal",
-        _ if call.op != TAKE && (arrived, applied) != (0, 0) => "no positions",
-        _ if rest != 0 => "no bit past the positions",
+        _ if !counts && count != 0 => "no count at a refusal",
+        _ if !(refusal == 0 && call.takes_one()) && (arrived, applied) != (0, 0) => "no positions",
+        _ if !sized => "the length of a message that is taken at an offset, and else none",
         _ if arrived as usize > ITEMS || applied as usize > ITEMS => "positions of at most 512",
         _ if arrived == 0 && applied != 0 => "no position applied of an edit that arrived without one",
         _ if (applied != 0 && far > count) || (applied == 0 && arrived != 0 && count == 0) => "positions that so many moves explain",
@@ -310,7 +313,7 @@ fn called(known: &mut Known, call: &Call, initial: &[u32], bytes: &[u8]) -> Resu
     let answer = Answer::of(bytes);
     let refusal = answer.refusal;
     if bytes[ANSWER - 1] != 0 {
-        return Err(format!("changed that had to stay: expected no byte; came {}", had_to_stay(bytes[ANSWER - 1])));
+        return Err(format!("broken: expected nothing; came {}", broken(bytes[ANSWER - 1])));
     }
     said(call, answer)?;
     let unsound = known.end.as_ref().map(|end| !end.1);
@@ -319,6 +322,7 @@ fn called(known: &mut Known, call: &Call, initial: &[u32], bytes: &[u8]) -> Resu
         _ if call.lent < 0 => refusal == 18,
         _ if call.op == OPEN => opening == Some(refusal),
         1 | 16 | 18 => false,
+        15 if !call.is_of_packet() => false,
         _ => unsound.is_none_or(|unsound| unsound == (refusal == 2)),
     };
     if !wanted {
@@ -327,19 +331,20 @@ fn called(known: &mut Known, call: &Call, initial: &[u32], bytes: &[u8]) -> Resu
             _ if call.lent < 0 => "18".to_string(),
             Some(refusal) => refusal.to_string(),
             _ if unsound == Some(true) => "2".to_string(),
-            _ => "none of 1, 2, 16, 18".to_string(),
+            _ => "none of 1, 2, 16, 18, and 15 of a packet alone".to_string(),
         };
         return Err(format!("refusal: expected {expected}; came {refusal} (the end is {state})"));
     }
     if refusal == 0 && call.op == OPEN {
         *known = Known { end: Some((opened(call, initial), true)), ..Known::default() };
     }
-    if refusal == 0 && (call.edits() || call.op == TAKE) {
+    let took = (call.op == TAKE_PACKET && answer.count != 0) || (refusal == 0 && call.takes_one());
+    if took || (refusal == 0 && call.edits()) {
         let dumped = known.end.as_ref().filter(|_| known.since == Since::Nothing).map(|(bytes, _)| items(call.end, bytes));
         let shown = known.back.take().or(dumped);
         known.back = known.before.take().filter(|_| call.op == TAKE_BACK);
         known.before = shown.filter(|_| call.edits());
-        let first = known.since == Since::Nothing && call.op == TAKE;
+        let first = known.since == Since::Nothing && call.takes_one();
         known.since = if first { Since::Taking(answer.applied) } else { Since::More };
     }
     Ok(())

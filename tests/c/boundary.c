@@ -1,6 +1,6 @@
 /* The exported calls from C: the marked cases of the rule book, its edges, ranks, origins, running times, the positions that a taking
- * reports, taking back, and the refusals 1, 2, 3, 4, 14, 16, 17 and 18, with every lent byte compared before and after. Prints what differs and returns 1,
- * or prints how many comparisons were made. */
+ * reports, taking back, packets, and the refusals 1, 2, 3, 4, 14, 15, 16, 17 and 18, with every lent byte compared before and after. Prints
+ * what differs and returns 1, or prints how many comparisons were made. */
 #include <stdio.h>
 #include <string.h>
 
@@ -30,15 +30,18 @@ static void same_bytes(const char *what, const uint8_t *expected, const uint8_t 
 #define REST 16u
 #define MARK 0xa5u
 #define BUFFER 20u
+#define PACKET (LUB_PACKET_BYTES + 11u)
 
 static uint8_t server[LUB_SERVER_BYTES + REST];
 static uint8_t clients[LUB_LINES][LUB_CLIENT_BYTES + REST];
 static uint8_t out[BUFFER];
+static uint8_t packet[PACKET];
 
 /* The same before a call, to compare with what it leaves. */
 static uint8_t server_before[sizeof server];
 static uint8_t client_before[sizeof clients[0]];
 static uint8_t out_before[BUFFER];
+static uint8_t packet_before[PACKET];
 
 static uint8_t *client(unsigned line) { return clients[line - 1]; }
 
@@ -274,12 +277,14 @@ static void remember(unsigned line) {
     memcpy(client_before, client(line), sizeof client_before);
     memset(out, MARK, sizeof out);
     memcpy(out_before, out, sizeof out);
+    memcpy(packet_before, packet, sizeof packet);
 }
 
 static void nothing_changed(const char *what, unsigned line) {
     same_bytes(what, server_before, server, sizeof server);
     same_bytes(what, client_before, client(line), sizeof client_before);
     same_bytes(what, out_before, out, sizeof out);
+    same_bytes(what, packet_before, packet, sizeof packet);
 }
 
 static void refused(const char *what, unsigned line, unsigned refusal, uint64_t answer) {
@@ -402,6 +407,7 @@ static void answers(void) {
     same("bits 8 to 23", 0x8765, lub_count(answer));
     same("bits 24 to 39", 0xfedc, lub_arrived(answer));
     same("bits 40 to 55", 0x1234, lub_applied(answer));
+    same("bits 56 to 63", 0x5a, lub_read(answer));
     same("of an edit taken", 3, lub_count(edit_taken(3, 511, 512)));
     same("of an edit taken", 511, lub_arrived(edit_taken(3, 511, 512)));
     same("of an edit taken", 512, lub_applied(edit_taken(3, 511, 512)));
@@ -1027,6 +1033,9 @@ static void client_refuses(const char *what, size_t word, uint32_t value, const 
     refused(what, 1, LUB_REFUSED_UNSOUND, lub_client_acknowledge(client(1), sizeof clients[0], 1, out, sizeof out));
     refused(what, 1, LUB_REFUSED_UNSOUND, lub_client_take(client(1), sizeof clients[0], message, length));
     refused(what, 1, LUB_REFUSED_UNSOUND, lub_client_take(client(1), sizeof clients[0], message, 0));
+    refused(what, 1, LUB_REFUSED_UNSOUND, lub_client_pack(client(1), sizeof clients[0], 1, packet, sizeof packet, 0));
+    refused(what, 1, LUB_REFUSED_UNSOUND, lub_client_take_packet(client(1), sizeof clients[0], message, length));
+    refused(what, 1, LUB_REFUSED_UNSOUND, lub_client_take_at(client(1), sizeof clients[0], message, length, 0));
     put_word(client(1), word, right);
 }
 
@@ -1038,6 +1047,9 @@ static void server_refuses(const char *what, size_t word, uint32_t value, const 
     refused(what, 1, LUB_REFUSED_UNSOUND, lub_server_acknowledge(server, sizeof server, 1, out, sizeof out));
     refused(what, 1, LUB_REFUSED_UNSOUND, lub_server_take(server, sizeof server, message, length));
     refused(what, 1, LUB_REFUSED_UNSOUND, lub_server_take(server, sizeof server, message, 0));
+    refused(what, 1, LUB_REFUSED_UNSOUND, lub_server_pack(server, sizeof server, 1, packet, sizeof packet, 0));
+    refused(what, 1, LUB_REFUSED_UNSOUND, lub_server_take_packet(server, sizeof server, message, length));
+    refused(what, 1, LUB_REFUSED_UNSOUND, lub_server_take_at(server, sizeof server, message, length, 0));
     put_word(server, word, right);
 }
 
@@ -1337,6 +1349,427 @@ static void damaged_inverses(void) {
     same("and it is taken back", 0, take_back(1));
 }
 
+/* ---- packets */
+
+/* The calls on packets at an end: 0 for the server's, else that client's. */
+static uint64_t pack(unsigned end, unsigned line, uint8_t *to, size_t length, size_t offset) {
+    if (end == 0)
+        return lub_server_pack(server, sizeof server, (uint8_t)line, to, length, offset);
+    return lub_client_pack(client(end), sizeof clients[0], (uint8_t)line, to, length, offset);
+}
+
+static uint64_t take(unsigned end, const uint8_t *message, size_t length) {
+    return end == 0 ? lub_server_take(server, sizeof server, message, length)
+                    : lub_client_take(client(end), sizeof clients[0], message, length);
+}
+
+static uint64_t take_packet(unsigned end, const uint8_t *bytes, size_t length) {
+    return end == 0 ? lub_server_take_packet(server, sizeof server, bytes, length)
+                    : lub_client_take_packet(client(end), sizeof clients[0], bytes, length);
+}
+
+static uint64_t take_at(unsigned end, const uint8_t *bytes, size_t length, size_t offset) {
+    return end == 0 ? lub_server_take_at(server, sizeof server, bytes, length, offset)
+                    : lub_client_take_at(client(end), sizeof clients[0], bytes, length, offset);
+}
+
+/* The answer of taking a packet: how many messages were taken, and the refusal of the next. */
+static uint64_t packet_taken(unsigned count, unsigned refusal) { return (uint64_t)count << 8 | refusal; }
+
+/* Line 1's client takes client 2's delete of an item that it has deleted as well: an insert, a delete and a nothing are then pending there.
+ * Once the server has taken them, they are pending on line 2. An acknowledgement stands behind each three. */
+static const uint8_t going_up[44] = {5, 1, 0, 0, 1, 0, 1, 0, 1, 0, 0, 0, 40, 1, 1, 0, 1, 7, 1, 0, 0, 2,
+                                     0, 1, 0, 2, 1, 0, 2, 8, 1, 0, 0, 3, 0, 1, 1, 0, 3, 4, 1, 0, 0, 1};
+static const uint8_t coming_down[44] = {5, 2, 1, 0, 1, 0, 1, 0, 1, 0, 0, 0, 40, 1, 1, 0, 1, 7, 2, 1, 0, 2,
+                                        0, 1, 0, 2, 1, 0, 2, 8, 2, 1, 0, 3, 0, 1, 1, 0, 3, 4, 2, 1, 0, 1};
+
+/* Where these messages begin, and where the last one ends. */
+static const size_t begin[5] = {0, 17, 29, 39, 44};
+
+/* Opens a sheet in which the three are pending, at client 1 or at the server for client 2. `packet` has marks alone. */
+static void three_pending(unsigned from) {
+    static const uint32_t opening[3] = {10, 20, 30};
+    open_sheet(2, opening, 3);
+    same("client 2 deletes", 0, delete_at(2, 2));
+    same("client 1 inserts", 0, insert(1, 1, 40));
+    same("client 1 deletes", 0, delete_at(1, 2));
+    same("client 1 deletes what client 2 deleted", 0, delete_at(1, 2));
+    same("client 2's goes up", 0, up(2, 1));
+    same("client 1 takes it", 0, down(1, 1));
+    if (from == 0)
+        same("the three go up", packet_taken(3, 0), take_packet(0, going_up, 39));
+    memset(packet, MARK, sizeof packet);
+}
+
+/* The three from every offset and into every room around their lengths: those that fit are written, and no other byte changes. */
+static void rooms(unsigned from, unsigned line, const uint8_t *bytes) {
+    static const size_t offsets[5] = {0, 1, 5, 30, 1300};
+    size_t i, offset, room;
+    unsigned fit;
+    three_pending(from);
+    for (i = 0; i < 5; i++) {
+        offset = offsets[i];
+        for (room = offset < 40 ? 0 : offset - 40; room <= offset + 41; room++) {
+            memset(packet, MARK, sizeof packet);
+            remember(1);
+            for (fit = 0; fit < 3 && offset + begin[fit + 1] <= room; fit++)
+                ;
+            if (fit > 0)
+                memcpy(packet_before + offset, bytes, begin[fit]);
+            same("a packet written", fit > 0 ? (uint64_t)begin[fit] << 8 : LUB_REFUSED_SHORT_BUFFER,
+                 pack(from, line, packet, room, offset));
+            nothing_changed("a packet written, and nothing else", 1);
+        }
+    }
+}
+
+/* Offsets at the end, past it, small in 8, 16 or 32 bits, and up to the highest there is. */
+static size_t far_offset(unsigned which, size_t length) {
+    static const size_t high = (size_t)-1;
+    switch (which) {
+    case 0: return length;
+    case 1: return length + 1;
+    case 2: return 1u << 8;
+    case 3: return (size_t)1 << 16;
+    case 4: return (size_t)0xffffffffu;
+    case 5: return high > 0xffffffffu ? (size_t)((uint64_t)1 << 32) : high;
+    case 6: return high / 2 + 1;
+    case 7: return high - LUB_PACKET_BYTES;
+    case 8: return high - 16;
+    case 9: return high - 1;
+    default: return high;
+    }
+}
+
+#define FAR_OFFSETS 11u
+
+/* Something is pending and there is no room: 14. Nothing is pending: 0. No byte changes either way. */
+static void far_offsets(unsigned from, unsigned line, unsigned other) {
+    size_t room;
+    unsigned i;
+    three_pending(from);
+    remember(1);
+    for (i = 0; i < FAR_OFFSETS; i++)
+        for (room = 0; room <= 60; room++) {
+            size_t offset = far_offset(i, room);
+            refused("no room", 1, LUB_REFUSED_SHORT_BUFFER, pack(from, line, packet, room, offset));
+            refused("4 comes before 14", 1, LUB_REFUSED_MISDIRECTED, pack(from, other, packet, room, offset));
+            refused("4 comes before 14", 1, LUB_REFUSED_MISDIRECTED, pack(from, 0, packet, room, offset));
+            refused("4 comes before 14", 1, LUB_REFUSED_MISDIRECTED, pack(from, 255, packet, room, offset));
+        }
+    open_sheet(2, NULL, 0);
+    remember(1);
+    for (i = 0; i < FAR_OFFSETS; i++)
+        for (room = 0; room <= 60; room += 20) {
+            refused("nothing is pending", 1, 0, pack(from, line, packet, room, far_offset(i, room)));
+            refused("nothing is pending", 1, 0, pack(from, line, packet, room, room / 2));
+            refused("and another line", 1, LUB_REFUSED_MISDIRECTED, pack(from, other, packet, room, far_offset(i, room)));
+        }
+}
+
+/* An end's bytes, to start from again. */
+static uint8_t kept_end[sizeof server];
+
+static uint8_t *end_of(unsigned end) { return end == 0 ? server : client(end); }
+
+static size_t size_of(unsigned end) { return end == 0 ? sizeof server : sizeof clients[0]; }
+
+/* The packet of three messages and an acknowledgement for an end, in `packet`; the end as it is before it takes them is kept. */
+static void arriving(unsigned end) {
+    three_pending(end == 0 ? 1 : 0);
+    memcpy(packet, end == 0 ? going_up : coming_down, sizeof going_up);
+    memcpy(kept_end, end_of(end), size_of(end));
+}
+
+static void start_again(unsigned end) { memcpy(end_of(end), kept_end, size_of(end)); }
+
+/* The client whose bytes are compared beside the server's. */
+static unsigned watched(unsigned end) { return end == 0 ? 1 : end; }
+
+/* Cut at every byte: the whole messages are taken, then 3. The end is as after these messages one by one. */
+static void cut_packets(unsigned end) {
+    static uint8_t by_packet[sizeof server];
+    size_t length;
+    unsigned whole, i;
+    arriving(end);
+    for (length = 0; length <= begin[4]; length++) {
+        for (whole = 0; whole < 4 && begin[whole + 1] <= length; whole++)
+            ;
+        start_again(end);
+        remember(watched(end));
+        same("a cut packet", length == 0 ? LUB_REFUSED_PACKET : packet_taken(whole, begin[whole] == length ? 0 : LUB_REFUSED_NO_MESSAGE),
+             take_packet(end, packet, length));
+        same_bytes("the packet stays", packet_before, packet, sizeof packet);
+        memcpy(by_packet, end_of(end), size_of(end));
+        start_again(end);
+        for (i = 0; i < whole; i++)
+            same("a message of it", 0, lub_refusal(take(end, packet + begin[i], begin[i + 1] - begin[i])));
+        same_bytes("as message by message", by_packet, end_of(end), size_of(end));
+        start_again(end);
+        for (i = 0; i < whole; i++)
+            same("a message by its offset", begin[i + 1] - begin[i], lub_read(take_at(end, packet, length, begin[i])));
+        same_bytes("as by offsets", by_packet, end_of(end), size_of(end));
+        if (length > 0)
+            same("what is left of it", LUB_REFUSED_NO_MESSAGE, take_at(end, packet, length, begin[whole]));
+        same_bytes("3 changes nothing", by_packet, end_of(end), size_of(end));
+    }
+}
+
+/* What stands at every byte of the packet, at its end and past it, while none of its messages was taken. */
+static void every_offset(unsigned end) {
+    static const unsigned refusals[4] = {0, LUB_REFUSED_GAP, LUB_REFUSED_GAP, 0};
+    size_t offset;
+    unsigned i, message;
+    arriving(end);
+    for (offset = 0; offset <= begin[4] + 2; offset++) {
+        for (message = 0; message < 4 && begin[message] != offset; message++)
+            ;
+        start_again(end);
+        remember(watched(end));
+        if (message == 4 || refusals[message] != 0)
+            refused("an offset", watched(end), message == 4 ? LUB_REFUSED_NO_MESSAGE : refusals[message],
+                    take_at(end, packet, begin[4], offset));
+        else {
+            size_t length = begin[message + 1] - offset;
+            uint64_t alone = take(end, packet + offset, length);
+            start_again(end);
+            same("as by itself, and its length", alone | (uint64_t)length << 56, take_at(end, packet, begin[4], offset));
+        }
+    }
+    start_again(end);
+    remember(watched(end));
+    for (i = 0; i < FAR_OFFSETS; i++)
+        refused("past the packet's end", watched(end), LUB_REFUSED_NO_MESSAGE, take_at(end, packet, begin[4], far_offset(i, begin[4])));
+    for (i = 0; i < 4; i++) {
+        same("the messages in their order", begin[i + 1] - begin[i], lub_message_length(packet, begin[4], begin[i]));
+        same("the messages in their order", begin[i + 1] - begin[i], lub_read(take_at(end, packet, begin[4], begin[i])));
+    }
+    remember(watched(end));
+    refused("no message is left", watched(end), LUB_REFUSED_NO_MESSAGE, take_at(end, packet, begin[4], begin[4]));
+    refused("the packet again", watched(end), LUB_REFUSED_REPEAT, take_packet(end, packet, begin[4]));
+}
+
+/* How long a message is, by its first byte. */
+static void message_lengths(void) {
+    unsigned kind;
+    size_t rest;
+    for (kind = 0; kind < 256; kind++)
+        for (rest = 0; rest <= 20; rest++) {
+            size_t length = kind == 4 ? 5 : kind == 5 ? 17 : kind == 7 ? 12 : kind == 8 ? 10 : rest;
+            packet[3] = (uint8_t)kind;
+            same("a message's length", length < rest ? length : rest, lub_message_length(packet, 3 + rest, 3));
+        }
+    same("past the end", 0, lub_message_length(packet, 3, 4));
+    same("past the end", 0, lub_message_length(packet, 3, (size_t)-1));
+}
+
+/* A byte that is no kind takes the rest of the packet: what stands before it is taken, what stands behind it is not. */
+static void unknown_kinds(unsigned end) {
+    unsigned kind;
+    arriving(end);
+    memmove(packet, packet + 39, 5);
+    for (kind = 0; kind < 256; kind++) {
+        if (kind == 4 || kind == 5 || kind == 7 || kind == 8)
+            continue;
+        start_again(end);
+        packet[5] = (uint8_t)kind;
+        memcpy(packet + 6, end == 0 ? going_up : coming_down, 39);
+        same("an acknowledgement, then no kind", packet_taken(1, LUB_REFUSED_NO_MESSAGE), take_packet(end, packet, 45));
+        same("the acknowledgement alone", 0, end == 0 ? lub_server_taken(server, 1) : lub_client_taken(client(end)));
+        remember(watched(end));
+        refused("no kind", watched(end), LUB_REFUSED_NO_MESSAGE, take_packet(end, packet + 5, 40));
+        refused("no kind", watched(end), LUB_REFUSED_NO_MESSAGE, take_at(end, packet, 45, 5));
+    }
+}
+
+/* Question 15: 1 to 1,400 bytes, asked after 2. Acknowledgements may be repeated. */
+static void packet_lengths(unsigned end) {
+    static const size_t wrong_ones[6] = {0, 1401, 1405, 65536, 65536 + 5, 65536 + 1400};
+    static uint8_t many[65536 + LUB_PACKET_BYTES];
+    size_t at, i;
+    arriving(end);
+    for (at = 0; at < sizeof many; at++)
+        many[at] = packet[39 + at % 5];
+    same("1,400 bytes: 280 messages", packet_taken(280, 0), take_packet(end, many, 1400));
+    same("1,395 bytes", packet_taken(279, 0), take_packet(end, many, 1395));
+    same("1,399 bytes: the last is cut", packet_taken(279, LUB_REFUSED_NO_MESSAGE), take_packet(end, many, 1399));
+    same("five bytes", packet_taken(1, 0), take_packet(end, many, 5));
+    same("the last of 1,400 bytes", (uint64_t)5 << 56, take_at(end, many, 1400, 1395));
+    remember(watched(end));
+    refused("one byte", watched(end), LUB_REFUSED_NO_MESSAGE, take_packet(end, many, 1));
+    refused("one byte", watched(end), LUB_REFUSED_NO_MESSAGE, take_at(end, many, 1, 0));
+    for (i = 0; i < 6; i++) {
+        refused("no packet's length", watched(end), LUB_REFUSED_PACKET, take_packet(end, many, wrong_ones[i]));
+        refused("no packet's length", watched(end), LUB_REFUSED_PACKET, take_at(end, many, wrong_ones[i], 0));
+        refused("15 comes before 3", watched(end), LUB_REFUSED_PACKET, take_at(end, many, wrong_ones[i], (size_t)-1));
+    }
+    end_of(end)[0] = 9; /* n: nine clients */
+    memcpy(kept_end, end_of(end), size_of(end));
+    for (i = 0; i < 6; i++) {
+        same("2 comes before 15", LUB_REFUSED_UNSOUND, take_packet(end, many, wrong_ones[i]));
+        same("2 comes before 15", LUB_REFUSED_UNSOUND, take_at(end, many, wrong_ones[i], 0));
+    }
+    same("2 comes before 3", LUB_REFUSED_UNSOUND, take_packet(end, many, 1));
+    same("2 comes before 4 and 14", LUB_REFUSED_UNSOUND, pack(end, 9, packet, 0, 0));
+    same_bytes("2 changes nothing", kept_end, end_of(end), size_of(end));
+}
+
+/* Messages of the packet behind each other in another order: which of them, and what is taken and refused. */
+static void reordered(unsigned end, const char *order, unsigned taken, unsigned refusal) {
+    static uint8_t by_packet[sizeof server];
+    const uint8_t *bytes = end == 0 ? going_up : coming_down;
+    size_t length = 0;
+    unsigned i;
+    arriving(end);
+    for (i = 0; order[i] != 0; i++) {
+        unsigned message = (unsigned)(order[i] - '1');
+        memcpy(packet + length, bytes + begin[message], begin[message + 1] - begin[message]);
+        length += begin[message + 1] - begin[message];
+    }
+    remember(watched(end));
+    if (taken == 0) {
+        refused(order, watched(end), refusal, take_packet(end, packet, length));
+        return;
+    }
+    same(order, packet_taken(taken, refusal), take_packet(end, packet, length));
+    memcpy(by_packet, end_of(end), size_of(end));
+    start_again(end);
+    for (i = 0; i < taken; i++) {
+        unsigned message = (unsigned)(order[i] - '1');
+        same(order, 0, lub_refusal(take(end, bytes + begin[message], begin[message + 1] - begin[message])));
+    }
+    same_bytes(order, by_packet, end_of(end), size_of(end));
+    rest_stays("packets: bytes behind the layout");
+}
+
+/* What was taken before a refusal stays taken, and what stands behind it is not looked at. */
+static void refused_in_the_middle(unsigned end) {
+    reordered(end, "1234", 4, 0);
+    reordered(end, "4123444", 7, 0);
+    reordered(end, "21", 0, LUB_REFUSED_GAP);
+    reordered(end, "3", 0, LUB_REFUSED_GAP);
+    reordered(end, "132", 1, LUB_REFUSED_GAP);
+    reordered(end, "1223", 2, LUB_REFUSED_REPEAT);
+    reordered(end, "12312", 3, LUB_REFUSED_REPEAT);
+    reordered(end, "4421", 2, LUB_REFUSED_GAP);
+    reordered(end, "412341", 5, LUB_REFUSED_REPEAT);
+    arriving(end);
+    remember(watched(end));
+    refused("a packet of the other direction", watched(end), LUB_REFUSED_MISDIRECTED,
+            take_packet(end, end == 0 ? coming_down : going_up, sizeof going_up));
+}
+
+/* 62 edits are pending on line 2. Of three more of line 1 in one packet two are taken, then 12. */
+static void full_in_the_middle(void) {
+    static uint32_t opening[LUB_INITIAL];
+    unsigned i;
+    uint64_t written;
+    open_sheet(2, opening, LUB_INITIAL);
+    for (i = 1; i <= 62; i++)
+        same("a delete", 0, delete_at(1, 1));
+    written = pack(1, 1, packet, sizeof packet, 0);
+    same("62 deletes", 62u * 12u << 8, written);
+    same("all are taken", packet_taken(62, 0), take_packet(0, packet, lub_count(written)));
+    same("and acknowledged", 0, acknowledge_down(1));
+    for (i = 1; i <= 3; i++)
+        same("a delete", 0, delete_at(1, 1));
+    written = pack(1, 1, packet, sizeof packet, 0);
+    same("three deletes", 36u << 8, written);
+    same("line 2 is full", packet_taken(2, LUB_REFUSED_PENDING), take_packet(0, packet, lub_count(written)));
+    same("64 are taken", 64, lub_server_taken(server, 1));
+    same("client 2 takes them all", 64u * 12u << 8, pack(0, 2, packet, sizeof packet, 0));
+    same("at once", packet_taken(64, 0), take_packet(2, packet, 64 * 12));
+    same("and acknowledges", 0, acknowledge_up(2));
+    same("the third goes up", 0, up(1, 65));
+}
+
+/* 64 inserts of two clients wait for a third: the longest packet. */
+static void longest_packet(void) {
+    unsigned line, i;
+    size_t room;
+    open_sheet(3, NULL, 0);
+    for (i = 1; i <= 32; i++)
+        for (line = 1; line <= 2; line++) {
+            same("an insert", 0, insert(line, 1, 100 * line + i));
+            same("it goes up", 0, up(line, i));
+        }
+    for (room = 0; room <= 20; room++) {
+        size_t offset = sizeof packet - LUB_PACKED_BYTES + room;
+        unsigned fit = room == 0 ? 64 : room <= 17 ? 63 : 62;
+        memset(packet, MARK, sizeof packet);
+        same("as many as fit", fit * 17u << 8, pack(0, 3, packet, sizeof packet, offset));
+        same("the byte before stays", MARK, packet[offset - 1]);
+        for (i = (unsigned)offset + 17 * fit; i < sizeof packet; i++)
+            same("the bytes behind stay", MARK, packet[i]);
+    }
+    same("all of them", LUB_PACKED_BYTES << 8, pack(0, 3, packet, LUB_PACKED_BYTES, 0));
+    same("a byte too few", (LUB_PACKED_BYTES - 17) << 8, pack(0, 3, packet, LUB_PACKED_BYTES - 1, 0));
+    same("client 3 takes 64", packet_taken(64, 0), take_packet(3, packet, LUB_PACKED_BYTES));
+    same("64 items", 64, lub_client_length(client(3)));
+    for (i = 1; i <= 64; i++)
+        same("the list is the server's", lub_server_item(server, i), lub_client_item(client(3), i));
+}
+
+/* Both clients edit; everything goes up and down in packets, each with an acknowledgement in front. The server's answer to client 1 gets
+ * lost: its next packet begins with edits that were taken before. */
+static void round_trip(void) {
+    static const uint32_t opening[3] = {10, 20, 30};
+    static const struct place end[5] = {{41, 1, 3}, {40, 1, 1}, {50, 2, 1}, {20, 0, 2}, {30, 0, 3}};
+    size_t length, offset;
+    uint64_t answer = 0;
+    unsigned line;
+    open_sheet(2, opening, 3);
+    same("client 1 inserts", 0, insert(1, 1, 40));
+    same("client 1 deletes", 0, delete_at(1, 2));
+    same("client 2 inserts", 0, insert(2, 2, 50));
+    for (line = 1; line <= 2; line++) {
+        same("an acknowledgement", 5u << 8, lub_client_acknowledge(client(line), sizeof clients[0], (uint8_t)line, packet, sizeof packet));
+        length = 5 + lub_count(pack(line, line, packet, sizeof packet, 5));
+        same("a packet goes up", packet_taken(line == 1 ? 3 : 2, 0), take_packet(0, packet, length));
+    }
+    same("client 1 inserts once more", 0, insert(1, 1, 41));
+    length = lub_count(pack(1, 1, packet, sizeof packet, 0));
+    same("its packet has all three", 46, length);
+    remember(1);
+    refused("the first was taken before", 1, LUB_REFUSED_REPEAT, take_packet(0, packet, length));
+    for (offset = 0; offset < length; offset += lub_message_length(packet, length, offset)) {
+        answer = take_at(0, packet, length, offset);
+        same("repeats are passed over", offset < 29 ? LUB_REFUSED_REPEAT : 0, lub_refusal(answer));
+    }
+    same("the new one arrived", edit_taken(1, 1, 1) | (uint64_t)17 << 56, answer);
+    for (line = 1; line <= 2; line++) {
+        same("an acknowledgement", 5u << 8, lub_server_acknowledge(server, sizeof server, (uint8_t)line, packet, sizeof packet));
+        length = 5 + lub_count(pack(0, line, packet, sizeof packet, 5));
+        same("a packet comes down", packet_taken(line == 1 ? 2 : 4, 0), take_packet(line, packet, length));
+        remember(line);
+        refused("nothing is pending any more", line, 0, pack(line, line, packet, sizeof packet, 0));
+    }
+    server_shows("round trip: the server", end, 5);
+    client_shows("round trip: client 1", 1, end, 5);
+    client_shows("round trip: client 2", 2, end, 5);
+    rest_stays("round trip: bytes behind the layout");
+}
+
+/* The calls on packets one by one, at the server and at a client. */
+static void packets(void) {
+    unsigned end;
+    message_lengths();
+    rooms(1, 1, going_up);
+    rooms(0, 2, coming_down);
+    far_offsets(1, 1, 2);
+    far_offsets(0, 2, 3);
+    for (end = 0; end <= 2; end += 2) {
+        cut_packets(end);
+        every_offset(end);
+        unknown_kinds(end);
+        packet_lengths(end);
+        refused_in_the_middle(end);
+    }
+    full_in_the_middle();
+    longest_packet();
+    round_trip();
+}
+
 static void short_ends(void) {
     uint8_t junk[1] = {0};
     open_sheet(1, NULL, 0);
@@ -1348,10 +1781,16 @@ static void short_ends(void) {
     refused("18: client send", 1, 18, lub_client_send(client(1), LUB_CLIENT_BYTES - 1, 9, 0, out, 0));
     refused("18: client acknowledge", 1, 18, lub_client_acknowledge(client(1), LUB_CLIENT_BYTES - 1, 9, out, 0));
     refused("18: client take", 1, 18, lub_client_take(client(1), LUB_CLIENT_BYTES - 1, junk, 1));
+    refused("18: client pack", 1, 18, lub_client_pack(client(1), LUB_CLIENT_BYTES - 1, 9, out, 0, 1));
+    refused("18: client take packet", 1, 18, lub_client_take_packet(client(1), LUB_CLIENT_BYTES - 1, junk, 0));
+    refused("18: client take at", 1, 18, lub_client_take_at(client(1), LUB_CLIENT_BYTES - 1, junk, 0, 1));
     refused("18: server open", 1, 18, lub_server_open(server, LUB_SERVER_BYTES - 1, 0, junk, 1, junk, 1));
     refused("18: server send", 1, 18, lub_server_send(server, LUB_SERVER_BYTES - 1, 9, 0, out, 0));
     refused("18: server acknowledge", 1, 18, lub_server_acknowledge(server, LUB_SERVER_BYTES - 1, 9, out, 0));
     refused("18: server take", 1, 18, lub_server_take(server, LUB_SERVER_BYTES - 1, junk, 1));
+    refused("18: server pack", 1, 18, lub_server_pack(server, LUB_SERVER_BYTES - 1, 9, out, 0, 1));
+    refused("18: server take packet", 1, 18, lub_server_take_packet(server, LUB_SERVER_BYTES - 1, junk, 0));
+    refused("18: server take at", 1, 18, lub_server_take_at(server, LUB_SERVER_BYTES - 1, junk, 0, 1));
     same("exactly the layout is enough", 0, lub_client_insert(client(1), LUB_CLIENT_BYTES, 1, 1));
 }
 
@@ -1394,6 +1833,7 @@ int main(void) {
     taken_back_at_limits();
     inverse_at_its_end();
     damaged_inverses();
+    packets();
     short_ends();
     printf("boundary: %u comparisons, %u wrong\n", compared, wrong);
     return wrong == 0 ? 0 : 1;

@@ -159,6 +159,171 @@ static void a_bay_away(void) {
     holds("bay 2's too", insert(2, 1, 201) == 0 && up(2, 1) == LUB_REFUSED_PENDING);
 }
 
+/* ---- packets, each with an acknowledgement in front */
+
+static uint8_t packet[LUB_PACKET_BYTES];
+static size_t packet_length;
+
+static void bay_packs(unsigned bay) {
+    packet_length = lub_count(lub_client_acknowledge(bays[bay], LUB_CLIENT_BYTES, (uint8_t)bay, packet, sizeof packet));
+    packet_length += lub_count(lub_client_pack(bays[bay], LUB_CLIENT_BYTES, (uint8_t)bay, packet, sizeof packet, packet_length));
+}
+
+static void server_packs(unsigned bay) {
+    packet_length = lub_count(lub_server_acknowledge(server, sizeof server, (uint8_t)bay, packet, sizeof packet));
+    packet_length += lub_count(lub_server_pack(server, sizeof server, (uint8_t)bay, packet, sizeof packet, packet_length));
+}
+
+static uint64_t server_takes_packet(void) { return lub_server_take_packet(server, sizeof server, packet, packet_length); }
+
+static unsigned server_takes_at(size_t offset) {
+    return lub_refusal(lub_server_take_at(server, sizeof server, packet, packet_length, offset));
+}
+
+static uint64_t bay_takes_packet(unsigned bay) { return lub_client_take_packet(bays[bay], LUB_CLIENT_BYTES, packet, packet_length); }
+
+/* Takes the packet at a bay, or at the server, message by message, and goes on behind a repeat: the refusal that stopped it, or 0. */
+static unsigned takes_what_is_new(unsigned bay) {
+    size_t offset;
+    for (offset = 0; offset < packet_length; offset += lub_message_length(packet, packet_length, offset)) {
+        uint64_t answer = bay == 0 ? lub_server_take_at(server, sizeof server, packet, packet_length, offset)
+                                   : lub_client_take_at(bays[bay], LUB_CLIENT_BYTES, packet, packet_length, offset);
+        if (lub_refusal(answer) != 0 && lub_refusal(answer) != LUB_REFUSED_REPEAT)
+            return lub_refusal(answer);
+    }
+    return 0;
+}
+
+/* A lost packet is written again, a repeated one changes nothing but that its acknowledgement is taken again. */
+static void a_packet_lost_and_repeated(void) {
+    uint8_t before[LUB_SERVER_BYTES];
+    uint64_t answer;
+    open_all(opening, sizeof opening);
+    holds("bay 1 inserts two", insert(1, 1, 101) == 0 && insert(1, 1, 102) == 0);
+    bay_packs(1);
+    holds("lost; bay 1 inserts one more", insert(1, 1, 103) == 0);
+    bay_packs(1);
+    holds("the next packet has all three", packet_length == 5 + 3 * 17);
+    answer = server_takes_packet();
+    holds("four messages are taken", lub_refusal(answer) == 0 && lub_count(answer) == 4);
+    memcpy(before, server, sizeof before);
+    answer = server_takes_packet();
+    holds("again: the acknowledgement, then 5", lub_refusal(answer) == LUB_REFUSED_REPEAT && lub_count(answer) == 1);
+    holds("and nothing changed", memcmp(before, server, sizeof before) == 0);
+}
+
+/* The acknowledgement got lost, and the bay made one more edit: its packet begins with what was taken before. */
+static void a_front_taken_before(void) {
+    uint64_t answer;
+    open_all(opening, sizeof opening);
+    holds("bay 1 inserts two", insert(1, 1, 101) == 0 && insert(1, 1, 102) == 0);
+    bay_packs(1);
+    holds("they are taken", lub_count(server_takes_packet()) == 3);
+    holds("the answer is lost; bay 1 inserts one more", insert(1, 1, 103) == 0);
+    bay_packs(1);
+    answer = server_takes_packet();
+    holds("5 stops the packet", lub_refusal(answer) == LUB_REFUSED_REPEAT && lub_server_taken(server, 1) == 2);
+    holds("message by message the new one is taken", takes_what_is_new(0) == 0 && lub_server_taken(server, 1) == 3);
+    holds("bay 1 inserts one more", insert(1, 1, 104) == 0);
+    server_packs(1);
+    holds("or an acknowledgement arrives", lub_refusal(bay_takes_packet(1)) == 0);
+    bay_packs(1);
+    holds("and the next packet has the new one alone", packet_length == 5 + 17 && lub_refusal(server_takes_packet()) == 0);
+    holds("all four are there", lub_server_taken(server, 1) == 4 && lists_equal(1));
+}
+
+/* A packet that a newer one has overtaken: 7 at its acknowledgement, and nothing of it is needed. */
+static void a_packet_overtaken(void) {
+    uint8_t early[LUB_PACKET_BYTES];
+    size_t early_length;
+    open_all(opening, sizeof opening);
+    holds("bay 2 inserts, and it goes up", insert(2, 1, 201) == 0 && up(2, 1) == 0);
+    holds("bay 1 inserts", insert(1, 1, 101) == 0);
+    bay_packs(1);
+    memcpy(early, packet, sizeof early);
+    early_length = packet_length;
+    server_packs(1);
+    holds("bay 1 takes bay 2's", lub_refusal(bay_takes_packet(1)) == 0);
+    bay_packs(1);
+    holds("its newer packet is taken", lub_count(server_takes_packet()) == 2);
+    memcpy(packet, early, sizeof early);
+    packet_length = early_length;
+    holds("the early one: 7", server_takes_packet() == LUB_REFUSED_OVERTAKEN);
+    holds("its edit was taken: 5", server_takes_at(5) == LUB_REFUSED_REPEAT);
+}
+
+/* Another bay is 62 behind: of four edits in a packet two are taken, then 12, and behind it 6. The acknowledgement in front is taken whatever follows, so two
+ * full lines do not wait for each other. */
+static void a_packet_in_part(void) {
+    uint64_t answer;
+    unsigned i;
+    open_all(opening, sizeof opening);
+    for (i = 1; i <= LUB_PENDING - 2; i++)
+        holds("bay 1 edits", (i <= LUB_INSERTS ? insert(1, 1, 100 + i) : delete_first(1)) == 0);
+    bay_packs(1);
+    holds("62 edits in one packet", lub_count(server_takes_packet()) == LUB_PENDING - 1);
+    server_packs(1);
+    holds("bay 1 is told", lub_refusal(bay_takes_packet(1)) == 0);
+    for (i = 1; i <= 4; i++)
+        holds("bay 1 deletes", delete_first(1) == 0);
+    bay_packs(1);
+    answer = server_takes_packet();
+    holds("an acknowledgement and two edits, then 12", lub_refusal(answer) == LUB_REFUSED_PENDING && lub_count(answer) == 3);
+    holds("and 6 behind it", server_takes_at(5 + 3 * 12) == LUB_REFUSED_GAP);
+    server_packs(2);
+    holds("bay 2 takes all", lub_count(bay_takes_packet(2)) == LUB_PENDING + 1);
+    holds("and inserts", insert(2, 1, 201) == 0);
+    bay_packs(2);
+    answer = server_takes_packet();
+    holds("bay 3 is full: 12, but its acknowledgement is taken", lub_refusal(answer) == LUB_REFUSED_PENDING && lub_count(answer) == 1);
+    server_packs(3);
+    holds("bay 3 takes all", lub_count(bay_takes_packet(3)) == LUB_PENDING + 1);
+    bay_packs(3);
+    holds("and acknowledges", lub_refusal(server_takes_packet()) == 0);
+    bay_packs(1);
+    holds("bay 1's third", server_takes_at(5 + 2 * 12) == 0 && lub_server_taken(server, 1) == LUB_PENDING + 1);
+}
+
+/* Packets alone. Four are under way: a new one takes the place of one of them, which is lost; any of them arrives, late or again. What pack
+ * wrote never leaves a gap, and in the end all lists are equal. */
+static void packets_alone(uint32_t random) {
+    static struct {
+        uint8_t bytes[LUB_PACKET_BYTES];
+        size_t length;
+        unsigned to;
+    } under_way[4];
+    unsigned turn, bay, refusal, to;
+    memset(under_way, 0, sizeof under_way);
+    open_all(opening, sizeof opening);
+    for (turn = 1; turn <= 400; turn++) {
+        random = random * 1664525u + 1013904223u;
+        bay = 1 + (random >> 8) % BAYS;
+        to = random >> 30 & 1 ? 0 : bay;
+        if (turn <= 90)
+            holds("a bay inserts", insert(bay, 1 + (random >> 12) % lub_client_length(bays[bay]), turn) == 0);
+        if (to == 0)
+            bay_packs(bay);
+        else
+            server_packs(bay);
+        memcpy(under_way[turn % 4].bytes, packet, sizeof packet);
+        under_way[turn % 4].length = packet_length;
+        under_way[turn % 4].to = to;
+        memcpy(packet, under_way[random >> 16 & 3].bytes, sizeof packet);
+        packet_length = under_way[random >> 16 & 3].length;
+        refusal = takes_what_is_new(under_way[random >> 16 & 3].to);
+        holds("0 or 7, never 6", refusal == 0 || refusal == LUB_REFUSED_OVERTAKEN);
+    }
+    for (bay = 1; bay <= BAYS; bay++) {
+        bay_packs(bay);
+        holds("what is left goes up", takes_what_is_new(0) == 0);
+    }
+    for (bay = 1; bay <= BAYS; bay++) {
+        server_packs(bay);
+        holds("and comes down", takes_what_is_new(bay) == 0);
+        holds("lists and counts are equal", lists_equal(bay) && counts_equal(bay));
+    }
+}
+
 /* ---- where the user points */
 
 /* Takes edit `number` at bay 1 and says where the item at `place` is then; 0 if it is gone. */
@@ -391,6 +556,12 @@ int main(void) {
     overtaken();
     two_full_lines();
     a_bay_away();
+    a_packet_lost_and_repeated();
+    a_front_taken_before();
+    a_packet_overtaken();
+    a_packet_in_part();
+    for (cut = 1; cut <= 50; cut++)
+        packets_alone((uint32_t)cut);
     the_place_pointed_at();
     rewound_behind_an_edit();
     rewound_behind_an_acknowledgement();

@@ -4,6 +4,7 @@
 use super::{head_of, row, TURNS};
 use crate::clock::thread as clock;
 use crate::plain::client::Client;
+use crate::plain::packets::Takes;
 use crate::plain::server::Server;
 use crate::plain::slip::Plain;
 use std::hint::black_box;

@@ -4,9 +4,13 @@ use super::{head, row, scripts, turns};
 use crate::calls::Calls;
 use crate::clock::thread as clock;
 use crate::crafted::{client_at_limit, server_at_limit, LEAD};
+use crate::edit::Edit;
+use crate::limits::LONGEST_PACKET;
 use crate::list::*;
+use crate::literal::{self, Message, Numbered};
 use crate::plain::slip::Plain;
 use crate::world::World;
+use std::cell::RefCell;
 use std::hint::black_box;
 
 /// How many edits are made on fresh bytes.
@@ -169,9 +173,60 @@ fn sendings() -> Vec<Task> {
     tasks
 }
 
+/// An end of line 1 with so many edits pending, and a packet of inserts that it takes.
+fn with_packet(is_server: bool, kept: u16, count: u16) -> (Vec<u8>, Vec<u8>) {
+    let (list, first, seen) =
+        if is_server { (server_at_limit(40, 128, kept), 49, 48 * 7 - kept) } else { (client_at_limit(128, kept), 1, 0) };
+    let (maker, rank) = if is_server { (1, LEAD[0]) } else { (5, LEAD[4]) };
+    let message = |number: u16| {
+        let numbered = Some(Numbered { number, edit: Edit::Insert(65, 5, rank), origin: (maker, number) });
+        literal::write(&Message { line: 1, direction: !is_server as u8, numbered, seen })
+    };
+    (after(&list, !is_server as u8).0, (first..first + count).flat_map(message).collect())
+}
+
+fn packets() -> Vec<Task> {
+    let mut tasks = Vec::new();
+    for (is_server, name) in [(false, "client"), (true, "server")] {
+        for kept in [8, 64] {
+            let out = RefCell::new([0; LONGEST_PACKET]);
+            let pack = move |calls: &dyn Calls, end: &mut [u8]| {
+                let mut out = black_box(&out).borrow_mut();
+                if is_server {
+                    calls.server_pack(end, 1, &mut *out, 0)
+                } else {
+                    calls.client_pack(end, 1, &mut *out, 0)
+                }
+            };
+            tasks.push(Task::new(format!("{name} pack, {kept} pending, 128 items"), &with_packet(is_server, kept, 0).0, pack));
+        }
+        for (count, kept) in [(1, 8), (8, 0), (8, 8)] {
+            let (end, packet) = with_packet(is_server, kept, count);
+            let take = move |calls: &dyn Calls, end: &mut [u8]| {
+                if is_server {
+                    calls.server_take_packet(end, black_box(&packet))
+                } else {
+                    calls.client_take_packet(end, black_box(&packet))
+                }
+            };
+            tasks.push(Task::new(format!("{name} take packet of {count}, {kept} pending, 128 items"), &end, take).fresh(1));
+        }
+        let (end, packet) = with_packet(is_server, 8, 8);
+        let take = move |calls: &dyn Calls, end: &mut [u8]| {
+            if is_server {
+                calls.server_take_at(end, black_box(&packet), 0)
+            } else {
+                calls.client_take_at(end, black_box(&packet), 0)
+            }
+        };
+        tasks.push(Task::new(format!("{name} take at the front of a packet, 8 pending, 128 items"), &end, take).fresh(1));
+    }
+    tasks
+}
+
 pub fn table(subjects: &[&dyn Calls]) -> String {
     let mut table = head("call", subjects);
-    for task in [openings(), edits(), takings(), sendings()].into_iter().flatten() {
+    for task in [openings(), edits(), takings(), sendings(), packets()].into_iter().flatten() {
         table += &row(&task.name, &turns(subjects, |subject| task.time(subject)));
     }
     table += &scripts::whole(subjects);

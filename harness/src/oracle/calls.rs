@@ -1,6 +1,6 @@
 //! The calls: which question says no, and what an accepted one does to the history.
 
-use super::{answer, taken, Expected, Oracle};
+use super::{answer, taken, Counts, Expected, Oracle};
 use crate::edit::{apply, fits, twice, Carried, Edit, Origin, Place};
 use crate::form::Set;
 use crate::limits::*;
@@ -56,64 +56,129 @@ impl Oracle {
     }
 
     pub(super) fn send(&mut self, call: &Call) -> Expected {
-        let (end, l) = (call.end as usize, call.line as usize);
-        if (end != 0 && l != end) || !(1..=self.n).contains(&l) {
+        let Some((end, l)) = self.sender(call) else {
             return answer(4, 0);
-        }
-        let line = &self.lines[l - 1];
-        let (counts, direction) = if end == 0 { (line.server, 1) } else { (line.client, 0) };
-        let numbered = if call.op == ACKNOWLEDGE {
-            None
-        } else if counts.acked < call.number && call.number <= counts.made {
-            let origin = self.maker(end, l, call.number);
-            Some(Numbered { number: call.number, edit: self.pending(end, l, call.number), origin })
-        } else {
-            return answer(13, 0);
         };
-        let message = Message { line: call.line, direction, numbered, seen: counts.taken };
-        let bytes = literal::write(&message);
+        let counts = self.counts(end, l);
+        let number = (call.op == SEND).then_some(call.number);
+        if number.is_some_and(|number| number <= counts.acked || counts.made < number) {
+            return answer(13, 0);
+        }
+        let bytes = self.message(end, l, number);
         if (call.size as usize) < bytes.len() {
             return answer(14, 0);
         }
-        let slot = &mut self.slots[call.slot as usize];
-        slot.bytes[..bytes.len()].copy_from_slice(&bytes);
-        slot.length = bytes.len() as u8;
-        let length = slot.length;
+        self.slots[call.slot as usize].put(0, &bytes);
+        let length = bytes.len() as u16;
         self.written.insert(bytes);
-        answer(0, length as u16)
+        answer(0, length)
+    }
+
+    /// Writes the pending edits of a line in number order, as many as fit between the offset and the end of what is lent.
+    pub(super) fn pack(&mut self, call: &Call) -> Expected {
+        let Some((end, l)) = self.sender(call) else {
+            return answer(4, 0);
+        };
+        let counts = self.counts(end, l);
+        let mut at = call.offset();
+        for number in counts.acked + 1..=counts.made {
+            let bytes = self.message(end, l, Some(number));
+            if at.checked_add(bytes.len()).is_none_or(|end| end > call.position as usize) {
+                break;
+            }
+            self.packets[call.slot as usize].put(at, &bytes);
+            at += bytes.len();
+            self.written.insert(bytes);
+        }
+        let written = at - call.offset();
+        answer(if written == 0 && counts.acked != counts.made { 14 } else { 0 }, written as u16)
+    }
+
+    /// The end and the line of a sending, if question 4 says yes.
+    fn sender(&self, call: &Call) -> Option<(usize, usize)> {
+        let (end, l) = (call.end as usize, call.line as usize);
+        ((end == 0 || l == end) && (1..=self.n).contains(&l)).then_some((end, l))
+    }
+
+    /// What an end counts on a line.
+    pub(super) fn counts(&self, end: usize, l: usize) -> Counts {
+        let line = &self.lines[l - 1];
+        if end == 0 {
+            line.server
+        } else {
+            line.client
+        }
+    }
+
+    /// The message of a pending edit, or an acknowledgement.
+    fn message(&mut self, end: usize, l: usize, number: Option<u16>) -> Vec<u8> {
+        let numbered = number.map(|number| Numbered { number, edit: self.pending(end, l, number), origin: self.maker(end, l, number) });
+        literal::write(&Message { line: l as u8, direction: (end == 0) as u8, numbered, seen: self.counts(end, l).taken })
     }
 
     pub(super) fn take(&mut self, end: usize, call: &Call) -> Result<Expected, String> {
-        let slot = &self.slots[call.slot as usize];
-        let mut bytes = slot.bytes[..slot.length as usize].to_vec();
-        bytes.resize(bytes.len() + TAIL * call.number as usize, 0);
-        let Some(message) = literal::read(&bytes) else {
-            return Ok(answer(3, 0));
+        let bytes = self.slots[call.slot as usize].lent(call.number);
+        Ok(self.take_message(end, &bytes)?.into())
+    }
+
+    /// Question 15, then the packet's messages handed over one after another until one is refused.
+    pub(super) fn take_packet(&mut self, end: usize, call: &Call) -> Result<Expected, String> {
+        let packet = self.packets[call.slot as usize].lent(call.number);
+        if !(1..=LONGEST_PACKET).contains(&packet.len()) {
+            return Ok(answer(15, 0));
+        }
+        let mut count = 0;
+        for message in literal::messages(&packet) {
+            match self.take_message(end, message)? {
+                None => return Ok(Expected::Silence),
+                Some(Answer { refusal: 0, .. }) => count += 1,
+                Some(Answer { refusal, .. }) => return Ok(answer(refusal, count)),
+            }
+        }
+        Ok(answer(0, count))
+    }
+
+    /// Question 15, then the message at the offset by itself; how long it is, unless it is refused.
+    pub(super) fn take_at(&mut self, end: usize, call: &Call) -> Result<Expected, String> {
+        let packet = self.packets[call.slot as usize].lent(call.number);
+        if !(1..=LONGEST_PACKET).contains(&packet.len()) {
+            return Ok(answer(15, 0));
+        }
+        let message = literal::first(packet.get(call.offset()..).unwrap_or_default());
+        let answer = self.take_message(end, message)?;
+        Ok(answer.map(|answer| Answer { read: if answer.refusal == 0 { message.len() as u8 } else { 0 }, ..answer }).into())
+    }
+
+    /// Questions 3 to 8 and 12 of one message, and what taking it does to the history; none for a message that nobody wrote.
+    fn take_message(&mut self, end: usize, bytes: &[u8]) -> Result<Option<Answer>, String> {
+        let refused = |refusal: u8| Ok(Some(Answer { refusal, ..Answer::default() }));
+        let Some(message) = literal::read(bytes) else {
+            return refused(3);
         };
         let l = message.line as usize;
         let refusal = self.turn(end, &message);
         if refusal != 0 {
-            return Ok(answer(refusal, 0));
+            return refused(refusal);
         }
-        if !self.written.contains(&bytes) {
-            return Ok(Expected::Silence);
+        if !self.written.contains(bytes) {
+            return Ok(None);
         }
         let line = &mut self.lines[l - 1];
         let counts = if end == 0 { &mut line.server } else { &mut line.client };
         let Some(Numbered { number, edit, .. }) = message.numbered else {
             counts.acked = message.seen;
-            return Ok(answer(0, 0));
+            return refused(0);
         };
         let passed = counts.made - message.seen;
         if end == 0 && self.full(l) {
-            return Ok(answer(12, 0));
+            return refused(12);
         }
         let carried = if end == 0 { self.serve(l, number, message.seen)? } else { self.deliver(l, message.seen)? };
         if carried.arrived != edit || carried.moves.len() != passed as usize {
             return Err(format!("{edit:?} arrives and {passed} are pending, the definition gives {carried:?}"));
         }
         self.same_lists(end)?;
-        Ok(taken(&carried))
+        Ok(Some(taken(&carried)))
     }
 
     /// Questions 4 to 8 of a message at an end.
@@ -123,7 +188,7 @@ impl Oracle {
         if !mine || message.numbered.is_some_and(|numbered| !self.may_be(end, l, &numbered)) {
             return 4;
         }
-        let counts = if end == 0 { self.lines[l - 1].server } else { self.lines[l - 1].client };
+        let counts = self.counts(end, l);
         match message.numbered {
             Some(Numbered { number, .. }) if number <= counts.taken => 5,
             Some(Numbered { number, .. }) if number != counts.taken + 1 => 6,

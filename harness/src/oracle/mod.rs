@@ -61,10 +61,35 @@ impl Line {
     }
 }
 
-#[derive(Clone, Copy)]
-struct Slot {
-    bytes: [u8; SLOT],
-    length: u8,
+/// A slot or a packet: its bytes, and how many of them it holds.
+#[derive(Clone)]
+struct Buffer {
+    bytes: Vec<u8>,
+    length: usize,
+}
+
+impl Buffer {
+    fn fresh(room: usize) -> Buffer {
+        Buffer { bytes: vec![FRESH; room], length: 0 }
+    }
+
+    /// What it holds, with zeros behind it.
+    fn lent(&self, tails: u16) -> Vec<u8> {
+        let mut bytes = self.bytes[..self.length].to_vec();
+        bytes.resize(bytes.len() + TAIL * tails as usize, 0);
+        bytes
+    }
+
+    fn poke(&mut self, at: usize, byte: u8, length: usize) {
+        self.bytes[at] = byte;
+        self.length = length;
+    }
+
+    /// Puts bytes at a place; what lies before their end is then held.
+    fn put(&mut self, at: usize, bytes: &[u8]) {
+        self.bytes[at..at + bytes.len()].copy_from_slice(bytes);
+        self.length = at + bytes.len();
+    }
 }
 
 pub struct Oracle {
@@ -79,7 +104,8 @@ pub struct Oracle {
     applied: Set,
     /// The number of each edit of the server's order within its line.
     numbers: Vec<u16>,
-    slots: [Slot; SLOTS],
+    slots: Vec<Buffer>,
+    packets: Vec<Buffer>,
     written: HashSet<Vec<u8>>,
     orders: Orders,
 }
@@ -141,7 +167,8 @@ impl Oracle {
             shown: opening(initial),
             applied: [0; LINES],
             numbers: Vec::new(),
-            slots: [Slot { bytes: [FRESH; SLOT], length: 0 }; SLOTS],
+            slots: vec![Buffer::fresh(SLOT); SLOTS],
+            packets: vec![Buffer::fresh(PACKET); PACKETS],
             written: HashSet::new(),
             orders: Orders::default(),
         }
@@ -168,19 +195,33 @@ impl Oracle {
             DELETE => self.edit(end, Edit::Delete(call.position)),
             TAKE_BACK => self.take_back(end),
             SEND | ACKNOWLEDGE => Ok(self.send(call)),
+            PACK => Ok(self.pack(call)),
             TAKE => self.take(end, call),
-            POKE => {
-                let slot = &mut self.slots[call.slot as usize];
-                slot.bytes[call.number as usize] = call.value as u8;
-                slot.length = call.size;
-                Ok(answer(0, 0))
-            }
+            TAKE_PACKET => self.take_packet(end, call),
+            TAKE_AT => self.take_at(end, call),
             DUMP => self.dump(end),
-            _ => {
-                let slot = &self.slots[call.slot as usize];
-                Ok(dumped([&[slot.length][..], &slot.bytes].concat()))
-            }
+            _ => Ok(self.in_buffers(call)),
         }
+    }
+
+    /// What changes or shows a slot or a packet, and no end.
+    fn in_buffers(&mut self, call: &Call) -> Expected {
+        let (slot, at, byte) = (call.slot as usize, call.number as usize, call.value as u8);
+        match call.op {
+            POKE => self.slots[slot].poke(at, byte, call.size as usize),
+            POKE_PACKET => self.packets[slot].poke(at, byte, call.position as usize),
+            ADD => {
+                let (message, packet) = (self.slots[slot].lent(0), &mut self.packets[call.size as usize]);
+                for _ in 0..call.number {
+                    if packet.length + message.len() <= PACKET {
+                        packet.put(packet.length, &message);
+                    }
+                }
+            }
+            SHOW => return dumped([&[self.slots[slot].length as u8], &self.slots[slot].bytes[..]].concat()),
+            _ => return dumped([&(self.packets[slot].length as u16).to_be_bytes(), &self.packets[slot].bytes[..]].concat()),
+        }
+        answer(0, 0)
     }
 }
 
@@ -195,19 +236,28 @@ pub fn opening_refusal(call: &Call, initial: usize) -> u8 {
     }
 }
 
-/// The answer of a call; no byte changed that had to stay. It has no positions.
+/// The answer of a call that has no positions; nothing is broken.
 fn answer(refusal: u8, count: u16) -> Expected {
-    packed(Answer { refusal, count, ..Answer::default() })
+    Answer { refusal, count, ..Answer::default() }.into()
 }
 
 /// The answer of taking an edit: how many pending edits it passed, where it arrived and where it was applied.
-fn taken(carried: &Carried) -> Expected {
+fn taken(carried: &Carried) -> Answer {
     let (arrived, applied) = (carried.arrived.position(), carried.applied.position());
-    packed(Answer { count: carried.moves.len() as u16, arrived, applied, ..Answer::default() })
+    Answer { count: carried.moves.len() as u16, arrived, applied, ..Answer::default() }
 }
 
-fn packed(answer: Answer) -> Expected {
-    Expected::Bytes([&answer.number().to_le_bytes()[..], &[0]].concat())
+impl From<Answer> for Expected {
+    fn from(answer: Answer) -> Expected {
+        Expected::Bytes([&answer.number().to_le_bytes()[..], &[0]].concat())
+    }
+}
+
+/// The oracle has nothing to say of a message that nobody wrote.
+impl From<Option<Answer>> for Expected {
+    fn from(answer: Option<Answer>) -> Expected {
+        answer.map_or(Expected::Silence, Expected::from)
+    }
 }
 
 /// The answer of a dump or a show, and the bytes after it.

@@ -79,7 +79,7 @@ impl Oracle {
             put(0, Field::Line, end as u32);
         }
         for l in if end == 0 { 1..=self.n } else { end..=end } {
-            let counts = if end == 0 { self.lines[l - 1].server } else { self.lines[l - 1].client };
+            let counts = self.counts(end, l);
             put(l, Field::Made, counts.made as u32);
             put(l, Field::Taken, counts.taken as u32);
             put(l, Field::Acked, counts.acked as u32);

@@ -4,6 +4,7 @@ use super::codec::{self, DOWN, UP};
 use super::edit::{Edit, INSERT};
 use super::line::Line;
 use super::origins;
+use super::packets::{self, Takes};
 use super::places::Places;
 use super::ranks::{self, Ranks};
 use super::reported;
@@ -42,22 +43,6 @@ impl Client {
         self.list.open::<R>(items);
         self.list.given_to::<R>(line);
         0
-    }
-
-    /// Question 2.
-    #[inline]
-    pub fn sound<R: Rules>(&self) -> bool {
-        let own = &self.own;
-        ((1 <= self.n && self.n as usize <= LINES) || R::slips(Slip::SoundN))
-            && ((1 <= self.line && self.line <= self.n) || R::slips(Slip::SoundLine))
-            && (self.list.length as usize <= ITEMS || R::slips(Slip::SoundLength))
-            && (own.made <= EDITS || R::slips(Slip::SoundMade))
-            && (own.taken <= OTHERS || R::slips(Slip::SoundTaken))
-            && (own.inserts <= own.made || R::slips(Slip::SoundInsertsMade))
-            && ranks::sound::<R>(self.n, &self.ranks)
-            && own.sound::<R>(|priority| priority == self.own_priority::<R>() as u32)
-            && self.inverse.sound::<R>(self.own_priority::<R>(), own.made)
-            && self.list.sound::<R>(self.n)
     }
 
     /// The rank of the client's own line.
@@ -213,34 +198,81 @@ impl Client {
         }
     }
 
+    /// Questions 2 and 4 of a sending: 0 or the first no.
+    #[inline]
+    fn sending_refusal<R: Rules>(&self, line: u8) -> u8 {
+        if !self.sound::<R>() {
+            2
+        } else if line != self.line {
+            4
+        } else {
+            0
+        }
+    }
+
     /// Questions 2, 4, 13, 14.
     pub fn send<R: Rules>(&self, line: u8, k: u16, out: &mut [u8]) -> Sent {
-        if !self.sound::<R>() {
-            Sent::refused(2)
-        } else if line != self.line {
-            Sent::refused(4)
-        } else {
-            let number = |slot: usize| if R::slips(Slip::SendsSlot) { slot as u16 + 1 } else { k };
-            self.own.send::<R>(line, UP, k, |slot| origins::word(line, number(slot)), out)
+        match self.sending_refusal::<R>(line) {
+            0 => self.send_pending::<R>(line, k, out),
+            refusal => Sent::refused(refusal),
         }
+    }
+
+    /// Questions 13 and 14, and the message.
+    #[inline]
+    fn send_pending<R: Rules>(&self, line: u8, k: u16, out: &mut [u8]) -> Sent {
+        let number = |slot: usize| if R::slips(Slip::SendsSlot) { slot as u16 + 1 } else { k };
+        self.own.send::<R>(line, UP, k, |slot| origins::word(line, number(slot)), out)
     }
 
     /// Sends an acknowledgement. Questions 2, 4, 14.
     pub fn tell<R: Rules>(&self, line: u8, out: &mut [u8]) -> Sent {
-        if !self.sound::<R>() {
-            Sent::refused(2)
-        } else if line != self.line {
-            Sent::refused(4)
-        } else {
-            self.own.tell::<R>(line, UP, out)
+        match self.sending_refusal::<R>(line) {
+            0 => self.own.tell::<R>(line, UP, out),
+            refusal => Sent::refused(refusal),
         }
     }
 
-    /// Questions 2 to 9; of an acknowledgement 2, 3, 4, 7, 8.
-    pub fn take<R: Rules>(&mut self, bytes: &[u8]) -> Answer {
-        if !self.sound::<R>() {
-            return Answer::refused(2);
+    /// Writes a packet of the pending edits. Questions 2, 4, 14.
+    pub fn pack<R: Rules>(&self, line: u8, out: &mut [u8], offset: usize) -> Sent {
+        let pack = |out: &mut [u8]| packets::write::<R>(&self.own, |k, room| self.send_pending::<R>(line, k, room), out, offset);
+        match self.sending_refusal::<R>(line) {
+            0 => pack(out),
+            4 if R::slips(Slip::PackAnyLine) => pack(out),
+            4 if R::slips(Slip::PackFourLate) && pack(&mut out.to_vec()).refusal == 14 => Sent::refused(14),
+            refusal => Sent::refused(refusal),
         }
+    }
+
+    /// Question 4 of the maker of an edit that comes down: another line of 1 to n.
+    #[inline]
+    fn is_anothers<R: Rules>(&self, edit: Edit, origin: u32) -> bool {
+        let maker = origins::maker(origin);
+        ((1 <= maker && maker <= self.n) || R::slips(Slip::MakerPastN))
+            && (maker != self.line || R::slips(Slip::MakerOwnDown))
+            && (edit.kind() != INSERT || edit.priority() == ranks::of::<R>(&self.ranks, maker) || !R::slips(Slip::MakersRank))
+            || (edit.kind() != INSERT && R::slips(Slip::MakerOfInserts))
+    }
+}
+
+impl Takes for Client {
+    #[inline]
+    fn sound<R: Rules>(&self) -> bool {
+        let own = &self.own;
+        ((1 <= self.n && self.n as usize <= LINES) || R::slips(Slip::SoundN))
+            && ((1 <= self.line && self.line <= self.n) || R::slips(Slip::SoundLine))
+            && (self.list.length as usize <= ITEMS || R::slips(Slip::SoundLength))
+            && (own.made <= EDITS || R::slips(Slip::SoundMade))
+            && (own.taken <= OTHERS || R::slips(Slip::SoundTaken))
+            && (own.inserts <= own.made || R::slips(Slip::SoundInsertsMade))
+            && ranks::sound::<R>(self.n, &self.ranks)
+            && own.sound::<R>(|priority| priority == self.own_priority::<R>() as u32)
+            && self.inverse.sound::<R>(self.own_priority::<R>(), own.made)
+            && self.list.sound::<R>(self.n)
+    }
+
+    /// Questions 3 to 9; of an acknowledgement 3, 4, 7, 8.
+    fn take_message<R: Rules>(&mut self, bytes: &[u8]) -> Answer {
         let Some(message) = codec::read::<R>(bytes) else {
             return Answer::refused(3);
         };
@@ -292,16 +324,6 @@ impl Client {
             }
         }
         answer
-    }
-
-    /// Question 4 of the maker of an edit that comes down: another line of 1 to n.
-    #[inline]
-    fn is_anothers<R: Rules>(&self, edit: Edit, origin: u32) -> bool {
-        let maker = origins::maker(origin);
-        ((1 <= maker && maker <= self.n) || R::slips(Slip::MakerPastN))
-            && (maker != self.line || R::slips(Slip::MakerOwnDown))
-            && (edit.kind() != INSERT || edit.priority() == ranks::of::<R>(&self.ranks, maker) || !R::slips(Slip::MakersRank))
-            || (edit.kind() != INSERT && R::slips(Slip::MakerOfInserts))
     }
 }
 

@@ -29,8 +29,9 @@ impl Message {
     }
 }
 
+/// How many bytes a message of that kind has; 0 for what is no kind.
 #[inline]
-fn length_of(kind: u8) -> usize {
+pub fn length_of(kind: u8) -> usize {
     match kind {
         4 => 5,
         5 => LONGEST,

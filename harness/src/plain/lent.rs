@@ -2,6 +2,7 @@
 //! the call was refused.
 
 use super::client::Client;
+use super::packets::Takes;
 use super::script;
 use super::server::Server;
 use super::slip::{Rules, Slip};
@@ -30,7 +31,7 @@ fn change<R: Rules, E: End>(end: &mut [u8], call: impl FnOnce(&mut E) -> Answer)
     };
     let mut changed = E::ZERO;
     if !changed.read::<R>(words) {
-        return packed::<R>(2, 0, [0, 0]);
+        return refused::<R>(2);
     }
     let before = R::slips(Slip::ListRepeated).then(|| changed.shown().1.clone());
     let answer = call(&mut changed);
@@ -40,7 +41,8 @@ fn change<R: Rules, E: End>(end: &mut [u8], call: impl FnOnce(&mut E) -> Answer)
         }
     }
     let refused_writes = R::slips(Slip::RefusedSeen) || R::slips(Slip::InverseRefused) || R::slips(Slip::BackRefusedClears);
-    if answer.refusal == 0 || refused_writes {
+    // a packet keeps what was taken before the refusal
+    if answer.refusal == 0 || answer.passed != 0 || refused_writes {
         changed.write(words);
     } else if R::slips(Slip::RefusedByte) {
         words[E::WORDS - 1][0] ^= 1;
@@ -48,7 +50,7 @@ fn change<R: Rules, E: End>(end: &mut [u8], call: impl FnOnce(&mut E) -> Answer)
     if R::slips(Slip::RestCleared) {
         end[4 * E::WORDS..].fill(0);
     }
-    packed::<R>(answer.refusal, answer.passed, [answer.arrived, answer.applied])
+    packed::<R>(answer)
 }
 
 /// A sending.
@@ -59,11 +61,11 @@ fn look<R: Rules, E: End>(end: &[u8], call: impl FnOnce(&E) -> Sent) -> u64 {
     };
     let mut looked = E::ZERO;
     if !looked.read::<R>(words) {
-        return packed::<R>(2, 0, [0, 0]);
+        return refused::<R>(2);
     }
     let sent = call(&looked);
-    let position = if R::slips(Slip::SentPositions) { sent.length as u16 } else { 0 };
-    packed::<R>(sent.refusal, sent.length as u16, [position; 2])
+    let position = if R::slips(Slip::SentPositions) { sent.length } else { 0 };
+    packed::<R>(Answer { refusal: sent.refusal, passed: sent.length, arrived: position, applied: position, read: 0 })
 }
 
 /// Questions 18, 1 and 16 of an opening, and the end it gives.
@@ -100,8 +102,8 @@ fn open<R: Rules, E: End>(end: &mut [u8], items: &[u8], call: impl FnOnce(&mut E
     } else if refusal == 16 && R::slips(Slip::RanksLate) {
         words[2] = (fours.len() as u32).to_le_bytes();
     }
-    let opened = refusal == 0 && R::slips(Slip::OpenPositions);
-    packed::<R>(refusal, 0, if opened { [fours.len() as u16; 2] } else { [0, 0] })
+    let position = if refusal == 0 && R::slips(Slip::OpenPositions) { fours.len() as u16 } else { 0 };
+    packed::<R>(Answer { arrived: position, applied: position, ..Answer::refused(refusal) })
 }
 
 #[inline]
@@ -115,7 +117,7 @@ fn short<R: Rules>(end: &mut [u8], bytes: usize, call: impl FnOnce(&mut [u8]) ->
     let late = R::slips(Slip::ShortLate);
     let let_through = R::slips(Slip::ShortByThree) && end.len() + 3 >= bytes;
     if end.len() >= bytes || !(late || let_through) {
-        return packed::<R>(18, 0, [0, 0]);
+        return refused::<R>(18);
     }
     let mut padded = end.to_vec();
     padded.resize(bytes, 0);
@@ -126,14 +128,19 @@ fn short<R: Rules>(end: &mut [u8], bytes: usize, call: impl FnOnce(&mut [u8]) ->
     if let_through || answer as u8 != 0 {
         answer
     } else {
-        packed::<R>(18, 0, [0, 0])
+        refused::<R>(18)
     }
 }
 
-/// The answer's number: the refusal in bits 0 to 7, a count or a length in 8 to 23, where an edit arrived in 24 to 39, where it was applied in 40
-/// to 55.
 #[inline]
-fn packed<R: Rules>(refusal: u8, count: u16, positions: [u16; 2]) -> u64 {
+fn refused<R: Rules>(refusal: u8) -> u64 {
+    packed::<R>(Answer::refused(refusal))
+}
+
+/// The answer's number: the refusal in bits 0 to 7, a count or a length in 8 to 23, where an edit arrived in 24 to 39, where it was applied in 40
+/// to 55, how many bytes a message of a packet has in 56 to 63.
+#[inline]
+fn packed<R: Rules>(answer: Answer) -> u64 {
     let kept = match () {
         _ if R::slips(Slip::Positions8) => 255,
         _ if R::slips(Slip::Positions9) => 511,
@@ -145,8 +152,9 @@ fn packed<R: Rules>(refusal: u8, count: u16, positions: [u16; 2]) -> u64 {
         _ if R::slips(Slip::PositionsEarly) => [16, 32],
         _ => [24, 40],
     };
-    let [arrived, applied] = positions.map(|position| position as u64 & kept);
-    refusal as u64 | (count as u64) << 8 | arrived << at | applied << then | (R::slips(Slip::AnswerHigh) as u64) << 56
+    let [arrived, applied] = [answer.arrived, answer.applied].map(|position| position as u64 & kept);
+    let read = (answer.read | R::slips(Slip::AnswerHigh) as u8) as u64;
+    answer.refusal as u64 | (answer.passed as u64) << 8 | arrived << at | applied << then | read << 56
 }
 
 /// The message that is taken.
@@ -157,6 +165,41 @@ fn lent_message<R: Rules>(message: &[u8]) -> &[u8] {
     } else {
         message
     }
+}
+
+/// The packet that is taken.
+#[inline]
+fn lent_packet<R: Rules>(packet: &[u8]) -> &[u8] {
+    if R::slips(Slip::PacketLength16) {
+        &packet[..packet.len() % 65_536]
+    } else {
+        packet
+    }
+}
+
+/// A call on a packet, and the slips that ask 15 too early.
+#[inline]
+fn unpack<R: Rules, E: End + Takes>(end: &mut [u8], packet: &[u8], call: impl FnOnce(&mut E, &[u8]) -> Answer) -> u64 {
+    let early = R::slips(Slip::FifteenFirst) || (R::slips(Slip::FifteenBeforeTwo) && end.len() >= 4 * E::WORDS);
+    if early && !(1..=LONGEST_PACKET).contains(&packet.len()) {
+        return refused::<R>(15);
+    }
+    change::<R, E>(end, |end| call(end, lent_packet::<R>(packet)))
+}
+
+#[inline]
+fn take_packet<R: Rules, E: End + Takes>(end: &mut [u8], packet: &[u8]) -> u64 {
+    let answer = unpack::<R, E>(end, packet, |end, packet| end.take_packet::<R>(packet));
+    if R::slips(Slip::PacketCountNone) && answer as u8 != 0 {
+        refused::<R>(answer as u8)
+    } else {
+        answer
+    }
+}
+
+#[inline]
+fn take_at<R: Rules, E: End + Takes>(end: &mut [u8], packet: &[u8], offset: usize) -> u64 {
+    unpack::<R, E>(end, packet, |end, packet| end.take_at::<R>(packet, offset))
 }
 
 impl<R: Rules + Sync> Calls for R {
@@ -192,6 +235,18 @@ impl<R: Rules + Sync> Calls for R {
         change::<R, Client>(end, |client| client.take::<R>(lent_message::<R>(message)))
     }
 
+    fn client_pack(&self, end: &[u8], line: u8, out: &mut [u8], offset: usize) -> u64 {
+        look::<R, Client>(end, |client| client.pack::<R>(line, out, offset))
+    }
+
+    fn client_take_packet(&self, end: &mut [u8], packet: &[u8]) -> u64 {
+        take_packet::<R, Client>(end, packet)
+    }
+
+    fn client_take_at(&self, end: &mut [u8], packet: &[u8], offset: usize) -> u64 {
+        take_at::<R, Client>(end, packet, offset)
+    }
+
     fn server_open(&self, end: &mut [u8], n: u8, ranks: &[u8], items: &[u8]) -> u64 {
         open::<R, Server>(end, items, |server, items| server.open::<R>(n, ranks, items))
     }
@@ -206,6 +261,18 @@ impl<R: Rules + Sync> Calls for R {
 
     fn server_take(&self, end: &mut [u8], message: &[u8]) -> u64 {
         change::<R, Server>(end, |server| server.take::<R>(lent_message::<R>(message)))
+    }
+
+    fn server_pack(&self, end: &[u8], line: u8, out: &mut [u8], offset: usize) -> u64 {
+        look::<R, Server>(end, |server| server.pack::<R>(line, out, offset))
+    }
+
+    fn server_take_packet(&self, end: &mut [u8], packet: &[u8]) -> u64 {
+        take_packet::<R, Server>(end, packet)
+    }
+
+    fn server_take_at(&self, end: &mut [u8], packet: &[u8], offset: usize) -> u64 {
+        take_at::<R, Server>(end, packet, offset)
     }
 
     fn client_bytes(&self) -> u64 {

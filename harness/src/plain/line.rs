@@ -113,7 +113,7 @@ impl Line {
             }
             self.acked = seen;
         }
-        Answer { refusal: 0, passed, arrived: position, applied: position }
+        Answer { passed, arrived: position, applied: position, ..Answer::default() }
     }
 
     /// The arriving edit past the pending edits after `seen` in order, and each of these past the edit as it stood
@@ -207,13 +207,13 @@ fn put<R: Rules>(message: &Message, out: &mut [u8]) -> Sent {
             out.copy_from_slice(&bytes[..fits]);
         }
         let refusal = if R::slips(Slip::ShortOut18) { 18 } else { 14 };
-        return Sent { refusal, length: if R::slips(Slip::LengthAtRefusal) { length as u8 } else { 0 } };
+        return Sent { refusal, length: if R::slips(Slip::LengthAtRefusal) { length as u16 } else { 0 } };
     }
     out[..length].copy_from_slice(&bytes[..length]);
     if R::slips(Slip::BytesPast) {
         out[length..].fill(0);
     }
-    Sent { refusal: 0, length: length as u8 }
+    Sent { refusal: 0, length: length as u16 }
 }
 
 /// One edit past another and its move, and the slips of that table, one of which looks at the ranks.

@@ -7,6 +7,8 @@ pub mod edit;
 pub mod lent;
 pub mod line;
 pub mod origins;
+mod packet_slips;
+pub mod packets;
 pub mod places;
 pub mod ranks;
 pub mod reported;
@@ -21,9 +23,12 @@ pub mod words;
 #[derive(Clone, Copy, PartialEq, Eq, Debug, Default)]
 pub struct Answer {
     pub refusal: u8,
+    /// Of a packet how many of its messages were taken, beside a refusal too.
     pub passed: u16,
     pub arrived: u16,
     pub applied: u16,
+    /// The bytes of a message that was taken at an offset of a packet.
+    pub read: u8,
 }
 
 impl Answer {
@@ -37,7 +42,7 @@ impl Answer {
 #[derive(Clone, Copy, PartialEq, Eq, Debug)]
 pub struct Sent {
     pub refusal: u8,
-    pub length: u8,
+    pub length: u16,
 }
 
 impl Sent {

@@ -12,7 +12,7 @@ pub fn taken<R: Rules>(line: &Line, message: &Message, crossed: &Crossed, silent
     let mut positions = slip_of_gone::<R>(line, message, [message.edit.position(), crossed.edit.position()]);
     positions = slip_of_moves::<R>(line, message, positions);
     let [arrived, applied] = slip_of_positions::<R>(message, positions, silent);
-    Answer { refusal: 0, passed: crossed.passed, arrived, applied }
+    Answer { passed: crossed.passed, arrived, applied, ..Answer::default() }
 }
 
 /// The refusal of a message that was read.

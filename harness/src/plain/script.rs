@@ -2,6 +2,7 @@
 
 use super::client::Client;
 use super::codec::LONGEST as LONGEST_MESSAGE;
+use super::packets::Takes;
 use super::places::Places;
 use super::server::Server;
 use super::slip::{Rules, Slip};

@@ -4,6 +4,7 @@ use super::codec::{self, Message, DOWN, UP};
 use super::edit::{Edit, INSERT, NOTHING};
 use super::line::{Crossed, Line};
 use super::origins::{self, Kept};
+use super::packets::{self, Takes};
 use super::places::Places;
 use super::ranks::{self, Ranks};
 use super::reported;
@@ -42,32 +43,6 @@ impl Server {
         self.ranks = ranks::stored(ranks);
         self.list.open::<R>(items);
         0
-    }
-
-    /// Question 2.
-    #[inline]
-    pub fn sound<R: Rules>(&self) -> bool {
-        let n = self.n as usize;
-        if !((1 <= n && n <= LINES) || R::slips(Slip::SoundN)) {
-            return false;
-        }
-        let (used, unused) = self.lines.split_at(n.min(LINES));
-        let taken: u32 = used.iter().map(|line| line.taken as u32).sum();
-        let inserts: u32 = used.iter().map(|line| line.inserts as u32).sum();
-        ranks::sound::<R>(self.n, &self.ranks)
-            && (self.initial as usize <= INITIAL || R::slips(Slip::SoundInitial))
-            && (self.list.length as usize <= ITEMS || R::slips(Slip::SoundLength))
-            && (self.list.length as u32 <= self.initial as u32 + inserts || R::slips(Slip::SoundListBound))
-            && used.iter().enumerate().all(|(l, line)| {
-                (line.taken <= EDITS || R::slips(Slip::SoundTaken))
-                    && (line.made as u32 == taken - line.taken as u32 || R::slips(Slip::SoundSum))
-                    && (line.inserts <= line.taken || R::slips(Slip::SoundInsertsMade))
-                    && line.sound::<R>(self.others::<R>(l as u8 + 1))
-                    && self.sound_origins::<R>(l)
-            })
-            && (unused.iter().all(|line| *line == Line::ZERO) || R::slips(Slip::SoundPastN))
-            && (self.origins[used.len()..].as_flattened().iter().fold(0, |all, word| all | word) == 0 || R::slips(Slip::SoundOriginsPastN))
-            && self.list.sound::<R>(self.n)
     }
 
     /// Question 2 of the origins kept for a line (from 0): each has another maker of 1 to n and a number of 1 to 400, whatever became of its
@@ -116,16 +91,31 @@ impl Server {
         1 <= line && line <= self.n
     }
 
+    /// Questions 2 and 4 of a sending: 0 or the first no.
+    #[inline]
+    fn sending_refusal<R: Rules>(&self, line: u8) -> u8 {
+        if !self.sound::<R>() {
+            2
+        } else if !self.has(line) {
+            4
+        } else {
+            0
+        }
+    }
+
     /// Questions 2, 4, 13, 14.
     pub fn send<R: Rules>(&self, line: u8, k: u16, out: &mut [u8]) -> Sent {
-        if !self.sound::<R>() {
-            Sent::refused(2)
-        } else if !self.has(line) {
-            Sent::refused(4)
-        } else {
-            let l = line as usize - 1;
-            self.lines[l].send::<R>(line, DOWN, k, |slot| self.sent_origin::<R>(l, k, slot), out)
+        match self.sending_refusal::<R>(line) {
+            0 => self.send_pending::<R>(line, k, out),
+            refusal => Sent::refused(refusal),
         }
+    }
+
+    /// Questions 13 and 14, and the message.
+    #[inline]
+    fn send_pending<R: Rules>(&self, line: u8, k: u16, out: &mut [u8]) -> Sent {
+        let l = line as usize - 1;
+        self.lines[l].send::<R>(line, DOWN, k, |slot| self.sent_origin::<R>(l, k, slot), out)
     }
 
     /// The origin that the edit at a slot of a line (from 0) is sent with, as number k.
@@ -139,48 +129,18 @@ impl Server {
 
     /// Sends an acknowledgement. Questions 2, 4, 14.
     pub fn tell<R: Rules>(&self, line: u8, out: &mut [u8]) -> Sent {
-        if !self.sound::<R>() {
-            Sent::refused(2)
-        } else if !self.has(line) {
-            Sent::refused(4)
-        } else {
-            self.lines[line as usize - 1].tell::<R>(line, DOWN, out)
+        match self.sending_refusal::<R>(line) {
+            0 => self.lines[line as usize - 1].tell::<R>(line, DOWN, out),
+            refusal => Sent::refused(refusal),
         }
     }
 
-    /// Questions 2 to 10 and 12; of an acknowledgement 2, 3, 4, 7, 8.
-    pub fn take<R: Rules>(&mut self, bytes: &[u8]) -> Answer {
-        if !self.sound::<R>() {
-            return Answer::refused(2);
+    /// Writes a packet of the pending edits of a line. Questions 2, 4, 14.
+    pub fn pack<R: Rules>(&self, line: u8, out: &mut [u8], offset: usize) -> Sent {
+        match self.sending_refusal::<R>(line) {
+            0 => packets::write::<R>(&self.lines[line as usize - 1], |k, room| self.send_pending::<R>(line, k, room), out, offset),
+            refusal => Sent::refused(refusal),
         }
-        let Some(message) = codec::read::<R>(bytes) else {
-            return Answer::refused(3);
-        };
-        if R::slips(Slip::AllRefused) {
-            return Answer::refused(6);
-        }
-        let edit = message.edit;
-        let rank = if R::slips(Slip::FourByLine) { message.line } else { self.rank::<R>(message.line) };
-        let own = edit.kind() != INSERT || edit.priority() == rank || R::slips(Slip::OtherPriorityUp);
-        let by_sender = message.is_ack() || is_by_sender::<R>(&message);
-        if message.direction != UP || !self.has(message.line) || !own || !(by_sender || R::slips(Slip::MakerLate)) {
-            return reported::refused::<R>(4, edit);
-        }
-        let line = message.line as usize - 1;
-        let refusal = self.lines[line].in_turn::<R>(&message);
-        if refusal != 0 {
-            if R::slips(Slip::RefusedSeen) {
-                self.acknowledge::<R>(line, message.seen);
-            }
-            return reported::refused::<R>(refusal, edit);
-        }
-        if message.is_ack() {
-            return self.acknowledge::<R>(line, message.seen);
-        }
-        if !by_sender {
-            return Answer::refused(4);
-        }
-        self.take_edit::<R>(message)
     }
 
     /// Drops the pending edits of a line (from 0) up to `seen`, and their origins.
@@ -251,6 +211,65 @@ impl Server {
             self.list.apply::<R>(crossed.edit, message.origin);
         }
         answer
+    }
+}
+
+impl Takes for Server {
+    #[inline]
+    fn sound<R: Rules>(&self) -> bool {
+        let n = self.n as usize;
+        if !((1 <= n && n <= LINES) || R::slips(Slip::SoundN)) {
+            return false;
+        }
+        let (used, unused) = self.lines.split_at(n.min(LINES));
+        let taken: u32 = used.iter().map(|line| line.taken as u32).sum();
+        let inserts: u32 = used.iter().map(|line| line.inserts as u32).sum();
+        ranks::sound::<R>(self.n, &self.ranks)
+            && (self.initial as usize <= INITIAL || R::slips(Slip::SoundInitial))
+            && (self.list.length as usize <= ITEMS || R::slips(Slip::SoundLength))
+            && (self.list.length as u32 <= self.initial as u32 + inserts || R::slips(Slip::SoundListBound))
+            && used.iter().enumerate().all(|(l, line)| {
+                (line.taken <= EDITS || R::slips(Slip::SoundTaken))
+                    && (line.made as u32 == taken - line.taken as u32 || R::slips(Slip::SoundSum))
+                    && (line.inserts <= line.taken || R::slips(Slip::SoundInsertsMade))
+                    && line.sound::<R>(self.others::<R>(l as u8 + 1))
+                    && self.sound_origins::<R>(l)
+            })
+            && (unused.iter().all(|line| *line == Line::ZERO) || R::slips(Slip::SoundPastN))
+            && (self.origins[used.len()..].as_flattened().iter().fold(0, |all, word| all | word) == 0 || R::slips(Slip::SoundOriginsPastN))
+            && self.list.sound::<R>(self.n)
+    }
+
+    /// Questions 3 to 10 and 12; of an acknowledgement 3, 4, 7, 8.
+    fn take_message<R: Rules>(&mut self, bytes: &[u8]) -> Answer {
+        let Some(message) = codec::read::<R>(bytes) else {
+            return Answer::refused(3);
+        };
+        if R::slips(Slip::AllRefused) {
+            return Answer::refused(6);
+        }
+        let edit = message.edit;
+        let rank = if R::slips(Slip::FourByLine) { message.line } else { self.rank::<R>(message.line) };
+        let own = edit.kind() != INSERT || edit.priority() == rank || R::slips(Slip::OtherPriorityUp);
+        let by_sender = message.is_ack() || is_by_sender::<R>(&message);
+        if message.direction != UP || !self.has(message.line) || !own || !(by_sender || R::slips(Slip::MakerLate)) {
+            return reported::refused::<R>(4, edit);
+        }
+        let line = message.line as usize - 1;
+        let refusal = self.lines[line].in_turn::<R>(&message);
+        if refusal != 0 {
+            if R::slips(Slip::RefusedSeen) {
+                self.acknowledge::<R>(line, message.seen);
+            }
+            return reported::refused::<R>(refusal, edit);
+        }
+        if message.is_ack() {
+            return self.acknowledge::<R>(line, message.seen);
+        }
+        if !by_sender {
+            return Answer::refused(4);
+        }
+        self.take_edit::<R>(message)
     }
 }
 

@@ -8,6 +8,8 @@ pub trait Rules {
     const NAME: &'static str;
     /// Whether the moves of every edit are added up and compared with its positions.
     const CHECKS: bool = false;
+    /// Whether there are slips at all.
+    const SLIPS: bool = false;
     fn slips(slip: Slip) -> bool;
 }
 
@@ -42,6 +44,11 @@ pub fn set(slip: Slip) {
     NOW.store(slip as usize, Ordering::Relaxed);
 }
 
+/// Switches every slip off.
+pub fn unset() {
+    NOW.store(usize::MAX, Ordering::Relaxed);
+}
+
 /// The slip that is switched on.
 pub fn now() -> Option<Slip> {
     ALL.get(NOW.load(Ordering::Relaxed)).map(|row| row.0)
@@ -54,6 +61,7 @@ pub fn named(name: &str) -> Option<Slip> {
 
 impl Rules for Slipping {
     const NAME: &'static str = "slipping";
+    const SLIPS: bool = true;
 
     #[inline]
     fn slips(slip: Slip) -> bool {
@@ -221,6 +229,81 @@ slips! {
     SeventeenAfterNine History "17 is asked after 9, which nothing does not pass",
     SeventeenLast History "17 is asked after 12",
     Inverse514 Message "question 9 of a taking lets the inverse go to 514",
+    // writing a packet
+    PackFront History "a packet is written from the buffer's front, whatever the offset",
+    PackOffset8 History "writing reads the offset in 8 bits",
+    PackOffset16 History "writing reads the offset in 16 bits",
+    PackOffset32 History "writing reads the offset in 32 bits",
+    PackWraps History "an offset close to the highest number wraps around to the front",
+    PackTight History "a message that ends where the buffer ends does not fit",
+    PackMost1024 History "no more than 1,024 bytes are written",
+    PackFirstAgain History "every message of a packet is the first pending edit's",
+    PackReversed History "a packet has the pending edits from the last to the first",
+    PackWithoutFirst History "a packet leaves the first pending edit out",
+    PackWithoutLast History "a packet leaves the last pending edit out",
+    PackSkips History "a message that does not fit is left out, and later ones are written",
+    PackCut History "a message that does not fit is cut at the buffer's end",
+    PackCutUncounted History "a message that does not fit is written as far as it goes, and not counted",
+    PackWhole History "14 where some pending edit does not fit",
+    PackUnrefused History "no room for the first message writes nothing and is no refusal",
+    PackNone13 History "nothing pending gives 13",
+    PackNone14 History "nothing pending gives 14 where no byte is left",
+    PackNonePast14 History "nothing pending gives 14 at an offset past the buffer's end",
+    PackBefore History "the bytes before the offset become zero",
+    PackBehind History "the byte behind the packet becomes zero",
+    PackFromFront History "the bytes before the offset are counted as written",
+    PackLength8 History "the written length is cut to 8 bits",
+    PackAnyLine History "a client packs its edits for any line",
+    PackFourLate History "14 is asked before 4",
+    // taking a packet
+    PacketGoesOn History "a packet goes on after a refusal",
+    PacketGoesOnLast History "a packet goes on after a refusal, and answers the last one",
+    PacketRepeatsPassed History "a packet passes over repeats",
+    PacketForgets History "a refusal forgets what the packet brought before",
+    PacketForgetsLast History "a refusal forgets the message before it",
+    PacketCountRefused History "the refused message is counted",
+    PacketCountAll History "all messages of the packet are counted",
+    PacketCountNone History "nothing is counted beside a refusal",
+    PacketCountEdits History "acknowledgements in a packet are not counted",
+    PacketCountPassed History "the pending edits passed are counted, not the messages",
+    PacketCount8 History "the messages taken are counted in 8 bits",
+    PacketPositions History "a packet's answer has the last message's positions",
+    PacketRead History "a packet's answer has its length in bits 56 to 63",
+    PacketEmpty History "a packet of no bytes is let through",
+    PacketEmptyThree History "a packet of no bytes gives 3",
+    Packet1399 History "a packet of 1,400 bytes gives 15",
+    Packet1401 History "a packet of 1,401 bytes is let through",
+    PacketLength16 History "a packet's length is read in 16 bits: 65,541 bytes are 5",
+    FifteenFirst History "15 is asked before 18",
+    FifteenBeforeTwo History "15 is asked before 2",
+    PacketCutIgnored History "a message that is cut off at the packet's end is passed over",
+    PacketCutZeros History "a message that is cut off is read with zeros",
+    PacketUnknownByte History "a byte that is no kind is passed over",
+    PacketUnknownEnds History "a byte that is no kind ends the packet",
+    PacketNothing12 History "an edit that became nothing takes 12 bytes of a packet",
+    PacketFirst History "the first message of a packet alone is taken",
+    PacketMost64 History "64 messages of a packet are taken and no more",
+    PacketAckEnds History "an acknowledgement ends the packet",
+    // taking a message at an offset of a packet
+    AtFront History "the first message is taken, whatever the offset",
+    AtOffset8 History "taking reads the offset in 8 bits",
+    AtOffset16 History "taking reads the offset in 16 bits",
+    AtOffset32 History "taking reads the offset in 32 bits",
+    AtFromOne History "offsets of a packet count from 1",
+    AtLast History "an offset past the packet's end takes the last message",
+    AtEndAccepted History "an offset at the packet's end is no refusal",
+    AtPast15 History "an offset at or past the packet's end gives 15",
+    AtUnsized History "taking at an offset does not ask 15",
+    AtRest History "all bytes from the offset on are one message",
+    AtAll History "taking at an offset goes on to the packet's end",
+    AtSilent History "taking at an offset does not say how long the message is",
+    AtRefused History "a refusal says how long the message is",
+    AtNext History "where the next message begins is answered, not how long this one is",
+    AtOffset History "the offset is answered, not how long the message is",
+    AtLongest History "every message is said to have 17 bytes",
+    AtLeft History "the bytes left are answered, not how long the message is",
+    AtCounts History "taking at an offset counts a message, not the pending edits passed",
+    TakeRead History "taking one message by itself says how long it is",
     // limits and order of the questions
     Insert49 History "a client makes insert 49",
     Edit401 History "a client makes edit 401",
@@ -296,6 +379,7 @@ slips! {
     SoundTotal16 End "the low 16 bits of the total are asked",
     SoundTotalLow End "the total is asked to be at most the sum",
     SeventeenFirst End "17 is asked before 2",
+    FifteenEarly End "15 is asked once the numbers of the end are known to fit their fields, before the rest of 2",
     SoundInverse End "the stored inverse is not asked",
     SoundInversePosition End "the inverse's position is not asked",
     SoundInverse512 End "the inverse is asked to stand at 1 to 512",
