@@ -1,0 +1,15 @@
+use borrow.Author.Needs.{needs}
+use Rattle.convergence_calls.proofs.client_tell.Statement.{statement}
+use Rattle.convergence_calls.proofs.client_tell.Tie as tie
+
+tell-requires : tie.Need-tell-requires
+tell-requires c κs = search needs
+
+same-length : tie.Need-same-length
+same-length c = search needs
+
+returns : tie.Need-returns
+returns c = c .before .before .tell .ensures
+
+pub client-tell-spec : {M : Type 1} → statement M
+client-tell-spec = tie.close (tie.spec tell-requires same-length returns)
