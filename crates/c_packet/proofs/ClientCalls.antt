@@ -10,8 +10,8 @@ use Rattle.wire.specs.Bytes.{parsed}
 use Rattle.model.specs.Questions as model
 use Rattle.model.specs.Client as client
 use Rattle.model.specs.Packets.{nextSize}
-use Rattle.line.specs.declared.sending.Sent.{Sent}
-use Rattle.line.specs.Sending as sent
+use Rattle.line_send.specs.declared.Sent.{Sent}
+use Rattle.line_send.specs.Sending as sent
 use Rattle.client.specs.declared.Client.{Client}
 use Rattle.client.specs.declared.Answer.{Answer}
 use Rattle.client.specs.View.{view, sound}

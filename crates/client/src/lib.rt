@@ -10,8 +10,8 @@ ghost use Rattle.model.specs.Ranks.{rankOf};
 ghost use Rattle.client.specs.View.{size, clientOf, listRight, sound, Sound, Sizes, Applied};
 ghost use Rattle.client.specs.Answers.{opened, refusedCounts, doneCounts, freshCounts, answerOf};
 use line::Line;
-use line::taking::Report;
-use line::taking::no_report;
+use line_take::Report;
+use line_take::no_report;
 use list::Origin;
 use ot::Form;
 

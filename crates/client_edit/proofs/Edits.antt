@@ -17,7 +17,7 @@ use Rattle.list.specs.Seconds.{totalSeconds}
 use Rattle.model.specs.Cross.{insertsOf}
 use Rattle.model.specs.Questions.{Question, ask, asks, noReport, Answer, answer}
 use Rattle.model.specs.Inverse.{inverseOf, isNothing}
-use Rattle.line.specs.Taking as lines
+use Rattle.line_take.specs.Taking as lines
 use Rattle.model.specs.Ranks.{rankOf}
 use Rattle.model.specs.Line as line
 use Rattle.model.specs.Client.{editClient}

@@ -9,7 +9,7 @@ use client::Changed;
 use client::Client;
 use client::Counts;
 use client::undo;
-use line::taking::no_report;
+use line_take::no_report;
 use list::Origin;
 use ot::Form;
 

@@ -12,7 +12,7 @@ use Rattle.model.specs.Questions as model
 use Rattle.model.specs.Client as client
 use Rattle.model.specs.Client.{takeClient}
 use Rattle.ranks.proofs.Laws.{stored-length}
-use Rattle.line.specs.Taking.{reportIn}
+use Rattle.line_take.specs.Taking.{reportIn}
 use Rattle.wire_packet.specs.Packet.{messageStart, messageEnd}
 use Rattle.wire_packet.proofs.Ends.{start-left}
 use Rattle.wire_packet.proofs.Handing.{Handing, refusedBy, handing-end, handing-stop, handing-turn, packet-refused, packet-asks, packet-few, message-refused, message-asks}

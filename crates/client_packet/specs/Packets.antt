@@ -7,8 +7,8 @@ use Rattle.list.specs.Places.{wordOf}
 use Rattle.model.specs.Questions as model
 use Rattle.model.specs.Client.{packClient}
 use Rattle.model.specs.Packets.{counted, handedOver, unpacked}
-use Rattle.line.specs.declared.taking.Report.{Report}
-use Rattle.line.specs.Taking.{reportIn}
+use Rattle.line_take.specs.declared.Report.{Report}
+use Rattle.line_take.specs.Taking.{reportIn}
 use Rattle.wire_packet.specs.Packet.{messageTaken}
 use Rattle.client.specs.declared.Client.{Client}
 use Rattle.client.specs.declared.Counts.{Counts}

@@ -6,15 +6,15 @@ ghost use mathlib.Core.List.{[], _∷_};
 ghost use lib.ListN.{length};
 ghost use Rattle.limits.specs.Limits.{maxPacket};
 ghost use Rattle.model.specs.Questions.{ask, asks, between};
-ghost use Rattle.line.specs.Sending.{answered};
+ghost use Rattle.line_send.specs.Sending.{answered};
 ghost use Rattle.client.specs.View.{clientOf, sound, Sizes};
 ghost use Rattle.client.specs.Answers.{answerOf, refusedCounts};
 ghost use Rattle.client_packet.specs.Packets.{packedEdits, OwnOrigins, messagesTaken, packetTaken, takenAt, countedCounts};
 use client::Changed;
 use client::Client;
 use client::Counts;
-use line::sending::Sent;
-use line::taking::Report;
+use line_send::Sent;
+use line_take::Report;
 use list::Origin;
 
 // Writes the origins of the pending edits, a word each: the client's line, and the numbers behind those acknowledged.
@@ -38,14 +38,14 @@ pub fn pack(k: Counts, words: &[u32], line: u8, out: &mut [u8], offset: usize) -
 {
     if client::is_sound(k, words) {
         if line != k.line {
-            return line::sending::refused(4);
+            return line_send::refused(4);
         }
         let mut origins = [0u32; Client::PENDING];
         fill_origins(line, k.own.acked, k.own.made, &mut origins);
         let slots = &words[Client::ITEMS..Client::ORIGINS];
         return line_packet::pack(line, 0, k.own, slots, &origins, out, offset);
     }
-    line::sending::refused(2)
+    line_send::refused(2)
 }
 
 // What a packet answers: 0 or the refusal of a message, how many were taken before it, and the numbers then.

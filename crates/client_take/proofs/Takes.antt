@@ -31,14 +31,15 @@ use Rattle.model.specs.Client as client
 use Rattle.model.proofs.Cross.{priority-transformed}
 use Rattle.model.proofs.Inverse.{fits-stands}
 use Rattle.pending.specs.Slots.{slotsOf, formAt}
-use Rattle.line.specs.declared.taking.Arrival.{Arrival}
-use Rattle.line.specs.declared.taking.Decision.{Decision}
 use Rattle.line.specs.Line.{countsOf}
 use Rattle.line.specs.Keeping.{thenAsked}
-use Rattle.line.specs.Taking.{carrying, arrivalOf, refusalOf, lineThen, editThen, reportOf, reportIn, done, Later, Decided, Between, accepted}
-use Rattle.line.proofs.Asked.{refusal-seen, edit-asked, ack-asked, then-none, then-yes, then-no}
-use Rattle.line.proofs.Accepting.{accepted-slots}
-use Rattle.line.proofs.Decisions.{priority-form, then-edit, decided-refusal, decided-done, refusal-room, later-length}
+use Rattle.line.proofs.Parts.{then-none, then-yes, then-no}
+use Rattle.line_take.specs.declared.Arrival.{Arrival}
+use Rattle.line_take.specs.declared.Decision.{Decision}
+use Rattle.line_take.specs.Taking.{carrying, arrivalOf, refusalOf, lineThen, editThen, reportOf, reportIn, done, Later, Decided, Between, accepted}
+use Rattle.line_take.proofs.Asked.{refusal-seen, edit-asked, ack-asked}
+use Rattle.line_take.proofs.Accepting.{accepted-slots}
+use Rattle.line_take.proofs.Decisions.{priority-form, then-edit, decided-refusal, decided-done, refusal-room, later-length}
 use Rattle.client.specs.declared.Client.{Client}
 use Rattle.client.specs.declared.Inverse.{Inverse}
 use Rattle.client.specs.View.{size, slotsIn, inverseStored, inverseTidy, view, store, Sound, Applied}

@@ -13,9 +13,9 @@ use Rattle.model.specs.Inverse.{inverseStands}
 use Rattle.model.specs.Ranks.{rankOf}
 use Rattle.model.specs.Line.{other}
 use Rattle.model.specs.Client as client
-use Rattle.line.specs.declared.taking.Arrival.{Arrival}
 use Rattle.line.specs.Keeping.{thenAsked}
-use Rattle.line.specs.Taking.{refusalOf, lineThen, editThen, reportOf}
+use Rattle.line_take.specs.declared.Arrival.{Arrival}
+use Rattle.line_take.specs.Taking.{refusalOf, lineThen, editThen, reportOf}
 use Rattle.client.specs.declared.Counts.{Counts}
 use Rattle.client.specs.declared.Client.{Client}
 use Rattle.client.specs.declared.Answer.{Answer}

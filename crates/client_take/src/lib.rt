@@ -10,10 +10,10 @@ use client::Changed;
 use client::Client;
 use client::Counts;
 use client::undo;
-use line::taking::Arrival;
-use line::taking::accept;
-use line::taking::decide;
-use line::taking::split;
+use line_take::Arrival;
+use line_take::accept;
+use line_take::decide;
+use line_take::split;
 use ot::Form;
 use wire::Read;
 

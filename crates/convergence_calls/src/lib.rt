@@ -1,12 +1,12 @@
 // The methods of both ends, each with the call of the sheet `built` that it is for its contract: what is claimed of `built` is claimed of the
 // methods.
 ghost use mathlib.Core.Path.{_≡_};
-ghost use Rattle.line.specs.Sending.{answered};
+ghost use Rattle.line_send.specs.Sending.{answered};
 ghost use Rattle.convergence.specs.Built.{ofClient, ofServer, fromClient, fromServer, built};
 use client::Client;
 use ends::client_end::ClientEnd;
 use ends::server_end::ServerEnd;
-use line::sending::Sent;
+use line_send::Sent;
 use server::Server;
 
 // ---- a client

@@ -1,11 +1,11 @@
 // A client that edits and takes by value. Each method lends its words to the call on lent words, and joins what comes back.
 ghost use mathlib.Core.Path.{_≡_};
-ghost use Rattle.line.specs.Sending.{answered};
+ghost use Rattle.line_send.specs.Sending.{answered};
 ghost use Rattle.client.specs.Answers.{inserted, deleted, takenBack, taken};
 ghost use Rattle.client_packet.specs.Packets.{packedEdits, packetTaken};
 use client::Answer;
 use client::Client;
-use line::sending::Sent;
+use line_send::Sent;
 
 pub struct ClientEnd {
     pub client: Client,

@@ -1,9 +1,9 @@
 // The server's end of a sheet, by value: what `server_take` and `server_packet` do to lent words.
 ghost use mathlib.Core.Path.{_≡_};
-ghost use Rattle.line.specs.Sending.{answered};
+ghost use Rattle.line_send.specs.Sending.{answered};
 ghost use Rattle.server.specs.Answers.{taken};
 ghost use Rattle.server_packet.specs.Packets.{packedEdits, packetTaken};
-use line::sending::Sent;
+use line_send::Sent;
 use server::Answer;
 use server::Server;
 

@@ -1,7 +1,3 @@
 pub mod Room
-pub mod Asked
-pub mod Staying
-pub mod Deciding
-pub mod Accepting
-pub mod Sends
-pub mod Decisions
+pub mod Parts
+pub mod Words

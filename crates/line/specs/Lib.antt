@@ -1,4 +1,2 @@
 pub mod Line
 pub mod Keeping
-pub mod Taking
-pub mod Sending

@@ -3,12 +3,12 @@ ghost use mathlib.Core.Path.{_≡_};
 ghost use mathlib.Core.List.{[], _∷_};
 ghost use Rattle.wire.specs.Bytes.{bytesOf};
 ghost use Rattle.model.specs.Packets.{packed};
-ghost use Rattle.line.specs.Sending.{answered, IsPending};
+ghost use Rattle.line_send.specs.Sending.{answered, IsPending};
 ghost use Rattle.line_packet.specs.Packet.{Packable, messageAt, messages, Filled};
 use line::Line;
-use line::sending::Sent;
-use line::sending::message;
-use line::sending::refused;
+use line_send::Sent;
+use line_send::message;
+use line_send::refused;
 use wire::Message;
 
 // The message of a pending edit, with its origin from the words of origins: the first of them is that of the first pending edit.

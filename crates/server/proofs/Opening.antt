@@ -20,7 +20,7 @@ use Rattle.list.proofs.Parts.{Wrote, wrote-part}
 use Rattle.list.proofs.Places.{initial-items, initial-length, origins-length}
 use Rattle.model.specs.Questions as questions
 use Rattle.model.specs.Questions.{asks, every, between, answer}
-use Rattle.line.specs.Taking.{noReport}
+use Rattle.line_take.specs.Taking.{noReport}
 use Rattle.model.specs.Ranks.{ranking}
 use Rattle.model.specs.Line as line
 use Rattle.model.specs.Server as model

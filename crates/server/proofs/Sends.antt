@@ -22,12 +22,12 @@ use Rattle.model.specs.Server as model
 use Rattle.model.proofs.Tests.{and-left, hold, yes-all, between-true}
 use Rattle.model.proofs.SoundServer.{maker-at}
 use Rattle.line.specs.declared.Line.{Line}
-use Rattle.line.specs.declared.sending.Sent.{Sent}
 use Rattle.line.specs.Line.{lineOf, Kept}
 use Rattle.line.specs.Keeping.{thenAsked}
-use Rattle.line.specs.Sending.{answered, unwritten, numberAsked, finished, IsPending}
-use Rattle.line.proofs.Asked.{then-yes, then-no, then-none, asks-append}
-use Rattle.line.proofs.Sends.{number-pending, send-asked, refused-sent}
+use Rattle.line.proofs.Parts.{then-yes, then-no, then-none, asks-append}
+use Rattle.line_send.specs.declared.Sent.{Sent}
+use Rattle.line_send.specs.Sending.{answered, unwritten, numberAsked, finished, IsPending}
+use Rattle.line_send.proofs.Sends.{number-pending, send-asked, refused-sent}
 use Rattle.server.specs.declared.Counts.{Counts}
 use Rattle.server.specs.declared.Server.{Server}
 use Rattle.server.specs.View.{slotsAt, makersAt, countsAt, lineAt, makersOf, serverOf, view, sound, soundTests, Sound, Sizes}

@@ -15,8 +15,8 @@ ghost use Rattle.server.specs.Answers.{opened, refusedCounts, answerOf};
 ghost use Rattle.server.specs.Opening.{openAsked, freshCounts, OpenWords};
 ghost use Rattle.server.specs.Totals.{inLimits, lineSoundAt, Totaled};
 use line::Line;
-use line::taking::Report;
-use line::taking::no_report;
+use line_take::Report;
+use line_take::no_report;
 use server_words::is_line_sound;
 use server_words::list_sound;
 

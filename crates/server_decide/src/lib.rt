@@ -7,13 +7,13 @@ ghost use Rattle.ot.specs.Form.{positionOf};
 ghost use Rattle.model.specs.Ranks.{rankOf};
 ghost use Rattle.pending.specs.Slots.{allFrom};
 ghost use Rattle.line.specs.Keeping.{thenAsked};
-ghost use Rattle.line.specs.Taking.{zeros};
+ghost use Rattle.line_take.specs.Taking.{zeros};
 ghost use Rattle.server.specs.View.{serverOf, Sound};
 ghost use Rattle.server_decide.specs.Decides.{isOwn, madeHere, upTo, roomyAt, placeOf, insertsThen, lastRefusal, LineDecided, Decided};
 use line::Line;
-use line::taking::Arrival;
-use line::taking::Decision;
-use line::taking::refusing;
+use line_take::Arrival;
+use line_take::Decision;
+use line_take::refusing;
 use ot::Form;
 use server::Counts;
 use server::Server;
@@ -104,7 +104,7 @@ fn decide_line(k: Counts, words: &[u32], a: Arrival, later: &mut [u32; Server::P
 {
     let at = (a.line - 1) as usize;
     let inserts = inserts_then(k, a);
-    line::taking::decide(
+    line_take::decide(
         server::line_at(k, at),
         server_words::slots_at(words, at),
         k.len,

@@ -17,10 +17,10 @@ use Rattle.model.specs.Packets.{packed}
 use Rattle.model.proofs.Tests.{Numbered, yes-all, between-true}
 use Rattle.model.proofs.SoundServer.{server-facts, line-fact}
 use Rattle.line.specs.declared.Line.{Line}
-use Rattle.line.specs.declared.sending.Sent.{Sent}
 use Rattle.line.specs.Line.{lineOf}
-use Rattle.line.specs.Sending.{answered, unwritten, IsPending}
-use Rattle.line.proofs.Asked.{then-none}
+use Rattle.line.proofs.Parts.{then-none}
+use Rattle.line_send.specs.declared.Sent.{Sent}
+use Rattle.line_send.specs.Sending.{answered, unwritten, IsPending}
 use Rattle.line_packet.specs.Packet.{Packable, originOf, messages}
 use Rattle.line_packet.proofs.Packing.{messages-are, packed-yes, packed-no, written-small}
 use Rattle.server_words.proofs.Loops.{makers-long}

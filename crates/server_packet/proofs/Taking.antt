@@ -10,7 +10,7 @@ use Rattle.model.specs.Questions as model
 use Rattle.model.specs.Server as server
 use Rattle.model.specs.Server.{takeServer}
 use Rattle.model.proofs.Sound.{server-takes}
-use Rattle.line.specs.Taking.{reportIn}
+use Rattle.line_take.specs.Taking.{reportIn}
 use Rattle.wire_packet.specs.Packet.{messageStart, messageEnd}
 use Rattle.wire_packet.proofs.Handing.{Handing, refusedBy, handing-end, handing-stop, handing-turn, packet-refused, packet-asks, packet-few, message-refused, message-asks}
 use Rattle.server.specs.declared.Server.{Server}

@@ -5,8 +5,8 @@ use lib.ListN.{length}
 use Rattle.model.specs.Questions as model
 use Rattle.model.specs.Server.{packServer}
 use Rattle.model.specs.Packets.{counted, handedOver, unpacked}
-use Rattle.line.specs.declared.taking.Report.{Report}
-use Rattle.line.specs.Taking.{reportIn}
+use Rattle.line_take.specs.declared.Report.{Report}
+use Rattle.line_take.specs.Taking.{reportIn}
 use Rattle.wire_packet.specs.Packet.{messageTaken}
 use Rattle.server.specs.declared.Server.{Server}
 use Rattle.server.specs.declared.Counts.{Counts}

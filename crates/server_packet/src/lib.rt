@@ -6,12 +6,12 @@ ghost use mathlib.Core.List.{[], _∷_};
 ghost use lib.ListN.{length};
 ghost use Rattle.limits.specs.Limits.{maxPacket};
 ghost use Rattle.model.specs.Questions.{ask, asks, between};
-ghost use Rattle.line.specs.Sending.{answered};
+ghost use Rattle.line_send.specs.Sending.{answered};
 ghost use Rattle.server.specs.View.{serverOf, sound, Sizes};
 ghost use Rattle.server.specs.Answers.{answerOf, refusedCounts};
 ghost use Rattle.server_packet.specs.Packets.{packedEdits, messagesTaken, packetTaken, takenAt, countedCounts};
-use line::sending::Sent;
-use line::taking::Report;
+use line_send::Sent;
+use line_take::Report;
 use server::Changed;
 use server::Counts;
 use server_words::makers_at;
@@ -25,7 +25,7 @@ pub fn pack(k: Counts, words: &[u32], line: u8, out: &mut [u8], offset: usize) -
 {
     let refusal = server::sending::ask_line(k, words, line);
     if refusal != 0 {
-        return line::sending::refused(refusal);
+        return line_send::refused(refusal);
     }
     let at = (line - 1) as usize;
     let v = server::line_at(k, at);

@@ -23,13 +23,13 @@ use Rattle.model.proofs.Instance.{map-drop}
 use Rattle.model.proofs.SoundServer.{length-atPlace}
 use Rattle.pending.specs.Slots.{slotsOf}
 use Rattle.line.specs.declared.Line.{Line}
-use Rattle.line.specs.declared.taking.Arrival.{Arrival}
-use Rattle.line.specs.declared.taking.Decision.{Decision}
 use Rattle.line.specs.Line.{countsOf, Kept}
-use Rattle.line.specs.Taking.{lineThen, editThen, accepted}
-use Rattle.line.proofs.Accepting.{accepted-slots}
-use Rattle.line.proofs.Decisions.{then-edit}
 use Rattle.line.proofs.Room.{room-items, room-origins, room-length}
+use Rattle.line_take.specs.declared.Arrival.{Arrival}
+use Rattle.line_take.specs.declared.Decision.{Decision}
+use Rattle.line_take.specs.Taking.{lineThen, editThen, accepted}
+use Rattle.line_take.proofs.Accepting.{accepted-slots}
+use Rattle.line_take.proofs.Decisions.{then-edit}
 use Rattle.server.specs.declared.Counts.{Counts}
 use Rattle.server.specs.View.{size, slotsAt, makersAt, countsAt, lineAt, makersOf, serverOf, view, store, Sound, SlotsWrote, MakersWrote, Applied}
 use Rattle.server_decide.specs.Decides.{placeOf, insertsThen, Decided}

@@ -22,12 +22,13 @@ use Rattle.model.specs.Ranks.{rankOf}
 use Rattle.model.specs.Questions.{Question, ask, asks, between, Report, noReport, Answer, answer}
 use Rattle.model.specs.Line as line
 use Rattle.model.specs.Server as model
-use Rattle.line.specs.declared.taking.Arrival.{Arrival}
-use Rattle.line.specs.declared.taking.Decision.{Decision}
 use Rattle.line.specs.Keeping.{thenAsked}
-use Rattle.line.specs.Taking.{carrying, arrivalOf, refusalOf, editThen, reportOf, reportIn}
-use Rattle.line.proofs.Asked.{edit-asked, ack-asked, then-none}
-use Rattle.line.proofs.Decisions.{priority-form, then-item}
+use Rattle.line.proofs.Parts.{then-none}
+use Rattle.line_take.specs.declared.Arrival.{Arrival}
+use Rattle.line_take.specs.declared.Decision.{Decision}
+use Rattle.line_take.specs.Taking.{carrying, arrivalOf, refusalOf, editThen, reportOf, reportIn}
+use Rattle.line_take.proofs.Asked.{edit-asked, ack-asked}
+use Rattle.line_take.proofs.Decisions.{priority-form, then-item}
 use Rattle.server.specs.declared.Counts.{Counts}
 use Rattle.server.specs.declared.Server.{Server}
 use Rattle.server.specs.declared.Changed.{Changed}

@@ -22,9 +22,9 @@ use Rattle.pending.specs.Slots as pending
 use Rattle.pending.proofs.Slots.{slots-length}
 use Rattle.line.specs.declared.Line.{Line}
 use Rattle.line.specs.Line.{pendingIn, Kept}
-use Rattle.line.specs.Taking.{Between, accepted}
-use Rattle.line.proofs.Staying.{pending-length}
+use Rattle.line.proofs.Words.{pending-length}
 use Rattle.line.proofs.Room.{room-form}
+use Rattle.line_take.specs.Taking.{Between, accepted}
 use Rattle.server.specs.View.{size, origins, makers, itemsIn, originsIn, slotsAt, makersAt, Parts, SlotsWrote, MakersWrote, Applied}
 use Rattle.server_take.specs.Taking.{slotsKept, makersKept, makersLeft}
 use Rattle.server_words.proofs.Loops.{lent-is, base, makersBase, items-long, origins-long}

@@ -14,10 +14,10 @@ use Rattle.model.specs.Line as model
 use Rattle.model.specs.Server as server
 use Rattle.pending.specs.Slots.{slotsOf}
 use Rattle.line.specs.declared.Line.{Line}
-use Rattle.line.specs.declared.taking.Arrival.{Arrival}
 use Rattle.line.specs.Line.{pendingIn}
 use Rattle.line.specs.Keeping.{withKept}
-use Rattle.line.specs.Taking.{editOf, lineThen, editThen}
+use Rattle.line_take.specs.declared.Arrival.{Arrival}
+use Rattle.line_take.specs.Taking.{editOf, lineThen, editThen}
 use Rattle.server.specs.declared.Counts.{Counts}
 use Rattle.server.specs.View.{slotsAt, countsAt, itemsIn, originsIn, makersAt, Parts}
 use Rattle.server_decide.specs.Decides.{placeOf}

@@ -3,7 +3,7 @@ use native.Mathlib.Omega.{arith}
 use mathlib.Core.Path.{ap, sym, _∙_}
 use mathlib.Core.List.{List}
 use Prim.Native.Nat.{ℕ}
-use Rattle.line.specs.declared.taking.Report.{Report}
+use Rattle.line_take.specs.declared.Report.{Report}
 use Rattle.client.specs.declared.Client.{Client}
 use Rattle.client.specs.declared.Changed.{Changed}
 use Rattle.client.specs.View.{clientOf, Sound}

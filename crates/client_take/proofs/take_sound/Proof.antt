@@ -8,8 +8,8 @@ use Rattle.wire.specs.declared.Message.{Message}
 use Rattle.wire.specs.declared.Read.the-variants as read
 use Rattle.wire.specs.Bytes.{parsed}
 use Rattle.wire.proofs.Codec.{codec}
-use Rattle.line.specs.declared.taking.Arrival.{Arrival}
-use Rattle.line.proofs.Decisions.{arrival-position}
+use Rattle.line_take.specs.declared.Arrival.{Arrival}
+use Rattle.line_take.proofs.Decisions.{arrival-position}
 use Rattle.client.specs.declared.Client.{Client}
 use Rattle.client.specs.declared.Changed.{Changed}
 use Rattle.client.specs.View.{clientOf}

@@ -1,7 +1,7 @@
 use native.Mathlib.Omega.{arith}
 use denote.Ref.{now}
 use borrow.Author.Needs.{needs}
-use Rattle.line.proofs.Staying.{kept-size, kept-append}
+use Rattle.line.proofs.Words.{kept-size, kept-append}
 use Rattle.line.proofs.keep.Statement.{statement}
 use Rattle.line.proofs.keep.Tie as tie
 

@@ -5,7 +5,7 @@ use mathlib.Core.Path.{ap, sym, _∙_, subst}
 use Rattle.limits.specs.Limits.{maxPending}
 use Rattle.line.specs.declared.Line.{Line}
 use Rattle.line.specs.Line.{Kept}
-use Rattle.line.specs.Taking.{Between, accepted}
+use Rattle.line_take.specs.Taking.{Between, accepted}
 use Rattle.server.specs.declared.Counts.{Counts}
 use Rattle.server.specs.View.{serverOf, slotsAt, makersAt, SlotsWrote, MakersWrote}
 use Rattle.server_decide.specs.Decides.{placeOf}

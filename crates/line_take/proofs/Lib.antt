@@ -1,0 +1,5 @@
+pub mod Asked
+pub mod Staying
+pub mod Deciding
+pub mod Accepting
+pub mod Decisions
