@@ -1,3 +1,0 @@
-pub mod Origins
-pub mod Packing
-pub mod Taking

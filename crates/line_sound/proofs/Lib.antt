@@ -1,6 +1,0 @@
-pub mod All
-pub mod Right
-pub mod Tests
-pub mod Words
-pub mod Stored
-pub mod Makers

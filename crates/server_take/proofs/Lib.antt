@@ -1,4 +1,0 @@
-pub mod Takes
-pub mod Written
-pub mod Keeping
-pub mod Accepts
