@@ -71,7 +71,7 @@ pub fn insert(end: &mut [u8], position: u16, item: u32) -> u64
     }
     let mut words = [0u32; Client::WORDS];
     let k = layout::read(end, &mut words);
-    let a = client_edit::insert(k, &mut words, position, item);
+    let a = client::editing::insert(k, &mut words, position, item);
     finish(end, a, &words)
 }
 
@@ -84,7 +84,7 @@ pub fn delete(end: &mut [u8], position: u16) -> u64
     }
     let mut words = [0u32; Client::WORDS];
     let k = layout::read(end, &mut words);
-    let a = client_edit::delete(k, &mut words, position);
+    let a = client::editing::delete(k, &mut words, position);
     finish(end, a, &words)
 }
 
@@ -97,7 +97,7 @@ pub fn take_back(end: &mut [u8]) -> u64
     }
     let mut words = [0u32; Client::WORDS];
     let k = layout::read(end, &mut words);
-    let a = client_edit::take_back(k, &mut words);
+    let a = client::editing::take_back(k, &mut words);
     finish(end, a, &words)
 }
 
@@ -136,6 +136,6 @@ pub fn take(end: &mut [u8], message: &[u8]) -> u64
     }
     let mut words = [0u32; Client::WORDS];
     let k = layout::read(end, &mut words);
-    let a = client_take::take(k, &mut words, message);
+    let a = client::taking::take(k, &mut words, message);
     finish(end, a, &words)
 }

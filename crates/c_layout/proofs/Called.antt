@@ -11,9 +11,9 @@ use Rattle.wire.specs.declared.Message.{Message}
 use Rattle.wire.specs.declared.Message.the-variants.{Insert, Delete, Nothing, Ack}
 use Rattle.wire.specs.Bytes.{bytesOf}
 use Rattle.model.specs.Questions.{Answer, Sent, sent}
-use Rattle.line_send.specs.declared.Sent as line
-use Rattle.line_send.specs.Sending.{answered}
-use Rattle.line_take.specs.declared.Report.{Report}
+use Rattle.line.specs.declared.sending.Sent as line
+use Rattle.line.specs.Sending.{answered}
+use Rattle.line.specs.declared.taking.Report.{Report}
 use Rattle.c_layout.specs.Words.{highFirst, itemsOf}
 use Rattle.c_layout.specs.Called.{Called, packed, packedReport, packedRead, called, returned, laidOut, changing, takingSome, takingOne, opening, sending, refusalOf, countOf, arrivedOf, appliedOf, readOf, Unpacks, Fits, UnpacksRead}
 use Rattle.c_layout.proofs.Words.{words-length}

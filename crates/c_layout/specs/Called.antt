@@ -6,7 +6,7 @@ use mathlib.Core.List.{List, _++_}
 use lib.Dec.{eqb, ltb}
 use lib.ListN.{length, drop}
 use Rattle.model.specs.Questions.{Sent}
-use Rattle.line_take.specs.declared.Report.{Report}
+use Rattle.line.specs.declared.taking.Report.{Report}
 
 pub record Called : Type 0 where
   pub answer : ℕ

@@ -8,7 +8,7 @@ ghost use lib.ListN.{length};
 ghost use Rattle.list.specs.Parts.{part};
 ghost use Rattle.c_layout.specs.Words.{lowFirst, highFirst, wordAt, wordsOf, itemsOf, bytesOf, putAt};
 ghost use Rattle.c_layout.specs.Called.{packed, packedReport};
-use line_take::Report;
+use line::taking::Report;
 
 fn low_first(a: u8, b: u8, c: u8, d: u8) -> u32
     ensures { λ r. ⌜ r ≡ lowFirst a b c d ⌝ }

@@ -6,7 +6,7 @@ use mathlib.Core.List.{List}
 use lib.ListN.{length, drop}
 use Rattle.model.specs.Questions.{Answer}
 use Rattle.model.specs.Packets.{nextSize, unpacked}
-use Rattle.line_take.specs.Taking.{reportIn}
+use Rattle.line.specs.Taking.{reportIn}
 use Rattle.wire_packet.specs.Packet.{messageTaken}
 use Rattle.wire_packet.proofs.Handing.{packet-unsound, message-unsound}
 use Rattle.c_layout.specs.Called.{Called, laidOut, returned, takingSome, takingOne}

@@ -10,14 +10,14 @@ use Rattle.wire.specs.Bytes.{parsed}
 use Rattle.model.specs.Questions as model
 use Rattle.model.specs.Client as client
 use Rattle.model.specs.Packets.{nextSize}
-use Rattle.line_send.specs.declared.Sent.{Sent}
-use Rattle.line_send.specs.Sending as sent
+use Rattle.line.specs.declared.sending.Sent.{Sent}
+use Rattle.line.specs.Sending as sent
 use Rattle.client.specs.declared.Client.{Client}
 use Rattle.client.specs.declared.Answer.{Answer}
 use Rattle.client.specs.View.{view, sound}
 use Rattle.client.specs.Answers.{refusedWith, given, guarded}
-use Rattle.client_packet.specs.Packets.{packedEdits, taking, packetTaken, takenAt}
-use Rattle.client_packet.proofs.Packing.{pack-small}
+use Rattle.client.specs.Packets.{packedEdits, taking, packetTaken, takenAt}
+use Rattle.client.proofs.Packs.{pack-small}
 use Rattle.c_client.specs.Layout.{size, bytesIn, endIn}
 use Rattle.c_client.specs.Reading.{cappedEnd}
 use Rattle.c_client.proofs.Calls.{clients}

@@ -10,14 +10,14 @@ use Rattle.wire.specs.Bytes.{parsed}
 use Rattle.model.specs.Questions as model
 use Rattle.model.specs.Server as server
 use Rattle.model.specs.Packets.{nextSize}
-use Rattle.line_send.specs.declared.Sent.{Sent}
-use Rattle.line_send.specs.Sending as sent
+use Rattle.line.specs.declared.sending.Sent.{Sent}
+use Rattle.line.specs.Sending as sent
 use Rattle.server.specs.declared.Server.{Server}
 use Rattle.server.specs.declared.Answer.{Answer}
 use Rattle.server.specs.View.{view, sound}
 use Rattle.server.specs.Answers.{refusedWith, given, guarded}
-use Rattle.server_packet.specs.Packets.{packedEdits, taking, packetTaken, takenAt}
-use Rattle.server_packet.proofs.Packing.{pack-small}
+use Rattle.server.specs.Packets.{packedEdits, taking, packetTaken, takenAt}
+use Rattle.server.proofs.Packs.{pack-small}
 use Rattle.c_server.specs.Layout.{size, bytesIn, endIn}
 use Rattle.c_server.specs.Reading.{cappedEnd}
 use Rattle.c_server.proofs.Calls.{servers}

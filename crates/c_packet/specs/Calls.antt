@@ -5,9 +5,9 @@ use mathlib.Core.List.{List}
 use lib.ListN.{drop}
 use Rattle.model.specs.Packets.{nextSize}
 use Rattle.client.specs.declared.Answer as client
-use Rattle.client_packet.specs.Packets as clients
+use Rattle.client.specs.Packets as clients
 use Rattle.server.specs.declared.Answer as server
-use Rattle.server_packet.specs.Packets as servers
+use Rattle.server.specs.Packets as servers
 use Rattle.c_layout.specs.Called.{Called, laidOut, takingSome, takingOne, sending}
 pub use Rattle.c_layout.specs.Called.{returned}
 use Rattle.c_client.specs.Layout.{size as clientSize, bytesIn as clientBytes, endIn as clientIn}

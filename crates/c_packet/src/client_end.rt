@@ -25,7 +25,7 @@ pub fn pack(end: &[u8], line: u8, out: &mut [u8], offset: usize) -> u64
     }
     let mut words = [0u32; Client::WORDS];
     let k = layout::read(end, &mut words);
-    let sent = client_packet::pack(k, &words, line, out, offset);
+    let sent = client::packets::pack(k, &words, line, out, offset);
     answer(sent.refusal, sent.written as u16)
 }
 
@@ -53,7 +53,7 @@ pub fn take_packet(end: &mut [u8], packet: &[u8]) -> u64
     }
     let mut words = [0u32; Client::WORDS];
     let k = layout::read(end, &mut words);
-    let a = client_packet::take(k, &mut words, packet);
+    let a = client::packets::take(k, &mut words, packet);
     finish(end, a, &words)
 }
 
@@ -81,7 +81,7 @@ pub fn take_at(end: &mut [u8], packet: &[u8], offset: usize) -> u64
     }
     let mut words = [0u32; Client::WORDS];
     let k = layout::read(end, &mut words);
-    let a = client_packet::take_at(k, &mut words, packet, offset);
+    let a = client::packets::take_at(k, &mut words, packet, offset);
     let read = size_at(packet, offset);
     finish_one(end, a, &words, read)
 }

@@ -9,7 +9,7 @@ ghost use Prim.Native.Nat.{_%_};
 ghost use lib.ListN.{drop};
 ghost use Rattle.model.specs.Packets.{nextSize};
 ghost use Rattle.c_layout.specs.Called.{packedRead};
-use line_take::Report;
+use line::taking::Report;
 
 // How many bytes the message of a packet has that begins at an offset. One that is taken has at most 17, and its length fits a byte.
 fn size_at(packet: &[u8], offset: usize) -> u8

@@ -27,7 +27,7 @@ pub fn pack(end: &[u8], line: u8, out: &mut [u8], offset: usize) -> u64
     let mut words = [0u32; Server::WORDS];
     get(end, layout::WORDS, &mut words);
     let k = layout::counts(end);
-    let sent = server_packet::pack(k, &words, line, out, offset);
+    let sent = server::packets::pack(k, &words, line, out, offset);
     answer(sent.refusal, sent.written as u16)
 }
 
@@ -56,7 +56,7 @@ pub fn take_packet(end: &mut [u8], packet: &[u8]) -> u64
     let mut words = [0u32; Server::WORDS];
     get(end, layout::WORDS, &mut words);
     let k = layout::counts(end);
-    let a = server_packet::take(k, &mut words, packet);
+    let a = server::packets::take(k, &mut words, packet);
     finish(end, a, &words)
 }
 
@@ -85,7 +85,7 @@ pub fn take_at(end: &mut [u8], packet: &[u8], offset: usize) -> u64
     let mut words = [0u32; Server::WORDS];
     get(end, layout::WORDS, &mut words);
     let k = layout::counts(end);
-    let a = server_packet::take_at(k, &mut words, packet, offset);
+    let a = server::packets::take_at(k, &mut words, packet, offset);
     let read = size_at(packet, offset);
     finish_one(end, a, &words, read)
 }

@@ -15,8 +15,8 @@ use Rattle.model.proofs.Tests.{hold, and-left}
 use Rattle.model.proofs.SoundServer.{ServerFacts, server-facts, line-fact, made-most}
 use Rattle.line.specs.declared.Line.{Line}
 use Rattle.line.specs.Line.{countsOf}
-use Rattle.line_sound.specs.Sound.{emptyLine}
-use Rattle.line_sound.proofs.Stored.{empty-counts}
+use Rattle.line.specs.Sound.{emptyLine}
+use Rattle.line.proofs.Stored.{empty-counts}
 use Rattle.server.specs.declared.Server.{Server}
 use Rattle.server.specs.View.{slotsAt, makersAt, countsAt, lineAt, serverOf, view, emptyAt, sound, soundTests}
 use Rattle.server.proofs.Lines.{line-used}

@@ -102,6 +102,6 @@ pub fn take(end: &mut [u8], message: &[u8]) -> u64
     let mut words = [0u32; Server::WORDS];
     get(end, layout::WORDS, &mut words);
     let k = layout::counts(end);
-    let a = server_take::take(k, &mut words, message);
+    let a = server::taking::take(k, &mut words, message);
     finish(end, a, &words)
 }

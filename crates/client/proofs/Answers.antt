@@ -22,7 +22,7 @@ use Rattle.model.specs.Client as client
 use Rattle.model.proofs.Tests.{and-left, and-right}
 use Rattle.ranks.specs.Stored as ranks
 use Rattle.pending.specs.Slots.{slotsOf}
-use Rattle.line_take.specs.Taking.{reportIn}
+use Rattle.line.specs.Taking.{reportIn}
 use Rattle.client.specs.declared.Client.{Client}
 use Rattle.client.specs.declared.Answer.{Answer}
 use Rattle.client.specs.View.{size, slotsIn, view, store, sound}

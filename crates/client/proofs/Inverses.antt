@@ -24,8 +24,8 @@ use Rattle.model.proofs.SoundClient.{ClientFacts}
 use Rattle.ranks.proofs.Laws.{ranking-facts}
 use Rattle.pending.specs.Slots.{placeOf, formAt}
 use Rattle.pending.proofs.Slot.{Ranks, slot-read-back}
-use Rattle.line_take.proofs.Decisions.{priority-form}
-use Rattle.line_sound.proofs.Stored as lines
+use Rattle.line.proofs.Decisions.{priority-form}
+use Rattle.line.proofs.Stored as lines
 use Rattle.client.specs.declared.Inverse.{Inverse}
 use Rattle.client.specs.View.{inverseIn, inverseStored, inverseTidy}
 use Rattle.client.specs.Undo.{inverseMade}

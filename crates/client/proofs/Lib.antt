@@ -5,3 +5,8 @@ pub mod Sound
 pub mod Stored
 pub mod Written
 pub mod Messages
+pub mod Edits
+pub mod Takes
+pub mod Origins
+pub mod Packs
+pub mod TakesAll

@@ -14,8 +14,8 @@ use Rattle.model.specs.Line.{lineMessage, sendQuestions}
 use Rattle.model.specs.Client.{soundClient, clientMessage, sendClientQuestions, sendClient, tellClient}
 use Rattle.line.specs.Keeping.{thenAsked}
 use Rattle.line.proofs.Parts.{then-yes, then-no}
-use Rattle.line_send.specs.Sending.{answered, unwritten, numberAsked, finished}
-use Rattle.line_send.proofs.Sends.{send-asked, refused-sent}
+use Rattle.line.specs.Sending.{answered, unwritten, numberAsked, finished}
+use Rattle.line.proofs.Sends.{send-asked, refused-sent}
 use Rattle.client.specs.declared.Client.{Client}
 use Rattle.client.specs.View.{slotsIn, view, sound, Sound}
 use Rattle.client.specs.Answers.{guardedSending, sentEdit, sentAck}

@@ -7,7 +7,7 @@ use lib.ListN.{length, getD, set, length-set}
 use lib.Seq.{getD-set-same, getD-set-other}
 use borrow.Author.Count.{below-more}
 use Rattle.list.specs.Places.{wordOf}
-use Rattle.client_packet.specs.Packets.{OwnOrigins}
+use Rattle.client.specs.Packets.{OwnOrigins}
 
 -- the word of an edit of the line
 abbrev wordFor : ℕ → ℕ → ℕ

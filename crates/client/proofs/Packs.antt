@@ -18,15 +18,15 @@ use Rattle.model.proofs.Tests.{Numbered, yes-all}
 use Rattle.model.proofs.SoundClient.{ClientFacts, client-facts}
 use Rattle.line.specs.declared.Line.{Line}
 use Rattle.line.specs.Line.{lineOf}
-use Rattle.line_send.specs.declared.Sent.{Sent}
-use Rattle.line_send.specs.Sending.{answered, unwritten, IsPending}
-use Rattle.line_packet.specs.Packet.{Packable, originOf, messages}
-use Rattle.line_packet.proofs.Packing.{messages-are, packed-yes, packed-no, written-small}
+use Rattle.line.specs.declared.sending.Sent.{Sent}
+use Rattle.line.specs.Sending.{answered, unwritten, IsPending}
+use Rattle.line.specs.Packet.{Packable, originOf, messages}
+use Rattle.line.proofs.Packets.{messages-are, packed-yes, packed-no, written-small}
 use Rattle.client.specs.declared.Client.{Client}
 use Rattle.client.specs.View.{slotsIn, view, sound, Sound}
 use Rattle.client.specs.Answers.{guardedSending}
 use Rattle.client.proofs.Messages.{unsound-sending, sound-sending, other-line, own-line}
-use Rattle.client_packet.specs.Packets.{packedEdits, OwnOrigins}
+use Rattle.client.specs.Packets.{packedEdits, OwnOrigins}
 
 -- questions 2 and 4
 abbrev questions : Client → ℕ → List model.Question

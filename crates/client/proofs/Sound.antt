@@ -24,8 +24,8 @@ use Rattle.ranks.specs.Stored as ranks
 use Rattle.ranks.proofs.Laws.{take-rank, sound-ranking, sound-zero, sound-stored}
 use Rattle.pending.specs.Slots.{slotsOf}
 use Rattle.line.specs.Line.{lineOf, Kept}
-use Rattle.line_sound.specs.Sound.{tidy, soundLine}
-use Rattle.line_sound.proofs.Words.{sound-kept}
+use Rattle.line.specs.Sound.{tidy, soundLine}
+use Rattle.line.proofs.SoundWords.{sound-kept}
 use Rattle.client.specs.declared.Counts.{Counts}
 use Rattle.client.specs.declared.Client.{Client}
 use Rattle.client.specs.View.{itemsIn, slotsIn, originsIn, clientOf, inverseStored, inverseTidy, view, unusedZero, listRight, store, soundTests, sound, Sound, Sizes}

@@ -23,8 +23,8 @@ use Rattle.ranks.specs.Stored as ranks
 use Rattle.ranks.proofs.Laws.{stored-length, stored-take, stored-sound, sound-zero}
 use Rattle.pending.specs.Slots.{slotsOf}
 use Rattle.line.specs.Line.{lineOf, countsOf}
-use Rattle.line_sound.specs.Sound.{soundLine, tidy}
-use Rattle.line_sound.proofs.Stored as lines
+use Rattle.line.specs.Sound.{soundLine, tidy}
+use Rattle.line.proofs.Stored as lines
 use Rattle.client.specs.declared.Client.{Client}
 use Rattle.client.specs.View.{size, itemsIn, slotsIn, originsIn, listIn, inverseIn, inverseStored, view, store, unusedZero, soundTests, sound, Sizes}
 use Rattle.client.proofs.Words.{stored-items, stored-slots, stored-origins, stored-long}

@@ -34,22 +34,22 @@ use Rattle.pending.specs.Slots.{slotsOf, formAt}
 use Rattle.line.specs.Line.{countsOf}
 use Rattle.line.specs.Keeping.{thenAsked}
 use Rattle.line.proofs.Parts.{then-none, then-yes, then-no}
-use Rattle.line_take.specs.declared.Arrival.{Arrival}
-use Rattle.line_take.specs.declared.Decision.{Decision}
-use Rattle.line_take.specs.Taking.{carrying, arrivalOf, refusalOf, lineThen, editThen, reportOf, reportIn, done, Later, Decided, Between, accepted}
-use Rattle.line_take.proofs.Asked.{refusal-seen, edit-asked, ack-asked}
-use Rattle.line_take.proofs.Accepting.{accepted-slots}
-use Rattle.line_take.proofs.Decisions.{priority-form, then-edit, decided-refusal, decided-done, refusal-room, later-length}
+use Rattle.line.specs.declared.taking.Arrival.{Arrival}
+use Rattle.line.specs.declared.taking.Decision.{Decision}
+use Rattle.line.specs.Taking.{carrying, arrivalOf, refusalOf, lineThen, editThen, reportOf, reportIn, done, Later, Decided, Between, accepted}
+use Rattle.line.proofs.Asked.{refusal-seen, edit-asked, ack-asked}
+use Rattle.line.proofs.Accepting.{accepted-slots}
+use Rattle.line.proofs.Decisions.{priority-form, then-edit, decided-refusal, decided-done, refusal-room, later-length}
 use Rattle.client.specs.declared.Client.{Client}
 use Rattle.client.specs.declared.Inverse.{Inverse}
 use Rattle.client.specs.View.{size, slotsIn, inverseStored, inverseTidy, view, store, Sound, Applied}
 use Rattle.client.specs.Answers.{refusedWith, answerOf, doneCounts, guarded, taken}
-use Rattle.client_take.specs.Taking.{downTo, inverseThen, clientThen, refusalAt, arrived}
+use Rattle.client.specs.Taking.{downTo, inverseThen, clientThen, refusalAt, arrived}
 use Rattle.client.proofs.Words.{withSlots}
 use Rattle.client.proofs.Answers as ends
 use Rattle.client.proofs.Inverses.{past-none, ranks-fit, stands-read}
 use Rattle.client.proofs.Sound.{sound-rank, sound-tidy}
 use Rattle.client.proofs.Written.{Summed, listed, facts, len-few, summed, kept-long, becomes}
 
 -- what the code finds of the inverse: it is carried past the form that is applied, and its own form is looked at
 abbrev pub Past : Client → Decision → Inverse → Type 0

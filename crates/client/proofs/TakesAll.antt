@@ -12,19 +12,19 @@ use Rattle.model.specs.Questions as model
 use Rattle.model.specs.Client as client
 use Rattle.model.specs.Client.{takeClient}
 use Rattle.ranks.proofs.Laws.{stored-length}
-use Rattle.line_take.specs.Taking.{reportIn}
+use Rattle.line.specs.Taking.{reportIn}
 use Rattle.wire_packet.specs.Packet.{messageStart, messageEnd}
 use Rattle.wire_packet.proofs.Ends.{start-left}
 use Rattle.wire_packet.proofs.Handing.{Handing, refusedBy, handing-end, handing-stop, handing-turn, packet-refused, packet-asks, packet-few, message-refused, message-asks}
 use Rattle.client.specs.declared.Client.{Client}
 use Rattle.client.specs.declared.Counts.{Counts}
 use Rattle.client.specs.declared.Answer.{Answer}
 use Rattle.client.specs.declared.Changed.{Changed}
 use Rattle.client.specs.View.{clientOf, view, store, sound, Sound, Sizes}
 use Rattle.client.specs.Answers.{refusedWith, guarded, taken, answerOf, refusedCounts}
 use Rattle.client.proofs.Answers.{unsound}
-use Rattle.client_take.proofs.Takes.{read-refused}
-use Rattle.client_packet.specs.Packets.{clientAnswer, answerIn, taking, messagesTaken, packetTaken, takenAt, countedCounts}
+use Rattle.client.proofs.Takes.{read-refused}
+use Rattle.client.specs.Packets.{clientAnswer, answerIn, taking, messagesTaken, packetTaken, takenAt, countedCounts}
 
 -- every taking asks question 2 first
 unsound-taking : (c : Client) → sound c ≡ false → (m : List ℕ) → taking c m ≡ refusedBy 2 c

@@ -29,7 +29,7 @@ use Rattle.pending.proofs.Slots.{slots-length}
 use Rattle.line.specs.declared.Line.{Line}
 use Rattle.line.specs.Line.{countsOf}
 use Rattle.line.proofs.Room.{room-items, room-origins, room-length}
-use Rattle.line_take.specs.declared.Report.{Report}
+use Rattle.line.specs.declared.taking.Report.{Report}
 use Rattle.client.specs.declared.Client.{Client}
 use Rattle.client.specs.declared.Inverse.{Inverse}
 use Rattle.client.specs.View.{size, itemsIn, slotsIn, originsIn, origins as from, inverseStored, clientOf, view, store, Sound, Applied}

@@ -12,8 +12,8 @@ use Rattle.model.specs.Client as client
 use Rattle.line.specs.declared.Line.{Line}
 use Rattle.line.specs.Line.{countsOf}
 use Rattle.line.specs.Keeping.{fitsList}
-use Rattle.line_take.specs.declared.Report.{Report}
-use Rattle.line_take.specs.Taking.{noReport, reportIn}
+use Rattle.line.specs.declared.taking.Report.{Report}
+use Rattle.line.specs.Taking.{noReport, reportIn}
 use Rattle.client.specs.declared.Counts.{Counts}
 use Rattle.client.specs.declared.Inverse.{Inverse}
 use Rattle.client.specs.declared.Client.{Client}

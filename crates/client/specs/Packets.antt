@@ -7,15 +7,15 @@ use Rattle.list.specs.Places.{wordOf}
 use Rattle.model.specs.Questions as model
 use Rattle.model.specs.Client.{packClient}
 use Rattle.model.specs.Packets.{counted, handedOver, unpacked}
-use Rattle.line_take.specs.declared.Report.{Report}
-use Rattle.line_take.specs.Taking.{reportIn}
+use Rattle.line.specs.declared.taking.Report.{Report}
+use Rattle.line.specs.Taking.{reportIn}
 use Rattle.wire_packet.specs.Packet.{messageTaken}
 use Rattle.client.specs.declared.Client.{Client}
 use Rattle.client.specs.declared.Counts.{Counts}
 use Rattle.client.specs.declared.Answer.{Answer}
 use Rattle.client.specs.declared.Changed.{Changed}
 use Rattle.client.specs.View.{view, sound}
 use Rattle.client.specs.Answers.{taken, guardedSending}
 
 -- ---- writing
 

@@ -14,13 +14,13 @@ use Rattle.model.specs.Ranks.{rankOf}
 use Rattle.model.specs.Line.{other}
 use Rattle.model.specs.Client as client
 use Rattle.line.specs.Keeping.{thenAsked}
-use Rattle.line_take.specs.declared.Arrival.{Arrival}
-use Rattle.line_take.specs.Taking.{refusalOf, lineThen, editThen, reportOf}
+use Rattle.line.specs.declared.taking.Arrival.{Arrival}
+use Rattle.line.specs.Taking.{refusalOf, lineThen, editThen, reportOf}
 use Rattle.client.specs.declared.Counts.{Counts}
 use Rattle.client.specs.declared.Client.{Client}
 use Rattle.client.specs.declared.Answer.{Answer}
 use Rattle.client.specs.View.{view}
 use Rattle.client.specs.Answers.{guarded}
 
 -- an insert's priority is another rank of 1 to n; an edit's item plays no part
 abbrev pub fromOther : ℕ → ℕ → Form → Bool

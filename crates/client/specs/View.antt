@@ -19,7 +19,7 @@ use Rattle.ranks.specs.Stored as ranks
 use Rattle.pending.specs.Slots as pending
 use Rattle.pending.specs.Slots.{placeOf, formAt}
 use Rattle.line.specs.Line.{lineOf, countsOf, Kept}
-use Rattle.line_sound.specs.Sound.{tidy}
+use Rattle.line.specs.Sound.{tidy}
 use Rattle.client.specs.declared.Counts.{Counts}
 use Rattle.client.specs.declared.Inverse.{Inverse}
 use Rattle.client.specs.declared.Client.{Client}

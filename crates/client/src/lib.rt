@@ -10,12 +10,15 @@ ghost use Rattle.model.specs.Ranks.{rankOf};
 ghost use Rattle.client.specs.View.{size, clientOf, listRight, sound, Sound, Sizes, Applied};
 ghost use Rattle.client.specs.Answers.{opened, refusedCounts, doneCounts, freshCounts, answerOf};
 use line::Line;
-use line_take::Report;
-use line_take::no_report;
+use line::taking::Report;
+use line::taking::no_report;
 use list::Origin;
 use ot::Form;
 
+pub mod editing;
+pub mod packets;
 pub mod sending;
+pub mod taking;
 pub mod undo;
 
 // An edit that taking back would make, or nothing: its place as in a slot, position * 256 + priority, and the item of an insert.
@@ -93,7 +96,7 @@ pub fn done(k: Counts, report: Report, own: Line, len: u16, total: u32, inverse:
 }
 
 // The answer of a method: the words that were lent, with their numbers again.
-pub fn joined(a: Changed, words: [u32; Client::WORDS]) -> Answer
+fn joined(a: Changed, words: [u32; Client::WORDS]) -> Answer
     ensures { λ r. ⌜ r ≡ answerOf a words ⌝ }
 {
     let counts = a.counts;
@@ -137,7 +140,7 @@ pub fn is_sound(k: Counts, words: &[u32]) -> bool
         let right = ranks::is_sound(k.n, &k.ranks);
         let listed = list_sound(words, k.len as usize, k.total);
         let slots = &words[Client::ITEMS..Client::ORIGINS];
-        let line = line_sound::is_sound(k.own.made, k.own, slots, k.n, rank(k), true);
+        let line = line::soundness::is_sound(k.own.made, k.own, slots, k.n, rank(k), true);
         let back = undo::is_sound(k.inverse, rank(k), k.own.made);
         return own & counts & right & listed & back & line;
     }

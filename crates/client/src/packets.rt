@@ -6,15 +6,17 @@ ghost use mathlib.Core.List.{[], _∷_};
 ghost use lib.ListN.{length};
 ghost use Rattle.limits.specs.Limits.{maxPacket};
 ghost use Rattle.model.specs.Questions.{ask, asks, between};
-ghost use Rattle.line_send.specs.Sending.{answered};
+ghost use Rattle.line.specs.Sending.{answered};
 ghost use Rattle.client.specs.View.{clientOf, sound, Sizes};
 ghost use Rattle.client.specs.Answers.{answerOf, refusedCounts};
-ghost use Rattle.client_packet.specs.Packets.{packedEdits, OwnOrigins, messagesTaken, packetTaken, takenAt, countedCounts};
-use client::Changed;
-use client::Client;
-use client::Counts;
-use line_send::Sent;
-use line_take::Report;
+ghost use Rattle.client.specs.Packets.{packedEdits, OwnOrigins, messagesTaken, packetTaken, takenAt, countedCounts};
+use crate::Answer;
+use crate::Changed;
+use crate::Client;
+use crate::Counts;
+use crate::joined;
+use line::sending::Sent;
+use line::taking::Report;
 use list::Origin;
 
 // Writes the origins of the pending edits, a word each: the client's line, and the numbers behind those acknowledged.
@@ -36,16 +38,16 @@ pub fn pack(k: Counts, words: &[u32], line: u8, out: &mut [u8], offset: usize) -
     requires { ⌜ Sizes k (now words) ⌝ }
     ensures { λ r. ⌜ answered r (now (out .exit)) ≡ packedEdits (clientOf k (now (words .entry))) line (now (out .entry)) offset ⌝ }
 {
-    if client::is_sound(k, words) {
+    if crate::is_sound(k, words) {
         if line != k.line {
-            return line_send::refused(4);
+            return line::sending::refused(4);
         }
         let mut origins = [0u32; Client::PENDING];
         fill_origins(line, k.own.acked, k.own.made, &mut origins);
         let slots = &words[Client::ITEMS..Client::ORIGINS];
-        return line_packet::pack(line, 0, k.own, slots, &origins, out, offset);
+        return line::packing::pack(line, 0, k.own, slots, &origins, out, offset);
     }
-    line_send::refused(2)
+    line::sending::refused(2)
 }
 
 // What a packet answers: 0 or the refusal of a message, how many were taken before it, and the numbers then.
@@ -73,7 +75,7 @@ fn take_all(k: Counts, words: &mut [u32], packet: &[u8]) -> Changed
     let mut count: u16 = 0;
     while at < packet.len() {
         let end = wire_packet::message_end(packet, at);
-        let a = client_take::take(counts, words, &packet[at..end]);
+        let a = crate::taking::take(counts, words, &packet[at..end]);
         counts = a.counts;
         if a.refusal != 0 {
             return counted(a.refusal, count, counts);
@@ -96,10 +98,10 @@ fn refused_length(k: Counts, words: &[u32]) -> Changed
     requires { ⌜ Sizes k (now words) ⌝ }
     ensures { λ r. ⌜ r ≡ refusedCounts (asks (ask 2 (sound (clientOf k (now (words .entry)))) ∷ ask 15 false ∷ [])) k ⌝ }
 {
-    if client::is_sound(k, words) {
-        return client::refused(15, k);
+    if crate::is_sound(k, words) {
+        return crate::refused(15, k);
     }
-    client::refused(2, k)
+    crate::refused(2, k)
 }
 
 // Takes the messages of a packet, in place, up to the first that is refused, and reports how many were taken. Question 2 comes before 15:
@@ -122,7 +124,27 @@ pub fn take_at(k: Counts, words: &mut [u32], packet: &[u8], at: usize) -> Change
     if has_length(packet) {
         let start = wire_packet::message_start(packet, at);
         let end = wire_packet::message_end(packet, start);
-        return client_take::take(k, words, &packet[start..end]);
+        return crate::taking::take(k, words, &packet[start..end]);
     }
     refused_length(k, words)
+}
+
+impl Client {
+    // Takes the messages of a packet, up to the first that is refused.
+    pub fn take_packet(self, packet: &[u8]) -> Answer
+        ensures { λ r. ⌜ r ≡ packetTaken self (now (packet .entry)) ⌝ }
+    {
+        let mut words = self.words;
+        let a = take(self.counts, &mut words, packet);
+        joined(a, words)
+    }
+
+    // Writes the pending edits as a packet into the lent buffer, from an offset on.
+    pub fn pack(self, line: u8, out: &mut [u8], offset: usize) -> Sent
+        ensures { λ r. ⌜ answered r (now (out .exit)) ≡ packedEdits self line (now (out .entry)) offset ⌝ }
+    {
+        let counts = self.counts;
+        let words = self.words;
+        pack(counts, &words, line, out, offset)
+    }
 }

@@ -1,15 +1,15 @@
 // Sending, which changes no end: a pending edit in its present form, or an acknowledgement of what was taken.
 ghost use mathlib.Core.Path.{_≡_};
-ghost use Rattle.line_send.specs.Sending.{answered};
+ghost use Rattle.line.specs.Sending.{answered};
 ghost use Rattle.client.specs.View.{clientOf, Sizes};
 ghost use Rattle.client.specs.Answers.{sentEdit, sentAck};
 use crate::Client;
 use crate::Counts;
-use line_send::Sent;
-use line_send::ask_number;
-use line_send::finish;
-use line_send::message;
-use line_send::refused;
+use line::sending::Sent;
+use line::sending::ask_number;
+use line::sending::finish;
+use line::sending::message;
+use line::sending::refused;
 use list::Origin;
 use wire::Message;
 

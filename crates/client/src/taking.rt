@@ -3,17 +3,19 @@ ghost use mathlib.Core.Path.{_≡_};
 ghost use Prim.Native.Nat.{_≤_};
 ghost use Rattle.limits.specs.Limits.{maxItems};
 ghost use Rattle.ot.specs.Form.{positionOf};
 ghost use Rattle.client.specs.View.{clientOf, Sound, Sizes};
 ghost use Rattle.client.specs.Answers.{taken, answerOf};
-ghost use Rattle.client_take.specs.Taking.{fromOther, madeElsewhere, downTo, arrived};
-use client::Changed;
-use client::Client;
-use client::Counts;
-use client::undo;
-use line_take::Arrival;
-use line_take::accept;
-use line_take::decide;
-use line_take::split;
+ghost use Rattle.client.specs.Taking.{fromOther, madeElsewhere, downTo, arrived};
+use crate::Answer;
+use crate::Changed;
+use crate::Client;
+use crate::Counts;
+use crate::joined;
+use crate::undo;
+use line::taking::Arrival;
+use line::taking::accept;
+use line::taking::decide;
+use line::taking::split;
 use ot::Form;
 use wire::Read;
 
@@ -41,7 +43,7 @@ fn comes_down(k: Counts, a: Arrival) -> bool
 {
     let f = a.form;
     let right = (a.direction == 1) & (a.line == k.line);
-    let ranked = from_other(k.n, client::rank(k), f);
+    let ranked = from_other(k.n, crate::rank(k), f);
     let made = made_elsewhere(k.n, k.line, a.carries, a.origin.line);
     right & ranked & made
 }
@@ -56,12 +58,12 @@ fn take_arrival(k: Counts, words: &mut [u32], a: Arrival) -> Changed
         let slots = &words[Client::ITEMS..Client::ORIGINS];
         let d = decide(k.own, slots, k.len, k.own.inserts, a, &mut later);
         if d.refusal != 0 {
-            return client::refused(d.refusal, k);
+            return crate::refused(d.refusal, k);
         }
         let f = d.form;
         let inverse = undo::past(k.inverse, f);
         if !undo::stands(pending::form_at(inverse.place)) {
-            return client::refused(9, k);
+            return crate::refused(9, k);
         }
         let total = list::total_after(&words[0..k.len as usize], k.total, f, a.item);
         accept(
@@ -70,10 +72,10 @@ fn take_arrival(k: Counts, words: &mut [u32], a: Arrival) -> Changed
             a.seen,
             &later,
         );
-        let len = client::apply(words, k.len, f, a.item, a.origin);
-        return client::done(k, d.report, d.line, len, total, inverse);
+        let len = crate::apply(words, k.len, f, a.item, a.origin);
+        return crate::done(k, d.report, d.line, len, total, inverse);
     }
-    client::refused(4, k)
+    crate::refused(4, k)
 }
 
 // Questions 3 to 9 at a client that question 2 found sound.
@@ -81,8 +83,8 @@ fn take_sound(k: Counts, words: &mut [u32], bytes: &[u8]) -> Changed
     requires { ⌜ Sizes k (now words) × Sound (clientOf k (now words)) ⌝ }
     ensures { λ r. ⌜ answerOf r (now (words .exit)) ≡ taken (clientOf k (now (words .entry))) (now (bytes .entry)) ⌝ }
 {
-    let Read::Message(m) = wire_read::parse(bytes) else {
-        return client::refused(3, k);
+    let Read::Message(m) = wire::reading::parse(bytes) else {
+        return crate::refused(3, k);
     };
     take_arrival(k, words, split(m))
 }
@@ -92,8 +94,19 @@ pub fn take(k: Counts, words: &mut [u32], bytes: &[u8]) -> Changed
     requires { ⌜ Sizes k (now words) ⌝ }
     ensures { λ r. ⌜ answerOf r (now (words .exit)) ≡ taken (clientOf k (now (words .entry))) (now (bytes .entry)) ⌝ }
 {
-    if client::is_sound(k, words) {
+    if crate::is_sound(k, words) {
         return take_sound(k, words, bytes);
     }
-    client::refused(2, k)
+    crate::refused(2, k)
+}
+
+impl Client {
+    // Takes one message.
+    pub fn take(self, bytes: &[u8]) -> Answer
+        ensures { λ r. ⌜ r ≡ taken self (now (bytes .entry)) ⌝ }
+    {
+        let mut words = self.words;
+        let a = take(self.counts, &mut words, bytes);
+        joined(a, words)
+    }
 }

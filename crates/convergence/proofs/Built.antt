@@ -21,12 +21,12 @@ use Rattle.client.specs.declared.Client.{Client}
 use Rattle.client.specs.View as clientView
 use Rattle.client.specs.Answers as client
 use Rattle.client.proofs.Stored as clientStored
-use Rattle.client_packet.specs.Packets as clientPackets
+use Rattle.client.specs.Packets as clientPackets
 use Rattle.server.specs.declared.Server.{Server}
 use Rattle.server.specs.View as serverView
 use Rattle.server.specs.Answers as server
 use Rattle.server.proofs.Stored as serverStored
-use Rattle.server_packet.specs.Packets as serverPackets
+use Rattle.server.specs.Packets as serverPackets
 use Rattle.c_client.proofs.Calls as clientLent
 use Rattle.c_server.proofs.Calls as serverLent
 use Rattle.convergence.specs.Built.{clientAnswer, serverAnswer, clientCalls, serverCalls, built, Claimed, BuiltCarried}

@@ -35,9 +35,9 @@ use Rattle.model.proofs.Outcome.{Outcome, outcome, Posted, posted}
 use Rattle.model.proofs.Sound.{three}
 use Rattle.model.proofs.SoundClient.{client-facts}
 use Rattle.model.proofs.SoundServer.{server-facts, line-fact}
-use Rattle.line_take.specs.Taking.{arrivalOf}
-use Rattle.line_packet.proofs.Packing.{written-small}
-use Rattle.line_take.proofs.Decisions.{arrival-position}
+use Rattle.line.specs.Taking.{arrivalOf}
+use Rattle.line.proofs.Packets.{written-small}
+use Rattle.line.proofs.Decisions.{arrival-position}
 use Rattle.c_layout.proofs.Called.{sent-few}
 use Rattle.convergence.proofs.Stored.{Stored, given, answer-either, sending-either, answer-back}
 use Rattle.convergence.proofs.Unpack.{Form, Narrow, Little, Fits, Changing, Sending}

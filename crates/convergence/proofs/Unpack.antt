@@ -15,7 +15,7 @@ use Rattle.model.specs.Packets.{nextSize, counted, handedOver}
 use Rattle.model.specs.Claim.{Back}
 use Rattle.model.proofs.Tests.{between-true}
 use Rattle.model.proofs.Packets.{refused-first}
-use Rattle.line_take.specs.Taking.{reportIn}
+use Rattle.line.specs.Taking.{reportIn}
 use Rattle.c_layout.specs.Called.{Called, called, laidOut, changing, takingSome, opening, sending}
 use Rattle.c_layout.specs.Words.{itemsOf}
 use Rattle.c_layout.specs.ItemBytes.{itemBytes}

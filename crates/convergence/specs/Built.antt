@@ -15,14 +15,14 @@ use Rattle.client.specs.declared.Client.{Client}
 use Rattle.client.specs.declared.Answer as clients
 use Rattle.client.specs.View as clientView
 use Rattle.client.specs.Answers as client
-use Rattle.client_packet.specs.Packets as clientPackets
-pub use Rattle.client_packet.specs.Packets.{clientAnswer}
+use Rattle.client.specs.Packets as clientPackets
+pub use Rattle.client.specs.Packets.{clientAnswer}
 use Rattle.server.specs.declared.Server.{Server}
 use Rattle.server.specs.declared.Answer as servers
 use Rattle.server.specs.View as serverView
 use Rattle.server.specs.Answers as server
-use Rattle.server_packet.specs.Packets as serverPackets
-pub use Rattle.server_packet.specs.Packets.{serverAnswer}
+use Rattle.server.specs.Packets as serverPackets
+pub use Rattle.server.specs.Packets.{serverAnswer}
 
 -- Lists and counts are read off the structs.
 abbrev pub clientCalls : ClientCalls

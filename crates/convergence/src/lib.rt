@@ -1,12 +1,10 @@
 // The methods of both ends, each with the call of the sheet `built` that it is for its contract: what is claimed of `built` is claimed of the
 // methods.
 ghost use mathlib.Core.Path.{_≡_};
-ghost use Rattle.line_send.specs.Sending.{answered};
+ghost use Rattle.line.specs.Sending.{answered};
 ghost use Rattle.convergence.specs.Built.{ofClient, ofServer, fromClient, fromServer, built};
 use client::Client;
-use ends::client_end::ClientEnd;
-use ends::server_end::ServerEnd;
-use line_send::Sent;
+use line::sending::Sent;
 use server::Server;
 
 // ---- a client
@@ -20,19 +18,19 @@ pub fn client_open(n: u8, line: u8, ranks: &[u8], items: &[u32]) -> client::Answ
 pub fn client_insert(c: Client, p: u16, x: u32) -> client::Answer
     ensures { λ r. ⌜ fromClient r ≡ built .insert (ofClient c) p x ⌝ }
 {
-    ClientEnd { client: c }.insert(p, x)
+    c.insert(p, x)
 }
 
 pub fn client_delete(c: Client, p: u16) -> client::Answer
     ensures { λ r. ⌜ fromClient r ≡ built .delete (ofClient c) p ⌝ }
 {
-    ClientEnd { client: c }.delete(p)
+    c.delete(p)
 }
 
 pub fn client_take_back(c: Client) -> client::Answer
     ensures { λ r. ⌜ fromClient r ≡ built .takeBack (ofClient c) ⌝ }
 {
-    ClientEnd { client: c }.take_back()
+    c.take_back()
 }
 
 pub fn client_send(c: Client, line: u8, number: u16, out: &mut [u8]) -> Sent
@@ -50,19 +48,19 @@ pub fn client_tell(c: Client, line: u8, out: &mut [u8]) -> Sent
 pub fn client_take(c: Client, bytes: &[u8]) -> client::Answer
     ensures { λ r. ⌜ fromClient r ≡ built .take (ofClient c) (now (bytes .entry)) ⌝ }
 {
-    ClientEnd { client: c }.take(bytes)
+    c.take(bytes)
 }
 
 pub fn client_pack(c: Client, line: u8, out: &mut [u8], offset: usize) -> Sent
     ensures { λ r. ⌜ answered r (now (out .exit)) ≡ built .pack (ofClient c) line (now (out .entry)) offset ⌝ }
 {
-    ClientEnd { client: c }.pack(line, out, offset)
+    c.pack(line, out, offset)
 }
 
 pub fn client_take_packet(c: Client, packet: &[u8]) -> client::Answer
     ensures { λ r. ⌜ fromClient r ≡ built .takePacket (ofClient c) (now (packet .entry)) ⌝ }
 {
-    ClientEnd { client: c }.take_packet(packet)
+    c.take_packet(packet)
 }
 
 // ---- the server
@@ -88,17 +86,17 @@ pub fn server_tell(s: Server, line: u8, out: &mut [u8]) -> Sent
 pub fn server_take(s: Server, bytes: &[u8]) -> server::Answer
     ensures { λ r. ⌜ fromServer r ≡ built .take (ofServer s) (now (bytes .entry)) ⌝ }
 {
-    ServerEnd { server: s }.take(bytes)
+    s.take(bytes)
 }
 
 pub fn server_pack(s: Server, line: u8, out: &mut [u8], offset: usize) -> Sent
     ensures { λ r. ⌜ answered r (now (out .exit)) ≡ built .pack (ofServer s) line (now (out .entry)) offset ⌝ }
 {
-    ServerEnd { server: s }.pack(line, out, offset)
+    s.pack(line, out, offset)
 }
 
 pub fn server_take_packet(s: Server, packet: &[u8]) -> server::Answer
     ensures { λ r. ⌜ fromServer r ≡ built .takePacket (ofServer s) (now (packet .entry)) ⌝ }
 {
-    ServerEnd { server: s }.take_packet(packet)
+    s.take_packet(packet)
 }

@@ -8,10 +8,10 @@ use Rattle.ot.specs.Edit.{Edit, formOf}
 use Rattle.list.specs.Items.{padded}
 use Rattle.pending.specs.Slots.{placeOf, slotsOf}
 use Rattle.pending.proofs.Slots.{slots-replace}
 use Rattle.line.specs.declared.Line.{Line}
 use Rattle.line.specs.Line.{pendingIn, Kept}
-use Rattle.line_take.specs.Taking.{Between, Later, accepted}
-use Rattle.line_take.proofs.Staying.{parts-length, parts-few}
+use Rattle.line.specs.Taking.{Between, Later, accepted}
+use Rattle.line.proofs.Staying.{parts-length, parts-few}
 
 pub accepted-slots : (v : Line) (seen : ℕ) (words later : List ℕ) (es : List Edit) → Kept v words → Between v seen
     → Later v seen words later es → accepted v seen later words ≡ slotsOf es

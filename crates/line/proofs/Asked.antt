@@ -18,13 +18,13 @@ use Rattle.model.specs.Cross.{over, allPlaced}
 use Rattle.model.specs.Line as model
 use Rattle.model.specs.Questions.{Question, ask, asks}
 use Rattle.model.proofs.Tests.{Numbered, yes-all}
 use Rattle.line.specs.declared.Line.{Line}
 use Rattle.line.specs.Line.{lineOf}
 use Rattle.line.specs.Keeping.{thenAsked}
 use Rattle.line.proofs.Room.{fits-model}
 use Rattle.line.proofs.Parts.{then-left, then-none, asks-append}
-use Rattle.line_take.specs.declared.Arrival.{Arrival}
-use Rattle.line_take.specs.Taking.{carrying, arrivalOf, seenAsked, arrivalAsked, nine, refusalOf, Between}
+use Rattle.line.specs.declared.taking.Arrival.{Arrival}
+use Rattle.line.specs.Taking.{carrying, arrivalOf, seenAsked, arrivalAsked, nine, refusalOf, Between}
 
 -- ---- 5 to 8, as the code asks them
 

@@ -18,16 +18,16 @@ use Rattle.pending.specs.declared.Crossed.{Crossed}
 use Rattle.pending.specs.Slots.{placeOf, placesOf}
 use Rattle.pending.specs.Crossing.{formsFrom, overForms, placedForms, crossed, filled, Ready}
 use Rattle.pending.proofs.Forms.{past-forms, over-forms, over-items, placed-forms, steps-length}
 use Rattle.line.specs.declared.Line.{Line}
 use Rattle.line.specs.Line.{lineOf, countsOf, Kept}
 use Rattle.line.specs.Keeping.{fitsList}
 use Rattle.line.proofs.Parts.{then-yes, then-no}
-use Rattle.line_take.specs.declared.Arrival.{Arrival}
-use Rattle.line_take.specs.declared.Report.{Report}
-use Rattle.line_take.specs.declared.Decision.{Decision}
-use Rattle.line_take.specs.Taking.{editOf, arrivalAsked, nine, refusalOf, noReport, refusing, done, takenAs, deciding, Decided, Later, Between}
-use Rattle.line_take.proofs.Asked.{asked-seen}
-use Rattle.line_take.proofs.Staying.{left-forms, left-length, left-ready, left-places}
+use Rattle.line.specs.declared.taking.Arrival.{Arrival}
+use Rattle.line.specs.declared.taking.Report.{Report}
+use Rattle.line.specs.declared.taking.Decision.{Decision}
+use Rattle.line.specs.Taking.{editOf, arrivalAsked, nine, refusalOf, noReport, refusing, done, takenAs, deciding, Decided, Later, Between}
+use Rattle.line.proofs.Asked.{asked-seen}
+use Rattle.line.proofs.Staying.{left-forms, left-length, left-ready, left-places}
 
 pub deciding-no : (r : ℕ) (v : Line) (d : Decision) → (r ≡ 0 → ⊥) → refusing r v ≡ deciding r v d
 unfolding deciding

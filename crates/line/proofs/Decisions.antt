@@ -27,16 +27,16 @@ use Rattle.model.proofs.Tests.{yes-all, and-right}
 use Rattle.pending.specs.Slots.{placeOf}
 use Rattle.pending.specs.Crossing.{pastForms}
 use Rattle.pending.proofs.Forms.{past-forms}
 use Rattle.line.specs.declared.Line.{Line}
 use Rattle.line.specs.Line.{lineOf, Kept}
 use Rattle.line.specs.Keeping.{fitsList}
 use Rattle.line.proofs.Room.{fits-room}
 use Rattle.line.proofs.Parts.{then-right}
-use Rattle.line_take.specs.declared.Arrival.{Arrival}
-use Rattle.line_take.specs.declared.Decision.{Decision}
-use Rattle.line_take.specs.Taking.{arrivalOf, editOf, arrivalAsked, nine, refusalOf, editThen, refusing, done, deciding, Decided, Later, Between}
-use Rattle.line_take.proofs.Staying.{left-length}
-use Rattle.line_take.proofs.Deciding.{deciding-yes}
+use Rattle.line.specs.declared.taking.Arrival.{Arrival}
+use Rattle.line.specs.declared.taking.Decision.{Decision}
+use Rattle.line.specs.Taking.{arrivalOf, editOf, arrivalAsked, nine, refusalOf, editThen, refusing, done, deciding, Decided, Later, Between}
+use Rattle.line.proofs.Staying.{left-length}
+use Rattle.line.proofs.Deciding.{deciding-yes}
 
 -- ---- a message
 

@@ -12,12 +12,12 @@ use borrow.Author.Tests.{leb-true, lt-leb}
 use borrow.Rule.Slice.PartMut.{midOf, putMid, mid-len, put-same}
 use Rattle.wire.specs.declared.Message.{Message}
 use Rattle.wire.specs.Bytes.{bytesOf}
-use Rattle.wire_write.specs.Buffer.{Written}
+use Rattle.wire.specs.Buffer.{Written}
 use Rattle.model.specs.Line.{numbersFrom}
 use Rattle.model.specs.Packets.{joined, fitting, putFrom}
 use Rattle.line.specs.declared.Line.{Line}
-use Rattle.line_packet.specs.Packet.{messageAt, messages, Filled}
-use Rattle.line_packet.proofs.Putting.{some-bytes, put-inside, put-length, put-behind, fitting-first, fitting-stops, fitting-none, fitting-one}
+use Rattle.line.specs.Packet.{messageAt, messages, Filled}
+use Rattle.line.proofs.Putting.{some-bytes, put-inside, put-length, put-behind, fitting-first, fitting-stops, fitting-none, fitting-one}
 
 -- ---- one message
 

@@ -21,9 +21,9 @@ use Rattle.model.specs.Line.{other}
 use Rattle.model.specs.Server.{otherMaker, otherMakers}
 use Rattle.model.proofs.Tests.{both, and-left, and-right, between-true}
 use Rattle.pending.specs.Slots.{allFrom}
-use Rattle.line_sound.specs.Sound.{makerAt, makersSound}
-use Rattle.line_sound.specs.Slots.{keptMaker, keptMakerAt}
-use Rattle.line_sound.proofs.All.{all-split, all-each, all-parted}
+use Rattle.line.specs.Sound.{makerAt, makersSound}
+use Rattle.line.specs.Slots.{keptMaker, keptMakerAt}
+use Rattle.line.proofs.All.{all-split, all-each, all-parted}
 
 -- ---- what the code computes
 

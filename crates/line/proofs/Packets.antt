@@ -17,14 +17,14 @@ use Rattle.model.specs.Line.{numbersFrom}
 use Rattle.model.specs.Questions.{Question, ask, asks, Sent}
 use Rattle.model.specs.Packets.{joined, fitting, firstFits, putFrom, packed}
 use Rattle.model.proofs.Tests.{Numbered}
 use Rattle.line.specs.declared.Line.{Line}
 use Rattle.line.specs.Line.{lineOf}
 use Rattle.line.proofs.Parts.{asks-append, then-left, then-yes, then-no}
-use Rattle.line_send.specs.declared.Sent as code
-use Rattle.line_send.specs.Sending.{answered, unwritten, IsPending}
-use Rattle.line_packet.specs.Packet.{originOf, messageAt, messages, Filled}
-use Rattle.line_packet.proofs.Putting.{some-bytes, few-bytes, fitting-first, fitting-stops, fitting-none}
-use Rattle.line_packet.proofs.Filling.{behind, behind-next, behind-last}
+use Rattle.line.specs.declared.sending.Sent as code
+use Rattle.line.specs.Sending.{answered, unwritten, IsPending}
+use Rattle.line.specs.Packet.{originOf, messageAt, messages, Filled}
+use Rattle.line.proofs.Putting.{some-bytes, few-bytes, fitting-first, fitting-stops, fitting-none}
+use Rattle.line.proofs.Filling.{behind, behind-next, behind-last}
 
 -- ---- the message of a pending edit
 

@@ -14,8 +14,8 @@ use Rattle.ot.specs.Laws.{within}
 use Rattle.model.specs.Cross.{placed, priority}
 use Rattle.model.proofs.Tests.{both, and-left, and-right, between-true, true-between, bool-ext}
 use Rattle.pending.specs.Slots.{placeOf, formAt}
-use Rattle.line_sound.specs.Sound.{rightPriority}
-use Rattle.line_sound.specs.Slots.{lowest, highest, leftOut, allowed, rightSlot, keptSlot}
+use Rattle.line.specs.Sound.{rightPriority}
+use Rattle.line.specs.Slots.{lowest, highest, leftOut, allowed, rightSlot, keptSlot}
 
 -- ---- the priorities
 

@@ -16,18 +16,18 @@ use Rattle.wire.specs.declared.Message.{Message}
 use Rattle.wire.specs.declared.Message.the-variants.{Insert, Delete, Nothing, Ack}
 use Rattle.wire.specs.Message.{messageOf}
 use Rattle.wire.specs.Bytes.{bytesOf}
-use Rattle.wire_write.specs.Buffer.{Written}
+use Rattle.wire.specs.Buffer.{Written}
 use Rattle.model.specs.Line as model
 use Rattle.model.specs.Questions.{ask, asks, sent}
 use Rattle.model.proofs.Tests.{yes-all, between-true}
 use Rattle.pending.specs.Slots.{formIn, editIn}
 use Rattle.pending.proofs.Slots.{edits-at}
 use Rattle.line.specs.declared.Line.{Line}
 use Rattle.line.specs.Line.{lineOf}
 use Rattle.line.specs.Keeping.{thenAsked}
 use Rattle.line.proofs.Parts.{asks-append}
-use Rattle.line_send.specs.declared.Sent.{Sent}
-use Rattle.line_send.specs.Sending.{answered, unwritten, numberAsked, finished, IsPending}
+use Rattle.line.specs.declared.sending.Sent.{Sent}
+use Rattle.line.specs.Sending.{answered, unwritten, numberAsked, finished, IsPending}
 
 -- ---- question 13
 

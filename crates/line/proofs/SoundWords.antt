@@ -18,12 +18,12 @@ use Rattle.model.specs.Line as model
 use Rattle.model.proofs.Tests.{and-left, and-right, hold}
 use Rattle.pending.specs.Slots.{size, placeOf, formIn, editIn, editsFrom, slotsOf, allFrom}
 use Rattle.pending.proofs.Slots.{edits-length, edits-at, slots-length, slots-place, slots-item}
 use Rattle.line.specs.declared.Line.{Line}
 use Rattle.line.specs.Line.{lineOf, Kept}
-use Rattle.line_sound.specs.Sound.{tidyAt, emptyAt, tidy, soundLine, emptyLine}
-use Rattle.line_sound.specs.Slots.{zeroAt, soundSlots, countsSound}
-use Rattle.line_sound.proofs.All.{all-each}
-use Rattle.line_sound.proofs.Tests.{slots-same, placesIn, itemsIn, zero-words, four, line-is}
+use Rattle.line.specs.Sound.{tidyAt, emptyAt, tidy, soundLine, emptyLine}
+use Rattle.line.specs.Slots.{zeroAt, soundSlots, countsSound}
+use Rattle.line.proofs.All.{all-each}
+use Rattle.line.proofs.Tests.{slots-same, placesIn, itemsIn, zero-words, four, line-is}
 
 abbrev placeIn : Edit → ℕ
 placeIn e = placeOf (formOf e)

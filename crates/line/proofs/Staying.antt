@@ -15,10 +15,10 @@ use Rattle.pending.specs.Slots.{placeOf, editsFrom, placesOf, itemsOf, slotsOf}
 use Rattle.pending.specs.Crossing.{formsFrom, placedForms, Ready}
 use Rattle.pending.proofs.Forms.{placed-forms, forms-edits}
 use Rattle.pending.proofs.Slots.{edits-length, edits-drop}
 use Rattle.line.specs.declared.Line.{Line}
 use Rattle.line.specs.Line.{pendingIn, lineOf, Kept}
 use Rattle.line.proofs.Words.{pending-length, kept-size}
-use Rattle.line_take.specs.Taking.{Between}
+use Rattle.line.specs.Taking.{Between}
 
 -- ---- places alone
 

@@ -17,11 +17,11 @@ use Rattle.model.proofs.Tests.{both, and-left, between-true, hold}
 use Rattle.pending.specs.Slots.{size, placeOf, formIn, editIn, editsFrom, slotsOf, allFrom}
 pub use Rattle.pending.proofs.Slot.{Ranks}
 use Rattle.pending.proofs.Slots.{edits-at, slots-place, slots-item, slots-read-back}
 use Rattle.line.specs.declared.Line.{Line}
 use Rattle.line.specs.Line.{lineOf, countsOf}
-use Rattle.line_sound.specs.Sound.{rightPriority, tidyAt, emptyAt, tidy, soundLine, emptyLine}
-use Rattle.line_sound.proofs.All.{each-all}
-use Rattle.line_sound.proofs.Words.{empty-kept}
+use Rattle.line.specs.Sound.{rightPriority, tidyAt, emptyAt, tidy, soundLine, emptyLine}
+use Rattle.line.proofs.All.{each-all}
+use Rattle.line.proofs.SoundWords.{empty-kept}
 
 -- ---- the priorities that question 4 lets through fit a slot
 

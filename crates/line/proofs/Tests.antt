@@ -17,12 +17,12 @@ use Rattle.model.specs.Cross.{placed, allPlaced, priority, priorities}
 use Rattle.model.specs.Questions.{every}
 use Rattle.pending.specs.Slots.{editIn, editsFrom, allFrom}
 use Rattle.pending.proofs.Slots.{edits-length}
 use Rattle.line.specs.declared.Line.{Line}
 use Rattle.line.specs.Line.{pendingIn}
-use Rattle.line_sound.specs.Sound.{tidyAt, emptyAt, soundLine}
-use Rattle.line_sound.specs.Slots.{rightSlot, keptSlot, keptAt, rightAt, zeroAt, pastAt, soundSlots, countsSound}
-use Rattle.line_sound.proofs.All.{all-turn, all-split, each-all, all-same, all-both, all-parted}
-use Rattle.line_sound.proofs.Right.{right-same, kept-is}
+use Rattle.line.specs.Sound.{tidyAt, emptyAt, soundLine}
+use Rattle.line.specs.Slots.{rightSlot, keptSlot, keptAt, rightAt, zeroAt, pastAt, soundSlots, countsSound}
+use Rattle.line.proofs.All.{all-turn, all-split, each-all, all-same, all-both, all-parted}
+use Rattle.line.proofs.Right.{right-same, kept-is}
 
 -- A turn of a loop that ORs all words together.
 pub zero-turn : (places items : List ℕ) (i to all : ℕ) → i < to

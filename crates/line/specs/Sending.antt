@@ -6,8 +6,8 @@ use lib.ListN.{length}
 use Rattle.wire.specs.declared.Message.{Message}
 use Rattle.wire.specs.Bytes.{bytesOf}
 use Rattle.model.specs.Questions as model
 use Rattle.line.specs.declared.Line.{Line}
-use Rattle.line_send.specs.declared.Sent.{Sent}
+use Rattle.line.specs.declared.sending.Sent.{Sent}
 
 -- what the code answers, with the lent buffer beside it, as the model's answer
 abbrev pub answered : Sent → List ℕ → model.Sent

@@ -21,12 +21,12 @@ use Rattle.model.specs.Edits.{noOrigin}
 use Rattle.model.specs.Line as model
 use Rattle.pending.specs.declared.Crossed.{Crossed}
 use Rattle.pending.specs.Slots.{placesOf}
 use Rattle.line.specs.declared.Line.{Line}
 use Rattle.line.specs.Line.{lineOf, countsOf}
 use Rattle.line.specs.Keeping.{fitsList, thenAsked}
-use Rattle.line_take.specs.declared.Arrival.{Arrival}
-use Rattle.line_take.specs.declared.Report.{Report}
-use Rattle.line_take.specs.declared.Decision.{Decision}
+use Rattle.line.specs.declared.taking.Arrival.{Arrival}
+use Rattle.line.specs.declared.taking.Report.{Report}
+use Rattle.line.specs.declared.taking.Decision.{Decision}
 
 -- ---- a message
 

@@ -1,4 +1,9 @@
 // One line as either end has it (01: "The server keeps the same per line"): its counts by value, its pending edits in lent words.
+pub mod packing;
+pub mod sending;
+pub mod soundness;
+pub mod taking;
+
 ghost use mathlib.Core.Path.{_≡_};
 ghost use mathlib.Core.List.{[], _∷_, _++_};
 ghost use Prim.Native.Nat.{ℕ, _-_, _<_};

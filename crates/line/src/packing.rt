@@ -3,12 +3,12 @@ ghost use mathlib.Core.Path.{_≡_};
 ghost use mathlib.Core.List.{[], _∷_};
 ghost use Rattle.wire.specs.Bytes.{bytesOf};
 ghost use Rattle.model.specs.Packets.{packed};
-ghost use Rattle.line_send.specs.Sending.{answered, IsPending};
-ghost use Rattle.line_packet.specs.Packet.{Packable, messageAt, messages, Filled};
-use line::Line;
-use line_send::Sent;
-use line_send::message;
-use line_send::refused;
+ghost use Rattle.line.specs.Sending.{answered, IsPending};
+ghost use Rattle.line.specs.Packet.{Packable, messageAt, messages, Filled};
+use crate::Line;
+use crate::sending::Sent;
+use crate::sending::message;
+use crate::sending::refused;
 use wire::Message;
 
 // The message of a pending edit, with its origin from the words of origins: the first of them is that of the first pending edit.
@@ -36,7 +36,7 @@ fn write_at(m: Message, out: &mut [u8], at: usize) -> usize
     if out.len() < at {
         return 0;
     }
-    wire_write::write(m, &mut out[at..])
+    wire::writing::write(m, &mut out[at..])
 }
 
 // Writes the messages of the pending edits from an offset on, up to the first that does not fit, and gives how many bytes these are.

@@ -2,9 +2,9 @@
 ghost use mathlib.Core.Path.{_≡_};
 ghost use Rattle.model.specs.Questions.{asks};
 ghost use Rattle.model.specs.Line as model;
 ghost use Rattle.line.specs.Line.{lineOf, Kept};
-use line::Line;
-ghost use Rattle.line_send.specs.Sending.{answered, unwritten, numberAsked, finished, IsPending};
+use crate::Line;
+ghost use Rattle.line.specs.Sending.{answered, unwritten, numberAsked, finished, IsPending};
 use list::Origin;
 use wire::Header;
 use wire::Message;
@@ -65,7 +65,7 @@ pub fn refused(refusal: u8) -> Sent
 pub fn finish(m: Message, out: &mut [u8]) -> Sent
     ensures { λ r. ⌜ answered r (now (out .exit)) ≡ finished m (now (out .entry)) ⌝ }
 {
-    let written = wire_write::write(m, out);
+    let written = wire::writing::write(m, out);
     if written == 0 {
         return refused(14);
     }

@@ -5,13 +5,13 @@ ghost use Prim.Native.Nat.{_+_, _-_, _≤_};
 ghost use lib.ListN.{length};
 ghost use Rattle.limits.specs.Limits.{maxPending};
 ghost use Rattle.pending.specs.Slots.{size, allFrom};
 ghost use Rattle.line.specs.Line.{Kept};
-ghost use Rattle.line_sound.specs.Sound.{rightPriority, soundLine, makersSound, emptyLine};
-ghost use Rattle.line_sound.specs.Slots.{lowest, highest, leftOut, allowed, rightSlot, rightAt, pastAt, zeroAt, soundSlots, countsSound, keptMaker, keptMakerAt};
+ghost use Rattle.line.specs.Sound.{rightPriority, soundLine, makersSound, emptyLine};
+ghost use Rattle.line.specs.Slots.{lowest, highest, leftOut, allowed, rightSlot, rightAt, pastAt, zeroAt, soundSlots, countsSound, keptMaker, keptMakerAt};
+use crate::Line;
 use limits::EDITS;
 use limits::INSERTS;
 use limits::PENDING;
-use line::Line;
 
 // A pending insert may have the priorities from low to high but other, chosen once for all slots: in a client's own edits (own) its line
 // alone, in what the server keeps for a line 1 to n but the line. 0 is none of them.

@@ -5,9 +5,9 @@ ghost use lib.ListN.{length};
 ghost use Rattle.limits.specs.Limits.{maxItems, maxPending};
 ghost use Rattle.ot.specs.Form.{positionOf};
 ghost use Rattle.model.specs.Questions.{asks};
 ghost use Rattle.line.specs.Line.{Kept};
-use line::Line;
-ghost use Rattle.line_take.specs.Taking.{carrying, arrivalOf, seenAsked, arrivalAsked, noReport, refusing, takenAs, Decided, zeros, Between, accepted};
+use crate::Line;
+ghost use Rattle.line.specs.Taking.{carrying, arrivalOf, seenAsked, arrivalAsked, noReport, refusing, takenAs, Decided, zeros, Between, accepted};
 use limits::PENDING;
 use list::Origin;
 use ot::Form;
@@ -178,7 +178,7 @@ pub fn decide(
         let f = a.form;
         let x = pending::cross(words, gone, count, f, later);
         let form = x.form;
-        if x.placed & line::fits_list(form, len) {
+        if x.placed & crate::fits_list(form, len) {
             return take_edit(v, inserts, a.seen, f, x);
         }
         return refusing(9, v);

@@ -25,21 +25,21 @@ use Rattle.pending.specs.Slots.{slotsOf}
 use Rattle.line.specs.declared.Line.{Line}
 use Rattle.line.specs.Line.{countsOf, Kept}
 use Rattle.line.proofs.Room.{room-items, room-origins, room-length}
-use Rattle.line_take.specs.declared.Arrival.{Arrival}
-use Rattle.line_take.specs.declared.Decision.{Decision}
-use Rattle.line_take.specs.Taking.{lineThen, editThen, accepted}
-use Rattle.line_take.proofs.Accepting.{accepted-slots}
-use Rattle.line_take.proofs.Decisions.{then-edit}
+use Rattle.line.specs.declared.taking.Arrival.{Arrival}
+use Rattle.line.specs.declared.taking.Decision.{Decision}
+use Rattle.line.specs.Taking.{lineThen, editThen, accepted}
+use Rattle.line.proofs.Accepting.{accepted-slots}
+use Rattle.line.proofs.Decisions.{then-edit}
 use Rattle.server.specs.declared.Counts.{Counts}
 use Rattle.server.specs.View.{size, slotsAt, makersAt, countsAt, lineAt, makersOf, serverOf, view, store, Sound, SlotsWrote, MakersWrote, Applied}
-use Rattle.server_decide.specs.Decides.{placeOf, insertsThen, Decided}
-use Rattle.server_take.specs.Taking.{KeptBy, makersLeft, withLine, takesIt, keepsIt, serverThen}
+use Rattle.server.specs.Decides.{placeOf, insertsThen, Decided}
+use Rattle.server.specs.Taking.{KeptBy, makersLeft, withLine, takesIt, keepsIt, serverThen}
 use Rattle.server.proofs.Rows.{Row, makersFor, store-is}
 use Rattle.server.proofs.Facts.{sizes, own-holds, len-few, first-words, first-count, first-sum, lines-few, lines-count, makers-many, at-view, makers-view, at-makers}
-use Rattle.server_decide.proofs.Asked.{roomy-each}
-use Rattle.server_decide.proofs.Deciding.{Accepted, accepts}
-use Rattle.server_take.proofs.Keeping.{keeps-own, keeps-other, countsThen, slotsThen, makersThen}
-use Rattle.server_take.proofs.Takes.{line-is}
+use Rattle.server.proofs.Asked.{roomy-each}
+use Rattle.server.proofs.Decided.{Accepted, accepts}
+use Rattle.server.proofs.Keeping.{keeps-own, keeps-other, countsThen, slotsThen, makersThen}
+use Rattle.server.proofs.Takes.{line-is}
 
 -- ---- a list of which one place gets f and every other g
 

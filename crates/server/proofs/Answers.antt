@@ -5,7 +5,7 @@ use mathlib.Core.Bool.{true, false}
 use borrow.Author.Tests.{ne-eqb}
 use Rattle.model.specs.Questions as question
 use Rattle.model.specs.Server as model
-use Rattle.line_take.specs.Taking.{reportIn}
+use Rattle.line.specs.Taking.{reportIn}
 use Rattle.server.specs.declared.Server.{Server}
 use Rattle.server.specs.View.{view, store, sound}
 use Rattle.server.specs.Answers.{refusedWith, guarded}

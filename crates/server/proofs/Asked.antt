@@ -16,12 +16,12 @@ use Rattle.model.specs.Server as model
 use Rattle.model.proofs.Tests.{and-left, and-right, between-true, never}
 use Rattle.ranks.proofs.Laws.{take-rank}
 use Rattle.pending.specs.Slots.{allFrom}
-use Rattle.line_sound.proofs.All.{all-each}
+use Rattle.line.proofs.All.{all-each}
 use Rattle.line.specs.Keeping.{thenAsked}
-use Rattle.line_take.specs.declared.Arrival.{Arrival}
+use Rattle.line.specs.declared.taking.Arrival.{Arrival}
 use Rattle.server.specs.declared.Counts.{Counts}
 use Rattle.server.specs.View.{countsAt, linesFrom}
-use Rattle.server_decide.specs.Decides.{isOwn, madeHere, upTo, roomyAt, lastAsked, placeOf, insertsThen, lastRefusal}
+use Rattle.server.specs.Decides.{isOwn, madeHere, upTo, roomyAt, lastAsked, placeOf, insertsThen, lastRefusal}
 
 -- ---- question 4
 

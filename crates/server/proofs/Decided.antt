@@ -19,19 +19,19 @@ use Rattle.line.specs.declared.Line.{Line}
 use Rattle.line.specs.Line.{countsOf, Kept}
 use Rattle.line.specs.Keeping.{thenAsked}
 use Rattle.line.proofs.Parts.{then-left, then-right}
-use Rattle.line_take.specs.declared.Arrival.{Arrival}
-use Rattle.line_take.specs.declared.Decision.{Decision}
-use Rattle.line_take.specs.Taking.{editOf, refusalOf, lineThen, refusing, done, deciding, Later, Between, zeros}
-use Rattle.line_take.specs.Taking as line-taking
-use Rattle.line_take.proofs.Asked.{refusal-seen}
-use Rattle.line_take.proofs.Staying.{left-length}
-use Rattle.line_take.proofs.Deciding.{deciding-no, deciding-yes}
-use Rattle.line_take.proofs.Decisions.{deciding-refusal, decided-refusal, decided-done, refusal-room, later-length}
+use Rattle.line.specs.declared.taking.Arrival.{Arrival}
+use Rattle.line.specs.declared.taking.Decision.{Decision}
+use Rattle.line.specs.Taking.{editOf, refusalOf, lineThen, refusing, done, deciding, Later, Between, zeros}
+use Rattle.line.specs.Taking as line-taking
+use Rattle.line.proofs.Asked.{refusal-seen}
+use Rattle.line.proofs.Staying.{left-length}
+use Rattle.line.proofs.Deciding.{deciding-no, deciding-yes}
+use Rattle.line.proofs.Decisions.{deciding-refusal, decided-refusal, decided-done, refusal-room, later-length}
 use Rattle.server.specs.declared.Counts.{Counts}
 use Rattle.server.specs.View.{slotsAt, countsAt, lineAt, serverOf, Sound}
-use Rattle.server_decide.specs.Decides.{upTo, roomyAt, lastAsked, placeOf, insertsThen, lastRefusal, refusalAt, decided, LineDecided, Decided}
+use Rattle.server.specs.Decides.{upTo, roomyAt, lastAsked, placeOf, insertsThen, lastRefusal, refusalAt, decided, LineDecided, Decided}
 use Rattle.server.proofs.Facts.{lines-few, len-few, at-facts}
-use Rattle.server_decide.proofs.Asked.{up-line}
+use Rattle.server.proofs.Asked.{up-line}
 
 -- ---- what the parts ask
 

@@ -15,9 +15,9 @@ use Rattle.model.proofs.Tests.{bool-ext}
 use Rattle.line.specs.declared.Line.{Line}
 use Rattle.line.specs.Line.{countsOf, Kept}
 use Rattle.line.specs.Keeping.{withKept}
 use Rattle.server.specs.declared.Counts.{Counts}
 use Rattle.server.specs.View.{size, itemsIn, originsIn, slotsAt, makersAt, countsAt, Sizes, Parts, SlotsWrote, MakersWrote}
-use Rattle.server_take.specs.Taking.{keeps, slotsKept, makersKept, KeptBy}
+use Rattle.server.specs.Taking.{keeps, slotsKept, makersKept, KeptBy}
 
 -- ---- which lines keep it
 

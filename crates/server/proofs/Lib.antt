@@ -7,3 +7,12 @@ pub mod Facts
 pub mod Opening
 pub mod Sends
 pub mod Answers
+pub mod Loops
+pub mod Asked
+pub mod Decided
+pub mod Takes
+pub mod Written
+pub mod Keeping
+pub mod Accepts
+pub mod Packs
+pub mod TakesAll

@@ -11,7 +11,7 @@ use Rattle.model.specs.Ranks.{rankOf}
 use Rattle.model.specs.Line as line
 use Rattle.model.specs.Server as model
 use Rattle.line.specs.declared.Line.{Line}
-use Rattle.server_words.specs.Right.{soundEither}
+use Rattle.server.specs.Right.{soundEither}
 use Rattle.server.specs.declared.Counts.{Counts}
 use Rattle.server.specs.View.{countsAt, lineAt, linesFrom, makersOf, makersFrom}
 use Rattle.server.specs.Totals.{totalOf, lineSoundAt}

@@ -13,9 +13,9 @@ use Rattle.list.specs.Parts.{part}
 use Rattle.list.proofs.Parts.{part-length}
 use Rattle.pending.specs.Slots as pending
 use Rattle.line.specs.declared.Line.{Line}
-use Rattle.line_sound.specs.Sound.{rightPriority, soundLine, makersSound, emptyLine}
-use Rattle.server_words.specs.Words.{size, origins, makers, itemsIn, originsIn, slotsAt, makersAt}
-use Rattle.server_words.specs.Right.{soundUsed, soundMakers, emptyUnused, soundEither}
+use Rattle.line.specs.Sound.{rightPriority, soundLine, makersSound, emptyLine}
+use Rattle.server.specs.Words.{size, origins, makers, itemsIn, originsIn, slotsAt, makersAt}
+use Rattle.server.specs.Right.{soundUsed, soundMakers, emptyUnused, soundEither}
 
 -- so many words as code lends them, from one place up to another
 pub lent-is : (a n : ℕ) (words : List ℕ) → take (a + n - a) (drop a words) ≡ part a n words

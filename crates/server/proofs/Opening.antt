@@ -20,7 +20,7 @@ use Rattle.list.proofs.Parts.{Wrote, wrote-part}
 use Rattle.list.proofs.Places.{initial-items, initial-length, origins-length}
 use Rattle.model.specs.Questions as questions
 use Rattle.model.specs.Questions.{asks, every, between, answer}
-use Rattle.line_take.specs.Taking.{noReport}
+use Rattle.line.specs.Taking.{noReport}
 use Rattle.model.specs.Ranks.{ranking}
 use Rattle.model.specs.Line as line
 use Rattle.model.specs.Server as model
@@ -29,7 +29,7 @@ use Rattle.ranks.specs.Stored as ranks
 use Rattle.ranks.proofs.Laws.{stored-length}
 use Rattle.pending.specs.Slots as pending
 use Rattle.line.specs.Line.{countsOf}
-use Rattle.line_sound.proofs.Stored.{no-words}
+use Rattle.line.proofs.Stored.{no-words}
 use Rattle.server.specs.declared.Counts.{Counts}
 use Rattle.server.specs.declared.Server.{Server}
 use Rattle.server.specs.declared.Answer.{Answer}
@@ -37,7 +37,7 @@ use Rattle.server.specs.declared.Changed.{Changed}
 use Rattle.server.specs.View.{size, origins, serverOf, store}
 use Rattle.server.specs.Answers.{given, opened, refusedCounts, answerOf}
 use Rattle.server.specs.Opening.{openAsked, freshCounts, OpenWords}
-use Rattle.server_words.proofs.Loops.{base, makersBase}
+use Rattle.server.proofs.Loops.{base, makersBase}
 use Rattle.server.proofs.Rows.{Row, store-is}
 
 -- ---- zeros

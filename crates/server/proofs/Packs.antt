@@ -19,19 +19,19 @@ use Rattle.model.proofs.SoundServer.{server-facts, line-fact}
 use Rattle.line.specs.declared.Line.{Line}
 use Rattle.line.specs.Line.{lineOf}
 use Rattle.line.proofs.Parts.{then-none}
-use Rattle.line_send.specs.declared.Sent.{Sent}
-use Rattle.line_send.specs.Sending.{answered, unwritten, IsPending}
-use Rattle.line_packet.specs.Packet.{Packable, originOf, messages}
-use Rattle.line_packet.proofs.Packing.{messages-are, packed-yes, packed-no, written-small}
-use Rattle.server_words.proofs.Loops.{makers-long}
+use Rattle.line.specs.declared.sending.Sent.{Sent}
+use Rattle.line.specs.Sending.{answered, unwritten, IsPending}
+use Rattle.line.specs.Packet.{Packable, originOf, messages}
+use Rattle.line.proofs.Packets.{messages-are, packed-yes, packed-no, written-small}
+use Rattle.server.proofs.Loops.{makers-long}
 use Rattle.server.specs.declared.Server.{Server}
 use Rattle.server.specs.declared.Counts.{Counts}
 use Rattle.server.specs.View.{slotsAt, makersAt, countsAt, lineAt, serverOf, view, sound, Sound}
 use Rattle.server.specs.Answers.{guardedSending}
 use Rattle.server.specs.Sending.{lineAsked, OnLine, Sendable}
 use Rattle.server.proofs.Facts.{sizes, lines-few, at-view}
 use Rattle.server.proofs.Sends.{in-parts, maker-low, message-is}
-use Rattle.server_packet.specs.Packets.{packedEdits}
+use Rattle.server.specs.Packets.{packedEdits}
 
 -- questions 2 and 4
 abbrev questions : Server → ℕ → List model.Question

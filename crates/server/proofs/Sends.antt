@@ -25,16 +25,16 @@ use Rattle.line.specs.declared.Line.{Line}
 use Rattle.line.specs.Line.{lineOf, Kept}
 use Rattle.line.specs.Keeping.{thenAsked}
 use Rattle.line.proofs.Parts.{then-yes, then-no, then-none, asks-append}
-use Rattle.line_send.specs.declared.Sent.{Sent}
-use Rattle.line_send.specs.Sending.{answered, unwritten, numberAsked, finished, IsPending}
-use Rattle.line_send.proofs.Sends.{number-pending, send-asked, refused-sent}
+use Rattle.line.specs.declared.sending.Sent.{Sent}
+use Rattle.line.specs.Sending.{answered, unwritten, numberAsked, finished, IsPending}
+use Rattle.line.proofs.Sends.{number-pending, send-asked, refused-sent}
 use Rattle.server.specs.declared.Counts.{Counts}
 use Rattle.server.specs.declared.Server.{Server}
 use Rattle.server.specs.View.{slotsAt, makersAt, countsAt, lineAt, makersOf, serverOf, view, sound, soundTests, Sound, Sizes}
 use Rattle.server.specs.Answers.{guardedSending, sentEdit, sentAck}
 use Rattle.server.specs.Sending.{lineAsked, sendAsked, OnLine, Sendable}
 use Rattle.server.proofs.Lines.{line-used}
-use Rattle.server_words.proofs.Loops.{makers-long}
+use Rattle.server.proofs.Loops.{makers-long}
 use Rattle.server.proofs.Facts.{sizes, lines-few, makers-view, at-makers}
 
 -- ---- questions 2 and 4

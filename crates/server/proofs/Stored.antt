@@ -28,10 +28,10 @@ use Rattle.ranks.proofs.Laws as laws
 use Rattle.pending.specs.Slots.{slotsOf}
 use Rattle.line.specs.declared.Line.{Line}
 use Rattle.line.specs.Line.{lineOf, countsOf}
-use Rattle.line_sound.specs.Sound.{tidy, soundLine, emptyLine}
-use Rattle.line_sound.proofs.All.{each-all}
-use Rattle.line_sound.proofs.Makers.{makers-back}
-use Rattle.line_sound.proofs.Stored.{other-ranks, stored-line, stored-sound, stored-empty}
+use Rattle.line.specs.Sound.{tidy, soundLine, emptyLine}
+use Rattle.line.proofs.All.{each-all}
+use Rattle.line.proofs.Makers.{makers-back}
+use Rattle.line.proofs.Stored.{other-ranks, stored-line, stored-sound, stored-empty}
 use Rattle.server.specs.declared.Counts.{Counts}
 use Rattle.server.specs.View.{itemsIn, originsIn, listIn, slotsAt, countsAt, lineAt, linesFrom, makersAt, makersOf, makersFrom, view, store, tidyAt, bareAt, emptyAt, soundTests, sound, Sizes}
 use Rattle.server.proofs.Lines.{lines-length, line-used, makers-length, makers-used}

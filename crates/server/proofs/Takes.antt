@@ -24,22 +24,22 @@ use Rattle.model.specs.Line as line
 use Rattle.model.specs.Server as model
 use Rattle.line.specs.Keeping.{thenAsked}
 use Rattle.line.proofs.Parts.{then-none}
-use Rattle.line_take.specs.declared.Arrival.{Arrival}
-use Rattle.line_take.specs.declared.Decision.{Decision}
-use Rattle.line_take.specs.Taking.{carrying, arrivalOf, refusalOf, editThen, reportOf, reportIn}
-use Rattle.line_take.proofs.Asked.{edit-asked, ack-asked}
-use Rattle.line_take.proofs.Decisions.{priority-form, then-item}
+use Rattle.line.specs.declared.taking.Arrival.{Arrival}
+use Rattle.line.specs.declared.taking.Decision.{Decision}
+use Rattle.line.specs.Taking.{carrying, arrivalOf, refusalOf, editThen, reportOf, reportIn}
+use Rattle.line.proofs.Asked.{edit-asked, ack-asked}
+use Rattle.line.proofs.Decisions.{priority-form, then-item}
 use Rattle.server.specs.declared.Counts.{Counts}
 use Rattle.server.specs.declared.Server.{Server}
 use Rattle.server.specs.declared.Changed.{Changed}
 use Rattle.server.specs.View.{slotsAt, countsAt, lineAt, serverOf, view, store, Sound}
 use Rattle.server.specs.Answers.{refusedWith, refusedCounts, answerOf, guarded, taken, takenMessage}
-use Rattle.server_decide.specs.Decides.{isOwn, upTo, placeOf, refusalAt, Decided}
-use Rattle.server_take.specs.Taking.{serverThen}
+use Rattle.server.specs.Decides.{isOwn, upTo, placeOf, refusalAt, Decided}
+use Rattle.server.specs.Taking.{serverThen}
 use Rattle.server.proofs.Answers as ends
 use Rattle.server.proofs.Facts.{facts, at-view}
-use Rattle.server_decide.proofs.Asked.{up-line, own-rank, roomy-model}
-use Rattle.server_decide.proofs.Deciding.{Accepted, told-refusal, accepts}
+use Rattle.server.proofs.Asked.{up-line, own-rank, roomy-model}
+use Rattle.server.proofs.Decided.{Accepted, told-refusal, accepts}
 
 -- the last of three tests may be changed where the second says yes
 where-so : (a b x y : Bool) → (b ≡ true → x ≡ y) → (a && b && x) ≡ (a && b && y)

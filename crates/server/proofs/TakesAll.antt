@@ -10,19 +10,19 @@ use Rattle.model.specs.Questions as model
 use Rattle.model.specs.Server as server
 use Rattle.model.specs.Server.{takeServer}
 use Rattle.model.proofs.Sound.{server-takes}
-use Rattle.line_take.specs.Taking.{reportIn}
+use Rattle.line.specs.Taking.{reportIn}
 use Rattle.wire_packet.specs.Packet.{messageStart, messageEnd}
 use Rattle.wire_packet.proofs.Handing.{Handing, refusedBy, handing-end, handing-stop, handing-turn, packet-refused, packet-asks, packet-few, message-refused, message-asks}
 use Rattle.server.specs.declared.Server.{Server}
 use Rattle.server.specs.declared.Counts.{Counts}
 use Rattle.server.specs.declared.Answer.{Answer}
 use Rattle.server.specs.declared.Changed.{Changed}
 use Rattle.server.specs.View.{serverOf, view, store, sound, Sizes}
 use Rattle.server.specs.Answers.{refusedWith, guarded, taken, answerOf, refusedCounts}
 use Rattle.server.proofs.Answers.{unsound}
 use Rattle.server.proofs.Sends.{model-sound}
 use Rattle.server.proofs.Stored.{store-sizes}
-use Rattle.server_packet.specs.Packets.{serverAnswer, answerIn, taking, messagesTaken, packetTaken, takenAt, countedCounts}
+use Rattle.server.specs.Packets.{serverAnswer, answerIn, taking, messagesTaken, packetTaken, takenAt, countedCounts}
 
 -- every taking asks question 2 first
 unsound-taking : (s : Server) → sound s ≡ false → (m : List ℕ) → taking s m ≡ refusedBy 2 s

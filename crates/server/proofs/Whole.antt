@@ -27,18 +27,18 @@ use Rattle.ranks.specs.Stored.{soundRanks}
 use Rattle.ranks.proofs.Laws.{take-rank, sound-ranking, sound-zero, sound-stored}
 use Rattle.pending.specs.Slots.{allFrom}
 use Rattle.line.specs.Line.{countsOf, Kept}
-use Rattle.line_sound.specs.Sound.{soundLine, emptyLine}
-use Rattle.line_sound.proofs.All.{all-each, all-same, all-both, all-parted}
-use Rattle.line_sound.proofs.Makers.{makers-are, makers-whole}
-use Rattle.line_sound.proofs.Words.{sound-kept, empty-kept}
-use Rattle.line_sound.proofs.Stored.{empty-counts, empty-words}
-use Rattle.server_words.specs.Right.{listRight}
+use Rattle.line.specs.Sound.{soundLine, emptyLine}
+use Rattle.line.proofs.All.{all-each, all-same, all-both, all-parted}
+use Rattle.line.proofs.Makers.{makers-are, makers-whole}
+use Rattle.line.proofs.SoundWords.{sound-kept, empty-kept}
+use Rattle.line.proofs.Stored.{empty-counts, empty-words}
+use Rattle.server.specs.Right.{listRight}
 use Rattle.server.specs.declared.Counts.{Counts}
 use Rattle.server.specs.declared.Server.{Server}
 use Rattle.server.specs.View.{size, itemsIn, originsIn, slotsAt, makersAt, countsAt, lineAt, linesFrom, makersOf, makersFrom, listIn, serverOf, view, tidyAt, emptyAt, bareAt, soundTests, sound, Sound, Sizes}
 use Rattle.server.specs.Totals.{totalOf, inLimits, soundAt, makersSoundAt, lineSoundAt}
 use Rattle.server.proofs.Lines.{lines-length, line-used, line-unused, makers-length, makers-used, makers-unused, total-words, total-most}
-use Rattle.server_words.proofs.Loops.{items-long, origins-long, slots-long, makers-long}
+use Rattle.server.proofs.Loops.{items-long, origins-long, slots-long, makers-long}
 use Rattle.server.proofs.Rows.{slotsFor, makersFor, Row, Holds, store-is}
 
 -- ---- tests of places

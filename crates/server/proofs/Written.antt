@@ -24,10 +24,10 @@ use Rattle.line.specs.declared.Line.{Line}
 use Rattle.line.specs.Line.{pendingIn, Kept}
 use Rattle.line.proofs.Words.{pending-length}
 use Rattle.line.proofs.Room.{room-form}
-use Rattle.line_take.specs.Taking.{Between, accepted}
+use Rattle.line.specs.Taking.{Between, accepted}
 use Rattle.server.specs.View.{size, origins, makers, itemsIn, originsIn, slotsAt, makersAt, Parts, SlotsWrote, MakersWrote, Applied}
-use Rattle.server_take.specs.Taking.{slotsKept, makersKept, makersLeft}
-use Rattle.server_words.proofs.Loops.{lent-is, base, makersBase, items-long, origins-long}
+use Rattle.server.specs.Taking.{slotsKept, makersKept, makersLeft}
+use Rattle.server.proofs.Loops.{lent-is, base, makersBase, items-long, origins-long}
 
 -- of parts of one length, one behind the other, the one at place i was written
 module _ (a n i : ℕ) (x l l′ : List ℕ) (w : Wrote (a + n * i) n x l l′) (j : ℕ) (below : j < i → a + n * j + n ≤ a + n * i)

@@ -6,7 +6,7 @@ use lib.Dec.{eqb}
 use Rattle.wire.specs.declared.Message.{Message}
 use Rattle.model.specs.Questions as model
 use Rattle.model.specs.Server as server
-use Rattle.line_take.specs.Taking.{noReport, reportIn}
+use Rattle.line.specs.Taking.{noReport, reportIn}
 use Rattle.server.specs.declared.Counts.{Counts}
 use Rattle.server.specs.declared.Server.{Server}
 use Rattle.server.specs.declared.Answer.{Answer}

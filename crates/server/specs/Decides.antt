@@ -14,12 +14,12 @@ use Rattle.model.specs.Line as model
 use Rattle.pending.specs.Slots.{allFrom}
 use Rattle.line.specs.Line.{countsOf}
 use Rattle.line.specs.Keeping.{thenAsked}
-use Rattle.line_take.specs.declared.Arrival.{Arrival}
-use Rattle.line_take.specs.declared.Decision.{Decision}
-use Rattle.line_take.specs.Taking as line
-use Rattle.line_take.specs.Taking.{editOf, refusalOf, lineThen, refusing, done, deciding, Later}
+use Rattle.line.specs.declared.taking.Arrival.{Arrival}
+use Rattle.line.specs.declared.taking.Decision.{Decision}
+use Rattle.line.specs.Taking as line
+use Rattle.line.specs.Taking.{editOf, refusalOf, lineThen, refusing, done, deciding, Later}
 use Rattle.server.specs.declared.Counts.{Counts}
 use Rattle.server.specs.View.{slotsAt, countsAt, lineAt}
 
 -- question 4: an insert that comes up a line has the line's rank
 abbrev pub isOwn : ℕ → Form → Bool

@@ -3,3 +3,8 @@ pub mod Answers
 pub mod Opening
 pub mod Totals
 pub mod Sending
+pub mod Words
+pub mod Right
+pub mod Decides
+pub mod Taking
+pub mod Packets

@@ -5,15 +5,15 @@ use lib.ListN.{length}
 use Rattle.model.specs.Questions as model
 use Rattle.model.specs.Server.{packServer}
 use Rattle.model.specs.Packets.{counted, handedOver, unpacked}
-use Rattle.line_take.specs.declared.Report.{Report}
-use Rattle.line_take.specs.Taking.{reportIn}
+use Rattle.line.specs.declared.taking.Report.{Report}
+use Rattle.line.specs.Taking.{reportIn}
 use Rattle.wire_packet.specs.Packet.{messageTaken}
 use Rattle.server.specs.declared.Server.{Server}
 use Rattle.server.specs.declared.Counts.{Counts}
 use Rattle.server.specs.declared.Answer.{Answer}
 use Rattle.server.specs.declared.Changed.{Changed}
 use Rattle.server.specs.View.{view, sound}
 use Rattle.server.specs.Answers.{taken, guardedSending}
 
 -- ---- writing
 

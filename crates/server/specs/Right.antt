@@ -8,8 +8,8 @@ use Rattle.list.specs.Items.{allZero}
 use Rattle.list.specs.Seconds.{totalSeconds}
 use Rattle.model.specs.Line as line
 use Rattle.line.specs.declared.Line.{Line}
-use Rattle.line_sound.specs.Sound.{soundLine, makersSound, emptyLine}
-use Rattle.server_words.specs.Words.{itemsIn, originsIn, slotsAt, makersAt}
+use Rattle.line.specs.Sound.{soundLine, makersSound, emptyLine}
+use Rattle.server.specs.Words.{itemsIn, originsIn, slotsAt, makersAt}
 
 -- behind the first len places all is zero, and the total is the sum over the first len items
 abbrev pub listRight : ℕ → ℕ → List ℕ → Bool

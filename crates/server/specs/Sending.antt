@@ -3,7 +3,7 @@ use Prim.Native.Nat.{ℕ, _-_, _≤_}
 use mathlib.Core.List.{List, [], _∷_}
 use Rattle.model.specs.Questions.{Question, ask, asks, between}
 use Rattle.line.specs.Keeping.{thenAsked}
-use Rattle.line_send.specs.Sending.{numberAsked, IsPending}
+use Rattle.line.specs.Sending.{numberAsked, IsPending}
 use Rattle.server.specs.declared.Counts.{Counts}
 use Rattle.server.specs.declared.Server.{Server}
 use Rattle.server.specs.View.{countsAt, serverOf, sound, Sound}

@@ -16,11 +16,11 @@ use Rattle.pending.specs.Slots.{slotsOf}
 use Rattle.line.specs.declared.Line.{Line}
 use Rattle.line.specs.Line.{pendingIn}
 use Rattle.line.specs.Keeping.{withKept}
-use Rattle.line_take.specs.declared.Arrival.{Arrival}
-use Rattle.line_take.specs.Taking.{editOf, lineThen, editThen}
+use Rattle.line.specs.declared.taking.Arrival.{Arrival}
+use Rattle.line.specs.Taking.{editOf, lineThen, editThen}
 use Rattle.server.specs.declared.Counts.{Counts}
 use Rattle.server.specs.View.{slotsAt, countsAt, itemsIn, originsIn, makersAt, Parts}
-use Rattle.server_decide.specs.Decides.{placeOf}
+use Rattle.server.specs.Decides.{placeOf}
 
 -- the place i is one of the first n, and not the one left out
 abbrev pub keeps : ℕ → ℕ → ℕ → Bool

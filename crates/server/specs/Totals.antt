@@ -9,7 +9,7 @@ use Rattle.model.specs.Ranks.{rankOf}
 use Rattle.model.specs.Line as line
 use Rattle.model.specs.Server.{total}
 use Rattle.line.specs.declared.Line.{Line}
-use Rattle.server_words.specs.Right.{soundUsed, soundMakers, soundEither}
+use Rattle.server.specs.Right.{soundUsed, soundMakers, soundEither}
 use Rattle.server.specs.declared.Counts.{Counts}
 use Rattle.server.specs.declared.Totals.{Totals}
 use Rattle.server.specs.View.{countsAt, linesFrom}

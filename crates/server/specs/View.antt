@@ -20,8 +20,8 @@ use Rattle.pending.specs.Slots as pending
 use Rattle.pending.specs.Slots.{allFrom}
 use Rattle.line.specs.declared.Line.{Line}
 use Rattle.line.specs.Line.{lineOf, countsOf, Kept}
-use Rattle.line_sound.specs.Sound.{tidy, emptyLine}
-pub use Rattle.server_words.specs.Words.{size, origins, makers, itemsIn, slotsAt, originsIn, makersAt}
+use Rattle.line.specs.Sound.{tidy, emptyLine}
+pub use Rattle.server.specs.Words.{size, origins, makers, itemsIn, slotsAt, originsIn, makersAt}
 use Rattle.server.specs.declared.Counts.{Counts}
 use Rattle.server.specs.declared.Server.{Server}
 

@@ -7,16 +7,16 @@ ghost use Rattle.ot.specs.Form.{positionOf};
 ghost use Rattle.model.specs.Ranks.{rankOf};
 ghost use Rattle.pending.specs.Slots.{allFrom};
 ghost use Rattle.line.specs.Keeping.{thenAsked};
-ghost use Rattle.line_take.specs.Taking.{zeros};
+ghost use Rattle.line.specs.Taking.{zeros};
 ghost use Rattle.server.specs.View.{serverOf, Sound};
-ghost use Rattle.server_decide.specs.Decides.{isOwn, madeHere, upTo, roomyAt, placeOf, insertsThen, lastRefusal, LineDecided, Decided};
+ghost use Rattle.server.specs.Decides.{isOwn, madeHere, upTo, roomyAt, placeOf, insertsThen, lastRefusal, LineDecided, Decided};
+use crate::Counts;
+use crate::Server;
 use line::Line;
-use line_take::Arrival;
-use line_take::Decision;
-use line_take::refusing;
+use line::taking::Arrival;
+use line::taking::Decision;
+use line::taking::refusing;
 use ot::Form;
-use server::Counts;
-use server::Server;
 
 // ---- the questions
 
@@ -63,7 +63,7 @@ fn others_roomy(k: Counts, at: usize) -> bool
     let mut roomy = true;
     let n = k.n as usize;
     for i in 0..n {
-        roomy = roomy & ((i == at) | server::line_at(k, i).has_room());
+        roomy = roomy & ((i == at) | crate::line_at(k, i).has_room());
     }
     roomy
 }
@@ -73,7 +73,7 @@ fn inserts_then(k: Counts, a: Arrival) -> u16
     requires { ⌜ (placeOf a < maxLines) × ((1 ≤ a .line) × (insertsThen k a ≤ 65535)) ⌝ }
     ensures { λ r. ⌜ r ≡ insertsThen k a ⌝ }
 {
-    let v = server::line_at(k, (a.line - 1) as usize);
+    let v = crate::line_at(k, (a.line - 1) as usize);
     let f = a.form;
     v.inserts + line::inserts_of(f)
 }
@@ -104,9 +104,9 @@ fn decide_line(k: Counts, words: &[u32], a: Arrival, later: &mut [u32; Server::P
 {
     let at = (a.line - 1) as usize;
     let inserts = inserts_then(k, a);
-    line_take::decide(
-        server::line_at(k, at),
-        server_words::slots_at(words, at),
+    line::taking::decide(
+        crate::line_at(k, at),
+        crate::parts::slots_at(words, at),
         k.len,
         inserts,
         a,

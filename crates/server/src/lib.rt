@@ -1,7 +1,11 @@
 // The server's end of a sheet: its state, opening, and question 2.
 // The server is its numbers and one array of words. The calls get the numbers by value and change lent words in place; the methods, which
 // take the server by value and hand it back, are thin: they lend its words.
+pub mod deciding;
+pub mod packets;
+pub mod parts;
 pub mod sending;
+pub mod taking;
 
 ghost use mathlib.Core.Path.{_≡_};
 ghost use mathlib.Core.Bool.{true};
@@ -14,11 +18,11 @@ ghost use Rattle.server.specs.View.{size, countsAt, serverOf, sound, Sou
 ghost use Rattle.server.specs.Answers.{opened, refusedCounts, answerOf};
 ghost use Rattle.server.specs.Opening.{openAsked, freshCounts, OpenWords};
 ghost use Rattle.server.specs.Totals.{inLimits, lineSoundAt, Totaled};
+use crate::parts::is_line_sound;
+use crate::parts::list_sound;
 use line::Line;
-use line_take::Report;
-use line_take::no_report;
-use server_words::is_line_sound;
-use server_words::list_sound;
+use line::taking::Report;
+use line::taking::no_report;
 
 // The numbers of the server.
 pub struct Counts {
@@ -75,7 +79,7 @@ pub fn refused(refusal: u8, k: Counts) -> Changed
 }
 
 // The answer of a method: the words that were lent, with their numbers again.
-pub fn joined(a: Changed, words: [u32; Server::WORDS]) -> Answer
+fn joined(a: Changed, words: [u32; Server::WORDS]) -> Answer
     ensures { λ r. ⌜ r ≡ answerOf a words ⌝ }
 {
     let counts = a.counts;
@@ -237,11 +241,11 @@ impl Server {
     pub const INITIAL: usize = limits::INITIAL;
 
     // Where the origins of the items begin, and those of pending edits; and the words of the server.
-    pub const ORIGINS: usize = server_words::ORIGINS;
+    pub const ORIGINS: usize = crate::parts::ORIGINS;
 
-    pub const MAKERS: usize = server_words::MAKERS;
+    pub const MAKERS: usize = crate::parts::MAKERS;
 
-    pub const WORDS: usize = server_words::WORDS;
+    pub const WORDS: usize = crate::parts::WORDS;
 
     // A server of n lines, with the initial list. Refused, it is all zeros.
     pub fn open(n: u8, ranks: &[u8], items: &[u32]) -> Answer

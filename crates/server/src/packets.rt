@@ -6,16 +6,19 @@ ghost use mathlib.Core.List.{[], _∷_};
 ghost use lib.ListN.{length};
 ghost use Rattle.limits.specs.Limits.{maxPacket};
 ghost use Rattle.model.specs.Questions.{ask, asks, between};
-ghost use Rattle.line_send.specs.Sending.{answered};
+ghost use Rattle.line.specs.Sending.{answered};
 ghost use Rattle.server.specs.View.{serverOf, sound, Sizes};
 ghost use Rattle.server.specs.Answers.{answerOf, refusedCounts};
-ghost use Rattle.server_packet.specs.Packets.{packedEdits, messagesTaken, packetTaken, takenAt, countedCounts};
-use line_send::Sent;
-use line_take::Report;
-use server::Changed;
-use server::Counts;
-use server_words::makers_at;
-use server_words::slots_at;
+ghost use Rattle.server.specs.Packets.{packedEdits, messagesTaken, packetTaken, takenAt, countedCounts};
+use crate::Answer;
+use crate::Changed;
+use crate::Counts;
+use crate::Server;
+use crate::joined;
+use crate::parts::makers_at;
+use crate::parts::slots_at;
+use line::sending::Sent;
+use line::taking::Report;
 
 // Writes the pending edits of a line from an offset of the buffer on, in number order, as many as fit before its end, unless a question
 // says no. Their origins stand beside them.
@@ -23,15 +26,15 @@ pub fn pack(k: Counts, words: &[u32], line: u8, out: &mut [u8], offset: usize) -
     requires { ⌜ Sizes k (now words) ⌝ }
     ensures { λ r. ⌜ answered r (now (out .exit)) ≡ packedEdits (serverOf k (now (words .entry))) line (now (out .entry)) offset ⌝ }
 {
-    let refusal = server::sending::ask_line(k, words, line);
+    let refusal = crate::sending::ask_line(k, words, line);
     if refusal != 0 {
-        return line_send::refused(refusal);
+        return line::sending::refused(refusal);
     }
     let at = (line - 1) as usize;
-    let v = server::line_at(k, at);
+    let v = crate::line_at(k, at);
     let slots = slots_at(words, at);
     let origins = makers_at(words, at);
-    line_packet::pack(line, 1, v, slots, origins, out, offset)
+    line::packing::pack(line, 1, v, slots, origins, out, offset)
 }
 
 // What a packet answers: 0 or the refusal of a message, how many were taken before it, and the numbers then.
@@ -59,7 +62,7 @@ fn take_all(k: Counts, words: &mut [u32], packet: &[u8]) -> Changed
     let mut count: u16 = 0;
     while at < packet.len() {
         let end = wire_packet::message_end(packet, at);
-        let a = server_take::take(counts, words, &packet[at..end]);
+        let a = crate::taking::take(counts, words, &packet[at..end]);
         counts = a.counts;
         if a.refusal != 0 {
             return counted(a.refusal, count, counts);
@@ -82,10 +85,10 @@ fn refused_length(k: Counts, words: &[u32]) -> Changed
     requires { ⌜ Sizes k (now words) ⌝ }
     ensures { λ r. ⌜ r ≡ refusedCounts (asks (ask 2 (sound (serverOf k (now (words .entry)))) ∷ ask 15 false ∷ [])) k ⌝ }
 {
-    if server::is_sound(k, words) {
-        return server::refused(15, k);
+    if crate::is_sound(k, words) {
+        return crate::refused(15, k);
     }
-    server::refused(2, k)
+    crate::refused(2, k)
 }
 
 // Takes the messages of a packet, in place, up to the first that is refused, and reports how many were taken. Question 2 comes before 15:
@@ -108,7 +111,28 @@ pub fn take_at(k: Counts, words: &mut [u32], packet: &[u8], at: usize) -> Change
     if has_length(packet) {
         let start = wire_packet::message_start(packet, at);
         let end = wire_packet::message_end(packet, start);
-        return server_take::take(k, words, &packet[start..end]);
+        return crate::taking::take(k, words, &packet[start..end]);
     }
     refused_length(k, words)
+}
+
+impl Server {
+    // Takes the messages of a packet, up to the first that is refused.
+    pub fn take_packet(self, packet: &[u8]) -> Answer
+        ensures { λ r. ⌜ r ≡ packetTaken self (now (packet .entry)) ⌝ }
+    {
+        let counts = self.counts;
+        let mut words = self.words;
+        let a = take(counts, &mut words, packet);
+        joined(a, words)
+    }
+
+    // Writes the pending edits of a line as a packet into the lent buffer, from an offset on.
+    pub fn pack(self, line: u8, out: &mut [u8], offset: usize) -> Sent
+        ensures { λ r. ⌜ answered r (now (out .exit)) ≡ packedEdits self line (now (out .entry)) offset ⌝ }
+    {
+        let counts = self.counts;
+        let words = self.words;
+        pack(counts, &words, line, out, offset)
+    }
 }

@@ -3,8 +3,8 @@ ghost use mathlib.Core.Path.{_≡_};
 ghost use Prim.Native.Nat.{_<_};
 ghost use lib.ListN.{length};
 ghost use Rattle.limits.specs.Limits.{maxLines};
-ghost use Rattle.server_words.specs.Words.{size, slotsAt, makersAt};
-ghost use Rattle.server_words.specs.Right.{listRight, soundUsed, soundMakers, emptyUnused, soundEither};
+ghost use Rattle.server.specs.Words.{size, slotsAt, makersAt};
+ghost use Rattle.server.specs.Right.{listRight, soundUsed, soundMakers, emptyUnused, soundEither};
 use line::Line;
 
 // Where the origins of the items begin, and those of pending edits; and the words of the server.
@@ -44,7 +44,7 @@ fn pending_sound(v: Line, n: u8, rank: u8, words: &[u32], at: usize, taken: u32)
     ensures { λ r. ⌜ r ≡ soundUsed n rank v taken (now (words .entry)) at ⌝ }
 {
     let others = v.made as u32 + v.taken as u32 == taken;
-    others & line_sound::is_sound(v.taken, v, slots_at(words, at), n, rank, false)
+    others & line::soundness::is_sound(v.taken, v, slots_at(words, at), n, rank, false)
 }
 
 // The origins of its pending edits.
@@ -53,7 +53,7 @@ fn makers_sound(v: Line, n: u8, words: &[u32], at: usize) -> bool
     ensures { λ r. ⌜ r ≡ soundMakers n v (now (words .entry)) at ⌝ }
 {
     let count = v.pending() as usize;
-    line_sound::makers_sound(makers_at(words, at), count, n, at as u8 + 1)
+    line::soundness::makers_sound(makers_at(words, at), count, n, at as u8 + 1)
 }
 
 // A line that is not in use.
@@ -61,7 +61,7 @@ fn unused_empty(v: Line, words: &[u32], at: usize) -> bool
     requires { ⌜ (length (now words) ≡ size) × (at < maxLines) ⌝ }
     ensures { λ r. ⌜ r ≡ emptyUnused v (now (words .entry)) at ⌝ }
 {
-    line_sound::is_empty(v, slots_at(words, at)) & list::zero_from(makers_at(words, at), 0)
+    line::soundness::is_empty(v, slots_at(words, at)) & list::zero_from(makers_at(words, at), 0)
 }
 
 pub fn is_line_sound(v: Line, n: u8, rank: u8, words: &[u32], at: usize, taken: u32) -> bool

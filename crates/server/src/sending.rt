@@ -2,19 +2,19 @@
 ghost use mathlib.Core.Path.{_≡_};
 ghost use Rattle.model.specs.Questions.{asks};
 ghost use Rattle.model.specs.Server.{serverMessage};
-ghost use Rattle.line_send.specs.Sending.{answered};
+ghost use Rattle.line.specs.Sending.{answered};
 ghost use Rattle.server.specs.View.{serverOf, view, Sound, Sizes};
 ghost use Rattle.server.specs.Answers.{sentEdit, sentAck};
 ghost use Rattle.server.specs.Sending.{lineAsked, sendAsked, OnLine, Sendable};
 use crate::Counts;
 use crate::Server;
-use line_send::Sent;
-use line_send::ask_number;
-use line_send::finish;
-use line_send::message;
-use line_send::refused;
-use server_words::makers_at;
-use server_words::slots_at;
+use crate::parts::makers_at;
+use crate::parts::slots_at;
+use line::sending::Sent;
+use line::sending::ask_number;
+use line::sending::finish;
+use line::sending::message;
+use line::sending::refused;
 use wire::Message;
 
 // Questions 2 and 4.

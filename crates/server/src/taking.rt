@@ -10,21 +10,23 @@ ghost use Rattle.list.specs.Places.{wordOf};
 ghost use Rattle.wire.specs.Message.{inRange};
 ghost use Rattle.pending.specs.Slots.{allFrom};
 ghost use Rattle.line.specs.Line.{Kept};
-ghost use Rattle.line_take.specs.Taking.{Between, accepted};
+ghost use Rattle.line.specs.Taking.{Between, accepted};
 ghost use Rattle.server.specs.View.{size, slotsAt, makersAt, serverOf, view, store, Sound, Sizes, SlotsWrote, MakersWrote, Applied};
 ghost use Rattle.server.specs.Answers.{taken, takenMessage, answerOf};
-ghost use Rattle.server_decide.specs.Decides.{upTo, roomyAt, placeOf, Decided};
-ghost use Rattle.server_take.specs.Taking.{KeptBy, slotsKept, makersKept, makersLeft, withLine, serverThen};
+ghost use Rattle.server.specs.Decides.{upTo, roomyAt, placeOf, Decided};
+ghost use Rattle.server.specs.Taking.{KeptBy, slotsKept, makersKept, makersLeft, withLine, serverThen};
+use crate::Answer;
+use crate::Changed;
+use crate::Counts;
+use crate::Server;
+use crate::joined;
 use line::Line;
-use line_take::Arrival;
-use line_take::Decision;
-use line_take::accept;
-use line_take::split;
+use line::taking::Arrival;
+use line::taking::Decision;
+use line::taking::accept;
+use line::taking::split;
 use list::Origin;
 use ot::Form;
-use server::Changed;
-use server::Counts;
-use server::Server;
 use wire::Message;
 use wire::Read;
 
@@ -57,7 +59,7 @@ fn keep_others(k: Counts, words: &mut [u32], at: usize, f: Form, x: u32, word: u
         if i == at {
             continue;
         }
-        let v = server::line_at(k, i);
+        let v = crate::line_at(k, i);
         keep_at(words, i, v, f, x);
         name_at(words, i, v, word);
         counts.lines[i] = v.kept(v.inserts);
@@ -132,7 +134,7 @@ fn change(k: Counts, words: &mut [u32], a: Arrival, d: Decision, later: &[u32]) 
     let total = list::total_after(&words[0..k.len as usize], k.total, f, a.item);
     let counts = pass_on(k, words, a, f);
     let at = (a.line - 1) as usize;
-    let v = server::line_at(k, at);
+    let v = crate::line_at(k, at);
     accept_at(words, at, v, a.seen, later);
     drop_makers(words, at, v, a.seen);
     let origin = a.origin;
@@ -148,9 +150,9 @@ fn take_message(k: Counts, words: &mut [u32], m: Message) -> Changed
 {
     let a = split(m);
     let mut later = [0u32; Server::PENDING];
-    let d = server_decide::decide(k, words, a, &mut later);
+    let d = crate::deciding::decide(k, words, a, &mut later);
     if d.refusal != 0 {
-        return server::refused(d.refusal, k);
+        return crate::refused(d.refusal, k);
     }
     let report = d.report;
     let counts = change(k, words, a, d, &later);
@@ -166,11 +168,23 @@ pub fn take(k: Counts, words: &mut [u32], bytes: &[u8]) -> Changed
     requires { ⌜ Sizes k (now words) ⌝ }
     ensures { λ r. ⌜ answerOf r (now (words .exit)) ≡ taken (serverOf k (now (words .entry))) (now (bytes .entry)) ⌝ }
 {
-    if server::is_sound(k, words) {
-        let Read::Message(m) = wire_read::parse(bytes) else {
-            return server::refused(3, k);
+    if crate::is_sound(k, words) {
+        let Read::Message(m) = wire::reading::parse(bytes) else {
+            return crate::refused(3, k);
         };
         return take_message(k, words, m);
     }
-    server::refused(2, k)
+    crate::refused(2, k)
+}
+
+impl Server {
+    // Takes one message.
+    pub fn take(self, bytes: &[u8]) -> Answer
+        ensures { λ r. ⌜ r ≡ taken self (now (bytes .entry)) ⌝ }
+    {
+        let counts = self.counts;
+        let mut words = self.words;
+        let a = take(counts, &mut words, bytes);
+        joined(a, words)
+    }
 }

@@ -19,7 +19,7 @@ use Rattle.client.specs.Answers as clients
 use Rattle.client.proofs.Stored.{client-view, client-stored}
 use Rattle.server.specs.declared.Server.{Server}
 use Rattle.server.specs.View as server
-use Rattle.line_take.specs.Taking.{reportIn}
+use Rattle.line.specs.Taking.{reportIn}
 use Rattle.server.specs.Answers as servers
 use Rattle.server.proofs.Stored.{view-store, store-sound}
 

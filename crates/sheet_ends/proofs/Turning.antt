@@ -12,8 +12,8 @@ use Rattle.limits.specs.Limits.{maxLines}
 use Rattle.model.specs.Questions as model
 use Rattle.model.specs.Client as models
 use Rattle.model.specs.Server as serverModels
-use Rattle.line_send.specs.declared.Sent.{Sent}
-use Rattle.line_send.specs.Sending.{answered}
+use Rattle.line.specs.declared.sending.Sent.{Sent}
+use Rattle.line.specs.Sending.{answered}
 use Rattle.client.specs.declared.Counts.{Counts}
 use Rattle.client.specs.declared.Client.{Client}
 use Rattle.client.specs.declared.Answer.{Answer as ClientAnswer}

@@ -4,7 +4,7 @@ ghost use mathlib.Core.Path.{_≡_};
 ghost use lib.ListN.{replicate};
 ghost use Rattle.limits.specs.Limits.{maxLines};
 ghost use Rattle.model.specs.Ranks.{lineRanks};
-ghost use Rattle.line_send.specs.Sending.{answered};
+ghost use Rattle.line.specs.Sending.{answered};
 ghost use Rattle.client.specs.View.{clientOf, Sizes as Client·Sizes};
 ghost use Rattle.client.specs.Answers.{answerOf};
 ghost use Rattle.server.specs.View.{serverOf, Sizes as Server·Sizes};
@@ -14,7 +14,7 @@ use client::Client;
 use client::Counts;
 use client::Inverse;
 use line::Line;
-use line_send::Sent;
+use line::sending::Sent;
 use server::Server;
 use sheet_text::ACK;
 use sheet_text::DEL;
@@ -109,12 +109,12 @@ fn at_client(c: Counts, words: &mut [u32], o: Order, bytes: &[u8]) -> client::Ch
     ensures { λ r. ⌜ answerOf r (now (words .exit)) ≡ changedBy (clientOf c (now (words .entry))) o (now (bytes .entry)) ⌝ }
 {
     if o.verb == INS {
-        return client_edit::insert(c, words, o.number, o.item);
+        return client::editing::insert(c, words, o.number, o.item);
     }
     if o.verb == DEL {
-        return client_edit::delete(c, words, o.number);
+        return client::editing::delete(c, words, o.number);
     }
-    client_take::take(c, words, bytes)
+    client::taking::take(c, words, bytes)
 }
 
 // An order at the server and at the client of its line, in place. What cannot be sent changes nothing.
@@ -144,7 +144,7 @@ pub fn turn(
     }
     let n = b.written;
     if UP <= o.verb {
-        let a = server_take::take(s, words, &m[..n]);
+        let a = server::taking::take(s, words, &m[..n]);
         let k = a.counts;
         t.refusal = a.refusal;
         t.server = k;

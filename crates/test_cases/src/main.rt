@@ -59,9 +59,9 @@ fn bytes(s: &[u8]) {
 fn message(n: u64, s: &[u8]) {
     label(n);
     bytes(s);
-    match wire_read::parse(s) {
+    match wire::reading::parse(s) {
         Read::Refused => number(0),
-        Read::Message(m) => number(wire_write::size(m) as u64),
+        Read::Message(m) => number(wire::writing::size(m) as u64),
     }
     io::write_all(1, b"\n");
 }
@@ -76,13 +76,13 @@ fn insert_message() {
         origin,
     };
     let mut out = [0u8; 17];
-    wire_write::write(Message::Insert(h, 1, 30, 1), &mut out);
+    wire::writing::write(Message::Insert(h, 1, 30, 1), &mut out);
     message(9, &out);
 }
 
 fn ack_message() {
     let mut out = [0u8; 5];
-    wire_write::write(Message::Ack(2, 1, 3), &mut out);
+    wire::writing::write(Message::Ack(2, 1, 3), &mut out);
     message(10, &out);
 }
 

@@ -4,8 +4,6 @@ ghost use mathlib.Core.Path.{_≡_};
 ghost use mathlib.Core.List.{[], _∷_};
 ghost use Rattle.client.specs.Answers.{inserted, taken};
 use client::Client;
-use ends::client_end::ClientEnd;
-use ends::server_end::ServerEnd;
 use line::Line;
 use server::Counts;
 use server::Server;
@@ -30,7 +28,7 @@ fn count(x: u16) {
 fn insert(c: Client, p: u16, x: u32) -> client::Answer
     ensures { λ r. ⌜ r ≡ inserted c p x ⌝ }
 {
-    ClientEnd { client: c }.insert(p, x)
+    c.insert(p, x)
 }
 
 // Client 1 takes an insert of client 2 at the front.
@@ -56,7 +54,7 @@ fn take_insert(c: Client, number: u8, seen: u8) -> client::Answer
         0,
         number,
     ];
-    ClientEnd { client: c }.take(&m)
+    c.take(&m)
 }
 
 // The next message on its line, a delete: made on that line, with that number in two bytes.
@@ -64,7 +62,7 @@ fn take_delete(c: Client, maker: u8, high: u8, low: u8) -> client::Answer
     ensures { λ r. ⌜ r ≡ taken c (7 ∷ 1 ∷ 1 ∷ 0 ∷ 1 ∷ 0 ∷ 0 ∷ 0 ∷ 1 ∷ maker ∷ high ∷ low ∷ []) ⌝ }
 {
     let m = [7u8, 1, 1, 0, 1, 0, 0, 0, 1, maker, high, low];
-    ClientEnd { client: c }.take(&m)
+    c.take(&m)
 }
 
 // Client 1 takes an acknowledgement.
@@ -72,7 +70,7 @@ fn take_ack(c: Client, seen: u8) -> client::Answer
     ensures { λ r. ⌜ r ≡ taken c (4 ∷ 1 ∷ 1 ∷ 0 ∷ seen ∷ []) ⌝ }
 {
     let m = [4u8, 1, 1, 0, seen];
-    ClientEnd { client: c }.take(&m)
+    c.take(&m)
 }
 
 fn refusal(a: client::Answer) {
@@ -178,11 +176,11 @@ fn makers_up() {
     let items = [10u32];
     let a = Server::open(2, &[1u8, 2], &items);
     let s = a.server;
-    let b = ServerEnd { server: s }.take(&[7u8, 1, 0, 0, 1, 0, 0, 0, 1, 2, 0, 1]);
+    let b = s.take(&[7u8, 1, 0, 0, 1, 0, 0, 0, 1, 2, 0, 1]);
     number(b.refusal as u64);
-    let d = ServerEnd { server: s }.take(&[7u8, 1, 0, 0, 1, 0, 0, 0, 1, 1, 0, 2]);
+    let d = s.take(&[7u8, 1, 0, 0, 1, 0, 0, 0, 1, 1, 0, 2]);
     number(d.refusal as u64);
-    let e = ServerEnd { server: s }.take(&[2u8, 1, 0, 0, 1, 0, 0, 0, 1]);
+    let e = s.take(&[2u8, 1, 0, 0, 1, 0, 0, 0, 1]);
     number(e.refusal as u64);
     io::write_all(1, b"\n");
 }
@@ -193,10 +191,10 @@ fn nothing() {
     let items = [10u32];
     let a = Server::open(2, &[1u8, 2], &items);
     let s = a.server;
-    let b = ServerEnd { server: s }.take(&[7u8, 1, 0, 0, 1, 0, 0, 0, 1, 1, 0, 1]);
+    let b = s.take(&[7u8, 1, 0, 0, 1, 0, 0, 0, 1, 1, 0, 1]);
     number(b.refusal as u64);
     let t = b.server;
-    let d = ServerEnd { server: t }.take(&[7u8, 2, 0, 0, 1, 0, 0, 0, 1, 2, 0, 1]);
+    let d = t.take(&[7u8, 2, 0, 0, 1, 0, 0, 0, 1, 2, 0, 1]);
     number(d.refusal as u64);
     number(d.report.passed as u64);
     let u = d.server;

@@ -6,8 +6,6 @@ ghost use Rattle.server.specs.Answers as server;
 ghost use Rattle.test_timing.specs.Opened.{clientWith, serverWith, clientAnswered, serverAnswered};
 use c_layout::report;
 use client::Client;
-use ends::client_end::ClientEnd;
-use ends::server_end::ServerEnd;
 use server::Server;
 
 // Client 1 of 2, opened with line numbers as ranks and so many items; more than opening lets through leave an end that is all zeros.
@@ -36,7 +34,7 @@ pub extern "C" fn lub_time_client_insert(count: u8, position: u16, item: u32, ti
     let c = client_with(count);
     let mut i = 1;
     loop {
-        let a = ClientEnd { client: c }.insert(position, item);
+        let a = c.insert(position, item);
         if times <= i {
             return report(a.refusal, a.report);
         }
@@ -51,7 +49,7 @@ pub extern "C" fn lub_time_client_take(count: u8, message: &[u8], times: u32) ->
     let c = client_with(count);
     let mut i = 1;
     loop {
-        let a = ClientEnd { client: c }.take(message);
+        let a = c.take(message);
         if times <= i {
             return report(a.refusal, a.report);
         }
@@ -66,7 +64,7 @@ pub extern "C" fn lub_time_server_take(count: u8, message: &[u8], times: u32) ->
     let s = server_with(count);
     let mut i = 1;
     loop {
-        let a = ServerEnd { server: s }.take(message);
+        let a = s.take(message);
         if times <= i {
             return report(a.refusal, a.report);
         }

@@ -8,9 +8,9 @@ use mathlib.Core.List.{List, _++_}
 use lib.ListN.{length, getD, set, take, drop, length-set, length-take}
 use lib.Seq.{paste-suc}
 use borrow.Author.Tests.{le-leb, lt-leb}
 use Rattle.wire.specs.declared.Message.{Message}
 use Rattle.wire.specs.Bytes.{bytesOf}
-use Rattle.wire_write.specs.Buffer.{Written}
+use Rattle.wire.specs.Buffer.{Written}
 
 -- the first i of n bytes, of those in b, are copied over what was there before
 pub record Copied (b before : List ℕ) (n : ℕ) (out : List ℕ) (i : ℕ) : Type 0 where

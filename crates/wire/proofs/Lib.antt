@@ -1,3 +1,5 @@
 pub mod Ranges
 pub mod Codec
 pub mod Cases
+pub mod Parsing
+pub mod Buffer

@@ -4,10 +4,10 @@ use mathlib.Core.Bool.{cond}
 use mathlib.Core.List.{List}
 use lib.Dec.{eqb}
 use lib.ListN.{getD}
 use Rattle.wire.specs.declared.Header.{Header}
 use Rattle.wire.specs.Bytes.{sizeOfKind, twoAt}
-use Rattle.wire_read.specs.declared.Size.{Size}
-use Rattle.wire_read.specs.declared.Size.the-variants.{Refused, Bytes}
+use Rattle.wire.specs.declared.reading.Size.{Size}
+use Rattle.wire.specs.declared.reading.Size.the-variants.{Refused, Bytes}
 
 -- the length, or the refusal of a byte that is no kind
 abbrev pub sizeOf : ℕ → Size

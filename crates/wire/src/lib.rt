@@ -1,4 +1,7 @@
 // Messages between a client and the server. specs/Bytes.antt says what their bytes are.
+pub mod reading;
+pub mod writing;
+
 ghost use mathlib.Core.Path.{_≡_};
 ghost use Rattle.ot.specs.Edit.{edit};
 ghost use Rattle.wire.specs.Message.{messageOf};

@@ -4,13 +4,13 @@ ghost use mathlib.Core.Bool.{_&&_};
 ghost use Prim.Native.Nat.{_<_};
 ghost use lib.ListN.{getD};
 ghost use Rattle.limits.specs.Limits.{maxLines, maxItems};
 ghost use Rattle.wire.specs.Message.{between, originInRange, headerInRange, inRange};
 ghost use Rattle.wire.specs.Bytes.{twoAt, fourAt, headerAt, fieldsOf, parsed};
-ghost use Rattle.wire_read.specs.Size.{sizeOf, ackHeader};
+ghost use Rattle.wire.specs.Size.{sizeOf, ackHeader};
+use crate::Header;
+use crate::Message;
+use crate::Read;
 use list::Origin;
-use wire::Header;
-use wire::Message;
-use wire::Read;
 
 // ---- the ranges of the fields
 

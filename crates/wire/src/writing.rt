@@ -3,10 +3,10 @@ ghost use mathlib.Core.Path.{_≡_};
 ghost use mathlib.Core.List.{_++_};
 ghost use Prim.Native.Nat.{_/_, _%_};
 ghost use lib.ListN.{length, take, replicate};
 ghost use Rattle.wire.specs.Bytes.{bytesOf};
-ghost use Rattle.wire_write.specs.Buffer.{Written};
-use wire::Header;
-use wire::Message;
+ghost use Rattle.wire.specs.Buffer.{Written};
+use crate::Header;
+use crate::Message;
 
 // How many bytes a message takes.
 pub fn size(m: Message) -> usize

@@ -10,8 +10,8 @@ use lib.ListN.{length, getD, take, drop, length-drop, drop-of-length-le}
 use lib.Seq.{take-nil, drop-nil, drop-drop, drop-length, getD-drop}
 use borrow.Author.Tests.{lt-ltb, le-ltb, ltb-true, ltb-false, le-leb, lt-leb, leb-true, leb-false, ne-eqb}
 use Rattle.wire.specs.Bytes.{sizeOfKind}
-use Rattle.wire_read.specs.declared.Size.the-variants.{Refused, Bytes}
-use Rattle.wire_read.specs.Size.{sizeOf}
+use Rattle.wire.specs.declared.reading.Size.the-variants.{Refused, Bytes}
+use Rattle.wire.specs.Size.{sizeOf}
 use Rattle.model.specs.Packets.{nextSize}
 use Rattle.model.proofs.Tests.{and-left, and-right}
 use Rattle.wire_packet.specs.Packet.{messageStart, messageEnd}

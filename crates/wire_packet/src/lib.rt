@@ -1,7 +1,7 @@
 // A packet is messages end to end. This crate finds where each of them ends.
 ghost use mathlib.Core.Path.{_≡_};
 ghost use Rattle.wire_packet.specs.Packet.{messageStart, messageEnd};
-use wire_read::Size;
+use wire::reading::Size;
 
 // Where the message ends that begins at `at`: as many bytes on as its kind says. A byte that is no kind, and a message that is cut off,
 // take the rest of the packet. Past the end no message begins, and the end itself is the answer.
@@ -10,7 +10,7 @@ fn end_at(bytes: &[u8], at: usize) -> usize
 {
     let len = bytes.len();
     if at < len {
-        let size = wire_read::size_of_kind(bytes[at]);
+        let size = wire::reading::size_of_kind(bytes[at]);
         let Size::Bytes(n) = size else {
             return len;
         };

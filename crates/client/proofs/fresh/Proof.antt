@@ -1,7 +1,7 @@
 -- `fresh` meets its contract: there is nothing to report.
 use mathlib.Core.Path.{ap}
 use borrow.Author.Needs.{needs}
-use Rattle.line_take.specs.declared.Report.{Report}
+use Rattle.line.specs.declared.taking.Report.{Report}
 use Rattle.client.specs.declared.Changed.{Changed}
 use Rattle.client.specs.Answers.{freshCounts}
 use Rattle.client.proofs.fresh.Statement.{statement}

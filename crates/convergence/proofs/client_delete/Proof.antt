@@ -1,8 +1,8 @@
 use mathlib.Core.Path.{ap}
 use borrow.Author.Needs.{needs}
-use Rattle.convergence_calls.proofs.client_delete.Statement.{statement}
+use Rattle.convergence.proofs.client_delete.Statement.{statement}
 use Rattle.convergence.specs.Built.{fromClient}
-use Rattle.convergence_calls.proofs.client_delete.Tie as tie
+use Rattle.convergence.proofs.client_delete.Tie as tie
 
 delete-requires : tie.Need-delete-requires
 delete-requires c κs = search needs

@@ -1,8 +1,8 @@
 use mathlib.Core.Path.{ap}
 use borrow.Author.Needs.{needs}
-use Rattle.convergence_calls.proofs.client_insert.Statement.{statement}
+use Rattle.convergence.proofs.client_insert.Statement.{statement}
 use Rattle.convergence.specs.Built.{fromClient}
-use Rattle.convergence_calls.proofs.client_insert.Tie as tie
+use Rattle.convergence.proofs.client_insert.Tie as tie
 
 insert-requires : tie.Need-insert-requires
 insert-requires c κs = search needs

@@ -1,8 +1,8 @@
 use mathlib.Core.Path.{ap}
 use borrow.Author.Needs.{needs}
-use Rattle.convergence_calls.proofs.client_open.Statement.{statement}
+use Rattle.convergence.proofs.client_open.Statement.{statement}
 use Rattle.convergence.specs.Built.{fromClient}
-use Rattle.convergence_calls.proofs.client_open.Tie as tie
+use Rattle.convergence.proofs.client_open.Tie as tie
 
 open-requires : tie.Need-open-requires
 open-requires c κs = search needs

@@ -1,8 +1,8 @@
 use mathlib.Core.Path.{ap}
 use borrow.Author.Needs.{needs}
-use Rattle.convergence_calls.proofs.client_take_back.Statement.{statement}
+use Rattle.convergence.proofs.client_take_back.Statement.{statement}
 use Rattle.convergence.specs.Built.{fromClient}
-use Rattle.convergence_calls.proofs.client_take_back.Tie as tie
+use Rattle.convergence.proofs.client_take_back.Tie as tie
 
 take-back-requires : tie.Need-take-back-requires
 take-back-requires c κs = search needs

@@ -1,6 +1,6 @@
 use borrow.Author.Needs.{needs}
-use Rattle.convergence_calls.proofs.server_tell.Statement.{statement}
-use Rattle.convergence_calls.proofs.server_tell.Tie as tie
+use Rattle.convergence.proofs.server_tell.Statement.{statement}
+use Rattle.convergence.proofs.server_tell.Tie as tie
 
 tell-requires : tie.Need-tell-requires
 tell-requires c κs = search needs

@@ -6,7 +6,7 @@ use mathlib.Core.Bool.{Bool, _&&_}
 use denote.Ref.{now}
 use Rattle.limits.specs.Limits.{maxLines}
 use Rattle.pending.specs.Slots.{allFrom}
-use Rattle.line_sound.proofs.All.{all-start, all-turn, all-end}
+use Rattle.line.proofs.All.{all-start, all-turn, all-end}
 use Rattle.server.specs.View.{countsAt}
 use Rattle.server.specs.Totals.{lineSoundAt}
 use Rattle.server.proofs.Lines.{line-answers}

@@ -4,7 +4,7 @@ use Prim.Native.Nat.{_≤_}
 use mathlib.Core.Path.{ap, sym, _∙_}
 use lib.ListN.{length}
 use denote.Ref.{now}
-use Rattle.line_take.specs.declared.Report.{Report}
+use Rattle.line.specs.declared.taking.Report.{Report}
 use Rattle.server.specs.Answers.{answerOf}
 use Rattle.server.proofs.Opening.{asked-short, open-done, open-refused}
 use borrow.Author.Needs.{needs}

@@ -1,7 +1,7 @@
 -- `refused` meets its contract: there is nothing to report.
 use mathlib.Core.Path.{ap}
 use borrow.Author.Needs.{needs}
-use Rattle.line_take.specs.declared.Report.{Report}
+use Rattle.line.specs.declared.taking.Report.{Report}
 use Rattle.server.specs.declared.Changed.{Changed}
 use Rattle.server.proofs.refused.Statement.{statement}
 use Rattle.server.proofs.refused.Tie as tie

@@ -5,8 +5,8 @@ use mathlib.Core.Path.{_≡_, sym, _∙_}
 use mathlib.Core.List.{List}
 use lib.ListN.{length, getD}
 use borrow.Author.Needs.{needs}
-use Rattle.wire_read.specs.declared.Size.the-variants.{Bytes}
-use Rattle.wire_read.specs.Size.{sizeOf}
+use Rattle.wire.specs.declared.reading.Size.the-variants.{Bytes}
+use Rattle.wire.specs.Size.{sizeOf}
 use Rattle.wire_packet.proofs.Ends.{end-past, no-kind, whole, cut-off}
 use Rattle.wire_packet.proofs.end_at.Statement.{statement}
 use Rattle.wire_packet.proofs.end_at.Tie as tie

@@ -1,8 +1,8 @@
--- `ClientEnd::delete` meets its contract: it lends its words to `client_edit::delete` and joins what comes back.
+-- `Client::delete` meets its contract: it lends its words to `editing::delete` and joins what comes back.
 use mathlib.Core.Path.{_∙_}
 use borrow.Author.Needs.{needs}
-use Rattle.ends.proofs.client_end.ClientEnd.delete.Statement.{statement}
-use Rattle.ends.proofs.client_end.ClientEnd.delete.Tie as tie
+use Rattle.client.proofs.Client.delete.Statement.{statement}
+use Rattle.client.proofs.Client.delete.Tie as tie
 
 slice-aggregate-delete : tie.Need-slice-aggregate-delete
 slice-aggregate-delete c = search needs

@@ -1,8 +1,8 @@
--- `ClientEnd::insert` meets its contract: it lends its words to `client_edit::insert` and joins what comes back.
+-- `Client::insert` meets its contract: it lends its words to `editing::insert` and joins what comes back.
 use mathlib.Core.Path.{_∙_}
 use borrow.Author.Needs.{needs}
-use Rattle.ends.proofs.client_end.ClientEnd.insert.Statement.{statement}
-use Rattle.ends.proofs.client_end.ClientEnd.insert.Tie as tie
+use Rattle.client.proofs.Client.insert.Statement.{statement}
+use Rattle.client.proofs.Client.insert.Tie as tie
 
 slice-aggregate-insert : tie.Need-slice-aggregate-insert
 slice-aggregate-insert c = search needs

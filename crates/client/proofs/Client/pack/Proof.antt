@@ -1,7 +1,7 @@
--- `ClientEnd::pack` meets its contract: it lends its words to `client_packet::pack`.
+-- `Client::pack` meets its contract: it lends its words to `packets::pack`.
 use borrow.Author.Needs.{needs}
-use Rattle.ends.proofs.client_end.ClientEnd.pack.Statement.{statement}
-use Rattle.ends.proofs.client_end.ClientEnd.pack.Tie as tie
+use Rattle.client.proofs.Client.pack.Statement.{statement}
+use Rattle.client.proofs.Client.pack.Tie as tie
 
 slice-aggregate-pack : tie.Need-slice-aggregate-pack
 slice-aggregate-pack c = search needs

@@ -1,8 +1,8 @@
--- `ClientEnd::take` meets its contract: it lends its words to `client_take::take` and joins what comes back.
+-- `Client::take` meets its contract: it lends its words to `taking::take` and joins what comes back.
 use mathlib.Core.Path.{_∙_}
 use borrow.Author.Needs.{needs}
-use Rattle.ends.proofs.client_end.ClientEnd.take.Statement.{statement}
-use Rattle.ends.proofs.client_end.ClientEnd.take.Tie as tie
+use Rattle.client.proofs.Client.take.Statement.{statement}
+use Rattle.client.proofs.Client.take.Tie as tie
 
 slice-aggregate-take : tie.Need-slice-aggregate-take
 slice-aggregate-take c = search needs

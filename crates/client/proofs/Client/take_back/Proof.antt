@@ -1,8 +1,8 @@
--- `ClientEnd::take_back` meets its contract: it lends its words to `client_edit::take_back` and joins what comes back.
+-- `Client::take_back` meets its contract: it lends its words to `editing::take_back` and joins what comes back.
 use mathlib.Core.Path.{_∙_}
 use borrow.Author.Needs.{needs}
-use Rattle.ends.proofs.client_end.ClientEnd.take_back.Statement.{statement}
-use Rattle.ends.proofs.client_end.ClientEnd.take_back.Tie as tie
+use Rattle.client.proofs.Client.take_back.Statement.{statement}
+use Rattle.client.proofs.Client.take_back.Tie as tie
 
 slice-aggregate-take-back : tie.Need-slice-aggregate-take-back
 slice-aggregate-take-back c = search needs

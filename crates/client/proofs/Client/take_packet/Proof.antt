@@ -1,8 +1,8 @@
--- `ClientEnd::take_packet` meets its contract: it lends its words to `client_packet::take` and joins what comes back.
+-- `Client::take_packet` meets its contract: it lends its words to `packets::take` and joins what comes back.
 use mathlib.Core.Path.{_∙_}
 use borrow.Author.Needs.{needs}
-use Rattle.ends.proofs.client_end.ClientEnd.take_packet.Statement.{statement}
-use Rattle.ends.proofs.client_end.ClientEnd.take_packet.Tie as tie
+use Rattle.client.proofs.Client.take_packet.Statement.{statement}
+use Rattle.client.proofs.Client.take_packet.Tie as tie
 
 slice-aggregate-take : tie.Need-slice-aggregate-take
 slice-aggregate-take c = search needs

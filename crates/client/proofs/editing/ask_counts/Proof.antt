@@ -5,11 +5,11 @@ use mathlib.Core.Bool.{Bool}
 use mathlib.Core.List.{[], _∷_}
 use Rattle.model.specs.Questions.{ask, asks}
 use Rattle.ot.specs.Edit.{edit}
 use Rattle.client.specs.Answers.{editAsked}
-use Rattle.client_edit.proofs.Edits.{asked-9, asked-10, asked-11, asked-12}
+use Rattle.client.proofs.Edits.{asked-9, asked-10, asked-11, asked-12}
 use borrow.Author.Needs.{needs}
-use Rattle.client_edit.proofs.ask_counts.Statement.{statement}
-use Rattle.client_edit.proofs.ask_counts.Tie as tie
+use Rattle.client.proofs.editing.ask_counts.Statement.{statement}
+use Rattle.client.proofs.editing.ask_counts.Tie as tie
 
 abbrev start : tie.After-fits-list → tie.Start
 start c = c .before

@@ -1,8 +1,8 @@
 -- `delete` meets its contract: a delete, which brings no item.
 use mathlib.Core.Path.{refl}
 use borrow.Author.Needs.{needs}
-use Rattle.client_edit.proofs.delete.Statement.{statement}
-use Rattle.client_edit.proofs.delete.Tie as tie
+use Rattle.client.proofs.editing.delete.Statement.{statement}
+use Rattle.client.proofs.editing.delete.Tie as tie
 
 abbrev start : tie.After-edit-arg → tie.Start
 start c = c .before .before

@@ -2,13 +2,13 @@
 use mathlib.Core.Path.{ap, sym, _∙_}
 use Rattle.ot.specs.Edit.{edit}
 use Rattle.model.specs.Client.{editClient}
 use Rattle.client.specs.declared.Changed.{Changed}
 use Rattle.client.specs.View.{clientOf, view}
 use Rattle.client.specs.Answers.{answerOf}
 use Rattle.client.proofs.Answers.{unsound}
 use borrow.Author.Needs.{needs}
-use Rattle.client_edit.proofs.edit.Statement.{statement}
-use Rattle.client_edit.proofs.edit.Tie as tie
+use Rattle.client.proofs.editing.edit.Statement.{statement}
+use Rattle.client.proofs.editing.edit.Tie as tie
 
 abbrev start : tie.After-is-sound → tie.Start
 start c = c .before .before .before

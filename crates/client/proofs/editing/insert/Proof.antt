@@ -1,10 +1,10 @@
 -- `insert` meets its contract: an insert of the line's rank (proofs/Edits.antt).
 use mathlib.Core.Path.{refl, _∙_}
 use Rattle.client.specs.View.{clientOf}
-use Rattle.client_edit.proofs.Edits.{ranked-insert}
+use Rattle.client.proofs.Edits.{ranked-insert}
 use borrow.Author.Needs.{needs}
-use Rattle.client_edit.proofs.insert.Statement.{statement}
-use Rattle.client_edit.proofs.insert.Tie as tie
+use Rattle.client.proofs.editing.insert.Statement.{statement}
+use Rattle.client.proofs.editing.insert.Tie as tie
 
 abbrev start : tie.After-rank → tie.Start
 start c = c .before .before .before

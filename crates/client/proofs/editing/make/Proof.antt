@@ -3,15 +3,15 @@ use native.Mathlib.Omega.{arith}
 use mathlib.Core.Path.{ap, sym, _∙_}
 use mathlib.Core.List.{List}
 use Prim.Native.Nat.{ℕ}
-use Rattle.line_take.specs.declared.Report.{Report}
+use Rattle.line.specs.declared.taking.Report.{Report}
 use Rattle.client.specs.declared.Client.{Client}
 use Rattle.client.specs.declared.Changed.{Changed}
 use Rattle.client.specs.View.{clientOf, Sound}
 use Rattle.client.specs.Answers.{answerOf, doneCounts}
-use Rattle.client_edit.proofs.Edits.{Allowed, edit-allowed, edit-refused}
+use Rattle.client.proofs.Edits.{Allowed, edit-allowed, edit-refused}
 use borrow.Author.Needs.{needs}
-use Rattle.client_edit.proofs.make.Statement.{statement}
-use Rattle.client_edit.proofs.make.Tie as tie
+use Rattle.client.proofs.editing.make.Statement.{statement}
+use Rattle.client.proofs.editing.make.Tie as tie
 
 abbrev start : tie.After-ask-counts → tie.Start
 start c = c .before .before

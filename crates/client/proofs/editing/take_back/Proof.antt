@@ -2,15 +2,15 @@
 use native.Mathlib.Omega.{arith}
 use mathlib.Core.Path.{ap, sym, _∙_}
 use Rattle.model.specs.Client.{takeBackClient}
 use Rattle.client.specs.declared.Client.{Client}
 use Rattle.client.specs.declared.Changed.{Changed}
 use Rattle.client.specs.View.{clientOf, view, Sound}
 use Rattle.client.specs.Answers.{answerOf}
 use Rattle.client.proofs.Answers.{unsound}
-use Rattle.client_edit.proofs.Edits.{back-refused, back-item, back-made}
+use Rattle.client.proofs.Edits.{back-refused, back-item, back-made}
 use borrow.Author.Needs.{needs}
-use Rattle.client_edit.proofs.take_back.Statement.{statement}
-use Rattle.client_edit.proofs.take_back.Tie as tie
+use Rattle.client.proofs.editing.take_back.Statement.{statement}
+use Rattle.client.proofs.editing.take_back.Tie as tie
 
 abbrev start : tie.After-is-sound → tie.Start
 start c = c .before .before .before

@@ -4,9 +4,9 @@ use native.Mathlib.Omega.{arith}
 use lib.ListN.{length}
 use denote.Ref.{now}
 use borrow.Author.Needs.{needs}
-use Rattle.client_packet.proofs.Origins.{OriginsTo, origins-start, origins-turn, origins-end}
-use Rattle.client_packet.proofs.fill_origins.Statement.{statement}
-use Rattle.client_packet.proofs.fill_origins.Tie as tie
+use Rattle.client.proofs.Origins.{OriginsTo, origins-start, origins-turn, origins-end}
+use Rattle.client.proofs.packets.fill_origins.Statement.{statement}
+use Rattle.client.proofs.packets.fill_origins.Tie as tie
 
 abbrev Inv-loop : tie.InvT-loop
 Inv-loop line acked made origins₀ number₀ i₀ origins number i = OriginsTo line acked origins₀ origins number i

@@ -5,11 +5,11 @@ use mathlib.Core.List.{List}
 use Prim.Native.Nat.{ℕ}
 use denote.Ref.{now}
 use borrow.Author.Needs.{needs}
 use Rattle.client.specs.declared.Client.{Client}
 use Rattle.client.specs.View.{clientOf, Sound}
-use Rattle.client_packet.proofs.Packing.{pack-unsound, pack-other, pack-able, pack-done}
-use Rattle.client_packet.proofs.pack.Statement.{statement}
-use Rattle.client_packet.proofs.pack.Tie as tie
+use Rattle.client.proofs.Packs.{pack-unsound, pack-other, pack-able, pack-done}
+use Rattle.client.proofs.packets.pack.Statement.{statement}
+use Rattle.client.proofs.packets.pack.Tie as tie
 
 abbrev start : tie.After-is-sound → tie.Start
 start c = c .before .before .before

@@ -4,11 +4,11 @@ use mathlib.Core.Bool.{Bool, false}
 use mathlib.Core.List.{[], _∷_}
 use borrow.Author.Needs.{needs}
 use Rattle.model.specs.Questions.{ask, asks}
 use Rattle.client.specs.declared.Changed.{Changed}
 use Rattle.client.specs.declared.Counts.{Counts}
 use Rattle.client.specs.Answers.{refusedCounts}
-use Rattle.client_packet.proofs.refused_length.Statement.{statement}
-use Rattle.client_packet.proofs.refused_length.Tie as tie
+use Rattle.client.proofs.packets.refused_length.Statement.{statement}
+use Rattle.client.proofs.packets.refused_length.Tie as tie
 
 -- by what question 2 said
 abbrev refusedBy : Counts → Bool → Changed

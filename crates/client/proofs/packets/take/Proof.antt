@@ -8,9 +8,9 @@ use borrow.Author.Needs.{needs}
 use Rattle.limits.specs.Limits.{maxPacket}
 use Rattle.model.specs.Questions.{between}
 use Rattle.model.proofs.Tests.{between-true}
-use Rattle.client_packet.proofs.Taking.{packet-all, packet-none}
-use Rattle.client_packet.proofs.take.Statement.{statement}
-use Rattle.client_packet.proofs.take.Tie as tie
+use Rattle.client.proofs.TakesAll.{packet-all, packet-none}
+use Rattle.client.proofs.packets.take.Statement.{statement}
+use Rattle.client.proofs.packets.take.Tie as tie
 
 abbrev start : tie.After-has-length → tie.Start
 start c = c .before .before .before

@@ -6,9 +6,9 @@ use lib.ListN.{length}
 use denote.Ref.{now}
 use borrow.Author.Needs.{needs}
 use Rattle.wire_packet.proofs.Ends.{end-within, start-before}
-use Rattle.client_packet.proofs.Taking.{message-one, message-none}
-use Rattle.client_packet.proofs.take_at.Statement.{statement}
-use Rattle.client_packet.proofs.take_at.Tie as tie
+use Rattle.client.proofs.TakesAll.{message-one, message-none}
+use Rattle.client.proofs.packets.take_at.Statement.{statement}
+use Rattle.client.proofs.packets.take_at.Tie as tie
 
 abbrev start : tie.After-has-length → tie.Start
 start c = c .before .before .before

@@ -3,10 +3,10 @@ use mathlib.Core.Path.{ap, ap₂, _∙_}
 use mathlib.Core.Bool.{Bool, _&&_}
 use Prim.Native.Nat.{ℕ}
 use lib.Dec.{eqb}
-use Rattle.client_take.specs.Taking.{fromOther}
+use Rattle.client.specs.Taking.{fromOther}
 use borrow.Author.Needs.{needs}
-use Rattle.client_take.proofs.comes_down.Statement.{statement}
-use Rattle.client_take.proofs.comes_down.Tie as tie
+use Rattle.client.proofs.taking.comes_down.Statement.{statement}
+use Rattle.client.proofs.taking.comes_down.Tie as tie
 
 abbrev start : tie.After-rank → tie.Start
 start c = c .before .before .before .before

@@ -1,7 +1,7 @@
 -- `made_elsewhere` is its definition, test by test.
 use borrow.Author.Needs.{needs}
-use Rattle.client_take.proofs.made_elsewhere.Statement.{statement}
-use Rattle.client_take.proofs.made_elsewhere.Tie as tie
+use Rattle.client.proofs.taking.made_elsewhere.Statement.{statement}
+use Rattle.client.proofs.taking.made_elsewhere.Tie as tie
 
 returns : tie.Need-returns
 returns c = search needs

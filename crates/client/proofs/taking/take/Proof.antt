@@ -1,13 +1,13 @@
 -- `take` meets its contract: question 2 said no, or the bytes are taken by a sound client.
 use mathlib.Core.Path.{ap, sym, _∙_}
 use Rattle.model.specs.Client.{takeClient}
 use Rattle.client.specs.declared.Changed.{Changed}
 use Rattle.client.specs.View.{clientOf, view}
 use Rattle.client.specs.Answers.{answerOf}
 use Rattle.client.proofs.Answers.{unsound}
 use borrow.Author.Needs.{needs}
-use Rattle.client_take.proofs.take.Statement.{statement}
-use Rattle.client_take.proofs.take.Tie as tie
+use Rattle.client.proofs.taking.take.Statement.{statement}
+use Rattle.client.proofs.taking.take.Tie as tie
 
 abbrev start : tie.After-is-sound → tie.Start
 start c = c .before .before .before .before

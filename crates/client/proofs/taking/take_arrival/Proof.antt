@@ -6,15 +6,15 @@ use Prim.Native.Nat.{ℕ}
 use Rattle.ot.specs.declared.Form.{Form}
 use Rattle.ot.specs.Edit.{edit}
 use Rattle.model.specs.Inverse.{inverseStands}
 use Rattle.client.specs.declared.Client.{Client}
 use Rattle.client.specs.declared.Changed.{Changed}
 use Rattle.client.specs.View.{clientOf, Sound}
 use Rattle.client.specs.Answers.{answerOf}
 use Rattle.client.proofs.Written.{facts}
-use Rattle.client_take.proofs.Takes.{Accepted, not-down, refuses, back-ready, back-gone, accepts}
+use Rattle.client.proofs.Takes.{Accepted, not-down, refuses, back-ready, back-gone, accepts}
 use borrow.Author.Needs.{needs}
-use Rattle.client_take.proofs.take_arrival.Statement.{statement}
-use Rattle.client_take.proofs.take_arrival.Tie as tie
+use Rattle.client.proofs.taking.take_arrival.Statement.{statement}
+use Rattle.client.proofs.taking.take_arrival.Tie as tie
 
 abbrev end : tie.Start → Client
 end s = clientOf (s .args .k) (s .args .words .now)

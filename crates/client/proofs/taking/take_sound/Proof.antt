@@ -8,16 +8,16 @@ use Rattle.wire.specs.declared.Message.{Message}
 use Rattle.wire.specs.declared.Read.the-variants as read
 use Rattle.wire.specs.Bytes.{parsed}
 use Rattle.wire.proofs.Codec.{codec}
-use Rattle.line_take.specs.declared.Arrival.{Arrival}
-use Rattle.line_take.proofs.Decisions.{arrival-position}
+use Rattle.line.specs.declared.taking.Arrival.{Arrival}
+use Rattle.line.proofs.Decisions.{arrival-position}
 use Rattle.client.specs.declared.Client.{Client}
 use Rattle.client.specs.declared.Changed.{Changed}
 use Rattle.client.specs.View.{clientOf}
 use Rattle.client.specs.Answers.{answerOf}
-use Rattle.client_take.proofs.Takes.{read-refused, read-taken}
+use Rattle.client.proofs.Takes.{read-refused, read-taken}
 use borrow.Author.Needs.{needs}
-use Rattle.client_take.proofs.take_sound.Statement.{statement}
-use Rattle.client_take.proofs.take_sound.Tie as tie
+use Rattle.client.proofs.taking.take_sound.Statement.{statement}
+use Rattle.client.proofs.taking.take_sound.Tie as tie
 
 abbrev start : tie.After-parse → tie.Start
 start c = c .before .before .before

@@ -4,9 +4,9 @@ use native.Mathlib.Omega.{arith}
 use mathlib.Core.Path.{_≡_, _∙_}
 use denote.Ref.{now}
 use borrow.Author.Needs.{needs}
-use Rattle.line_packet.proofs.Filling.{Upto, upto-start, upto-turn, upto-stop, upto-room, upto-end}
-use Rattle.line_packet.proofs.fill.Statement.{statement}
-use Rattle.line_packet.proofs.fill.Tie as tie
+use Rattle.line.proofs.Filling.{Upto, upto-start, upto-turn, upto-stop, upto-room, upto-end}
+use Rattle.line.proofs.packing.fill.Statement.{statement}
+use Rattle.line.proofs.packing.fill.Tie as tie
 
 abbrev Inv-loop : tie.InvT-loop
 Inv-loop line direction v words origins out₀ offset made number₀ at₀ out number at =

@@ -2,9 +2,9 @@
 use native.Mathlib.Omega.{arith}
 use denote.Ref.{now}
 use borrow.Author.Needs.{needs}
-use Rattle.line_packet.proofs.Packing.{message-is}
-use Rattle.line_packet.proofs.message_at.Statement.{statement}
-use Rattle.line_packet.proofs.message_at.Tie as tie
+use Rattle.line.proofs.Packets.{message-is}
+use Rattle.line.proofs.packing.message_at.Statement.{statement}
+use Rattle.line.proofs.packing.message_at.Tie as tie
 
 -- where the origin's word is read
 abbrev start : tie.After-shared-slice-known3 → tie.Start

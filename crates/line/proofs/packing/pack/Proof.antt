@@ -2,9 +2,9 @@
 use native.Mathlib.Omega.{arith}
 use denote.Ref.{now}
 use borrow.Author.Needs.{needs}
-use Rattle.line_packet.proofs.Packing.{nothing-pending, first-too-long, some-written}
-use Rattle.line_packet.proofs.pack.Statement.{statement}
-use Rattle.line_packet.proofs.pack.Tie as tie
+use Rattle.line.proofs.Packets.{nothing-pending, first-too-long, some-written}
+use Rattle.line.proofs.packing.pack.Statement.{statement}
+use Rattle.line.proofs.packing.pack.Tie as tie
 
 -- where some are pending, and where the messages are written
 abbrev some : tie.After-fill → tie.Else1

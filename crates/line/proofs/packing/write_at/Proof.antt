@@ -2,9 +2,9 @@
 use native.Mathlib.Omega.{arith}
 use denote.Ref.{now}
 use borrow.Author.Needs.{needs}
-use Rattle.line_packet.proofs.Filling.{past-end, lent-back}
-use Rattle.line_packet.proofs.write_at.Statement.{statement}
-use Rattle.line_packet.proofs.write_at.Tie as tie
+use Rattle.line.proofs.Filling.{past-end, lent-back}
+use Rattle.line.proofs.packing.write_at.Statement.{statement}
+use Rattle.line.proofs.packing.write_at.Tie as tie
 
 -- where the message is written
 abbrev branch : tie.After-write → tie.Else1

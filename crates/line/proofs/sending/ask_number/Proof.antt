@@ -1,7 +1,7 @@
 use native.Mathlib.Omega.{arith}
-use Rattle.line_send.proofs.Sends.{number-low, number-high, number-right}
-use Rattle.line_send.proofs.ask_number.Statement.{statement}
-use Rattle.line_send.proofs.ask_number.Tie as tie
+use Rattle.line.proofs.Sends.{number-low, number-high, number-right}
+use Rattle.line.proofs.sending.ask_number.Statement.{statement}
+use Rattle.line.proofs.sending.ask_number.Tie as tie
 
 -- where the first test said no
 abbrev start : tie.Else1 → tie.Start

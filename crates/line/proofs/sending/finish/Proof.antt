@@ -1,8 +1,8 @@
 use denote.Ref.{now}
 use borrow.Author.Needs.{needs}
-use Rattle.line_send.proofs.Sends.{too-short, written}
-use Rattle.line_send.proofs.finish.Statement.{statement}
-use Rattle.line_send.proofs.finish.Tie as tie
+use Rattle.line.proofs.Sends.{too-short, written}
+use Rattle.line.proofs.sending.finish.Statement.{statement}
+use Rattle.line.proofs.sending.finish.Tie as tie
 
 -- what came, and what was written
 abbrev start : tie.After-write → tie.Start

@@ -2,9 +2,9 @@ use native.Mathlib.Omega.{arith}
 use mathlib.Core.Path.{refl}
 use denote.Ref.{now}
 use borrow.Author.Needs.{needs}
-use Rattle.line_send.proofs.Sends.{message-of}
-use Rattle.line_send.proofs.message.Statement.{statement}
-use Rattle.line_send.proofs.message.Tie as tie
+use Rattle.line.proofs.Sends.{message-of}
+use Rattle.line.proofs.sending.message.Statement.{statement}
+use Rattle.line.proofs.sending.message.Tie as tie
 
 abbrev start : tie.After-struct-known → tie.Start
 start c = c .before .before

@@ -1,8 +1,8 @@
-use Rattle.line_sound.proofs.Tests.{four}
+use Rattle.line.proofs.Tests.{four}
 use Rattle.limits.specs.Limits.{maxEdits, maxInserts}
 use lib.Dec.{leb}
-use Rattle.line_sound.proofs.counts_sound.Statement.{statement}
-use Rattle.line_sound.proofs.counts_sound.Tie as tie
+use Rattle.line.proofs.soundness.counts_sound.Statement.{statement}
+use Rattle.line.proofs.soundness.counts_sound.Tie as tie
 
 returns : tie.Need-returns
 returns c =

@@ -1,8 +1,8 @@
-use Rattle.line_sound.proofs.Words.{empty-answers}
+use Rattle.line.proofs.SoundWords.{empty-answers}
 use denote.Ref.{now}
 use borrow.Author.Needs.{needs}
-use Rattle.line_sound.proofs.is_empty.Statement.{statement}
-use Rattle.line_sound.proofs.is_empty.Tie as tie
+use Rattle.line.proofs.soundness.is_empty.Statement.{statement}
+use Rattle.line.proofs.soundness.is_empty.Tie as tie
 
 -- where all counts were read, and the function's entry
 abbrev counted : tie.After-all-zero → tie.After-struct-known4

@@ -1,7 +1,7 @@
-use Rattle.line_sound.proofs.Makers.{kept-maker}
+use Rattle.line.proofs.Makers.{kept-maker}
 use borrow.Author.Needs.{needs}
-use Rattle.line_sound.proofs.is_kept.Statement.{statement}
-use Rattle.line_sound.proofs.is_kept.Tie as tie
+use Rattle.line.proofs.soundness.is_kept.Statement.{statement}
+use Rattle.line.proofs.soundness.is_kept.Tie as tie
 
 cast-made : tie.Need-cast-made
 cast-made c = search needs

@@ -1,7 +1,7 @@
-use Rattle.line_sound.proofs.Right.{right-is}
-use Rattle.line_sound.specs.Slots.{allowed}
-use Rattle.line_sound.proofs.is_right.Statement.{statement}
-use Rattle.line_sound.proofs.is_right.Tie as tie
+use Rattle.line.proofs.Right.{right-is}
+use Rattle.line.specs.Slots.{allowed}
+use Rattle.line.proofs.soundness.is_right.Statement.{statement}
+use Rattle.line.proofs.soundness.is_right.Tie as tie
 
 returns : tie.Need-returns
 returns c = right-is (c .args .place) (c .args .item) (allowed (c .args .low) (c .args .high) (c .args .other)) (c .pre)

@@ -1,14 +1,14 @@
-use Rattle.line_sound.proofs.Right.{allowed-is, allowed-none}
-use Rattle.line_sound.proofs.Words.{sound-answers}
-use Rattle.line_sound.specs.Sound.{rightPriority}
-use Rattle.line_sound.specs.Slots.{allowed}
+use Rattle.line.proofs.Right.{allowed-is, allowed-none}
+use Rattle.line.proofs.SoundWords.{sound-answers}
+use Rattle.line.specs.Sound.{rightPriority}
+use Rattle.line.specs.Slots.{allowed}
 use mathlib.Core.Bool.{Bool, false}
 use mathlib.Core.Path.{_≡_}
 use Prim.Native.Nat.{ℕ, _≤_}
 use denote.Ref.{now}
 use borrow.Author.Needs.{needs}
-use Rattle.line_sound.proofs.is_sound.Statement.{statement}
-use Rattle.line_sound.proofs.is_sound.Tie as tie
+use Rattle.line.proofs.soundness.is_sound.Statement.{statement}
+use Rattle.line.proofs.soundness.is_sound.Tie as tie
 
 -- where high and low were chosen, where the counts were tested, where the pending edits were counted, and the function's entry
 abbrev higher : tie.After-other → tie.After-high

@@ -1,6 +1,6 @@
-use Rattle.line_sound.proofs.All.{all-start, all-turn, all-end}
+use Rattle.line.proofs.All.{all-start, all-turn, all-end}
 use Rattle.pending.specs.Slots.{allFrom}
-use Rattle.line_sound.specs.Slots.{keptMaker, keptMakerAt}
+use Rattle.line.specs.Slots.{keptMaker, keptMakerAt}
 use mathlib.Core.Bool.{Bool, _&&_}
 use mathlib.Core.Path.{_≡_, refl, ap, _∙_}
 use lib.Dec.{ltb}
@@ -9,8 +9,8 @@ use denote.Ref.{now}
 use borrow.Author.Needs.{needs}
 use native.Mathlib.Omega.{arith}
 use Prim.Native.Nat.{ℕ, _-_, _≤_, _<_}
-use Rattle.line_sound.proofs.makers_kept.Statement.{statement}
-use Rattle.line_sound.proofs.makers_kept.Tie as tie
+use Rattle.line.proofs.soundness.makers_kept.Statement.{statement}
+use Rattle.line.proofs.soundness.makers_kept.Tie as tie
 
 -- what the loop has found, with what it has still to look at, is the answer; i and j count the same word
 abbrev Inv-loop : tie.InvT-loop

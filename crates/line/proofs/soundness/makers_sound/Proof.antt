@@ -1,12 +1,12 @@
-use Rattle.line_sound.proofs.Makers.{makers-many, makers-none, makers-parted}
-use Rattle.line_sound.proofs.Tests.{eights, eights-hold}
+use Rattle.line.proofs.Makers.{makers-many, makers-none, makers-parted}
+use Rattle.line.proofs.Tests.{eights, eights-hold}
 use mathlib.Core.List.{List}
 use denote.Ref.{now}
 use native.Mathlib.Omega.{arith}
 use Prim.Native.Nat.{ℕ, _≤_}
 use borrow.Author.Needs.{needs}
-use Rattle.line_sound.proofs.makers_sound.Statement.{statement}
-use Rattle.line_sound.proofs.makers_sound.Tie as tie
+use Rattle.line.proofs.soundness.makers_sound.Statement.{statement}
+use Rattle.line.proofs.soundness.makers_sound.Tie as tie
 
 abbrev words : tie.Start → List ℕ
 words s = now (s .args .words)

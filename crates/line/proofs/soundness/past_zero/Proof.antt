@@ -1,14 +1,14 @@
-use Rattle.line_sound.proofs.All.{all-end}
-use Rattle.line_sound.proofs.Tests.{past-turn}
+use Rattle.line.proofs.All.{all-end}
+use Rattle.line.proofs.Tests.{past-turn}
 use Rattle.pending.specs.Slots.{allFrom}
-use Rattle.line_sound.specs.Slots.{pastAt}
+use Rattle.line.specs.Slots.{pastAt}
 use mathlib.Core.Bool.{Bool, _&&_}
 use mathlib.Core.Path.{_≡_, refl, _∙_}
 use denote.Ref.{now}
 use native.Mathlib.Omega.{arith}
 use Prim.Native.Nat.{ℕ, _-_, _≤_, _<_}
-use Rattle.line_sound.proofs.past_zero.Statement.{statement}
-use Rattle.line_sound.proofs.past_zero.Tie as tie
+use Rattle.line.proofs.soundness.past_zero.Statement.{statement}
+use Rattle.line.proofs.soundness.past_zero.Tie as tie
 
 -- what the loop has found, with what it has still to look at, is the answer; i and j count the same slot
 abbrev Inv-loop : tie.InvT-loop

@@ -1,13 +1,13 @@
-use Rattle.line_sound.proofs.All.{all-start, all-turn, all-end}
+use Rattle.line.proofs.All.{all-start, all-turn, all-end}
 use Rattle.pending.specs.Slots.{allFrom}
-use Rattle.line_sound.specs.Slots.{allowed, rightAt}
+use Rattle.line.specs.Slots.{allowed, rightAt}
 use mathlib.Core.Bool.{Bool, _&&_}
 use mathlib.Core.Path.{_≡_, _∙_}
 use denote.Ref.{now}
 use native.Mathlib.Omega.{arith}
 use Prim.Native.Nat.{ℕ, _-_, _≤_, _<_}
-use Rattle.line_sound.proofs.slots_right.Statement.{statement}
-use Rattle.line_sound.proofs.slots_right.Tie as tie
+use Rattle.line.proofs.soundness.slots_right.Statement.{statement}
+use Rattle.line.proofs.soundness.slots_right.Tie as tie
 
 -- what the loop has found, with what it has still to look at, is the answer
 abbrev Inv-loop : tie.InvT-loop

@@ -1,13 +1,13 @@
-use Rattle.line_sound.proofs.Tests.{slots-many, slots-none, slots-parted, full, eights, eights-hold}
-use Rattle.line_sound.specs.Slots.{allowed}
+use Rattle.line.proofs.Tests.{slots-many, slots-none, slots-parted, full, eights, eights-hold}
+use Rattle.line.specs.Slots.{allowed}
 use mathlib.Core.Bool.{Bool}
 use mathlib.Core.List.{List}
 use denote.Ref.{now}
 use native.Mathlib.Omega.{arith}
 use Prim.Native.Nat.{ℕ, _≤_}
 use borrow.Author.Needs.{needs}
-use Rattle.line_sound.proofs.slots_sound.Statement.{statement}
-use Rattle.line_sound.proofs.slots_sound.Tie as tie
+use Rattle.line.proofs.soundness.slots_sound.Statement.{statement}
+use Rattle.line.proofs.soundness.slots_sound.Tie as tie
 
 abbrev good : tie.Start → ℕ → Bool
 good s = allowed (s .args .low) (s .args .high) (s .args .other)

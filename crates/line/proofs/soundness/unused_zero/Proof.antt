@@ -1,16 +1,16 @@
-use Rattle.line_sound.proofs.All.{all-end}
-use Rattle.line_sound.proofs.Tests.{zero-turn}
+use Rattle.line.proofs.All.{all-end}
+use Rattle.line.proofs.Tests.{zero-turn}
 use Rattle.limits.specs.Limits.{maxPending}
 use Rattle.pending.specs.Slots.{allFrom}
-use Rattle.line_sound.specs.Slots.{zeroAt}
+use Rattle.line.specs.Slots.{zeroAt}
 use mathlib.Core.Bool.{_&&_}
 use mathlib.Core.Path.{_≡_, refl, _∙_}
 use lib.Dec.{eqb}
 use denote.Ref.{now}
 use native.Mathlib.Omega.{arith}
 use Prim.Native.Nat.{_-_, _≤_, _<_}
-use Rattle.line_sound.proofs.unused_zero.Statement.{statement}
-use Rattle.line_sound.proofs.unused_zero.Tie as tie
+use Rattle.line.proofs.soundness.unused_zero.Statement.{statement}
+use Rattle.line.proofs.soundness.unused_zero.Tie as tie
 
 -- what the loop has found, with what it has still to look at, is the answer
 abbrev Inv-loop : tie.InvT-loop

@@ -1,9 +1,9 @@
 use native.Mathlib.Omega.{arith}
 use denote.Ref.{now}
 use borrow.Author.Needs.{needs}
 use Rattle.line.proofs.Words.{kept-size}
-use Rattle.line_take.proofs.accept.Statement.{statement}
-use Rattle.line_take.proofs.accept.Tie as tie
+use Rattle.line.proofs.taking.accept.Statement.{statement}
+use Rattle.line.proofs.taking.accept.Tie as tie
 
 abbrev start : tie.After-struct-known2 → tie.Start
 start c = c .before .before .before .before .before

@@ -2,9 +2,9 @@ use native.Mathlib.Omega.{arith}
 use mathlib.Core.Path.{_∙_}
 use mathlib.Core.Logic.{⊎-elim}
 use borrow.Author.Needs.{needs}
-use Rattle.line_take.proofs.Asked.{asked-repeat, asked-gap, asked-next, asked-ack}
-use Rattle.line_take.proofs.ask.Statement.{statement}
-use Rattle.line_take.proofs.ask.Tie as tie
+use Rattle.line.proofs.Asked.{asked-repeat, asked-gap, asked-next, asked-ack}
+use Rattle.line.proofs.taking.ask.Statement.{statement}
+use Rattle.line.proofs.taking.ask.Tie as tie
 
 -- where the number was looked at, and what came
 abbrev carried : tie.Else2 → tie.Then1

@@ -1,7 +1,7 @@
 use native.Mathlib.Omega.{arith}
-use Rattle.line_take.proofs.Asked.{seen-old, seen-unmade, seen-right}
-use Rattle.line_take.proofs.ask_seen.Statement.{statement}
-use Rattle.line_take.proofs.ask_seen.Tie as tie
+use Rattle.line.proofs.Asked.{seen-old, seen-unmade, seen-right}
+use Rattle.line.proofs.taking.ask_seen.Statement.{statement}
+use Rattle.line.proofs.taking.ask_seen.Tie as tie
 
 -- where the first test said no
 abbrev start : tie.Else1 → tie.Start

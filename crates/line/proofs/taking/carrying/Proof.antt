@@ -1,6 +1,6 @@
 use mathlib.Core.Path.{refl}
-use Rattle.line_take.proofs.carrying.Statement.{statement}
-use Rattle.line_take.proofs.carrying.Tie as tie
+use Rattle.line.proofs.taking.carrying.Statement.{statement}
+use Rattle.line.proofs.taking.carrying.Tie as tie
 
 returns : tie.Need-returns
 returns c = refl

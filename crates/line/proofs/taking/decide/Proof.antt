@@ -3,10 +3,10 @@ use native.Mathlib.Omega.{arith}
 use denote.Ref.{now}
 use borrow.Author.Needs.{needs}
 use Rattle.pending.specs.Crossing.{Ready}
-use Rattle.line_take.specs.Taking.{Between}
-use Rattle.line_take.proofs.Deciding.{early, seen-between, ready, acked-done, nine-no, taken-done}
-use Rattle.line_take.proofs.decide.Statement.{statement}
-use Rattle.line_take.proofs.decide.Tie as tie
+use Rattle.line.specs.Taking.{Between}
+use Rattle.line.proofs.Deciding.{early, seen-between, ready, acked-done, nine-no, taken-done}
+use Rattle.line.proofs.taking.decide.Statement.{statement}
+use Rattle.line.proofs.taking.decide.Tie as tie
 
 -- what came; questions 5 to 8 said yes; the edit was transformed; and question 9
 abbrev start : tie.After-ask → tie.Start

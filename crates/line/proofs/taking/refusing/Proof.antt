@@ -1,9 +1,9 @@
 use mathlib.Core.Path.{ap}
 use borrow.Author.Needs.{needs}
 use Rattle.ot.specs.declared.Form.the-variants as form
-use Rattle.line_take.specs.declared.Report.{Report}
-use Rattle.line_take.proofs.refusing.Statement.{statement}
-use Rattle.line_take.proofs.refusing.Tie as tie
+use Rattle.line.specs.declared.taking.Report.{Report}
+use Rattle.line.proofs.taking.refusing.Statement.{statement}
+use Rattle.line.proofs.taking.refusing.Tie as tie
 
 no-report-requires : tie.Need-no-report-requires
 no-report-requires c κs = search needs

@@ -1,8 +1,8 @@
 use mathlib.Core.Path.{ap, sym, _∙_}
 use borrow.Author.Needs.{needs}
-use Rattle.line_take.specs.Taking.{arrivalOf}
-use Rattle.line_take.proofs.split.Statement.{statement}
-use Rattle.line_take.proofs.split.Tie as tie
+use Rattle.line.specs.Taking.{arrivalOf}
+use Rattle.line.proofs.taking.split.Statement.{statement}
+use Rattle.line.proofs.taking.split.Tie as tie
 
 enum-known-m : tie.Need-enum-known-m
 enum-known-m c = search needs

@@ -1,8 +1,8 @@
 use Prim.Native.Nat.{ℕ, _+_}
 use mathlib.Core.Path.{ap₂}
 use borrow.Author.Needs.{needs}
-use Rattle.line_take.proofs.take_edit.Statement.{statement}
-use Rattle.line_take.proofs.take_edit.Tie as tie
+use Rattle.line.proofs.taking.take_edit.Statement.{statement}
+use Rattle.line.proofs.taking.take_edit.Tie as tie
 
 add-t9 : tie.Need-add-t9
 add-t9 c = search needs

@@ -1,8 +1,8 @@
--- `ServerEnd::pack` meets its contract: it lends its words to `server_packet::pack`.
+-- `Server::pack` meets its contract: it lends its words to `packets::pack`.
 use borrow.Author.Needs.{needs}
 use Rattle.server.proofs.Counted.{counted}
-use Rattle.ends.proofs.server_end.ServerEnd.pack.Statement.{statement}
-use Rattle.ends.proofs.server_end.ServerEnd.pack.Tie as tie
+use Rattle.server.proofs.Server.pack.Statement.{statement}
+use Rattle.server.proofs.Server.pack.Tie as tie
 
 slice-aggregate-pack : tie.Need-slice-aggregate-pack
 slice-aggregate-pack c = search needs

@@ -1,8 +1,8 @@
 use borrow.Author.Needs.{needs}
 use mathlib.Core.Path.{_∙_}
 use Rattle.server.proofs.Counted.{counted}
-use Rattle.ends.proofs.server_end.ServerEnd.take.Statement.{statement}
-use Rattle.ends.proofs.server_end.ServerEnd.take.Tie as tie
+use Rattle.server.proofs.Server.take.Statement.{statement}
+use Rattle.server.proofs.Server.take.Tie as tie
 
 slice-aggregate-take : tie.Need-slice-aggregate-take
 slice-aggregate-take c = search needs

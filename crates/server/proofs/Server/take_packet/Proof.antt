@@ -1,9 +1,9 @@
--- `ServerEnd::take_packet` meets its contract: it lends its words to `server_packet::take` and joins what comes back.
+-- `Server::take_packet` meets its contract: it lends its words to `packets::take` and joins what comes back.
 use mathlib.Core.Path.{_∙_}
 use borrow.Author.Needs.{needs}
 use Rattle.server.proofs.Counted.{counted}
-use Rattle.ends.proofs.server_end.ServerEnd.take_packet.Statement.{statement}
-use Rattle.ends.proofs.server_end.ServerEnd.take_packet.Tie as tie
+use Rattle.server.proofs.Server.take_packet.Statement.{statement}
+use Rattle.server.proofs.Server.take_packet.Tie as tie
 
 slice-aggregate-take : tie.Need-slice-aggregate-take
 slice-aggregate-take c = search needs

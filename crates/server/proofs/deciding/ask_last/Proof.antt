@@ -1,8 +1,8 @@
 use borrow.Author.Needs.{needs}
 use mathlib.Core.Path.{_∙_, sym}
-use Rattle.server_decide.proofs.Asked.{last-stands, last-none, last-10, last-12}
-use Rattle.server_decide.proofs.ask_last.Statement.{statement}
-use Rattle.server_decide.proofs.ask_last.Tie as tie
+use Rattle.server.proofs.Asked.{last-stands, last-none, last-10, last-12}
+use Rattle.server.proofs.deciding.ask_last.Statement.{statement}
+use Rattle.server.proofs.deciding.ask_last.Tie as tie
 
 -- the call, where the inserts were counted; and where the other lines were asked
 abbrev start : tie.After-inserts-then → tie.Start

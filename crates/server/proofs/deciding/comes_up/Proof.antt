@@ -4,9 +4,9 @@ use mathlib.Core.Path.{ap, ap₂, _∙_}
 use mathlib.Core.Bool.{Bool, _&&_}
 use lib.Dec.{eqb}
 use Rattle.model.specs.Questions.{between}
-use Rattle.server_decide.specs.Decides.{isOwn}
-use Rattle.server_decide.proofs.comes_up.Statement.{statement}
-use Rattle.server_decide.proofs.comes_up.Tie as tie
+use Rattle.server.specs.Decides.{isOwn}
+use Rattle.server.proofs.deciding.comes_up.Statement.{statement}
+use Rattle.server.proofs.deciding.comes_up.Tie as tie
 
 -- where the line's rank was read
 abbrev ranked : tie.After-is-own → tie.After-rank-of

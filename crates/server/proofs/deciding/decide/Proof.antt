@@ -2,10 +2,10 @@ use borrow.Author.Needs.{needs}
 use mathlib.Core.Path.{_≡_, sym, _∙_}
 use mathlib.Core.Bool.{true}
 use denote.Ref.{now}
-use Rattle.server_decide.specs.Decides.{upTo}
-use Rattle.server_decide.proofs.Deciding.{last-ready, refused-4, refused-last, accepted}
-use Rattle.server_decide.proofs.decide.Statement.{statement}
-use Rattle.server_decide.proofs.decide.Tie as tie
+use Rattle.server.specs.Decides.{upTo}
+use Rattle.server.proofs.Decided.{last-ready, refused-4, refused-last, accepted}
+use Rattle.server.proofs.deciding.decide.Statement.{statement}
+use Rattle.server.proofs.deciding.decide.Tie as tie
 
 -- the call, where question 4 said yes; and once its line was decided
 abbrev start : tie.Then1 → tie.Start

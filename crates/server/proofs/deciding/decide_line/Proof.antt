@@ -2,12 +2,12 @@ use borrow.Author.Needs.{needs}
 use Prim.Native.Nat.{_<_}
 use denote.Ref.{now}
 use Rattle.limits.specs.Limits.{maxLines}
-use Rattle.server_decide.specs.Decides.{placeOf}
+use Rattle.server.specs.Decides.{placeOf}
 use Rattle.server.proofs.Facts.{sizes}
-use Rattle.server_decide.proofs.Asked.{up-line}
-use Rattle.server_decide.proofs.Deciding.{place-below, inserts-fit, line-ready, line-decided}
-use Rattle.server_decide.proofs.decide_line.Statement.{statement}
-use Rattle.server_decide.proofs.decide_line.Tie as tie
+use Rattle.server.proofs.Asked.{up-line}
+use Rattle.server.proofs.Decided.{place-below, inserts-fit, line-ready, line-decided}
+use Rattle.server.proofs.deciding.decide_line.Statement.{statement}
+use Rattle.server.proofs.deciding.decide_line.Tie as tie
 
 -- the call, where it starts and where its line was read
 abbrev first : tie.After-struct-known → tie.Start

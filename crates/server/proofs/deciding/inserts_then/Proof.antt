@@ -3,9 +3,9 @@ use native.Mathlib.Omega.{arith}
 use Prim.Native.Nat.{ℕ, _+_}
 use mathlib.Core.Path.{_≡_, ap₂}
 use Rattle.line.specs.declared.Line.{Line}
-use Rattle.server_decide.specs.Decides.{insertsThen}
-use Rattle.server_decide.proofs.inserts_then.Statement.{statement}
-use Rattle.server_decide.proofs.inserts_then.Tie as tie
+use Rattle.server.specs.Decides.{insertsThen}
+use Rattle.server.proofs.deciding.inserts_then.Statement.{statement}
+use Rattle.server.proofs.deciding.inserts_then.Tie as tie
 
 -- the line's counts, the edit's inserts, and the call
 abbrev read : tie.After-inserts-of → tie.After-line-at

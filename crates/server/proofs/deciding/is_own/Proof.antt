@@ -1,8 +1,8 @@
 use mathlib.Core.Path.{ap, sym}
-use Rattle.server_decide.specs.Decides.{isOwn}
+use Rattle.server.specs.Decides.{isOwn}
 use borrow.Author.Needs.{needs}
-use Rattle.server_decide.proofs.is_own.Statement.{statement}
-use Rattle.server_decide.proofs.is_own.Tie as tie
+use Rattle.server.proofs.deciding.is_own.Statement.{statement}
+use Rattle.server.proofs.deciding.is_own.Tie as tie
 
 enum-told : tie.Need-enum-told
 enum-told c = search needs

@@ -1,7 +1,7 @@
 -- `server::taking::made_here` is its definition, test by test.
 use borrow.Author.Needs.{needs}
-use Rattle.server_decide.proofs.made_here.Statement.{statement}
-use Rattle.server_decide.proofs.made_here.Tie as tie
+use Rattle.server.proofs.deciding.made_here.Statement.{statement}
+use Rattle.server.proofs.deciding.made_here.Tie as tie
 
 returns : tie.Need-returns
 returns c = search needs

@@ -7,10 +7,10 @@ use lib.Dec.{eqb, ltb}
 use Rattle.limits.specs.Limits.{maxPending}
 use Rattle.line.specs.declared.Line.{Line}
 use Rattle.pending.specs.Slots.{allFrom}
-use Rattle.line_sound.proofs.All.{all-start, all-turn, all-end}
-use Rattle.server_decide.specs.Decides.{roomyAt}
-use Rattle.server_decide.proofs.others_roomy.Statement.{statement}
-use Rattle.server_decide.proofs.others_roomy.Tie as tie
+use Rattle.line.proofs.All.{all-start, all-turn, all-end}
+use Rattle.server.specs.Decides.{roomyAt}
+use Rattle.server.proofs.deciding.others_roomy.Statement.{statement}
+use Rattle.server.proofs.deciding.others_roomy.Tie as tie
 
 -- what the loop has found, with the lines that it has still to look at, is the answer
 abbrev Inv-loop : tie.InvT-loop

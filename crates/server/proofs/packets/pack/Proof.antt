@@ -6,11 +6,11 @@ use lib.ListN.{length}
 use denote.Ref.{now}
 use borrow.Author.Needs.{needs}
 use Rattle.limits.specs.Limits.{maxLines}
 use Rattle.server.specs.View.{size, serverOf, Sound}
 use Rattle.server.specs.Sending.{OnLine}
-use Rattle.server_packet.proofs.Packing.{pack-refused, place-below, pack-able, pack-done}
-use Rattle.server_packet.proofs.pack.Statement.{statement}
-use Rattle.server_packet.proofs.pack.Tie as tie
+use Rattle.server.proofs.Packs.{pack-refused, place-below, pack-able, pack-done}
+use Rattle.server.proofs.packets.pack.Statement.{statement}
+use Rattle.server.proofs.packets.pack.Tie as tie
 
 -- questions 2 and 4 were asked; both said yes
 abbrev start : tie.After-ask-line → tie.Start

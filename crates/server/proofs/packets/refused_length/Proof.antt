@@ -4,11 +4,11 @@ use mathlib.Core.Bool.{Bool, false}
 use mathlib.Core.List.{[], _∷_}
 use borrow.Author.Needs.{needs}
 use Rattle.model.specs.Questions.{ask, asks}
 use Rattle.server.specs.declared.Changed.{Changed}
 use Rattle.server.specs.declared.Counts.{Counts}
 use Rattle.server.specs.Answers.{refusedCounts}
-use Rattle.server_packet.proofs.refused_length.Statement.{statement}
-use Rattle.server_packet.proofs.refused_length.Tie as tie
+use Rattle.server.proofs.packets.refused_length.Statement.{statement}
+use Rattle.server.proofs.packets.refused_length.Tie as tie
 
 -- by what question 2 said
 abbrev refusedBy : Counts → Bool → Changed

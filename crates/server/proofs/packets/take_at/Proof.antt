@@ -6,9 +6,9 @@ use lib.ListN.{length}
 use denote.Ref.{now}
 use borrow.Author.Needs.{needs}
 use Rattle.wire_packet.proofs.Ends.{end-within, start-before}
-use Rattle.server_packet.proofs.Taking.{message-one, message-none}
-use Rattle.server_packet.proofs.take_at.Statement.{statement}
-use Rattle.server_packet.proofs.take_at.Tie as tie
+use Rattle.server.proofs.TakesAll.{message-one, message-none}
+use Rattle.server.proofs.packets.take_at.Statement.{statement}
+use Rattle.server.proofs.packets.take_at.Tie as tie
 
 abbrev start : tie.After-has-length → tie.Start
 start c = c .before .before .before

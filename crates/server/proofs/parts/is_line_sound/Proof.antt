@@ -1,8 +1,8 @@
 use borrow.Author.Needs.{needs}
 use denote.Ref.{now}
-use Rattle.server_words.proofs.Loops.{used-answers, unused-answers}
-use Rattle.server_words.proofs.is_line_sound.Statement.{statement}
-use Rattle.server_words.proofs.is_line_sound.Tie as tie
+use Rattle.server.proofs.Loops.{used-answers, unused-answers}
+use Rattle.server.proofs.parts.is_line_sound.Statement.{statement}
+use Rattle.server.proofs.parts.is_line_sound.Tie as tie
 
 pending-sound-requires : tie.Need-pending-sound-requires
 pending-sound-requires c κs = search needs

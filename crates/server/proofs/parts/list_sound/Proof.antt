@@ -2,8 +2,8 @@
 use borrow.Author.Needs.{needs}
 use mathlib.Core.Bool.{_&&_}
 use lib.Dec.{eqb}
-use Rattle.server_words.proofs.list_sound.Statement.{statement}
-use Rattle.server_words.proofs.list_sound.Tie as tie
+use Rattle.server.proofs.parts.list_sound.Statement.{statement}
+use Rattle.server.proofs.parts.list_sound.Tie as tie
 
 -- the sum was found; then what stands behind the items was looked at
 abbrev summed : tie.After-zero-from → tie.After-total

@@ -1,9 +1,9 @@
 use borrow.Author.Needs.{needs}
 use denote.Ref.{now}
 use Rattle.limits.specs.Limits.{maxPending}
-use Rattle.server_words.proofs.Loops.{lent-is, makersBase}
-use Rattle.server_words.proofs.makers_at.Statement.{statement}
-use Rattle.server_words.proofs.makers_at.Tie as tie
+use Rattle.server.proofs.Loops.{lent-is, makersBase}
+use Rattle.server.proofs.parts.makers_at.Statement.{statement}
+use Rattle.server.proofs.parts.makers_at.Tie as tie
 
 mul-from : tie.Need-mul-from
 mul-from c = search needs

@@ -1,9 +1,9 @@
 use borrow.Author.Needs.{needs}
 use denote.Ref.{now}
 use Rattle.pending.specs.Slots as pending
-use Rattle.server_words.proofs.Loops.{lent-is, base}
-use Rattle.server_words.proofs.slots_at.Statement.{statement}
-use Rattle.server_words.proofs.slots_at.Tie as tie
+use Rattle.server.proofs.Loops.{lent-is, base}
+use Rattle.server.proofs.parts.slots_at.Statement.{statement}
+use Rattle.server.proofs.parts.slots_at.Tie as tie
 
 mul-from : tie.Need-mul-from
 mul-from c = search needs

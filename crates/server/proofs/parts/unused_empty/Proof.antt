@@ -2,9 +2,9 @@ use borrow.Author.Needs.{needs}
 use mathlib.Core.Path.{ap, _∙_}
 use lib.ListN.{length}
 use denote.Ref.{now}
-use Rattle.server_words.proofs.Loops.{slots-long, empty-answers}
-use Rattle.server_words.proofs.unused_empty.Statement.{statement}
-use Rattle.server_words.proofs.unused_empty.Tie as tie
+use Rattle.server.proofs.Loops.{slots-long, empty-answers}
+use Rattle.server.proofs.parts.unused_empty.Statement.{statement}
+use Rattle.server.proofs.parts.unused_empty.Tie as tie
 
 abbrev start : tie.After-slots-at → tie.Start
 start c = c .before .before

@@ -1,8 +1,8 @@
 -- `server::taking::accept_at` writes the words of the line that a message came on (proofs/Written.antt).
-use Rattle.server_take.proofs.Written.{lent-kept, accept-wrote}
+use Rattle.server.proofs.Written.{lent-kept, accept-wrote}
 use borrow.Author.Needs.{needs}
-use Rattle.server_take.proofs.accept_at.Statement.{statement}
-use Rattle.server_take.proofs.accept_at.Tie as tie
+use Rattle.server.proofs.taking.accept_at.Statement.{statement}
+use Rattle.server.proofs.taking.accept_at.Tie as tie
 
 mul-from : tie.Need-mul-from
 mul-from c = search needs

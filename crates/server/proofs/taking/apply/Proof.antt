@@ -1,8 +1,8 @@
 -- `apply` writes both parts of the list (proofs/Written.antt).
-use Rattle.server_take.proofs.Written.{origins-room, apply-wrote}
+use Rattle.server.proofs.Written.{origins-room, apply-wrote}
 use borrow.Author.Needs.{needs}
-use Rattle.server_take.proofs.apply.Statement.{statement}
-use Rattle.server_take.proofs.apply.Tie as tie
+use Rattle.server.proofs.taking.apply.Statement.{statement}
+use Rattle.server.proofs.taking.apply.Tie as tie
 
 word-of-requires : tie.Need-word-of-requires
 word-of-requires c κs = search needs

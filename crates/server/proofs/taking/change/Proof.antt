@@ -5,18 +5,18 @@ use mathlib.Core.Path.{ap, sym, _∙_, subst}
 use Rattle.limits.specs.Limits.{maxPending}
 use Rattle.line.specs.declared.Line.{Line}
 use Rattle.line.specs.Line.{Kept}
-use Rattle.line_take.specs.Taking.{Between, accepted}
+use Rattle.line.specs.Taking.{Between, accepted}
 use Rattle.server.specs.declared.Counts.{Counts}
 use Rattle.server.specs.View.{serverOf, slotsAt, makersAt, SlotsWrote, MakersWrote}
-use Rattle.server_decide.specs.Decides.{placeOf}
-use Rattle.server_take.specs.Taking.{makersLeft}
+use Rattle.server.specs.Decides.{placeOf}
+use Rattle.server.specs.Taking.{makersLeft}
 use Rattle.server.proofs.Facts.{sizes, len-few}
-use Rattle.server_decide.proofs.Asked.{up-line}
-use Rattle.server_decide.proofs.Deciding.{Accepted}
-use Rattle.server_take.proofs.Accepts.{taken, list-asked, kept-own, written}
+use Rattle.server.proofs.Asked.{up-line}
+use Rattle.server.proofs.Decided.{Accepted}
+use Rattle.server.proofs.Accepts.{taken, list-asked, kept-own, written}
 use borrow.Author.Needs.{needs}
-use Rattle.server_take.proofs.change.Statement.{statement}
-use Rattle.server_take.proofs.change.Tie as tie
+use Rattle.server.proofs.taking.change.Statement.{statement}
+use Rattle.server.proofs.taking.change.Tie as tie
 
 -- the places: the total is found, the other lines keep the edit, the line is read, its pending edits and their origins are written, the list is
 abbrev start : tie.After-struct-known → tie.Start

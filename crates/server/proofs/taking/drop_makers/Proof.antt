@@ -1,8 +1,8 @@
 -- `server::taking::drop_makers` writes the origins of the line that a message came on (proofs/Written.antt).
-use Rattle.server_take.proofs.Written.{drop-wrote}
+use Rattle.server.proofs.Written.{drop-wrote}
 use borrow.Author.Needs.{needs}
-use Rattle.server_take.proofs.drop_makers.Statement.{statement}
-use Rattle.server_take.proofs.drop_makers.Tie as tie
+use Rattle.server.proofs.taking.drop_makers.Statement.{statement}
+use Rattle.server.proofs.taking.drop_makers.Tie as tie
 
 mul-from : tie.Need-mul-from
 mul-from c = search needs

@@ -1,9 +1,9 @@
 -- `server::taking::keep_at` writes the words of one line with one more edit (proofs/Written.antt).
 use Rattle.ot.specs.Edit.{edit}
-use Rattle.server_take.proofs.Written.{lent-kept, keep-wrote}
+use Rattle.server.proofs.Written.{lent-kept, keep-wrote}
 use borrow.Author.Needs.{needs}
-use Rattle.server_take.proofs.keep_at.Statement.{statement}
-use Rattle.server_take.proofs.keep_at.Tie as tie
+use Rattle.server.proofs.taking.keep_at.Statement.{statement}
+use Rattle.server.proofs.taking.keep_at.Tie as tie
 
 mul-from : tie.Need-mul-from
 mul-from c = search needs

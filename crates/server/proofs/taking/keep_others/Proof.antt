@@ -8,13 +8,13 @@ use Rattle.ot.specs.Edit.{edit}
 use Rattle.line.specs.declared.Line.{Line}
 use Rattle.line.specs.Line.{Kept}
 use Rattle.line.specs.Keeping.{withKept}
 use Rattle.server.specs.View.{slotsAt, makersAt, SlotsWrote, MakersWrote}
-use Rattle.server_take.specs.Taking.{slotsKept, makersKept, KeptBy}
+use Rattle.server.specs.Taking.{slotsKept, makersKept, KeptBy}
 use Rattle.server.proofs.Facts.{sizes, lines-few, made-few}
-use Rattle.server_decide.proofs.Asked.{roomy-each}
-use Rattle.server_take.proofs.Keeping.{kept-none, kept-skip, kept-still, kept-turn}
-use Rattle.server_take.proofs.keep_others.Statement.{statement}
-use Rattle.server_take.proofs.keep_others.Tie as tie
+use Rattle.server.proofs.Asked.{roomy-each}
+use Rattle.server.proofs.Keeping.{kept-none, kept-skip, kept-still, kept-turn}
+use Rattle.server.proofs.taking.keep_others.Statement.{statement}
+use Rattle.server.proofs.taking.keep_others.Tie as tie
 
 abbrev Inv-loop : tie.InvT-loop
 Inv-loop k words₀ at f x word counts₀ n i₀ words counts i = (i ≤ n) × KeptBy i at (edit f x) word k words₀ counts words

@@ -1,8 +1,8 @@
 -- `server::taking::name_at` writes one word among the origins of a line (proofs/Written.antt).
-use Rattle.server_take.proofs.Written.{name-wrote}
+use Rattle.server.proofs.Written.{name-wrote}
 use borrow.Author.Needs.{needs}
-use Rattle.server_take.proofs.name_at.Statement.{statement}
-use Rattle.server_take.proofs.name_at.Tie as tie
+use Rattle.server.proofs.taking.name_at.Statement.{statement}
+use Rattle.server.proofs.taking.name_at.Tie as tie
 
 mul-words : tie.Need-mul-words
 mul-words c = search needs

@@ -4,15 +4,15 @@ use native.Mathlib.Omega.{arith}
 use mathlib.Core.Path.{subst}
 use Rattle.ot.specs.Edit.{edit}
 use Rattle.list.specs.Places.{wordOf}
-use Rattle.server_decide.specs.Decides.{placeOf}
-use Rattle.server_take.specs.Taking.{KeptBy}
+use Rattle.server.specs.Decides.{placeOf}
+use Rattle.server.specs.Taking.{KeptBy}
 use Rattle.server.proofs.Facts.{sizes}
-use Rattle.server_decide.proofs.Asked.{up-line}
-use Rattle.server_decide.proofs.Deciding.{place-below}
-use Rattle.server_take.proofs.Keeping.{kept-none, edit-kept, none-kept}
+use Rattle.server.proofs.Asked.{up-line}
+use Rattle.server.proofs.Decided.{place-below}
+use Rattle.server.proofs.Keeping.{kept-none, edit-kept, none-kept}
 use borrow.Author.Needs.{needs}
-use Rattle.server_take.proofs.pass_on.Statement.{statement}
-use Rattle.server_take.proofs.pass_on.Tie as tie
+use Rattle.server.proofs.taking.pass_on.Statement.{statement}
+use Rattle.server.proofs.taking.pass_on.Tie as tie
 
 word-of-requires : tie.Need-word-of-requires
 word-of-requires c κs = search needs

@@ -6,15 +6,15 @@ use Rattle.wire.specs.declared.Read.the-variants as read
 use Rattle.wire.specs.Bytes.{parsed}
 use Rattle.wire.proofs.Codec.{codec}
 use Rattle.model.specs.Server.{takeServer}
 use Rattle.server.specs.declared.Server.{Server}
 use Rattle.server.specs.declared.Changed.{Changed}
 use Rattle.server.specs.View.{serverOf, view, Sound}
 use Rattle.server.specs.Answers.{answerOf}
 use Rattle.server.proofs.Answers.{unsound}
-use Rattle.server_take.proofs.Takes.{read-refused, read-taken}
+use Rattle.server.proofs.Takes.{read-refused, read-taken}
 use borrow.Author.Needs.{needs}
-use Rattle.server_take.proofs.take.Statement.{statement}
-use Rattle.server_take.proofs.take.Tie as tie
+use Rattle.server.proofs.taking.take.Statement.{statement}
+use Rattle.server.proofs.taking.take.Tie as tie
 
 abbrev start : tie.After-is-sound → tie.Start
 start c = c .before .before .before .before

@@ -6,13 +6,13 @@ use mathlib.Core.List.{List}
 use denote.Ref.{now}
 use Rattle.limits.specs.Limits.{maxItems}
 use Rattle.ot.specs.Form.{positionOf}
-use Rattle.line_take.specs.declared.Arrival.{Arrival}
-use Rattle.line_take.proofs.Decisions.{arrival-position}
+use Rattle.line.specs.declared.taking.Arrival.{Arrival}
+use Rattle.line.proofs.Decisions.{arrival-position}
 use Rattle.server.specs.View.{serverOf, Sound}
-use Rattle.server_decide.proofs.Deciding.{accepts}
-use Rattle.server_take.proofs.Takes.{refuses, item-right, taken-done}
-use Rattle.server_take.proofs.take_message.Statement.{statement}
-use Rattle.server_take.proofs.take_message.Tie as tie
+use Rattle.server.proofs.Decided.{accepts}
+use Rattle.server.proofs.Takes.{refuses, item-right, taken-done}
+use Rattle.server.proofs.taking.take_message.Statement.{statement}
+use Rattle.server.proofs.taking.take_message.Tie as tie
 
 -- ---- the message in parts, and the decision
 

@@ -1,7 +1,7 @@
 -- `wire_read::ack_header` meets its contract.
 use borrow.Author.Needs.{needs}
-use Rattle.wire_read.proofs.ack_header.Statement.{statement}
-use Rattle.wire_read.proofs.ack_header.Tie as tie
+use Rattle.wire.proofs.reading.ack_header.Statement.{statement}
+use Rattle.wire.proofs.reading.ack_header.Tie as tie
 
 byte-at-requires : tie.Need-byte-at-requires
 byte-at-requires c κs = search needs

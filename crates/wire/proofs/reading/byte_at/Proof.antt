@@ -2,8 +2,8 @@ use denote.Ref.{now}
 use lib.ListN.{List·getD-eq-default}
 use mathlib.Core.Path.{sym}
 use borrow.Author.Needs.{needs}
-use Rattle.wire_read.proofs.byte_at.Statement.{statement}
-use Rattle.wire_read.proofs.byte_at.Tie as tie
+use Rattle.wire.proofs.reading.byte_at.Statement.{statement}
+use Rattle.wire.proofs.reading.byte_at.Tie as tie
 
 shared-slice-read-result : tie.Need-shared-slice-read-result
 shared-slice-read-result c = search needs

@@ -2,9 +2,9 @@
 use Prim.Native.Nat.{ℕ}
 use mathlib.Core.List.{List}
 use borrow.Author.Needs.{needs}
-use Rattle.wire_read.proofs.Reading.{insert-fields, delete-fields, nothing-fields, ack-fields}
-use Rattle.wire_read.proofs.fields.Statement.{statement}
-use Rattle.wire_read.proofs.fields.Tie as tie
+use Rattle.wire.proofs.Parsing.{insert-fields, delete-fields, nothing-fields, ack-fields}
+use Rattle.wire.proofs.reading.fields.Statement.{statement}
+use Rattle.wire.proofs.reading.fields.Tie as tie
 
 abbrev bytes : tie.After-shared-slice-known → List ℕ
 bytes c = c .before .args .s .now

@@ -1,7 +1,7 @@
 -- `wire_read::header_at` meets its contract.
 use borrow.Author.Needs.{needs}
-use Rattle.wire_read.proofs.header_at.Statement.{statement}
-use Rattle.wire_read.proofs.header_at.Tie as tie
+use Rattle.wire.proofs.reading.header_at.Statement.{statement}
+use Rattle.wire.proofs.reading.header_at.Tie as tie
 
 byte-at-requires : tie.Need-byte-at-requires
 byte-at-requires c κs = search needs

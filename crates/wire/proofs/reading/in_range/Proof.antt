@@ -3,9 +3,9 @@ use native.Mathlib.Omega.{arith}
 use Prim.Native.Nat.{ℕ}
 use mathlib.Core.List.{List}
 use borrow.Author.Needs.{needs}
-use Rattle.wire_read.proofs.Reading.{insert-range, delete-range, nothing-range, ack-range}
-use Rattle.wire_read.proofs.in_range.Statement.{statement}
-use Rattle.wire_read.proofs.in_range.Tie as tie
+use Rattle.wire.proofs.Parsing.{insert-range, delete-range, nothing-range, ack-range}
+use Rattle.wire.proofs.reading.in_range.Statement.{statement}
+use Rattle.wire.proofs.reading.in_range.Tie as tie
 
 abbrev bytes : tie.After-shared-slice-known → List ℕ
 bytes c = c .before .args .s .now

@@ -1,8 +1,8 @@
 -- `wire_read::numbers_in_range` meets its contract: the flags are the definition's tests, in its order.
 use mathlib.Core.Path.{refl}
 use borrow.Author.Needs.{needs}
-use Rattle.wire_read.proofs.numbers_in_range.Statement.{statement}
-use Rattle.wire_read.proofs.numbers_in_range.Tie as tie
+use Rattle.wire.proofs.reading.numbers_in_range.Statement.{statement}
+use Rattle.wire.proofs.reading.numbers_in_range.Tie as tie
 
 origin-in-range-requires : tie.Need-origin-in-range-requires
 origin-in-range-requires c κs = search needs

@@ -2,9 +2,9 @@
 use mathlib.Core.Path.{sym, _∙_}
 use denote.Ref.{now}
 use borrow.Author.Needs.{needs}
-use Rattle.wire_read.proofs.Reading.{no-kind, other-length, out-of-range, accepted}
-use Rattle.wire_read.proofs.parse.Statement.{statement}
-use Rattle.wire_read.proofs.parse.Tie as tie
+use Rattle.wire.proofs.Parsing.{no-kind, other-length, out-of-range, accepted}
+use Rattle.wire.proofs.reading.parse.Statement.{statement}
+use Rattle.wire.proofs.reading.parse.Tie as tie
 
 byte-at-requires : tie.Need-byte-at-requires
 byte-at-requires c κs = search needs

@@ -1,6 +1,6 @@
 use borrow.Author.Tests.{ne-eqb}
-use Rattle.wire_read.proofs.size_of_kind.Statement.{statement}
-use Rattle.wire_read.proofs.size_of_kind.Tie as tie
+use Rattle.wire.proofs.reading.size_of_kind.Statement.{statement}
+use Rattle.wire.proofs.reading.size_of_kind.Tie as tie
 
 returns : tie.Need-returns
 returns c = simp (c .match .keys1)

@@ -1,7 +1,7 @@
 -- `wire_read::two_at` meets its contract: the two bytes are those of the definition.
 use borrow.Author.Needs.{needs}
-use Rattle.wire_read.proofs.two_at.Statement.{statement}
-use Rattle.wire_read.proofs.two_at.Tie as tie
+use Rattle.wire.proofs.reading.two_at.Statement.{statement}
+use Rattle.wire.proofs.reading.two_at.Tie as tie
 
 byte-at-requires : tie.Need-byte-at-requires
 byte-at-requires c κs = search needs

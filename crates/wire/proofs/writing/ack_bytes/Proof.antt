@@ -1,8 +1,8 @@
 -- `wire_write::ack_bytes` meets its contract.
 use borrow.Author.Needs.{needs}
 use Rattle.wire.specs.Bytes.{bytesOf}
-use Rattle.wire_write.proofs.ack_bytes.Statement.{statement}
-use Rattle.wire_write.proofs.ack_bytes.Tie as tie
+use Rattle.wire.proofs.writing.ack_bytes.Statement.{statement}
+use Rattle.wire.proofs.writing.ack_bytes.Tie as tie
 
 high-requires : tie.Need-high-requires
 high-requires c κs = search needs

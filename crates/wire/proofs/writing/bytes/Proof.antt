@@ -1,8 +1,8 @@
 -- `wire_write::bytes` meets its contract: the first of the packed bytes are those of the message, by computing.
 use borrow.Author.Needs.{needs}
 use Rattle.wire.specs.Bytes.{bytesOf}
-use Rattle.wire_write.proofs.bytes.Statement.{statement}
-use Rattle.wire_write.proofs.bytes.Tie as tie
+use Rattle.wire.proofs.writing.bytes.Statement.{statement}
+use Rattle.wire.proofs.writing.bytes.Tie as tie
 
 enum-known-m : tie.Need-enum-known-m
 enum-known-m c = search needs

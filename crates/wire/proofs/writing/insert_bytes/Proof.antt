@@ -1,8 +1,8 @@
 -- `wire_write::insert_bytes` meets its contract: every byte is high or low of a number.
 use borrow.Author.Needs.{needs}
 use Rattle.wire.specs.Bytes.{bytesOf}
-use Rattle.wire_write.proofs.insert_bytes.Statement.{statement}
-use Rattle.wire_write.proofs.insert_bytes.Tie as tie
+use Rattle.wire.proofs.writing.insert_bytes.Statement.{statement}
+use Rattle.wire.proofs.writing.insert_bytes.Tie as tie
 
 cast-upper : tie.Need-cast-upper
 cast-upper c = search needs

@@ -1,7 +1,7 @@
 use Rattle.wire.specs.Bytes.{bytesOf}
 use borrow.Author.Needs.{needs}
-use Rattle.wire_write.proofs.size.Statement.{statement}
-use Rattle.wire_write.proofs.size.Tie as tie
+use Rattle.wire.proofs.writing.size.Statement.{statement}
+use Rattle.wire.proofs.writing.size.Tie as tie
 
 enum-told : tie.Need-enum-told
 enum-told c = search needs

@@ -3,9 +3,9 @@ use Prim.Native.Nat.{_-_}
 use native.Mathlib.Omega.{arith}
 use denote.Ref.{now}
 use borrow.Author.Needs.{needs}
-use Rattle.wire_write.proofs.Buffer.{CopiedBy, copied-start, copied-turn, copied-pass, copied-end, enough, too-long}
-use Rattle.wire_write.proofs.write.Statement.{statement}
-use Rattle.wire_write.proofs.write.Tie as tie
+use Rattle.wire.proofs.Buffer.{CopiedBy, copied-start, copied-turn, copied-pass, copied-end, enough, too-long}
+use Rattle.wire.proofs.writing.write.Statement.{statement}
+use Rattle.wire.proofs.writing.write.Tie as tie
 
 abbrev Inv-loop : tie.InvT-loop
 Inv-loop out₀ n b i₀ out i = CopiedBy b out₀ n out i

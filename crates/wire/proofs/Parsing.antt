@@ -7,16 +7,16 @@ use mathlib.Core.List.{List}
 use lib.Dec.{leb, eqb}
 use lib.ListN.{length, getD}
 use borrow.Author.Tests.{le-leb, eq-eqb, ne-eqb}
 use Rattle.wire.specs.declared.Header.{Header}
 use Rattle.wire.specs.declared.Message.{Message}
 use Rattle.wire.specs.declared.Message.the-variants.{Insert, Delete, Nothing, Ack}
 use Rattle.wire.specs.declared.Read.the-variants as read
 use Rattle.wire.specs.Message.{between, headerInRange, inRange}
 use Rattle.wire.specs.Bytes.{sizeOfKind, twoAt, fourAt, headerAt, fieldsOf, parsed}
 use Rattle.wire.specs.Codec.{AreBytes}
-use Rattle.wire_read.specs.declared.Size.{Size}
-use Rattle.wire_read.specs.declared.Size.the-variants as size
-use Rattle.wire_read.specs.Size.{sizeOf, ackHeader}
+use Rattle.wire.specs.declared.reading.Size.{Size}
+use Rattle.wire.specs.declared.reading.Size.the-variants as size
+use Rattle.wire.specs.Size.{sizeOf, ackHeader}
 
 -- no kind that stands in front of the last
 abbrev Other : ℕ → Type 0
