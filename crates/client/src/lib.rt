@@ -1,6 +1,12 @@
 // The client's end of a sheet (01: the bay end): its state, opening, question 2, and what the calls that change it share.
-// A client is its numbers and one array of words. The calls get the numbers by value and change lent words in place (`client_edit`,
-// `client_take`); the methods, which take a client by value and hand it back, are thin: they lend its words (`ends`).
+// A client is its numbers and one array of words. The calls get the numbers by value and change lent words in place; the methods, which take
+// a client by value and hand it back, are thin: they lend its words.
+pub mod editing;
+pub mod packets;
+pub mod sending;
+pub mod taking;
+mod undo;
+
 ghost use mathlib.Core.Path.{_≡_};
 ghost use mathlib.Core.Bool.{true};
 ghost use lib.ListN.{length, replicate};
@@ -14,12 +20,6 @@ use line::taking::Report;
 use line::taking::no_report;
 use list::Origin;
 use ot::Form;
-
-pub mod editing;
-pub mod packets;
-pub mod sending;
-pub mod taking;
-pub mod undo;
 
 // An edit that taking back would make, or nothing: its place as in a slot, position * 256 + priority, and the item of an insert.
 pub struct Inverse {
@@ -64,7 +64,7 @@ pub struct Answer {
 }
 
 // A refusal leaves the numbers as they came.
-pub fn refused(refusal: u8, k: Counts) -> Changed
+fn refused(refusal: u8, k: Counts) -> Changed
     ensures { λ r. ⌜ r ≡ refusedCounts refusal k ⌝ }
 {
     Changed {
@@ -75,7 +75,7 @@ pub fn refused(refusal: u8, k: Counts) -> Changed
 }
 
 // A call that is done: the numbers with another line, another length, another total and another inverse.
-pub fn done(k: Counts, report: Report, own: Line, len: u16, total: u32, inverse: Inverse) -> Changed
+fn done(k: Counts, report: Report, own: Line, len: u16, total: u32, inverse: Inverse) -> Changed
     ensures { λ r. ⌜ r ≡ doneCounts k report own len total inverse ⌝ }
 {
     let ranks = k.ranks;
@@ -110,7 +110,7 @@ fn joined(a: Changed, words: [u32; Client::WORDS]) -> Answer
 }
 
 // The rank of the client's own line.
-pub fn rank(k: Counts) -> u8
+fn rank(k: Counts) -> u8
     ensures { λ r. ⌜ r ≡ rankOf (k .ranks) (k .line) ⌝ }
 {
     ranks::of_line(&k.ranks, k.line)
@@ -129,7 +129,7 @@ fn list_sound(words: &[u32], len: usize, total: u32) -> bool
 }
 
 // Question 2. Every test is made whatever the others find.
-pub fn is_sound(k: Counts, words: &[u32]) -> bool
+fn is_sound(k: Counts, words: &[u32]) -> bool
     requires { ⌜ Sizes k (now words) ⌝ }
     ensures answer { λ r. ⌜ r ≡ sound (clientOf k (now (words .entry))) ⌝ }
     ensures facts { λ r. ⌜ (r ≡ true → Sound (clientOf k (now (words .entry)))) ⌝ }
@@ -148,7 +148,7 @@ pub fn is_sound(k: Counts, words: &[u32]) -> bool
 }
 
 // Applies the edit of form f, item x and that origin to the list of len places, and gives its new length.
-pub fn apply(words: &mut [u32], len: u16, f: Form, x: u32, origin: Origin) -> u16
+fn apply(words: &mut [u32], len: u16, f: Form, x: u32, origin: Origin) -> u16
     requires { ⌜ (length (now words) ≡ size) × Room (edit f x) len capacity ⌝ }
     ensures { λ r. ⌜ Applied f x origin len (now (words .entry)) (now (words .exit)) r ⌝ }
 {
@@ -222,9 +222,9 @@ impl Client {
     pub const INITIAL: usize = limits::INITIAL;
 
     // Where the origins of the items begin, and the words of a client.
-    pub const ORIGINS: usize = 640;
+    pub const ORIGINS: usize = Client::ITEMS + pending::WORDS;
 
-    pub const WORDS: usize = 1152;
+    pub const WORDS: usize = Client::ORIGINS + Client::ITEMS;
 
     // A client of line `line` of n, with the ranks of all lines and the initial list. Refused, it is all zeros.
     pub fn open(n: u8, line: u8, ranks: &[u8], items: &[u32]) -> Answer

@@ -1,9 +1,9 @@
 // The server's end of a sheet: its state, opening, and question 2.
 // The server is its numbers and one array of words. The calls get the numbers by value and change lent words in place; the methods, which
 // take the server by value and hand it back, are thin: they lend its words.
-pub mod deciding;
+mod deciding;
 pub mod packets;
-pub mod parts;
+mod parts;
 pub mod sending;
 pub mod taking;
 
@@ -68,7 +68,7 @@ struct Totals {
 }
 
 // A refusal leaves the numbers as they came.
-pub fn refused(refusal: u8, k: Counts) -> Changed
+fn refused(refusal: u8, k: Counts) -> Changed
     ensures { λ r. ⌜ r ≡ refusedCounts refusal k ⌝ }
 {
     Changed {
@@ -95,7 +95,7 @@ fn joined(a: Changed, words: [u32; Server::WORDS]) -> Answer
 // ---- one line
 
 // The counts of the line at a place, counted from 0.
-pub fn line_at(k: Counts, at: usize) -> Line
+fn line_at(k: Counts, at: usize) -> Line
     requires { ⌜ at < maxLines ⌝ }
     ensures { λ r. ⌜ r ≡ countsAt k at ⌝ }
 {
@@ -148,7 +148,7 @@ fn in_limits(k: Counts) -> bool
 }
 
 // Every test is made whatever the others find.
-pub fn is_sound(k: Counts, words: &[u32]) -> bool
+fn is_sound(k: Counts, words: &[u32]) -> bool
     requires { ⌜ Sizes k (now words) ⌝ }
     ensures answer { λ r. ⌜ r ≡ sound (serverOf k (now (words .entry))) ⌝ }
     ensures facts { λ r. ⌜ (r ≡ true → Sound (serverOf k (now (words .entry)))) ⌝ }
@@ -241,11 +241,11 @@ impl Server {
     pub const INITIAL: usize = limits::INITIAL;
 
     // Where the origins of the items begin, and those of pending edits; and the words of the server.
-    pub const ORIGINS: usize = crate::parts::ORIGINS;
+    pub const ORIGINS: usize = Server::ITEMS + Server::LINES * pending::WORDS;
 
-    pub const MAKERS: usize = crate::parts::MAKERS;
+    pub const MAKERS: usize = Server::ORIGINS + Server::ITEMS;
 
-    pub const WORDS: usize = crate::parts::WORDS;
+    pub const WORDS: usize = Server::MAKERS + Server::LINES * Server::PENDING;
 
     // A server of n lines, with the initial list. Refused, it is all zeros.
     pub fn open(n: u8, ranks: &[u8], items: &[u32]) -> Answer

@@ -5,14 +5,8 @@ ghost use lib.ListN.{length};
 ghost use Rattle.limits.specs.Limits.{maxLines};
 ghost use Rattle.server.specs.Words.{size, slotsAt, makersAt};
 ghost use Rattle.server.specs.Right.{listRight, soundUsed, soundMakers, emptyUnused, soundEither};
+use crate::Server;
 use line::Line;
-
-// Where the origins of the items begin, and those of pending edits; and the words of the server.
-pub const ORIGINS: usize = 1536;
-
-pub const MAKERS: usize = 2048;
-
-pub const WORDS: usize = 2560;
 
 // ---- one line
 
@@ -21,7 +15,7 @@ pub fn slots_at(words: &[u32], at: usize) -> &[u32]
     requires { ⌜ (length (now words) ≡ size) × (at < maxLines) ⌝ }
     ensures { λ r. ⌜ now r ≡ slotsAt at (now (words .entry)) ⌝ }
 {
-    let from = limits::ITEMS + pending::WORDS * at;
+    let from = Server::ITEMS + pending::WORDS * at;
     let to = from + pending::WORDS;
     &words[from..to]
 }
@@ -30,8 +24,8 @@ pub fn makers_at(words: &[u32], at: usize) -> &[u32]
     requires { ⌜ (length (now words) ≡ size) × (at < maxLines) ⌝ }
     ensures { λ r. ⌜ now r ≡ makersAt at (now (words .entry)) ⌝ }
 {
-    let from = MAKERS + limits::PENDING * at;
-    let to = from + limits::PENDING;
+    let from = Server::MAKERS + Server::PENDING * at;
+    let to = from + Server::PENDING;
     &words[from..to]
 }
 
@@ -79,9 +73,9 @@ pub fn list_sound(len: u16, total: u32, words: &[u32]) -> bool
     requires { ⌜ length (now words) ≡ size ⌝ }
     ensures { λ r. ⌜ r ≡ listRight len total (now (words .entry)) ⌝ }
 {
-    let items = &words[0..limits::ITEMS];
+    let items = &words[0..Server::ITEMS];
     let sum = list::total(items, len as usize);
     let unused = list::zero_from(items, len as usize);
-    let origins = list::zero_from(&words[ORIGINS..MAKERS], len as usize);
+    let origins = list::zero_from(&words[Server::ORIGINS..Server::MAKERS], len as usize);
     unused & origins & (total == sum)
 }

@@ -1,4 +1,4 @@
--- `pack` meets its contract: question 2 or 4 said no, or the pending edits are written with their origins (proofs/Packing.antt).
+-- `pack` meets its contract: question 2 or 4 said no, or the pending edits are written with their origins (proofs/Packs.antt).
 use native.Mathlib.Omega.{arith}
 use mathlib.Core.Path.{sym, _∙_}
 use mathlib.Core.List.{List}

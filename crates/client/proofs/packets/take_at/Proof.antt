@@ -1,4 +1,4 @@
--- `take_at` meets its contract: the packet has its length and the message is lent from its start to its end, or it is refused (proofs/Taking.antt).
+-- `take_at` meets its contract: the packet has its length and the message is lent from its start to its end, or it is refused (proofs/TakesAll.antt).
 use Prim.Native.Nat.{_≤_}
 use native.Mathlib.Omega.{arith}
 use mathlib.Core.Path.{sym, _∙_}

@@ -1,4 +1,4 @@
--- `pack` meets its contract: nothing is pending, the first message does not fit, or some are written (proofs/Packing.antt).
+-- `pack` meets its contract: nothing is pending, the first message does not fit, or some are written (proofs/Packets.antt).
 use native.Mathlib.Omega.{arith}
 use denote.Ref.{now}
 use borrow.Author.Needs.{needs}

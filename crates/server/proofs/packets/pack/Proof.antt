@@ -1,4 +1,4 @@
--- `pack` meets its contract: question 2 or 4 said no, or the line's pending edits are written with their origins (proofs/Packing.antt).
+-- `pack` meets its contract: question 2 or 4 said no, or the line's pending edits are written with their origins (proofs/Packs.antt).
 use native.Mathlib.Omega.{arith}
 use Prim.Native.Nat.{_-_, _<_}
 use mathlib.Core.Path.{_≡_}

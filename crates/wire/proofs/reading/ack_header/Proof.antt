@@ -1,4 +1,4 @@
--- `wire_read::ack_header` meets its contract.
+-- `reading::ack_header` meets its contract.
 use borrow.Author.Needs.{needs}
 use Rattle.wire.proofs.reading.ack_header.Statement.{statement}
 use Rattle.wire.proofs.reading.ack_header.Tie as tie

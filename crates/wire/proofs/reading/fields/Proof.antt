@@ -1,4 +1,4 @@
--- `wire_read::fields` meets its contract: each kind is a law of proofs/Reading.antt.
+-- `reading::fields` meets its contract: each kind is a law of proofs/Parsing.antt.
 use Prim.Native.Nat.{ℕ}
 use mathlib.Core.List.{List}
 use borrow.Author.Needs.{needs}

@@ -1,4 +1,4 @@
--- `wire_read::header_at` meets its contract.
+-- `reading::header_at` meets its contract.
 use borrow.Author.Needs.{needs}
 use Rattle.wire.proofs.reading.header_at.Statement.{statement}
 use Rattle.wire.proofs.reading.header_at.Tie as tie

@@ -1,4 +1,4 @@
--- `wire_read::in_range` meets its contract: each kind is a law of proofs/Reading.antt.
+-- `reading::in_range` meets its contract: each kind is a law of proofs/Parsing.antt.
 use native.Mathlib.Omega.{arith}
 use Prim.Native.Nat.{ℕ}
 use mathlib.Core.List.{List}

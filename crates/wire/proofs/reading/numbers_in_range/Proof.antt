@@ -1,4 +1,4 @@
--- `wire_read::numbers_in_range` meets its contract: the flags are the definition's tests, in its order.
+-- `reading::numbers_in_range` meets its contract: the flags are the definition's tests, in its order.
 use mathlib.Core.Path.{refl}
 use borrow.Author.Needs.{needs}
 use Rattle.wire.proofs.reading.numbers_in_range.Statement.{statement}

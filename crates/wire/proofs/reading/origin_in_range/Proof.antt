@@ -1,4 +1,4 @@
--- `wire_read::origin_in_range` meets its contract.
+-- `reading::origin_in_range` meets its contract.
 use mathlib.Core.Path.{refl}
 use Rattle.wire.proofs.reading.origin_in_range.Statement.{statement}
 use Rattle.wire.proofs.reading.origin_in_range.Tie as tie

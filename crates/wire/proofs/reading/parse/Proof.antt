@@ -1,4 +1,4 @@
--- `wire_read::parse` meets its contract: each return is a law of proofs/Reading.antt.
+-- `reading::parse` meets its contract: each return is a law of proofs/Parsing.antt.
 use mathlib.Core.Path.{sym, _∙_}
 use denote.Ref.{now}
 use borrow.Author.Needs.{needs}

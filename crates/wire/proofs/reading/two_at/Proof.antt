@@ -1,4 +1,4 @@
--- `wire_read::two_at` meets its contract: the two bytes are those of the definition.
+-- `reading::two_at` meets its contract: the two bytes are those of the definition.
 use borrow.Author.Needs.{needs}
 use Rattle.wire.proofs.reading.two_at.Statement.{statement}
 use Rattle.wire.proofs.reading.two_at.Tie as tie

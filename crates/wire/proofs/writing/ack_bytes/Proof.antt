@@ -1,4 +1,4 @@
--- `wire_write::ack_bytes` meets its contract.
+-- `writing::ack_bytes` meets its contract.
 use borrow.Author.Needs.{needs}
 use Rattle.wire.specs.Bytes.{bytesOf}
 use Rattle.wire.proofs.writing.ack_bytes.Statement.{statement}

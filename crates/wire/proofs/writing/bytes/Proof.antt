@@ -1,4 +1,4 @@
--- `wire_write::bytes` meets its contract: the first of the packed bytes are those of the message, by computing.
+-- `writing::bytes` meets its contract: the first of the packed bytes are those of the message, by computing.
 use borrow.Author.Needs.{needs}
 use Rattle.wire.specs.Bytes.{bytesOf}
 use Rattle.wire.proofs.writing.bytes.Statement.{statement}

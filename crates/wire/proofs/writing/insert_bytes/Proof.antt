@@ -1,4 +1,4 @@
--- `wire_write::insert_bytes` meets its contract: every byte is high or low of a number.
+-- `writing::insert_bytes` meets its contract: every byte is high or low of a number.
 use borrow.Author.Needs.{needs}
 use Rattle.wire.specs.Bytes.{bytesOf}
 use Rattle.wire.proofs.writing.insert_bytes.Statement.{statement}

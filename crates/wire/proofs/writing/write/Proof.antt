@@ -1,4 +1,4 @@
--- `wire_write::write` meets its contract: each turn of the copy is a law of proofs/Buffer.antt.
+-- `writing::write` meets its contract: each turn of the copy is a law of proofs/Buffer.antt.
 use Prim.Native.Nat.{_-_}
 use native.Mathlib.Omega.{arith}
 use denote.Ref.{now}
