@@ -68,7 +68,7 @@ slots-at-requires : tie.Need-slots-at-requires
 slots-at-requires c κs =
     let s = start (counts (origins (c .before))) in (
       all-sizes (s .args .k) (now (s .args .words)) (s .args .line) (s .args .number) (s .pre) .words,
-      place-below (s .args .k) (now (s .args .words)) (s .args .line) (s .args .number) (s .pre),
+      omega (arith, place-below (s .args .k) (now (s .args .words)) (s .args .line) (s .args .number) (s .pre)),
     )
 
 message-requires : tie.Need-message-requires

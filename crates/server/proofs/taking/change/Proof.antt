@@ -114,10 +114,11 @@ drop-makers-requires c κs =
     let w = c .before .before .before in
     let s = start-of-read (read w) in
     let t = accepted-at s in
-    let same = read w .line-at .ensures in (
+    let same = read w .line-at .ensures in
+    let seen = subst (λ (u : Line). Between u (s .args .a .seen)) (sym same) (t .seen) in (
       (w .accept-at .ensures .long, t .below),
       (
-        subst (λ (u : Line). Between u (s .args .a .seen)) (sym same) (t .seen),
+        (omega (arith, seen .0), omega (arith, seen .0, seen .1)),
         subst (λ (u : Line). u .made - u .acked ≤ maxPending) (sym same) (s .pre .0 .0 .kept (placeOf (s .args .a)) (t .below) .few),
       ),
     )

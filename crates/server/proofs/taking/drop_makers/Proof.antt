@@ -4,6 +4,9 @@ use borrow.Author.Needs.{needs}
 use Rattle.server.proofs.taking.drop_makers.Statement.{statement}
 use Rattle.server.proofs.taking.drop_makers.Tie as tie
 
+abbrev start : tie.After-drop-front → tie.Start
+start c = c .before .before .before .before .before
+
 mul-from : tie.Need-mul-from
 mul-from c = search needs
 
@@ -44,7 +47,10 @@ same-length : tie.Need-same-length
 same-length c = search needs
 
 returns : tie.Need-returns
-returns c = drop-wrote (c .before .before .before .before .before .before .before .args .at) (c .before .before .before .before .before .before .before .args .v) (c .before .before .before .before .before .before .before .args .words .now) (c .before .before .before .before .before .before .before .pre .0 .1) (c .before .before .before .before .before .before .before .pre .0 .0) (c .before .before .before .before .before .before .before .args .seen) (c .before .before .drop-front .last .0) (c .before .before .before .before .before .before .before .pre .1 .0) (c .before .before .before .before .before .before .before .pre .1 .1) (c .before .before .drop-front .ensures)
+returns c =
+    let d = c .before .before in
+    let s = start d in
+    drop-wrote (s .args .at) (s .args .v) (s .args .words .now) (s .pre .0 .1) (s .pre .0 .0) (s .args .seen) (d .drop-front .last .0) (s .pre .1 .0) (s .pre .1 .1) (d .drop-front .ensures)
 
 pub drop-makers-spec : {M : Type 1} → statement M
 drop-makers-spec =
