@@ -1,6 +1,6 @@
 // The server's calls over its lent bytes: question 18, the end read into words of its own, the call on these, and unless it was refused the
-// end written back. An answer is one number: the refusal, the count or length beside it, and of a taking its positions. Words and numbers are read by two calls: the
-// first is short enough to be inlined, and becomes a copy of memory.
+// end written back. An answer is one number: the refusal, the count or length beside it, and of a taking its positions. Words and numbers are read and written by
+// two calls: that of the words is short enough to be inlined, and becomes a copy of memory.
 pub mod layout;
 
 ghost use mathlib.Core.Path.{_≡_};
@@ -13,6 +13,7 @@ ghost use Rattle.c_server.specs.Layout.{size};
 ghost use Rattle.c_server.specs.Calls.{returned, answered, openedIn, takenIn, sentIn, acknowledgedIn};
 use c_layout::answer;
 use c_layout::get;
+use c_layout::put;
 use c_layout::report;
 use server::Changed;
 use server::Server;
@@ -30,7 +31,8 @@ fn finish(end: &mut [u8], a: Changed, words: &[u32]) -> u64
         return report(a.refusal, k);
     }
     let counts = a.counts;
-    layout::write(end, counts, words);
+    put(end, layout::WORDS, words);
+    layout::write_counts(end, counts);
     report(0, k)
 }
 
