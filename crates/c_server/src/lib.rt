@@ -21,7 +21,8 @@ use server::Server;
 // The bytes of the server.
 pub const SIZE: usize = layout::SIZE;
 
-// What a call answers. Unless it was refused, the server that it left is written.
+// What a taking answers. Unless it was refused, the server that it left is written. Opening has the same lines: a function that is called once is
+// inlined, and its words become a copy of memory.
 fn finish(end: &mut [u8], a: Changed, words: &[u32]) -> u64
     requires { ⌜ (size ≤ length (now end)) × (length (now words) ≡ server.size) ⌝ }
     ensures { λ r. ⌜ returned r (now (end .exit)) ≡ answered (answerOf a (now (words .entry))) (now (end .entry)) ⌝ }
@@ -43,8 +44,15 @@ fn open_with(end: &mut [u8], n: u8, ranks: &[u8], items: &[u8], list: &mut [u32]
 {
     c_layout::decode_items(items, list);
     let mut words = [0u32; Server::WORDS];
-    let a = server::open_lent(n, ranks, list, &mut words);
-    finish(end, a, &words)
+    let opened = server::open_lent(n, ranks, list, &mut words);
+    let k = opened.report;
+    if opened.refusal != 0 {
+        return report(opened.refusal, k);
+    }
+    let counts = opened.counts;
+    put(end, layout::WORDS, &words);
+    layout::write_counts(end, counts);
+    report(0, k)
 }
 
 // Opens a sheet of n lines, with the ranks of all lines, a byte each, and the items as its list: four bytes each, high byte first.
