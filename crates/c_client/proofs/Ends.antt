@@ -17,7 +17,7 @@ use Rattle.c_layout.specs.Words.{lowFirst, wordAt, wordsOf, bytesOf, putAt, Byt
 use Rattle.c_layout.specs.Numbers.{capped, cappedLine, lineAt, lineWords}
 use Rattle.c_layout.specs.Ranks.{ranksIn}
 use Rattle.c_layout.proofs.Parts.{words-many}
-use Rattle.c_layout.proofs.Ranked.{ranked-words, ranked-ranks, ranked-length, ranked-again, ranked-written}
+use Rattle.c_layout.proofs.Ranked.{ranked-words, ranked-ranks, ranked-length, ranked-again, numbers-written, words-behind}
 use Rattle.c_layout.proofs.Counts.{line-front}
 use Rattle.c_client.specs.Layout.{size, numbers, countsOf, countsIn, firstIn, restIn, bytesIn, endIn, RoundTrips}
 use Rattle.c_client.specs.Reading.{cappedCounts, cappedEnd}
@@ -122,11 +122,13 @@ end-read bytes words₀ words k e ew ek =
 
 -- ---- what the code writes
 
--- the numbers, the words, and then the ranks over two words of the numbers
-pub end-written : (k : Counts) (words s b₁ b₂ b₃ : List ℕ) → length (k .ranks) ≡ maxLines → length words ≡ client.size
-    → b₁ ≡ putAt 0 (bytesOf (k .n ∷ k .line ∷ k .len ∷ 0 ∷ 0 ∷ (lineWords (k .own) ++ (k .total ∷ k .inverse .place ∷ k .inverse .item ∷ [])))) s
-    → b₂ ≡ putAt (4 * numbers) (bytesOf words) b₁ → b₃ ≡ putAt 12 (k .ranks) b₂
-    → b₃ ≡ bytesIn (clientOf k words) ++ drop size s
+-- the words, the numbers, and then the ranks over two words of the numbers
+pub end-written : (k : Counts) (words s b₁ b₂ b₃ : List ℕ) → length (k .ranks) ≡ maxLines → length words ≡ client.size → size ≤ length s
+    → b₁ ≡ putAt (4 * numbers) (bytesOf words) s
+    → b₂ ≡ putAt 0 (bytesOf (k .n ∷ k .line ∷ k .len ∷ 0 ∷ 0 ∷ (lineWords (k .own) ++ (k .total ∷ k .inverse .place ∷ k .inverse .item ∷ [])))) b₁
+    → b₃ ≡ putAt 12 (k .ranks) b₂ → b₃ ≡ bytesIn (clientOf k words) ++ drop size s
 unfolding bytesIn
-end-written k words s b₁ b₂ b₃ eight e e₁ e₂ e₃ =
-    ranked-written size (4 * numbers) (k .n) (k .line) (k .len) 0 0 (lineWords (k .own) ++ (k .total ∷ k .inverse .place ∷ k .inverse .item ∷ [])) words (k .ranks) s b₁ b₂ b₃ eight (omega arith) (omega arith) e₁ e₂ e₃
+end-written k words s b₁ b₂ b₃ eight e h e₁ e₂ e₃ =
+    let ns : List ℕ = lineWords (k .own) ++ (k .total ∷ k .inverse .place ∷ k .inverse .item ∷ []) in
+    numbers-written (4 * numbers) (k .n) (k .line) (k .len) 0 0 ns (k .ranks) b₁ b₂ b₃ eight (omega arith) e₂ e₃
+    ∙ words-behind size (4 * numbers) (k .n ∷ k .line ∷ k .len ∷ []) (k .ranks) ns words s b₁ (omega arith) h e₁

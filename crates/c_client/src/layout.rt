@@ -87,7 +87,7 @@ pub fn write(bytes: &mut [u8], k: Counts, words: &[u32])
     numbers[LOST] = k.inverse.item;
     let own = k.own;
     put_line(&mut numbers, OWN, own);
-    put(bytes, N, &numbers);
     put(bytes, WORDS, words);
+    put(bytes, N, &numbers);
     ranks::write(bytes, &k.ranks);
 }

@@ -68,7 +68,7 @@ written-front n size s e h b =
 
 -- ---- writing
 
-bytes-append : (v w : List ℕ) → bytesOf (v ++ w) ≡ bytesOf v ++ bytesOf w
+pub bytes-append : (v w : List ℕ) → bytesOf (v ++ w) ≡ bytesOf v ++ bytesOf w
 unfolding bytesOf
 bytes-append [] w = refl
 bytes-append (x ∷ v) w = ap (λ (l : List ℕ). x % 256 ∷ x / 256 % 256 ∷ x / 65536 % 256 ∷ x / 16777216 ∷ l) (bytes-append v w)
@@ -78,24 +78,6 @@ pub put-lent : (a n : ℕ) (x y l : List ℕ) → x ≡ y → length y ≡ n →
 put-lent a n x y l e k =
     let far : a + (a + n - a) ≡ a + length y = omega arith in
     ap₂ (λ (p q : List ℕ). take a l ++ (p ++ q)) e (drop-drop (a + n - a) a l ∙ ap (λ (m : ℕ). drop m l) far)
-
--- words are written, and others behind them
-pub written-behind : (size : ℕ) (ns ws s b₁ b₂ : List ℕ) → size ≡ 4 * (length ns + length ws) → b₁ ≡ putAt 0 (bytesOf ns) s → b₂ ≡ putAt (4 * length ns) (bytesOf ws) b₁
-    → b₂ ≡ bytesOf (ns ++ ws) ++ drop size s
-written-behind size ns ws s b₁ b₂ e e₁ e₂ =
-    let a = 4 * length ns in
-    let la : length (bytesOf ns) ≡ a = bytes-length ns in
-    let lw : length (bytesOf ws) ≡ 4 * length ws = bytes-length ws in
-    let far : a + length (bytesOf ws) ≡ size = omega arith in
-    let first : b₁ ≡ bytesOf ns ++ drop a s =
-    e₁ ∙ ap (λ (k : ℕ). bytesOf ns ++ drop k s) (let z : 0 + length (bytesOf ns) ≡ a = omega arith in z) in
-    let front : take a b₁ ≡ bytesOf ns = ap (take a) first ∙ take-at (bytesOf ns) (drop a s) a la in
-    let behind : drop (a + length (bytesOf ws)) b₁ ≡ drop size s =
-    sym (drop-drop (length (bytesOf ws)) a b₁) ∙ ap (λ (l : List ℕ). drop (length (bytesOf ws)) (drop a l)) first
-    ∙ ap (drop (length (bytesOf ws))) (drop-at (bytesOf ns) (drop a s) a la) ∙ drop-drop (length (bytesOf ws)) a s
-    ∙ ap (λ (k : ℕ). drop k s) far in
-    e₂ ∙ ap₂ (λ (p q : List ℕ). p ++ (bytesOf ws ++ q)) front behind
-    ∙ sym (append-assoc (bytesOf ns) (bytesOf ws) (drop size s)) ∙ ap (λ (l : List ℕ). l ++ drop size s) (sym (bytes-append ns ws))
 
 -- what stands up to the end of a part that was put there
 pub put-front : (a b : ℕ) (x l : List ℕ) → a ≤ length l → b ≡ a + length x → take b (putAt a x l) ≡ take a l ++ x

@@ -5,14 +5,14 @@ use native.Mathlib.Omega.{arith}
 use mathlib.Core.Path.{_≡_, refl, ap, ap₂, sym, _∙_}
 use mathlib.Core.List.{List, [], _∷_, _++_, append-assoc}
 use lib.ListN.{length, getD, set, take, drop, length-drop, length-append, take-append-drop, drop-of-length-le}
-use lib.Seq.{take-at, drop-at, drop-drop, getD-drop}
+use lib.Seq.{take-at, drop-at, drop-drop, getD-drop, length-take-le}
 use Rattle.limits.specs.Limits.{maxLines}
 use Rattle.list.specs.Parts.{part}
 use Rattle.list.proofs.Sweep.{swept, swept-store, swept-to}
 use Rattle.c_layout.specs.Words.{lowFirst, wordAt, wordsBy, wordsOf, bytesOf, putAt, Bytes}
 use Rattle.c_layout.specs.Ranks.{ranksIn, ranked}
 use Rattle.c_layout.proofs.Words.{bytes-length}
-use Rattle.c_layout.proofs.Parts.{words-drop, read-front, written-front, written-behind}
+use Rattle.c_layout.proofs.Parts.{words-drop, read-front, written-front, bytes-append}
 
 -- ---- copying
 
@@ -80,22 +80,31 @@ ranked-again n size first ws s e long b ef ew =
     (append-assoc (ranksIn s) (bytesOf ws) (drop size s) ∙ ap (λ (l : List ℕ). ranksIn s ++ l) behind ∙ eight)
     ∙ front
 
--- ---- the numbers are written with room for the ranks, the words behind them, and then the ranks
+-- ---- writing
 
-module _ (size at a b c x y : ℕ) (ns ws ranks s b₁ b₂ b₃ : List ℕ) (eight : length ranks ≡ maxLines) where
-  abbrev plain : List ℕ
-  plain = bytesOf (a ∷ b ∷ c ∷ x ∷ y ∷ (ns ++ ws)) ++ drop size s
+-- the numbers are written with room for the ranks, and then the ranks
+pub numbers-written : (at a b c x y : ℕ) (ns ranks s b₁ b₂ : List ℕ) → length ranks ≡ maxLines → at ≡ 20 + 4 * length ns
+    → b₁ ≡ putAt 0 (bytesOf (a ∷ b ∷ c ∷ x ∷ y ∷ ns)) s → b₂ ≡ putAt 12 ranks b₁ → b₂ ≡ ranked (a ∷ b ∷ c ∷ []) ranks ns ++ drop at s
+unfolding bytesOf
+numbers-written at a b c x y ns ranks s b₁ b₂ eight e e₁ e₂ =
+    let plain : List ℕ = bytesOf (a ∷ b ∷ c ∷ x ∷ y ∷ ns) in
+    let all : 0 + length plain ≡ at = omega (arith, bytes-length (a ∷ b ∷ c ∷ x ∷ y ∷ ns)) in
+    let far : 12 + length ranks ≡ 20 = omega arith in
+    e₂ ∙ ap (putAt 12 ranks) (e₁ ∙ ap (λ (k : ℕ). plain ++ drop k s) all)
+    ∙ ap (λ (k : ℕ). bytesOf (a ∷ b ∷ c ∷ []) ++ (ranks ++ drop k (plain ++ drop at s))) far
+    ∙ sym (grouped a b c ranks ns (drop at s) eight)
 
-  words-put : size ≡ at + 4 * length ws → at ≡ 20 + 4 * length ns → b₁ ≡ putAt 0 (bytesOf (a ∷ b ∷ c ∷ x ∷ y ∷ ns)) s → b₂ ≡ putAt at (bytesOf ws) b₁ → b₂ ≡ plain
-  words-put e ea e₁ e₂ =
-      let place : at ≡ 4 * length (a ∷ b ∷ c ∷ x ∷ y ∷ ns) = omega arith in
-      written-behind size (a ∷ b ∷ c ∷ x ∷ y ∷ ns) ws s b₁ b₂ (omega arith) e₁ (e₂ ∙ ap (λ (k : ℕ). putAt k (bytesOf ws) b₁) place)
-
-  pub ranked-written : size ≡ at + 4 * length ws → at ≡ 20 + 4 * length ns → b₁ ≡ putAt 0 (bytesOf (a ∷ b ∷ c ∷ x ∷ y ∷ ns)) s → b₂ ≡ putAt at (bytesOf ws) b₁
-      → b₃ ≡ putAt 12 ranks b₂ → b₃ ≡ ranked (a ∷ b ∷ c ∷ []) ranks (ns ++ ws) ++ drop size s
-  unfolding bytesOf
-  ranked-written e ea e₁ e₂ e₃ =
-      let far : 12 + length ranks ≡ 20 = omega arith in
-      e₃ ∙ ap (putAt 12 ranks) (words-put e ea e₁ e₂)
-      ∙ ap (λ (k : ℕ). bytesOf (a ∷ b ∷ c ∷ []) ++ (ranks ++ drop k plain)) far
-      ∙ sym (grouped a b c ranks (ns ++ ws) (drop size s) eight)
+-- they are written in front of words
+pub words-behind : (size at : ℕ) (first ranks ns ws s b : List ℕ) → size ≡ at + 4 * length ws → size ≤ length s → b ≡ putAt at (bytesOf ws) s
+    → ranked first ranks ns ++ drop at b ≡ ranked first ranks (ns ++ ws) ++ drop size s
+words-behind size at first ranks ns ws s b e h eb =
+    let far : at + length (bytesOf ws) ≡ size = omega (arith, bytes-length ws) in
+    let behind : drop at b ≡ bytesOf ws ++ drop size s =
+    ap (drop at) eb ∙ drop-at (take at s) (bytesOf ws ++ drop (at + length (bytesOf ws)) s) at (length-take-le at s (omega arith))
+    ∙ ap (λ (k : ℕ). bytesOf ws ++ drop k s) far in
+    let joined : ranked first ranks ns ++ bytesOf ws ≡ ranked first ranks (ns ++ ws) =
+    append-assoc (bytesOf first) (ranks ++ bytesOf ns) (bytesOf ws)
+    ∙ ap (λ (l : List ℕ). bytesOf first ++ l)
+    (append-assoc ranks (bytesOf ns) (bytesOf ws) ∙ ap (λ (l : List ℕ). ranks ++ l) (sym (bytes-append ns ws))) in
+    ap (λ (l : List ℕ). ranked first ranks ns ++ l) behind ∙ sym (append-assoc (ranked first ranks ns) (bytesOf ws) (drop size s))
+    ∙ ap (λ (l : List ℕ). l ++ drop size s) joined

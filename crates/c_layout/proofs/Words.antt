@@ -5,7 +5,7 @@ use mathlib.Core.Path.{_≡_, refl, ap, ap₂, sym, _∙_}
 use mathlib.Core.List.{List, [], _∷_, _++_}
 use lib.ListN.{length, getD, List·getD-append, take, drop}
 use lib.Seq.{getD-take, getD-drop}
-use Rattle.c_layout.specs.Words.{Order, lowFirst, wordAt, wordsBy, wordsOf, fourOf, bytesOf, Bytes, RoundTrips}
+use Rattle.c_layout.specs.Words.{Order, lowFirst, highFirst, wordAt, wordsBy, wordsOf, fourOf, bytesOf, Bytes, RoundTrips}
 
 -- ---- round trips
 
@@ -29,6 +29,12 @@ written-one a b c d ha hb hc =
     let e₂ : lowFirst a b c d / 65536 % 256 ≡ c = ap (λ (n : ℕ). n % 256) u₂ ∙ low c d hc in
     let e₃ : lowFirst a b c d / 16777216 ≡ d = omega arith in
     simp (e₀, e₁, e₂, e₃)
+
+-- a word read low byte first, its bytes turned round
+pub turned : (s : List ℕ) → Bytes s → wordAt highFirst (fourOf (wordAt lowFirst s 0)) 0 ≡ wordAt highFirst s 0
+turned s h =
+    ap (λ (l : List ℕ). wordAt highFirst l 0)
+    (written-one (getD s 0 0) (getD s 1 0) (getD s 2 0) (getD s 3 0) (h 0) (h 1) (h 2))
 
 pub written-back : (s : List ℕ) (n : ℕ) → length s ≡ 4 * n → Bytes s → bytesOf (wordsOf s) ≡ s
 unfolding bytesOf wordsBy

@@ -6,7 +6,7 @@ ghost use mathlib.Core.Path.{_≡_};
 ghost use Prim.Native.Nat.{_+_, _*_, _≤_};
 ghost use lib.ListN.{length};
 ghost use Rattle.list.specs.Parts.{part};
-ghost use Rattle.c_layout.specs.Words.{lowFirst, highFirst, wordAt, wordsOf, itemsOf, bytesOf, putAt};
+ghost use Rattle.c_layout.specs.Words.{lowFirst, highFirst, wordAt, wordsOf, itemsOf, fourOf, bytesOf, putAt};
 ghost use Rattle.c_layout.specs.Called.{packed, packedReport};
 use line::taking::Report;
 
@@ -24,12 +24,19 @@ fn word_in(b: &[u8]) -> u32
     low_first(b[0], b[1], b[2], b[3])
 }
 
-// The same, high byte first.
+// A word with its bytes the other way round.
+fn swapped(x: u32) -> u32
+    ensures { λ r. ⌜ r ≡ wordAt highFirst (fourOf x) 0 ⌝ }
+{
+    x % 256 * 16777216 + x / 256 % 256 * 65536 + x / 65536 % 256 * 256 + x / 16777216
+}
+
+// The same, high byte first. The load stands alone, so that a loop over items is vectorised.
 fn item_in(b: &[u8]) -> u32
     requires { ⌜ length (now b) ≡ 4 ⌝ }
     ensures { λ r. ⌜ r ≡ wordAt highFirst (now (b .entry)) 0 ⌝ }
 {
-    low_first(b[3], b[2], b[1], b[0])
+    swapped(word_in(b))
 }
 
 // The words of bytes, low byte first.

@@ -10,6 +10,7 @@ use crate::report_read;
 use crate::size_at;
 use c_layout::answer;
 use c_layout::get;
+use c_layout::put;
 use c_layout::report;
 use c_server::SIZE;
 use c_server::layout;
@@ -41,7 +42,8 @@ fn finish(end: &mut [u8], a: Changed, words: &[u32]) -> u64
         return report(a.refusal, k);
     }
     let counts = a.counts;
-    layout::write(end, counts, words);
+    put(end, layout::WORDS, words);
+    layout::write_counts(end, counts);
     report(a.refusal, k)
 }
 
@@ -70,7 +72,8 @@ fn finish_one(end: &mut [u8], a: Changed, words: &[u32], read: u8) -> u64
         return report(a.refusal, k);
     }
     let counts = a.counts;
-    layout::write(end, counts, words);
+    put(end, layout::WORDS, words);
+    layout::write_counts(end, counts);
     report_read(k, read)
 }
 

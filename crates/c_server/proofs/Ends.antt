@@ -16,10 +16,10 @@ use Rattle.c_layout.specs.Words.{lowFirst, wordAt, wordsOf, bytesOf, putAt, Byt
 use Rattle.c_layout.specs.Numbers.{capped, cappedLine, linesAt, linesWords}
 use Rattle.c_layout.specs.Ranks.{ranksIn, ranked}
 use Rattle.c_layout.proofs.Parts.{words-many}
-use Rattle.c_layout.proofs.Ranked.{ranked-words, ranked-ranks, ranked-length, ranked-again, ranked-written}
+use Rattle.c_layout.proofs.Ranked.{ranked-words, ranked-ranks, ranked-length, ranked-again, numbers-written, words-behind}
 use Rattle.c_layout.proofs.Counts as counts
 use Rattle.c_server.specs.Layout.{size, numbers, countsOf, countsIn, firstIn, restIn, bytesIn, endIn, RoundTrips}
-use Rattle.c_server.specs.Reading.{cappedCounts, cappedEnd, numbersIn}
+use Rattle.c_server.specs.Reading.{cappedCounts, cappedEnd, numbersIn, frontIn}
 
 -- ---- round trips
 
@@ -149,12 +149,18 @@ end-read bytes words k ew ek = λ i. serverOf (ek i) (ew i)
 
 -- ---- what the code writes
 
--- the numbers, the words, and then the ranks over two words of the numbers
-pub end-written : (k : Counts) (words s b₁ b₂ b₃ : List ℕ) → Sizes k words → b₁ ≡ putAt 0 (bytesOf (numbersIn k)) s
-    → b₂ ≡ putAt (4 * numbers) (bytesOf words) b₁ → b₃ ≡ putAt 12 (k .ranks) b₂ → b₃ ≡ bytesIn (serverOf k words) ++ drop size s
+-- the numbers, and then the ranks over two words of them
+pub counts-written : (k : Counts) (s b₁ b₂ : List ℕ) → length (k .ranks) ≡ maxLines → length (k .lines) ≡ maxLines
+    → b₁ ≡ putAt 0 (bytesOf (numbersIn k)) s → b₂ ≡ putAt 12 (k .ranks) b₁ → b₂ ≡ frontIn k ++ drop (4 * numbers) s
+counts-written k s b₁ b₂ eight lines e₁ e₂ =
+    numbers-written (4 * numbers) (k .n) (k .initial) (k .len) 0 0 (linesWords (k .lines) ++ (k .total ∷ [])) (k .ranks) s b₁ b₂ eight
+    (omega (arith, length-append (linesWords (k .lines)) (k .total ∷ []), counts.words-size (k .lines))) e₁ e₂
+
+-- they are written in front of the words
+pub end-written : (k : Counts) (words s b₁ b₂ : List ℕ) → size ≤ length s → length words ≡ server.size → b₁ ≡ putAt (4 * numbers) (bytesOf words) s
+    → b₂ ≡ frontIn k ++ drop (4 * numbers) b₁ → b₂ ≡ bytesIn (serverOf k words) ++ drop size s
 unfolding bytesIn
-end-written k words s b₁ b₂ b₃ z e₁ e₂ e₃ =
+end-written k words s b₁ b₂ h e e₁ e₂ =
     let ns : List ℕ = linesWords (k .lines) ++ (k .total ∷ []) in
-    ranked-written size (4 * numbers) (k .n) (k .initial) (k .len) 0 0 ns words (k .ranks) s b₁ b₂ b₃ (z .ranks) (omega (arith, z .words))
-    (omega (arith, length-append (linesWords (k .lines)) (k .total ∷ []), counts.words-size (k .lines), z .lines)) e₁ e₂ e₃
+    e₂ ∙ words-behind size (4 * numbers) (firstIn k) (k .ranks) ns words s b₁ (omega arith) h e₁
     ∙ ap (λ (l : List ℕ). ranked (firstIn k) (k .ranks) l ++ drop size s) (append-assoc (linesWords (k .lines)) (k .total ∷ []) words)

@@ -5,6 +5,7 @@ use Rattle.server.specs.declared.Counts.{Counts}
 use Rattle.server.specs.declared.Server.{Server}
 use Rattle.server.specs.View.{serverOf}
 use Rattle.c_layout.specs.Numbers.{capped, cappedLine, linesWords}
+use Rattle.c_layout.specs.Ranks.{ranked}
 use Rattle.c_server.specs.Layout.{firstIn}
 
 abbrev pub cappedCounts : Counts → Counts
@@ -24,3 +25,7 @@ cappedEnd s = serverOf (cappedCounts (s .counts)) (s .words)
 -- the numbers as words, before the ranks come over two of them
 abbrev pub numbersIn : Counts → List ℕ
 numbersIn k = firstIn k ++ (0 ∷ 0 ∷ (linesWords (k .lines) ++ (k .total ∷ [])))
+
+-- the bytes of an end in front of its words
+abbrev pub frontIn : Counts → List ℕ
+frontIn k = ranked (firstIn k) (k .ranks) (linesWords (k .lines) ++ (k .total ∷ []))

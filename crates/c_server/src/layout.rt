@@ -1,12 +1,10 @@
 // The server's numbers and words from its bytes, and back.
 ghost use mathlib.Core.Path.{_≡_};
 ghost use mathlib.Core.List.{_++_};
-ghost use Prim.Native.Nat.{_≤_};
+ghost use Prim.Native.Nat.{_*_, _≤_};
 ghost use lib.ListN.{length, drop, replicate};
-ghost use Rattle.server.specs.View as server;
-ghost use Rattle.server.specs.View.{serverOf};
-ghost use Rattle.c_server.specs.Layout.{size, numbers, countsIn, bytesIn};
-ghost use Rattle.c_server.specs.Reading.{cappedCounts, numbersIn};
+ghost use Rattle.c_server.specs.Layout.{size, numbers, countsIn};
+ghost use Rattle.c_server.specs.Reading.{cappedCounts, numbersIn, frontIn};
 use c_layout::get;
 use c_layout::numbers::LINE;
 use c_layout::numbers::in_8;
@@ -82,14 +80,13 @@ fn put_counts(k: Counts, words: &mut [u32])
     }
 }
 
-// The ranks go over the two words of the numbers that are left zero.
-pub fn write(bytes: &mut [u8], k: Counts, words: &[u32])
-    requires { ⌜ (size ≤ length (now bytes)) × (length (now words) ≡ server.size) ⌝ }
-    ensures { λ _. ⌜ now (bytes .exit) ≡ bytesIn (serverOf k (now (words .entry))) ++ drop size (now (bytes .entry)) ⌝ }
+// The numbers go to the bytes, and the ranks over the two words of them that are left zero.
+pub fn write_counts(bytes: &mut [u8], k: Counts)
+    requires { ⌜ size ≤ length (now bytes) ⌝ }
+    ensures { λ _. ⌜ now (bytes .exit) ≡ frontIn k ++ drop (4 * numbers) (now (bytes .entry)) ⌝ }
 {
     let mut numbers = [0u32; WORDS];
     put_counts(k, &mut numbers);
     put(bytes, N, &numbers);
-    put(bytes, WORDS, words);
     ranks::write(bytes, &k.ranks);
 }

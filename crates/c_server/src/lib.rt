@@ -1,6 +1,6 @@
 // The server's calls over its lent bytes: question 18, the end read into words of its own, the call on these, and unless it was refused the
-// end written back. An answer is one number: the refusal, the count or length beside it, and of a taking its positions. Words and numbers are read by two calls: the
-// first is short enough to be inlined, and becomes a copy of memory.
+// end written back. An answer is one number: the refusal, the count or length beside it, and of a taking its positions. Words and numbers are read and written by
+// two calls: that of the words is short enough to be inlined, and becomes a copy of memory.
 pub mod layout;
 
 ghost use mathlib.Core.Path.{_≡_};
@@ -13,6 +13,7 @@ ghost use Rattle.c_server.specs.Layout.{size};
 ghost use Rattle.c_server.specs.Calls.{returned, answered, openedIn, takenIn, sentIn, acknowledgedIn};
 use c_layout::answer;
 use c_layout::get;
+use c_layout::put;
 use c_layout::report;
 use server::Changed;
 use server::Server;
@@ -20,7 +21,8 @@ use server::Server;
 // The bytes of the server.
 pub const SIZE: usize = layout::SIZE;
 
-// What a call answers. Unless it was refused, the server that it left is written.
+// What a taking answers. Unless it was refused, the server that it left is written. Opening has the same lines: a function that is called once is
+// inlined, and its words become a copy of memory.
 fn finish(end: &mut [u8], a: Changed, words: &[u32]) -> u64
     requires { ⌜ (size ≤ length (now end)) × (length (now words) ≡ server.size) ⌝ }
     ensures { λ r. ⌜ returned r (now (end .exit)) ≡ answered (answerOf a (now (words .entry))) (now (end .entry)) ⌝ }
@@ -30,7 +32,8 @@ fn finish(end: &mut [u8], a: Changed, words: &[u32]) -> u64
         return report(a.refusal, k);
     }
     let counts = a.counts;
-    layout::write(end, counts, words);
+    put(end, layout::WORDS, words);
+    layout::write_counts(end, counts);
     report(0, k)
 }
 
@@ -41,8 +44,15 @@ fn open_with(end: &mut [u8], n: u8, ranks: &[u8], items: &[u8], list: &mut [u32]
 {
     c_layout::decode_items(items, list);
     let mut words = [0u32; Server::WORDS];
-    let a = server::open_lent(n, ranks, list, &mut words);
-    finish(end, a, &words)
+    let opened = server::open_lent(n, ranks, list, &mut words);
+    let k = opened.report;
+    if opened.refusal != 0 {
+        return report(opened.refusal, k);
+    }
+    let counts = opened.counts;
+    put(end, layout::WORDS, &words);
+    layout::write_counts(end, counts);
+    report(0, k)
 }
 
 // Opens a sheet of n lines, with the ranks of all lines, a byte each, and the items as its list: four bytes each, high byte first.

@@ -1,38 +1,31 @@
+use native.Mathlib.Omega.{arith}
+use mathlib.Core.Path.{ap, _∙_}
+use mathlib.Core.List.{List}
+use Prim.Native.Nat.{ℕ}
+use denote.Ref.{now}
+use Rattle.c_layout.specs.Words.{highFirst, wordAt, fourOf}
+use Rattle.c_layout.proofs.Words.{turned}
 use borrow.Author.Needs.{needs}
 use Rattle.c_layout.proofs.item_in.Statement.{statement}
 use Rattle.c_layout.proofs.item_in.Tie as tie
 
--- src/lib.rt:28:15
-shared-slice-read-low-first : tie.Need-shared-slice-read-low-first
-shared-slice-read-low-first c = search needs
+abbrev word : tie.After-swapped → tie.After-word-in
+word c = c .before
 
--- src/lib.rt:28:21
-shared-slice-read-low-first-2 : tie.Need-shared-slice-read-low-first-2
-shared-slice-read-low-first-2 c = search needs
+abbrev start : tie.After-word-in → tie.Start
+start c = c .before .before
 
--- src/lib.rt:28:27
-shared-slice-read-low-first-3 : tie.Need-shared-slice-read-low-first-3
-shared-slice-read-low-first-3 c = search needs
+word-in-requires : tie.Need-word-in-requires
+word-in-requires c κs = search needs
 
--- src/lib.rt:28:33
-shared-slice-read-low-first-4 : tie.Need-shared-slice-read-low-first-4
-shared-slice-read-low-first-4 c = search needs
+swapped-requires : tie.Need-swapped-requires
+swapped-requires c κs = search needs
 
--- src/lib.rt:28:5
-low-first-requires : tie.Need-low-first-requires
-low-first-requires c κs = search needs
-
--- src/lib.rt:24:1
 returns : tie.Need-returns
-returns c = search needs
+returns c =
+    let w = word c in
+    c .swapped .ensures ∙ ap (λ (x : ℕ). wordAt highFirst (fourOf x) 0) (w .word-in .ensures)
+    ∙ turned (now (start w .args .b)) (λ i. omega (arith, c .before .before .shared-slice-known .given i))
 
 pub item-in-spec : {M : Type 1} → statement M
-item-in-spec =
-    tie.close
-    (tie.spec
-    shared-slice-read-low-first
-    shared-slice-read-low-first-2
-    shared-slice-read-low-first-3
-    shared-slice-read-low-first-4
-    low-first-requires
-    returns)
+item-in-spec = tie.close (tie.spec word-in-requires swapped-requires returns)

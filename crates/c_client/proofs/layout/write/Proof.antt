@@ -14,10 +14,10 @@ abbrev second : tie.After-write → tie.After-put2
 second c = c .before .before .before .before .before .before .before
 
 abbrev first : tie.After-put2 → tie.After-put
-first c = c .before .before .before .before
+first c = c .before .before .before .before .before
 
 abbrev line : tie.After-put → tie.After-put-line
-line c = c .before .before .before .before
+line c = c .before .before .before
 
 abbrev start : tie.After-put-line → tie.Start
 start c = c .before .before .before .before .before
@@ -58,11 +58,11 @@ slice-aggregate-put-line c = search needs
 put-line-requires : tie.Need-put-line-requires
 put-line-requires c κs = search needs
 
-slice-aggregate-put : tie.Need-slice-aggregate-put
-slice-aggregate-put c = search needs
-
 put-requires : tie.Need-put-requires
 put-requires c κs = search needs
+
+slice-aggregate-put : tie.Need-slice-aggregate-put
+slice-aggregate-put c = search needs
 
 put-requires-2 : tie.Need-put-requires-2
 put-requires-2 c κs = search needs
@@ -81,8 +81,8 @@ returns c =
     let l = line p₁ in
     let s = start l in
     let a = s .args in
-    end-written (a .t2) (now (a .words)) (now (a .bytes)) (p₁ .put .last .0) (p₂ .put2 .last .0) (w .write .last .0) (ranks-eight s) (s .pre .1)
-    (p₁ .put .ensures ∙ ap (λ (ns : List ℕ). putAt 0 (bytesOf ns) (now (a .bytes))) (l .put-line .ensures)) (p₂ .put2 .ensures) (w .write .ensures)
+    end-written (a .t2) (now (a .words)) (now (a .bytes)) (p₁ .put .last .0) (p₂ .put2 .last .0) (w .write .last .0) (ranks-eight s) (s .pre .1) (s .pre .0)
+    (p₁ .put .ensures) (p₂ .put2 .ensures ∙ ap (λ (ns : List ℕ). putAt 0 (bytesOf ns) (p₁ .put .last .0)) (l .put-line .ensures)) (w .write .ensures)
 
 pub write-spec : {M : Type 1} → statement M
 write-spec =
@@ -99,8 +99,8 @@ write-spec =
     array-write-numbers-6
     slice-aggregate-put-line
     put-line-requires
-    slice-aggregate-put
     put-requires
+    slice-aggregate-put
     put-requires-2
     write-requires
     same-length

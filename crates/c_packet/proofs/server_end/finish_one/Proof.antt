@@ -4,15 +4,19 @@ use denote.Ref.{now}
 use Rattle.server.specs.View.{serverOf}
 use Rattle.c_layout.proofs.Called.{one-no, one-done}
 use Rattle.c_server.specs.Layout.{size, bytesIn}
+use Rattle.c_server.proofs.Ends.{end-written}
 use Rattle.c_packet.specs.Calls.{serverOne}
 use borrow.Author.Needs.{needs}
 use Rattle.c_packet.proofs.server_end.finish_one.Statement.{statement}
 use Rattle.c_packet.proofs.server_end.finish_one.Tie as tie
 
-abbrev written : tie.After-report-read → tie.After-write
+abbrev written : tie.After-report-read → tie.After-write-counts
 written c = c .before .before .before
 
-abbrev right : tie.After-write → tie.Else1
+abbrev put : tie.After-write-counts → tie.After-put
+put c = c .before .before .before .before
+
+abbrev right : tie.After-put → tie.Else1
 right c = c .before .before .before
 
 abbrev start : tie.Else1 → tie.Start
@@ -28,8 +32,11 @@ returns c =
     let new = bytesIn (serverOf (a .a .counts) (now (a .words))) in
     one-no size (a .a .refusal) (a .a .report) new (now (a .end)) (c .report .result) (a .read) (λ z. c .before .if1 .taken (omega (arith, z))) (c .report .ensures)
 
-write-requires : tie.Need-write-requires
-write-requires c κs = search needs
+put-requires : tie.Need-put-requires
+put-requires c κs = search needs
+
+write-counts-requires : tie.Need-write-counts-requires
+write-counts-requires c κs = search needs
 
 report-read-requires : tie.Need-report-read-requires
 report-read-requires c κs = search needs
@@ -41,13 +48,16 @@ returns-2 : tie.Need-returns-2
 unfolding serverOne
 returns-2 c =
     let w = written c in
-    let r = right w in
-    let a = start r .args in
+    let p = put w in
+    let r = right p in
+    let s = start r in
+    let a = s .args in
     let new = bytesIn (serverOf (a .a .counts) (now (a .words))) in
-    one-done size (a .a .refusal) (a .a .report) new (now (a .end)) (c .report-read .result) (a .read) (w .write .last .0) (omega (arith, r .if1 .left))
-    (c .report-read .ensures) (w .write .ensures)
+    one-done size (a .a .refusal) (a .a .report) new (now (a .end)) (c .report-read .result) (a .read) (w .write-counts .last .0) (omega (arith, r .if1 .left))
+    (c .report-read .ensures)
+    (end-written (a .a .counts) (now (a .words)) (now (a .end)) (p .put .last .0) (w .write-counts .last .0) (s .pre .0) (s .pre .1) (p .put .ensures) (w .write-counts .ensures))
 
 pub finish-one-spec : {M : Type 1} → statement M
 finish-one-spec =
     tie.close
-    (tie.spec report-requires returns write-requires report-read-requires same-length returns-2)
+    (tie.spec report-requires returns put-requires write-counts-requires report-read-requires same-length returns-2)
