@@ -49,6 +49,17 @@ eqb-differ m n h = go (eqb m n) refl
     go true e = absurd (h (eqb-eq m n e))
     go false e = e
 
+-- One line's part replaced, the others' as they were (`History.at`): what holds of line l as it is now, and of every other line as it was, holds of each.
+pub by-line : (l : ℕ) (P : ℕ → Bool → Type 0) → P l true → ((k : ℕ) → eqb l k ≡ false → P k false) → (k : ℕ) → P k (eqb l k)
+by-line l P here there k = go (eqb l k) refl
+  where
+    go : (b : Bool) → eqb l k ≡ b → P k b
+    go true q = subst (λ r. P r true) (eqb-eq l k q) here
+    go false q = there k q
+
+pub not-line : (l k : ℕ) → eqb l k ≡ false → l ≢ k
+not-line l k q e = true≢false (sym (eqb-same l) ∙ ap (eqb l) e ∙ q)
+
 -- below m + 1: below m, or m
 pub below-suc : (i m : ℕ) → i < suc m → (i < m) ⊎ (i ≡ m)
 below-suc i m h = go (ltb i m) refl
