@@ -20,6 +20,7 @@ use Rattle.jupiter.specs.Ends.{Ends, EditMessage, keeps, acks, takes, arrived}
 use Rattle.jupiter.specs.Run.{Message, up, down, upAck, downAck}
 use Rattle.jupiter.specs.Claims.{inserts}
 use Rattle.jupiter.proofs.Lists.{All}
+use Rattle.jupiter.proofs.Grid.{by-line}
 use Rattle.jupiter.proofs.World.{Inv}
 use Rattle.jupiter.proofs.Step.{Later, later-refl}
 use Rattle.jupiter.proofs.Runs.{Fine}
@@ -31,9 +32,9 @@ use Rattle.model.specs.Client.{Client, soundClient, with, edited, client
 use Rattle.model.specs.Server.{Server, lineOf, makersOf, soundServer, atPlace, unackedMakers, serverTaken, serverAcked}
 use Rattle.model.specs.Ranks.{rankOf}
 use Rattle.model.specs.Edits.{Named, appliedNamed, Rule, editsBy, edits}
-use Rattle.model.specs.Log.{wireMessage, messageBytes}
+use Rattle.model.specs.Log.{Log, wireMessage, messageBytes}
 use Rattle.model.specs.Run.{State, areItems}
-use Rattle.model.specs.Ours.{client, server, ours}
+use Rattle.model.specs.Ours.{End, client, server, ours}
 use Rattle.model.proofs.Table.{table, table-cong, table-get, table-at, cond-ne}
 use Rattle.model.proofs.Ranks.{Ranking, ranking-facts}
 use Rattle.model.proofs.SoundServer.{server-facts}
@@ -111,30 +112,38 @@ pub record Sim (n : ℕ) (items : List Place) {ranks : List ℕ} (from : Moment 
   pub back-small : (l : ℕ) → Small (bk l)
   pub docs-small : (l : ℕ) → areItems (itemsOf (E .docs l)) ≡ true
 
+-- a log with other messages and reports
+abbrev pub writing : {ranks : List ℕ} → Log ranks → List (Message (edits ranks)) → List Report → Log ranks
+writing w xs ks = record { history = w .history; shown = w .shown; undo = w .undo; heard = w .heard; messages = xs; reports = ks }
+
 -- the moment that a simulation has come to, and from which it may go on
 abbrev pub present : {n : ℕ} {items : List Place} {ranks : List ℕ} {from : Moment ranks} {s : State ours ranks} → Sim n items from s → Moment ranks
 present {s = s} sim = record { ends = sim .E; history = s .recorded .history }
 
-pub from-here : {n : ℕ} {items : List Place} {ranks : List ℕ} {from : Moment ranks} {s : State ours ranks} (sim : Sim n items from s) → Sim n items (present sim) s
-from-here {s = s} sim =
+-- another state with the same ends and edits: it may count from another moment, and have other messages and reports
+pub beside : {n : ℕ} {items : List Place} {ranks : List ℕ} {from from′ : Moment ranks} {s : State ours ranks} {now : ℕ → End} {bytes : List (List ℕ)} {xs : List (Message (edits ranks))}
+    {ks ls : List Report} (sim : Sim n items from s) → Later (from′ .ends) (from′ .history) (sim .E) (s .recorded .history) → ((j : ℕ) → now j ≡ s .ends j) → bytes ≡ map messageBytes xs
+    → All (MessageOk n ranks items (sim .E) (s .recorded .history)) xs → ks ≡ ls
+    → Sim n items from′ (record { ends = now; messages = bytes; reports = ks; recorded = writing (s .recorded) xs ls })
+beside sim later same bytes-are ok reports-are =
     record {
       E = sim .E;
       ci = sim .ci;
       si = sim .si;
       bk = sim .bk;
       inv = sim .inv;
-      later = later-refl (sim .E) (s .recorded .history);
-      server-is = sim .server-is;
-      client-is = sim .client-is;
+      later = later;
+      server-is = same 0 ∙ sim .server-is;
+      client-is = λ l p q. same l ∙ sim .client-is l p q;
       server-sound = sim .server-sound;
       client-sound = sim .client-sound;
       server-shown = sim .server-shown;
       client-shown = sim .client-shown;
       server-heard = sim .server-heard;
       client-heard = sim .client-heard;
-      messages = sim .messages;
-      written = sim .written;
-      reports = sim .reports;
+      messages = bytes-are;
+      written = ok;
+      reports = reports-are;
       taken = sim .taken;
       served-lines = sim .served-lines;
       ci-is = sim .ci-is;
@@ -147,6 +156,9 @@ from-here {s = s} sim =
       docs-small = sim .docs-small;
     }
 
+pub from-here : {n : ℕ} {items : List Place} {ranks : List ℕ} {from : Moment ranks} {s : State ours ranks} (sim : Sim n items from s) → Sim n items (present sim) s
+from-here {s = s} sim = beside sim (later-refl (sim .E) (s .recorded .history)) (λ j. refl) (sim .messages) (sim .written) (sim .reports)
+
 -- question 2 has found a ranking, and so the edits have the theory's laws
 pub ranked : {n : ℕ} {items : List Place} {ranks : List ℕ} {from : Moment ranks} {s : State ours ranks} → Sim n items from s → Ranking n ranks
 ranked {n = n} {items = items} {ranks = ranks} sim =
@@ -156,22 +168,12 @@ pub laws : {n : ℕ} {items : List Place} {ranks : List ℕ} {from : Moment rank
 laws sim = edit-laws (ranked sim)
 
 -- ---- one line changed, the others as they were
-module _ {A B C D F : Type 0} (R : ℕ → A → B → C → D → F → Type 0) (l : ℕ) (v : A) (w : B) (x : C) (y : D) (z : F)
-    (f : ℕ → A) (g : ℕ → B) (h : ℕ → C) (k : ℕ → D) (m : ℕ → F) where
-  pub at-lines : (j : ℕ) → R l v w x y z → R j (f j) (g j) (h j) (k j) (m j) → R j (at l v f j) (at l w g j) (at l x h j) (at l y k j) (at l z m j)
-  at-lines j here there = go (eqb l j) refl
-    where
-      go : (b : Bool) → eqb l j ≡ b → R j (cond b v (f j)) (cond b w (g j)) (cond b x (h j)) (cond b y (k j)) (cond b z (m j))
-      go true e = subst (λ (i : ℕ). R i v w x y z) (eqb-true l j e) here
-      go false e = there
-
--- of four families
-module _ {A B C D : Type 0} (R : ℕ → A → B → C → D → Type 0) (l : ℕ) (v : A) (w : B) (x : C) (y : D) (f : ℕ → A) (g : ℕ → B) (h : ℕ → C) (k : ℕ → D) where
-  pub at-line : (j : ℕ) → R l v w x y → R j (f j) (g j) (h j) (k j) → R j (at l v f j) (at l w g j) (at l x h j) (at l y k j)
-  at-line = at-lines (λ i a b c d (u : Unit {0}). R i a b c d) l v w x y tt f g h k (λ i. tt)
-
 pub at-other : {A : Type 0} (l : ℕ) (v : A) (f : ℕ → A) (j : ℕ) → (l ≡ j → ⊥) → at l v f j ≡ f j
 at-other l v f j h = cond-ne l j v (f j) h
+
+-- a line's own value put in its place
+pub at-its : {A : Type 0} (l : ℕ) (v : A) (f : ℕ → A) → f l ≡ v → (j : ℕ) → at l v f j ≡ f j
+at-its l v f e = by-line l (λ j b. cond b v (f j) ≡ f j) (sym e) (λ j q. refl)
 
 -- ---- a line and the ends after a call, as the theory's
 
