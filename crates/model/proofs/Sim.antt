@@ -1,13 +1,12 @@
 -- The sheet follows the theory: its ends are the theory's ends with 01's limits, and its log is the theory's history.
-use mathlib.Core.Path.{_≡_, refl, ap, ap₂, sym, _∙_, subst}
-use mathlib.Core.Bool.{Bool, true, false, cond}
+use mathlib.Core.Path.{_≡_, refl, ap, ap₂, sym, _∙_}
+use mathlib.Core.Bool.{true, cond}
 use mathlib.Core.List.{List, [], _∷_, _++_, map, map-append}
 use Prim.Native.Nat.{ℕ, suc, _+_, _-_, _≤_}
 use native.Mathlib.Numerals.{add-one}
 use native.Mathlib.Omega.{arith}
 use lib.Dec.{eqb}
 use lib.ListN.{length, drop}
-use borrow.Author.Tests.{eqb-true}
 use Rattle.ot.specs.Edit.{Edit, fits, transformed}
 use Rattle.list.specs.declared.Origin.{Origin}
 use Rattle.list.specs.Places.{Place, itemsOf, appliedBy}
@@ -251,8 +250,8 @@ module _ {by : Rule} (n initial : ℕ) (ranks : List ℕ) (items : List Place) (
       ∙ table-cong (λ j. cond (eqb l j) (f (u j)) (g (u j))) h 1 n (λ j a b. one j)
 
   -- the origins that line l keeps once it has seen so many
-  dropped : (seen : ℕ) (os : List Origin) → os ≡ makersIn (vs l .pending) → unackedMakers S l seen os ≡ makersIn (drop (seen - vs l .acked) (vs l .pending))
-  dropped seen os e = ap₂ (λ (v : Line) (r : List Origin). drop (seen - v .acked) r) line-from e ∙ map-drop (λ d. d .origin) (seen - vs l .acked) (vs l .pending)
+  dropped : (seen : ℕ) → unackedMakers S l seen (makersIn (vs l .pending)) ≡ makersIn (drop (seen - vs l .acked) (vs l .pending))
+  dropped seen = ap (λ (v : Line). drop (seen - v .acked) (makersIn (vs l .pending))) line-from ∙ map-drop (λ d. d .origin) (seen - vs l .acked) (vs l .pending)
 
   module _ (x : EditMessage (editsBy by)) where
     abbrev c : Edit
@@ -270,22 +269,20 @@ module _ {by : Rule} (n initial : ℕ) (ranks : List ℕ) (items : List Place) (
     abbrev taking : Line → Line
     taking v = lineTaken (v .inserts + insertsOf (x .edit .edit)) (x .seen) (x .edit .edit) v
 
-    taken-line : (j : ℕ) (y : Bool) → eqb l j ≡ y
-        → cond y (taking (lineFrom (vs j) (is j))) (lineKeeps (is j) c (lineFrom (vs j) (is j)))
-        ≡ lineFrom (cond y (takes x (vs l)) (keeps a (vs j))) (cond y (is l + insertsOf (x .edit .edit)) (is j))
-    taken-line j true e =
-        subst (λ (k : ℕ). taking (lineFrom (vs k) (is k)) ≡ lineFrom (takes x (vs l)) (is l + insertsOf (x .edit .edit))) (eqb-true l j e)
+    taken-line : (j : ℕ) → cond (eqb l j) (taking (lineFrom (vs j) (is j))) (lineKeeps (is j) c (lineFrom (vs j) (is j))) ≡ lineFrom (vs′ j) (is′ j)
+    taken-line =
+        by-line l (λ j t. cond t (taking (lineFrom (vs j) (is j))) (lineKeeps (is j) c (lineFrom (vs j) (is j)))
+        ≡ lineFrom (cond t (takes x (vs l)) (keeps a (vs j))) (cond t (is l + insertsOf (x .edit .edit)) (is j)))
         (taken-line-from (vs l) (is l) (is l + insertsOf (x .edit .edit)) x)
-    taken-line j false e = ap (λ (d : Edit). lineKeeps (is j) d (lineFrom (vs j) (is j))) (carried-from x) ∙ kept-line-from (vs j) (is j) (is j) a
+        (λ j q. ap (λ (d : Edit). lineKeeps (is j) d (lineFrom (vs j) (is j))) (carried-from x) ∙ kept-line-from (vs j) (is j) (is j) a)
 
-    taken-makers : (j : ℕ) (y : Bool) → eqb l j ≡ y
-        → cond y (unackedMakers S l (x .seen) (makersIn (vs j .pending))) (makersIn (vs j .pending) ++ (x .edit .origin ∷ [])) ≡ makersIn (cond y (takes x (vs l)) (keeps a (vs j)) .pending)
-    taken-makers j true e =
-        dropped (x .seen) (makersIn (vs j .pending)) (ap (λ (k : ℕ). makersIn (vs k .pending)) (sym (eqb-true l j e)))
-        ∙ sym (over-origins by (x .edit) (drop (x .seen - vs l .acked) (vs l .pending)))
-    taken-makers j false e =
-        ap (λ (o : Origin). makersIn (vs j .pending) ++ (o ∷ [])) (sym (past-origin by (x .edit) (drop (x .seen - vs l .acked) (vs l .pending))))
-        ∙ sym (map-append (λ d. d .origin) (vs j .pending) (a ∷ []))
+    taken-makers : (j : ℕ) → cond (eqb l j) (unackedMakers S l (x .seen) (makersIn (vs j .pending))) (makersIn (vs j .pending) ++ (x .edit .origin ∷ [])) ≡ makersIn (vs′ j .pending)
+    taken-makers =
+        by-line l (λ j t. cond t (unackedMakers S l (x .seen) (makersIn (vs j .pending))) (makersIn (vs j .pending) ++ (x .edit .origin ∷ []))
+        ≡ makersIn (cond t (takes x (vs l)) (keeps a (vs j)) .pending))
+        (dropped (x .seen) ∙ sym (over-origins by (x .edit) (drop (x .seen - vs l .acked) (vs l .pending))))
+        (λ j q. ap (λ (o : Origin). makersIn (vs j .pending) ++ (o ∷ [])) (sym (past-origin by (x .edit) (drop (x .seen - vs l .acked) (vs l .pending))))
+        ∙ sym (map-append (λ d. d .origin) (vs j .pending) (a ∷ [])))
 
     pub server-taken-from : serverTaken S l (x .edit .origin) (x .seen) (x .edit .edit) ≡ serverFrom n initial ranks (appliedNamed a items) vs′ is′
     server-taken-from =
@@ -294,21 +291,23 @@ module _ {by : Rule} (n initial : ℕ) (ranks : List ℕ) (items : List Place) (
           initial = initial;
           ranks = ranks;
           items = arrived-list (vs l) items x c (carried-from x) i;
-          lines = changed taking (λ v. lineKeeps (v .inserts) c v) (λ j. lineFrom (vs j) (is j)) (λ j. lineFrom (vs′ j) (is′ j)) (λ j. taken-line j (eqb l j) refl) i;
-          makers = changed (unackedMakers S l (x .seen)) (λ os. os ++ (x .edit .origin ∷ [])) (λ j. makersIn (vs j .pending)) (λ j. makersIn (vs′ j .pending)) (λ j. taken-makers j (eqb l j) refl) i;
+          lines = changed taking (λ v. lineKeeps (v .inserts) c v) (λ j. lineFrom (vs j) (is j)) (λ j. lineFrom (vs′ j) (is′ j)) taken-line i;
+          makers = changed (unackedMakers S l (x .seen)) (λ os. os ++ (x .edit .origin ∷ [])) (λ j. makersIn (vs j .pending)) (λ j. makersIn (vs′ j .pending)) taken-makers i;
         }
 
   module _ (seen : ℕ) where
     abbrev ws : ℕ → ends.End (editsBy by)
     ws = at l (acks seen (vs l)) vs
 
-    acked-line : (j : ℕ) (y : Bool) → eqb l j ≡ y → cond y (lineAcked seen (lineFrom (vs j) (is j))) (lineFrom (vs j) (is j)) ≡ lineFrom (cond y (acks seen (vs l)) (vs j)) (is j)
-    acked-line j true e = subst (λ (k : ℕ). lineAcked seen (lineFrom (vs k) (is k)) ≡ lineFrom (acks seen (vs l)) (is k)) (eqb-true l j e) (acked-line-from (vs l) (is l) seen)
-    acked-line j false e = refl
+    acked-line : (j : ℕ) → cond (eqb l j) (lineAcked seen (lineFrom (vs j) (is j))) (lineFrom (vs j) (is j)) ≡ lineFrom (ws j) (is j)
+    acked-line =
+        by-line l (λ j t. cond t (lineAcked seen (lineFrom (vs j) (is j))) (lineFrom (vs j) (is j)) ≡ lineFrom (cond t (acks seen (vs l)) (vs j)) (is j))
+        (acked-line-from (vs l) (is l) seen) (λ j q. refl)
 
-    acked-makers : (j : ℕ) (y : Bool) → eqb l j ≡ y → cond y (unackedMakers S l seen (makersIn (vs j .pending))) (makersIn (vs j .pending)) ≡ makersIn (cond y (acks seen (vs l)) (vs j) .pending)
-    acked-makers j true e = dropped seen (makersIn (vs j .pending)) (ap (λ (k : ℕ). makersIn (vs k .pending)) (sym (eqb-true l j e)))
-    acked-makers j false e = refl
+    acked-makers : (j : ℕ) → cond (eqb l j) (unackedMakers S l seen (makersIn (vs j .pending))) (makersIn (vs j .pending)) ≡ makersIn (ws j .pending)
+    acked-makers =
+        by-line l (λ j t. cond t (unackedMakers S l seen (makersIn (vs j .pending))) (makersIn (vs j .pending)) ≡ makersIn (cond t (acks seen (vs l)) (vs j) .pending))
+        (dropped seen) (λ j q. refl)
 
     pub server-acked-from : serverAcked S l seen ≡ serverFrom n initial ranks items ws is
     server-acked-from =
@@ -317,6 +316,6 @@ module _ {by : Rule} (n initial : ℕ) (ranks : List ℕ) (items : List Place) (
           initial = initial;
           ranks = ranks;
           items = items;
-          lines = changed (lineAcked seen) (λ v. v) (λ j. lineFrom (vs j) (is j)) (λ j. lineFrom (ws j) (is j)) (λ j. acked-line j (eqb l j) refl) i;
-          makers = changed (unackedMakers S l seen) (λ os. os) (λ j. makersIn (vs j .pending)) (λ j. makersIn (ws j .pending)) (λ j. acked-makers j (eqb l j) refl) i;
+          lines = changed (lineAcked seen) (λ v. v) (λ j. lineFrom (vs j) (is j)) (λ j. lineFrom (ws j) (is j)) acked-line i;
+          makers = changed (unackedMakers S l seen) (λ os. os) (λ j. makersIn (vs j .pending)) (λ j. makersIn (ws j .pending)) acked-makers i;
         }
