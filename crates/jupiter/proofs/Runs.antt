@@ -2,7 +2,7 @@
 use Prim.Native.Nat.{ℕ, zero, suc, _≤_, _<_}
 use native.Mathlib.Nat.{le-refl, le-trans}
 use mathlib.Core.Path.{_≡_, refl, sym, subst}
-use mathlib.Core.Bool.{Bool, true, false, not, cond, _&&_, false≢true}
+use mathlib.Core.Bool.{Bool, true, false, not, cond, _&&_}
 use mathlib.Core.Option.{Option, none, some, Option·none-ne-some, Option·some-injective}
 use mathlib.Core.List.{List, [], _∷_}
 use lib.Dec.{ltb, leb, eqb, leb→le, le→leb}
@@ -11,7 +11,7 @@ use Rattle.jupiter.specs.Algebra.{Algebra, Laws}
 use Rattle.jupiter.specs.History.{History, order, madeBy, newName, afterEdit, afterUp, afterDown, afterJoin}
 use Rattle.jupiter.specs.Ends.{End, EditMessage, Ends, canSend, message, current, canTake, editing, takingUp, takingDown, ackingUp, ackingDown}
 use Rattle.jupiter.specs.Run.{Message, up, down, upAck, downAck, Call, edit, sendUp, sendDown, tellUp, tellDown, deliver, join, State, initial, writes, goes, lineOf, silent, unused, joins, receive, step, run}
-use Rattle.jupiter.proofs.Lists.{All, all-append, all-map}
+use Rattle.jupiter.proofs.Lists.{All, all-append, all-map, not-true}
 use Rattle.jupiter.proofs.Grid.{is-true, to-T, eqb-eq, ltb-lt, by-line}
 use Rattle.jupiter.proofs.World.{Inv}
 use Rattle.jupiter.proofs.Step.{Later, later-refl, later-trans, Step, opens, UpMessage, DownMessage, up-later, down-later}
@@ -122,10 +122,6 @@ module _ {𝓐 : Algebra} (d : 𝓐 .Doc) where
 
       t : Step d (wholeEnds s) (s .history) (wholeEnds (joins l s)) (afterJoin l (s .history))
       t = step-join d (s .start) (s .ends) (s .history) (r .inv) l none-made
-
-      not-true : (b : Bool) → not b ≡ true → b ≡ false
-      not-true true q = absurd (false≢true q)
-      not-true false q = refl
 
       messages : (xs : List (Message 𝓐)) → silent l xs ≡ true → All (FineIn s) xs → All (FineIn (joins l s)) xs
       messages [] q ok = tt
