@@ -40,7 +40,7 @@ use Rattle.model.specs.Log.{headerOf, wireMessage, messageBytes, editMes
 use Rattle.model.specs.Run.{State}
 use Rattle.model.specs.Ours.{client, server, ours}
 use Rattle.model.specs.Claim.{Delivered}
-use Rattle.model.proofs.Tests.{both, Yes, all-yes, true-between}
+use Rattle.model.proofs.Tests.{_&_, both, Yes, all-yes, true-between}
 use Rattle.model.proofs.SoundLine.{Asked, yes-asked}
 use Rattle.model.proofs.SoundClient.{carryQuestions}
 use Rattle.model.proofs.SoundServer.{lastQuestions}
@@ -162,28 +162,22 @@ module _ (n : ℕ) (items : List Place) {ranks : List ℕ} {from : Moment ranks}
     down-sent : sendServer S l number lent ≡ posted (bytesOf (serverMessage S l number)) lent
     unfolding sendServer
     down-sent =
-        sent-all (sendServerQuestions S l number lent) (bytesOf (serverMessage S l number)) lent (
-          sim .server-sound,
-          (
-            true-between 1 n l lo hi,
-            yes-sends (lineOf S l) number (serverMessage S l number) lent (on-line (λ u. u .acked < number) low) (on-line (λ u. number ≤ u .made) more)
-                (subst (λ (b : List ℕ). length b ≤ length lent) (sym down-written) long),
-          ),
-        )
+        sent-all (sendServerQuestions S l number lent) (bytesOf (serverMessage S l number)) lent
+        (sim .server-sound
+        & true-between 1 n l lo hi
+        & yes-sends (lineOf S l) number (serverMessage S l number) lent (on-line (λ u. u .acked < number) low) (on-line (λ u. number ≤ u .made) more)
+        (subst (λ (b : List ℕ). length b ≤ length lent) (sym down-written) long))
 
     lined : Lined n ranks (down l x)
     lined = down-ok n items s sim l lo hi number low more .2
 
     down-asks : asks (clientEditQuestions C hd (x .edit .edit)) ≡ 0
     down-asks =
-        all-yes (clientEditQuestions C hd (x .edit .edit)) (
-          sim .client-sound l lo hi,
-          (
-            both (eqb l l && priority (other n (rankOf ranks l)) (x .edit .edit)) (other n l (x .edit .origin .line))
-                (both (eqb l l) (priority (other n (rankOf ranks l)) (x .edit .edit)) (eq-eqb l l refl) (lined .2)) (lined .3),
-            yes-asked (C .own) (E .docs l) hd (x .edit .edit) (carryQuestions C hd (x .edit .edit)) (down-asked x ok refl (line .c-acked)) (down-stands x ok refl (line .c-acked), tt),
-          ),
-        )
+        all-yes (clientEditQuestions C hd (x .edit .edit))
+        (sim .client-sound l lo hi
+        & both (eqb l l && priority (other n (rankOf ranks l)) (x .edit .edit)) (other n l (x .edit .origin .line))
+        (both (eqb l l) (priority (other n (rankOf ranks l)) (x .edit .edit)) (eq-eqb l l refl) (lined .2)) (lined .3)
+        & yes-asked (C .own) (E .docs l) hd (x .edit .edit) (carryQuestions C hd (x .edit .edit)) (down-asked x ok refl (line .c-acked)) (down-stands x ok refl (line .c-acked), tt))
 
     -- what was written reads as the message, and the client takes it
     down-taken : takeClient C (bytesOf (serverMessage S l number))
@@ -271,13 +265,10 @@ module _ (n : ℕ) (items : List Place) {ranks : List ℕ} {from : Moment ranks}
     up-sent : sendClient C l up-number lent ≡ posted (bytesOf (clientMessage C up-number)) lent
     unfolding sendClient
     up-sent =
-        sent-all (sendClientQuestions C l up-number lent) (bytesOf (clientMessage C up-number)) lent (
-          sim .client-sound l lo hi,
-          (
-            eq-eqb l l refl,
-            yes-sends (C .own) up-number (clientMessage C up-number) lent up-low more (subst (λ (b : List ℕ). length b ≤ length lent) (sym up-written) long),
-          ),
-        )
+        sent-all (sendClientQuestions C l up-number lent) (bytesOf (clientMessage C up-number)) lent
+        (sim .client-sound l lo hi
+        & eq-eqb l l refl
+        & yes-sends (C .own) up-number (clientMessage C up-number) lent up-low more (subst (λ (b : List ℕ). length b ≤ length lent) (sym up-written) long))
 
     up-roomy : othersRoomy (l - 1) (S .lines) ≡ true
     up-roomy =
@@ -286,14 +277,10 @@ module _ (n : ℕ) (items : List Place) {ranks : List ℕ} {from : Moment ranks}
 
     up-asks : asks (serverEditQuestions S up-hd (y .edit .edit)) ≡ 0
     up-asks =
-        all-yes (serverEditQuestions S up-hd (y .edit .edit)) (
-          sim .server-sound,
-          (
-            up-4 y okay (up-ok n items s sim l lo hi up-number up-low more .2),
-            yes-asked (lineOf S l) (E .doc) up-hd (y .edit .edit) (lastQuestions S up-hd (y .edit .edit)) (up-asked y okay refl (line .v-acked))
-                (up-10 y okay refl (line .v-acked), (up-roomy, tt)),
-          ),
-        )
+        all-yes (serverEditQuestions S up-hd (y .edit .edit))
+        (sim .server-sound
+        & up-4 y okay (up-ok n items s sim l lo hi up-number up-low more .2)
+        & yes-asked (lineOf S l) (E .doc) up-hd (y .edit .edit) (lastQuestions S up-hd (y .edit .edit)) (up-asked y okay refl (line .v-acked)) (up-10 y okay refl (line .v-acked) & up-roomy & tt))
 
     up-taken : takeServer S (bytesOf (clientMessage C up-number))
         ≡ record { refusal = 0; end = serverTaken S l (y .edit .origin) (c .taken) (y .edit .edit); report = lineReport (lineOf S l) (c .taken) (y .edit .edit) }
