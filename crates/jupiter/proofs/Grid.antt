@@ -23,18 +23,19 @@ is-true false h = absurd h
 pub to-T : (b : Bool) → b ≡ true → T b
 to-T b e = rw e tt
 
+-- a test that leads to an absurdity fails
+pub is-false : (b : Bool) → (b ≡ true → ⊥) → b ≡ false
+is-false true h = absurd (h refl)
+is-false false h = refl
+
 pub ltb-true : (m n : ℕ) → m < n → ltb m n ≡ true
 ltb-true m n h = is-true (ltb m n) (lt→ltb m n h)
 
-pub ltb-false : (m n : ℕ) → n ≤ m → ltb m n ≡ false
-ltb-false m n h = go (ltb m n) refl
-  where
-    go : (b : Bool) → ltb m n ≡ b → ltb m n ≡ false
-    go true e = absurd (let k : m < n = ltb→lt m n (to-T _ e) in omega arith)
-    go false e = e
-
 pub ltb-lt : (m n : ℕ) → ltb m n ≡ true → m < n
 ltb-lt m n e = ltb→lt m n (to-T _ e)
+
+pub ltb-false : (m n : ℕ) → n ≤ m → ltb m n ≡ false
+ltb-false m n h = is-false (ltb m n) (λ e. let k : m < n = ltb-lt m n e in absurd (omega arith))
 
 pub eqb-eq : (m n : ℕ) → eqb m n ≡ true → m ≡ n
 eqb-eq m n e = eqb→eq m n (to-T _ e)
@@ -43,11 +44,18 @@ pub eqb-same : (n : ℕ) → eqb n n ≡ true
 eqb-same n = is-true _ (eqb-refl n)
 
 pub eqb-differ : (m n : ℕ) → m ≢ n → eqb m n ≡ false
-eqb-differ m n h = go (eqb m n) refl
+eqb-differ m n h = is-false (eqb m n) (λ e. h (eqb-eq m n e))
+
+-- One line's part replaced, the others' as they were (`History.at`): what holds of line l as it is now, and of every other line as it was, holds of each.
+pub by-line : (l : ℕ) (P : ℕ → Bool → Type 0) → P l true → ((k : ℕ) → eqb l k ≡ false → P k false) → (k : ℕ) → P k (eqb l k)
+by-line l P here there k = go (eqb l k) refl
   where
-    go : (b : Bool) → eqb m n ≡ b → eqb m n ≡ false
-    go true e = absurd (h (eqb-eq m n e))
-    go false e = e
+    go : (b : Bool) → eqb l k ≡ b → P k b
+    go true q = subst (λ r. P r true) (eqb-eq l k q) here
+    go false q = there k q
+
+pub not-line : (l k : ℕ) → eqb l k ≡ false → l ≢ k
+not-line l k q e = true≢false (sym (eqb-same l) ∙ ap (eqb l) e ∙ q)
 
 -- below m + 1: below m, or m
 pub below-suc : (i m : ℕ) → i < suc m → (i < m) ⊎ (i ≡ m)

@@ -3,9 +3,8 @@ use Prim.Native.Nat.{ℕ, _+_, _≤_, _<_, zero-le}
 use native.Mathlib.Nat.{not-suc-le-zero, le-refl, le-trans}
 use native.Mathlib.Omega.{arith}
 use mathlib.Core.Path.{_≡_, refl, sym, ap, _∙_, subst}
-use mathlib.Core.Bool.{Bool, true, false, cond}
+use mathlib.Core.Bool.{true, cond}
 use mathlib.Core.List.{List, [], _∷_, _++_, append-nil}
-use lib.Dec.{eqb}
 use lib.ListN.{length}
 use Rattle.jupiter.specs.Algebra.{Algebra}
 use Rattle.jupiter.specs.Made.{Name, Made, holds, names, isBy, mine, others}
@@ -15,11 +14,11 @@ use Rattle.jupiter.specs.History.{at, History, order, madeBy, afterJoin}
 use Rattle.jupiter.specs.Ends.{End, Ends}
 use Rattle.jupiter.proofs.Lists as L
 use Rattle.jupiter.proofs.Segment.{segment, segment-none}
-use Rattle.jupiter.proofs.Grid.{eqb-eq, ltb-true, lagOf, grows-refl, docAt}
+use Rattle.jupiter.proofs.Grid.{by-line, ltb-true, lagOf, docAt}
 use Rattle.jupiter.proofs.Line.{LineAt}
 use Rattle.jupiter.proofs.Closure.{Within, ClosedSet, within-append, served-closed}
 use Rattle.jupiter.proofs.World.{LineInv, taken, Inv}
-use Rattle.jupiter.proofs.Step.{Step}
+use Rattle.jupiter.proofs.Step.{later-here, taken-at, Step}
 use Rattle.jupiter.proofs.Meeting.{served-oth, server-doc}
 
 empty : {A : Type 0} (xs : List A) → length xs ≡ 0 → xs ≡ []
@@ -101,30 +100,26 @@ module _ {𝓐 : Algebra} (d : 𝓐 .Doc) (E : Ends 𝓐) (h : History 𝓐) (in
       }
 
   taken-le : (k : ℕ) → taken E k ≤ taken E′ k
-  taken-le k = go (eqb l k) refl
-    where
-      go : (b : Bool) → eqb l k ≡ b → taken E k ≤ cond b (serverAt n) (E .lines k) .taken
-      go true q = subst (λ r. taken E r ≤ 0) (eqb-eq l k q) (omega (arith, none-taken))
-      go false q = le-refl _
+  taken-le = taken-at l (serverAt n) (E .lines) (omega (arith, none-taken))
 
   inv-join : Inv d E′ (afterJoin l h)
   inv-join =
       record {
         doc-is = inv .doc-is;
         server-shown = inv .server-shown;
-        closed = record { order-closed = inv .closed .order-closed; applied-within = λ k. within k (eqb l k) refl; applied-closed = λ k. closed′ k (eqb l k) };
+        closed = record {
+          order-closed = inv .closed .order-closed;
+          applied-within = by-line l (λ k b. Within (names (cond b (h .served) (h .applied k))) (h .served ++ h .untaken k)) (within-append (h .served) (h .untaken l)) (λ k q. inv .closed .applied-within k);
+          applied-closed = by-line l (λ k b. ClosedSet (cond b (h .served) (h .applied k)))
+              (L.all-from (λ e. Within (e .context) (h .served)) blank (h .served) (served-closed h (inv .closed))) (λ k q. inv .closed .applied-closed k);
+        };
         served-bound = λ k x t. le-trans (inv .served-bound k x t) (taken-le k);
-        lines = λ k. go k (eqb l k) refl;
+        lines = by-line l (λ k b. LineInv d k (h .served) (h .untaken k) (cond b (h .served) (h .applied k)) (taken E′) (cond b (clientAt n) (E .clients k))
+            (cond b (serverAt n) (E .lines k)) (cond b (E .doc) (E .docs k)))
+            (line′ l (h .served) _ _ (E .doc) line-join (sym none-taken ∙ inv .lines l .v-count) (λ j x q t. inv .served-bound j x t))
+            (λ k q. line′ k (h .applied k) (E .clients k) (E .lines k) (E .docs k) (inv .lines k .line) (inv .lines k .v-count) (inv .lines k .applied-bound));
       }
     where
-      within : (k : ℕ) (b : Bool) → eqb l k ≡ b → Within (names (cond b (h .served) (h .applied k))) (h .served ++ h .untaken k)
-      within k true q = within-append (h .served) (h .untaken k)
-      within k false q = inv .closed .applied-within k
-
-      closed′ : (k : ℕ) (b : Bool) → ClosedSet (cond b (h .served) (h .applied k))
-      closed′ k true = L.all-from (λ e. Within (e .context) (h .served)) blank (h .served) (served-closed h (inv .closed))
-      closed′ k false = inv .closed .applied-closed k
-
       line′ : (k : ℕ) (applied : List (Made 𝓐)) (c v : End 𝓐) (doc : 𝓐 .Doc) → LineAt d k (order h k) (h .served) applied c v doc → v .taken ≡ length (mine k (h .served))
           → ((j x : ℕ) → (j ≡ k → ⊥) → holds (names applied) (record { line = j; number = x }) ≡ true → x ≤ taken E j)
           → LineInv d k (h .served) (h .untaken k) applied (taken E′) c v doc
@@ -138,35 +133,11 @@ module _ {𝓐 : Algebra} (d : 𝓐 .Doc) (E : Ends 𝓐) (h : History 𝓐) (in
             oth-bound = λ j lt. le-trans (inv .lines k .oth-bound j lt) (taken-le _);
           }
 
-      go : (k : ℕ) (b : Bool) → eqb l k ≡ b
-          → LineInv d k (h .served) (h .untaken k) (cond b (h .served) (h .applied k)) (taken E′) (cond b (clientAt n) (E .clients k))
-          (cond b (serverAt n) (E .lines k)) (cond b (E .doc) (E .docs k))
-      go k true q =
-          subst (λ r. LineInv d r (h .served) (h .untaken r) (h .served) (taken E′) (clientAt n) (serverAt n) (E .doc))
-          (eqb-eq l k q)
-          (line′ l (h .served) _ _ (E .doc) line-join (sym none-taken ∙ inv .lines l .v-count) (λ j x q t. inv .served-bound j x t))
-      go k false q = line′ k (h .applied k) (E .clients k) (E .lines k) (E .docs k) (inv .lines k .line) (inv .lines k .v-count) (inv .lines k .applied-bound)
-
   pub step-join : Step d E h E′ (afterJoin l h)
   step-join =
       record {
         inv = inv-join;
-        later = record {
-          grows = λ k. grows-refl k (order h k);
-          c-later = λ k. c-le k (eqb l k) refl;
-          v-later = taken-le;
-          kept = λ k x. kept′ k x (eqb l k) refl;
-          set-same = λ k. refl;
-          served-kept = λ x t. t;
-          served-same = refl;
-        };
+        later = later-here E h E′ _ (taken-at l (clientAt n) (E .clients) (omega (arith, was .c-taken, all-others))) taken-le
+            (by-line l (λ k b. (x : Name) → holds (names (h .applied k)) x ≡ true → holds (names (cond b (h .served) (h .applied k))) x ≡ true)
+            (λ x t. subst (λ r. holds (names r) x ≡ true) order-is (inv .closed .applied-within l x t)) (λ k q x t. t));
       }
-    where
-      c-le : (k : ℕ) (b : Bool) → eqb l k ≡ b → E .clients k .taken ≤ cond b (clientAt n) (E .clients k) .taken
-      c-le k true q = subst (λ r. E .clients r .taken ≤ n) (eqb-eq l k q) (omega (arith, was .c-taken, all-others))
-      c-le k false q = le-refl _
-
-      kept′ : (k : ℕ) (x : Name) (b : Bool) → eqb l k ≡ b → holds (names (h .applied k)) x ≡ true → holds (names (cond b (h .served) (h .applied k))) x ≡ true
-      kept′ k x true q t =
-          subst (λ r. holds (names r) x ≡ true) order-is (inv .closed .applied-within l x (subst (λ r. holds (names (h .applied r)) x ≡ true) (sym (eqb-eq l k q)) t))
-      kept′ k x false q t = t

@@ -1,6 +1,6 @@
 -- The two ends of a line and the line's grid: what holds between any two calls, and how each call keeps it.
 use Prim.Native.Nat.{ℕ, zero, suc, _+_, _-_, _≤_, _<_}
-use native.Mathlib.Nat.{le-of-suc-le-suc, not-suc-le-zero, le-refl, le-trans}
+use native.Mathlib.Nat.{le-of-suc-le-suc, not-suc-le-zero, le-refl, le-trans, sub-self}
 use native.Mathlib.Omega.{arith}
 use mathlib.Core.Path.{_≡_, refl, sym, ap, _∙_, subst}
 use mathlib.Core.Logic.{_⊎_, inl, inr}
@@ -12,7 +12,7 @@ use Rattle.jupiter.specs.Algebra.{Algebra, Laws}
 use Rattle.jupiter.specs.Made.{Name, Made, same, holds, names, isBy, mine, others}
 use Rattle.jupiter.specs.Form.{form, listAt, inOrder, replay}
 use Rattle.jupiter.specs.Point.{point, blank, own, oth, ownForm, othForm}
-use Rattle.jupiter.specs.Ends.{past, over, End, EditMessage, keeps, unacked, acks, takes, arrived}
+use Rattle.jupiter.specs.Ends.{past, over, End, EditMessage, keeps, unacked, acks, takes, arrived, message}
 use Rattle.jupiter.proofs.Lists as L
 use Rattle.jupiter.proofs.Segment.{segment, segment-cong, segment-snoc, segment-get, segment-drop, past-segment, over-segment}
 use Rattle.jupiter.proofs.Grid.{ltb-true, ltb-false, below-suc, seenOf, lagOf, Grows, own-form-same, oth-form-same, own-cell, oth-cell, oth-line, oth-out, Good, docAt, OwnEdge, OthEdge, Grid}
@@ -60,6 +60,21 @@ module _ {𝓐 : Algebra} where
         seen-le = le-trans (ok .seen-le) aa′;
         edit = ok .edit ∙ sym (oth-form-same l w w′ g (x .seen) (ok .index) (le-trans (ok .seen-le) am) (ok .made));
       }
+
+-- An end whose pending edits are the row f, from the number that the other end has acknowledged up to n; at a client and at the server alike.
+module _ {𝓐 : Algebra} (v : End 𝓐) (f : ℕ → 𝓐 .Edit) (n : ℕ) (row : v .pending ≡ segment f (v .acked) n) where
+  -- the edit that it sends as number k + 1
+  row-sent : (k : ℕ) → v .acked ≤ k → k < n → message (suc k) v .edit ≡ f k
+  row-sent k a b =
+      ap (λ r. getD r (suc k - suc (v .acked)) (𝓐 .nothing)) row ∙ ap (λ m. getD (segment f (v .acked) n) m (𝓐 .nothing)) (omega arith) ∙ segment-get f (𝓐 .nothing) (v .acked) n k a b
+
+  -- the pending edits that the other end has not seen
+  row-unacked : (s : ℕ) → v .acked ≤ s → s ≤ n → unacked v s ≡ segment f s n
+  row-unacked s a b = ap (drop (s - v .acked)) row ∙ segment-drop f (v .acked) n s a b
+
+-- an end that hears again what it has heard
+acks-again : {𝓐 : Algebra} (v : End 𝓐) → acks (v .acked) v ≡ v
+acks-again v = rw (sub-self (v .acked))
 
 module _ {𝓐 : Algebra} (d : 𝓐 .Doc) where
   -- w is 01's order of the edits as far as the line knows them, `served` what the server has taken, `applied` what the client has applied in its
@@ -235,9 +250,7 @@ module _ {𝓐 : Algebra} (d : 𝓐 .Doc) where
           made = km;
           seen-made = at .seen-le k km;
           seen-le = le-refl _;
-          edit = ap (λ r. getD r (suc k - suc (c .acked)) (𝓐 .nothing)) (at .c-pending)
-              ∙ ap (λ n. getD (segment (λ i. ownForm l w i (c .taken)) (c .acked) (length (mine l w))) n (𝓐 .nothing)) (omega arith)
-              ∙ segment-get (λ i. ownForm l w i (c .taken)) (𝓐 .nothing) (c .acked) (length (mine l w)) k (le-of-suc-le-suc a) km;
+          edit = row-sent c (λ i. ownForm l w i (c .taken)) (length (mine l w)) (at .c-pending) k (le-of-suc-le-suc a) km;
         }
 
     pub send-down : (k : ℕ) → v .acked < k → k ≤ v .made → DownOk l w (v .taken) (record { number = k; seen = v .taken; edit = getD (v .pending) (k - suc (v .acked)) (𝓐 .nothing) })
@@ -250,67 +263,48 @@ module _ {𝓐 : Algebra} (d : 𝓐 .Doc) where
           made = kn;
           lags = λ j lt. at .lag-le j (le-trans lt kn);
           seen-le = le-refl _;
-          edit = ap (λ r. getD r (suc k - suc (v .acked)) (𝓐 .nothing)) (at .v-pending)
-              ∙ ap (λ n. getD (segment (λ j. othForm l w (v .taken) j) (v .acked) (length (others l w))) n (𝓐 .nothing)) (omega arith)
-              ∙ segment-get (λ j. othForm l w (v .taken) j) (𝓐 .nothing) (v .acked) (length (others l w)) k (le-of-suc-le-suc a) kn;
+          edit = row-sent v (λ j. othForm l w (v .taken) j) (length (others l w)) (at .v-pending) k (le-of-suc-le-suc a) kn;
         }
 
     -- ---- acknowledgements
     pub unacked-c : (s : ℕ) → c .acked ≤ s → s ≤ length (mine l w) → unacked c s ≡ segment (λ i. ownForm l w i (c .taken)) s (length (mine l w))
-    unacked-c s a b = ap (drop (s - c .acked)) (at .c-pending) ∙ segment-drop (λ i. ownForm l w i (c .taken)) (c .acked) (length (mine l w)) s a b
+    unacked-c = row-unacked c (λ i. ownForm l w i (c .taken)) (length (mine l w)) (at .c-pending)
 
     pub unacked-v : (s : ℕ) → v .acked ≤ s → s ≤ length (others l w) → unacked v s ≡ segment (λ j. othForm l w (v .taken) j) s (length (others l w))
-    unacked-v s a b = ap (drop (s - v .acked)) (at .v-pending) ∙ segment-drop (λ j. othForm l w (v .taken) j) (v .acked) (length (others l w)) s a b
+    unacked-v = row-unacked v (λ j. othForm l w (v .taken) j) (length (others l w)) (at .v-pending)
 
-    pub line-ack-up : (s : ℕ) → v .acked ≤ s → s ≤ c .taken → LineAt l w served applied c (acks s v) doc
-    line-ack-up s a b =
+    -- the client hears s and the server t
+    line-acks : (s t : ℕ) → c .acked ≤ s → s ≤ v .taken → v .acked ≤ t → t ≤ c .taken → LineAt l w served applied (acks s c) (acks t v) doc
+    line-acks s t cs sv vt tc =
         record {
           grid = at .grid;
           c-made = at .c-made;
           v-made = at .v-made;
           v-taken = at .v-taken;
           c-taken = at .c-taken;
-          c-acked = at .c-acked;
-          v-acked = b;
+          c-acked = sv;
+          v-acked = tc;
           served-at = at .served-at;
           lag-le = at .lag-le;
           seen-le = at .seen-le;
-          c-lag = at .c-lag;
-          v-seen = λ k lt. le-trans (at .v-seen k lt) a;
+          c-lag = λ k lt. le-trans (at .c-lag k lt) cs;
+          v-seen = λ k lt. le-trans (at .v-seen k lt) vt;
           applied-own = at .applied-own;
           applied-oth = at .applied-oth;
           applied-mine = at .applied-mine;
           applied-count = at .applied-count;
-          c-pending = at .c-pending;
-          v-pending = unacked-v s a (le-trans b (at .c-taken));
+          c-pending = unacked-c s cs (le-trans sv (at .v-taken));
+          v-pending = unacked-v t vt (le-trans tc (at .c-taken));
           c-doc = at .c-doc;
           shown = at .shown;
         }
+
+    -- one end hears, and the other nothing new
+    pub line-ack-up : (s : ℕ) → v .acked ≤ s → s ≤ c .taken → LineAt l w served applied c (acks s v) doc
+    line-ack-up s a b = subst (λ r. LineAt l w served applied r (acks s v) doc) (acks-again c) (line-acks (c .acked) s (le-refl _) (at .c-acked) a b)
 
     pub line-ack-down : (s : ℕ) → c .acked ≤ s → s ≤ v .taken → LineAt l w served applied (acks s c) v doc
-    line-ack-down s a b =
-        record {
-          grid = at .grid;
-          c-made = at .c-made;
-          v-made = at .v-made;
-          v-taken = at .v-taken;
-          c-taken = at .c-taken;
-          c-acked = b;
-          v-acked = at .v-acked;
-          served-at = at .served-at;
-          lag-le = at .lag-le;
-          seen-le = at .seen-le;
-          c-lag = λ k lt. le-trans (at .c-lag k lt) a;
-          v-seen = at .v-seen;
-          applied-own = at .applied-own;
-          applied-oth = at .applied-oth;
-          applied-mine = at .applied-mine;
-          applied-count = at .applied-count;
-          c-pending = unacked-c s a (le-trans b (at .v-taken));
-          v-pending = at .v-pending;
-          c-doc = at .c-doc;
-          shown = at .shown;
-        }
+    line-ack-down s a b = subst (λ r. LineAt l w served applied (acks s c) r doc) (acks-again v) (line-acks s (v .acked) a b (le-refl _) (at .v-acked))
 
     -- ---- the server takes the client's next edit
     module _ (x : EditMessage 𝓐) (ok : UpOk l w (c .taken) x) (next : x .number ≡ suc (v .taken)) (cur : v .acked ≤ x .seen) where

@@ -2,10 +2,10 @@
 use Prim.Native.Nat.{ℕ, zero, suc, _+_, _≤_, _<_, suc-le-suc, zero-le}
 use native.Mathlib.Nat.{le-of-suc-le-suc, not-suc-le-zero}
 use native.Mathlib.Omega.{arith}
-use mathlib.Core.Path.{_≡_, refl, sym, ap, _∙_}
+use mathlib.Core.Path.{_≡_, refl, sym, ap, _∙_, subst}
 use mathlib.Core.Logic.{_⊎_, inl, inr}
 use mathlib.Core.Bool.{Bool, true, false, not, _&&_, cond}
-use mathlib.Core.List.{List, [], _∷_, _++_}
+use mathlib.Core.List.{List, [], _∷_, _++_, append-nil}
 use lib.Dec.{ltb, leb·zero, leb·suc-suc, leb·suc-zero}
 use lib.ListN.{length, getD, drop}
 use Rattle.jupiter.specs.Made.{select, reject}
@@ -33,6 +33,10 @@ all-at Q d [] h i lt = absurd (not-suc-le-zero lt)
 all-at Q d (x ∷ xs) h zero lt = h .0
 all-at Q d (x ∷ xs) h (suc i) lt = all-at Q d xs (h .1) i (le-of-suc-le-suc lt)
 
+pub not-true : (b : Bool) → not b ≡ true → b ≡ false
+not-true true e = sym e
+not-true false e = refl
+
 module _ {A : Type 0} (p : A → Bool) (d : A) where
   pub select-append : (xs ys : List A) → select p (xs ++ ys) ≡ select p xs ++ select p ys
   unfolding select
@@ -44,15 +48,35 @@ module _ {A : Type 0} (p : A → Bool) (d : A) where
       go true e = ap {B = List A} (λ r. x ∷ r) e
       go false e = e
 
-  pub reject-append : (xs ys : List A) → reject p (xs ++ ys) ≡ reject p xs ++ reject p ys
-  unfolding reject
-  reject-append [] ys = refl
-  reject-append (x ∷ xs) ys = go (p x) (reject-append xs ys)
+  -- what is selected passes
+  pub select-passes : (xs : List A) (i : ℕ) → i < length (select p xs) → p (getD (select p xs) i d) ≡ true
+  unfolding select
+  select-passes [] i h = absurd (omega arith)
+  select-passes (x ∷ xs) i h = go (p x) refl i h (λ i h. select-passes xs i h)
     where
-      go : (b : Bool) → reject p (xs ++ ys) ≡ reject p xs ++ reject p ys
-          → cond b (reject p (xs ++ ys)) (x ∷ reject p (xs ++ ys)) ≡ cond b (reject p xs) (x ∷ reject p xs) ++ reject p ys
+      go : (b : Bool) → p x ≡ b → (i : ℕ) → i < length (cond b (x ∷ select p xs) (select p xs))
+          → ((i : ℕ) → i < length (select p xs) → p (getD (select p xs) i d) ≡ true)
+          → p (getD (cond b (x ∷ select p xs) (select p xs)) i d) ≡ true
+      go true e zero h ih = e
+      go true e (suc i) h ih = ih i (le-of-suc-le-suc h)
+      go false e i h ih = ih i h
+
+module _ {A : Type 0} (p : A → Bool) (d : A) where
+  -- what is rejected, the opposite test selects
+  reject-is : (xs : List A) → reject p xs ≡ select (λ x. not (p x)) xs
+  unfolding select reject
+  reject-is [] = refl
+  reject-is (x ∷ xs) = go (p x) (reject-is xs)
+    where
+      go : (b : Bool) → reject p xs ≡ select (λ x. not (p x)) xs → cond b (reject p xs) (x ∷ reject p xs) ≡ cond (not b) (x ∷ select (λ x. not (p x)) xs) (select (λ x. not (p x)) xs)
       go true e = e
       go false e = ap {B = List A} (λ r. x ∷ r) e
+
+  pub reject-append : (xs ys : List A) → reject p (xs ++ ys) ≡ reject p xs ++ reject p ys
+  reject-append xs ys = rw (reject-is (xs ++ ys), reject-is xs, reject-is ys) (select-append (λ x. not (p x)) d xs ys)
+
+  pub reject-fails : (xs : List A) (i : ℕ) → i < length (reject p xs) → p (getD (reject p xs) i d) ≡ false
+  reject-fails xs i h = rw (reject-is xs) (not-true _ (select-passes (λ x. not (p x)) d xs i (subst (λ r. i < length r) (reject-is xs) h)))
 
   -- a list all of whose elements pass
   pub select-all : (xs : List A) → All (λ x. p x ≡ true) xs → select p xs ≡ xs
@@ -74,31 +98,6 @@ module _ {A : Type 0} (p : A → Bool) (d : A) where
           → length (cond b (x ∷ select p xs) (select p xs)) + length (cond b (reject p xs) (x ∷ reject p xs)) ≡ suc (length xs)
       go true ih = omega arith
       go false ih = omega arith
-
-  -- what is selected passes, what is rejected does not
-  pub select-passes : (xs : List A) (i : ℕ) → i < length (select p xs) → p (getD (select p xs) i d) ≡ true
-  unfolding select
-  select-passes [] i h = absurd (omega arith)
-  select-passes (x ∷ xs) i h = go (p x) refl i h (λ i h. select-passes xs i h)
-    where
-      go : (b : Bool) → p x ≡ b → (i : ℕ) → i < length (cond b (x ∷ select p xs) (select p xs))
-          → ((i : ℕ) → i < length (select p xs) → p (getD (select p xs) i d) ≡ true)
-          → p (getD (cond b (x ∷ select p xs) (select p xs)) i d) ≡ true
-      go true e zero h ih = e
-      go true e (suc i) h ih = ih i (le-of-suc-le-suc h)
-      go false e i h ih = ih i h
-
-  pub reject-fails : (xs : List A) (i : ℕ) → i < length (reject p xs) → p (getD (reject p xs) i d) ≡ false
-  unfolding reject
-  reject-fails [] i h = absurd (omega arith)
-  reject-fails (x ∷ xs) i h = go (p x) refl i h (λ i h. reject-fails xs i h)
-    where
-      go : (b : Bool) → p x ≡ b → (i : ℕ) → i < length (cond b (reject p xs) (x ∷ reject p xs))
-          → ((i : ℕ) → i < length (reject p xs) → p (getD (reject p xs) i d) ≡ false)
-          → p (getD (cond b (reject p xs) (x ∷ reject p xs)) i d) ≡ false
-      go false e zero h ih = e
-      go false e (suc i) h ih = ih i (le-of-suc-le-suc h)
-      go true e i h ih = ih i h
 
   -- How many that pass stand before the k-th that does not.
   counted : Bool → ℕ → (ℕ → ℕ) → ℕ
@@ -166,15 +165,19 @@ module _ {A : Type 0} (p : A → Bool) (d : A) where
       go true e = e
       go false e = e
 
-  pub firsts-all : (xs : List A) → firsts p xs (length (select p xs)) (length (reject p xs)) ≡ xs
+  -- the point of all of xs, whatever follows
+  pub firsts-prefix : (xs ys : List A) → firsts p (xs ++ ys) (length (select p xs)) (length (reject p xs)) ≡ xs
   unfolding firsts select reject enter
-  firsts-all [] = refl
-  firsts-all (x ∷ xs) = go (p x) (firsts-all xs)
+  firsts-prefix [] ys = firsts-none ys
+  firsts-prefix (x ∷ xs) ys = go (p x) (firsts-prefix xs ys)
     where
-      go : (b : Bool) → firsts p xs (length (select p xs)) (length (reject p xs)) ≡ xs
-          → enter x b (length (cond b (x ∷ select p xs) (select p xs))) (length (cond b (reject p xs) (x ∷ reject p xs))) (λ i′ j′. firsts p xs i′ j′) ≡ x ∷ xs
+      go : (b : Bool) → firsts p (xs ++ ys) (length (select p xs)) (length (reject p xs)) ≡ xs
+          → enter x b (length (cond b (x ∷ select p xs) (select p xs))) (length (cond b (reject p xs) (x ∷ reject p xs))) (λ i′ j′. firsts p (xs ++ ys) i′ j′) ≡ x ∷ xs
       go true e = ap {B = List A} (λ r. x ∷ r) e
       go false e = ap {B = List A} (λ r. x ∷ r) e
+
+  pub firsts-all : (xs : List A) → firsts p xs (length (select p xs)) (length (reject p xs)) ≡ xs
+  firsts-all xs = ap (λ r. firsts p r (length (select p xs)) (length (reject p xs))) (sym (append-nil xs)) ∙ firsts-prefix xs []
 
   -- What stands behind xs does not matter to a point that xs has edits enough for: an inserted x is not seen.
   pub firsts-insert : (xs : List A) (x : A) (ys : List A) (i j : ℕ)
@@ -222,6 +225,23 @@ module _ {A : Type 0} (p : A → Bool) (d : A) where
       go false i zero h g ih = ih i 0 h (λ k lt. absurd (not-suc-le-zero lt))
       go false i (suc j) h g ih = ap {B = List A} (λ r. x ∷ r) (ih i j h (λ k lt. g (suc k) (suc-le-suc lt)))
 
+  -- a property of the first i that pass and the first j that do not
+  pub firsts-every : (Q : A → Type 0) (xs : List A) (i j : ℕ) → ((k : ℕ) → k < i → k < length (select p xs) → Q (getD (select p xs) k d))
+      → ((k : ℕ) → k < j → k < length (reject p xs) → Q (getD (reject p xs) k d)) → All Q (firsts p xs i j)
+  unfolding firsts select reject enter
+  firsts-every Q [] i j f g = tt
+  firsts-every Q (x ∷ xs) i j f g = go (p x) i j f g (λ i j f g. firsts-every Q xs i j f g)
+    where
+      go : (b : Bool) (i j : ℕ) → ((k : ℕ) → k < i → k < length (cond b (x ∷ select p xs) (select p xs)) → Q (getD (cond b (x ∷ select p xs) (select p xs)) k d))
+          → ((k : ℕ) → k < j → k < length (cond b (reject p xs) (x ∷ reject p xs)) → Q (getD (cond b (reject p xs) (x ∷ reject p xs)) k d))
+          → ((i j : ℕ) → ((k : ℕ) → k < i → k < length (select p xs) → Q (getD (select p xs) k d))
+          → ((k : ℕ) → k < j → k < length (reject p xs) → Q (getD (reject p xs) k d)) → All Q (firsts p xs i j))
+          → All Q (enter x b i j (λ i′ j′. firsts p xs i′ j′))
+      go true zero j f g ih = ih 0 j (λ k lt. absurd (not-suc-le-zero lt)) g
+      go true (suc i) j f g ih = (f 0 (suc-le-suc zero-le) (suc-le-suc zero-le), ih i j (λ k lt ln. f (suc k) (suc-le-suc lt) (suc-le-suc ln)) g)
+      go false i zero f g ih = ih i 0 f (λ k lt. absurd (not-suc-le-zero lt))
+      go false i (suc j) f g ih = (g 0 (suc-le-suc zero-le) (suc-le-suc zero-le), ih i j f (λ k lt ln. g (suc k) (suc-le-suc lt) (suc-le-suc ln)))
+
   -- One more that does not pass: what stands behind it passes.
   pub record Between (Q : A → Type 0) (xs : List A) (i j : ℕ) : Type 0 where
     pub before : List A
@@ -229,18 +249,6 @@ module _ {A : Type 0} (p : A → Bool) (d : A) where
     pub more : firsts p xs i (suc j) ≡ before ++ getD (reject p xs) j d ∷ after
     pub less : firsts p xs i j ≡ before ++ after
     pub behind : All Q after
-
-  pub firsts-own : (Q : A → Type 0) (xs : List A) (i : ℕ) → ((k : ℕ) → k < i → k < length (select p xs) → Q (getD (select p xs) k d)) → All Q (firsts p xs i 0)
-  unfolding firsts select enter
-  firsts-own Q [] i q = tt
-  firsts-own Q (x ∷ xs) i q = go (p x) i q (λ i q. firsts-own Q xs i q)
-    where
-      go : (b : Bool) (i : ℕ) → ((k : ℕ) → k < i → k < length (cond b (x ∷ select p xs) (select p xs)) → Q (getD (cond b (x ∷ select p xs) (select p xs)) k d))
-          → ((i : ℕ) → ((k : ℕ) → k < i → k < length (select p xs) → Q (getD (select p xs) k d)) → All Q (firsts p xs i 0))
-          → All Q (enter x b i 0 (λ i′ j′. firsts p xs i′ j′))
-      go true zero q ih = ih 0 (λ k lt. absurd (not-suc-le-zero lt))
-      go true (suc i) q ih = (q 0 (suc-le-suc zero-le) (suc-le-suc zero-le), ih i (λ k lt ln. q (suc k) (suc-le-suc lt) (suc-le-suc ln)))
-      go false i q ih = ih i q
 
   pub firsts-between : (Q : A → Type 0) (xs : List A) (i j : ℕ) → j < length (reject p xs)
       → ((k : ℕ) → k < i → k < length (select p xs) → Q (getD (select p xs) k d)) → Between Q xs i j
@@ -265,7 +273,7 @@ module _ {A : Type 0} (p : A → Bool) (d : A) where
             behind = r .behind;
           }
       go false e i zero h q ih =
-          record { before = []; after = firsts p xs i 0; more = rw e refl; less = rw e refl; behind = firsts-own Q xs i q }
+          record { before = []; after = firsts p xs i 0; more = rw e refl; less = rw e refl; behind = firsts-every Q xs i 0 q (λ k lt. absurd (not-suc-le-zero lt)) }
       go false e i (suc j) h q ih =
           let r = ih i j (le-of-suc-le-suc h) q in
           record {
@@ -325,11 +333,11 @@ module _ {A : Type 0} (p : A → Bool) (d : A) where
   -- one element more in the middle
   pub select-in : (xs : List A) (x : A) (ys : List A) → p x ≡ true → select p (xs ++ x ∷ ys) ≡ select p xs ++ x ∷ select p ys
   unfolding select
-  select-in xs x ys e = select-append xs (x ∷ ys) ∙ rw e refl
+  select-in xs x ys e = select-append p d xs (x ∷ ys) ∙ rw e refl
 
   pub select-out : (xs : List A) (x : A) (ys : List A) → p x ≡ false → select p (xs ++ x ∷ ys) ≡ select p (xs ++ ys)
   unfolding select
-  select-out xs x ys e = select-append xs (x ∷ ys) ∙ rw e (sym (select-append xs ys))
+  select-out xs x ys e = select-append p d xs (x ∷ ys) ∙ rw e (sym (select-append p d xs ys))
 
   pub reject-in : (xs : List A) (x : A) (ys : List A) → p x ≡ false → reject p (xs ++ x ∷ ys) ≡ reject p xs ++ x ∷ reject p ys
   unfolding reject
@@ -338,34 +346,6 @@ module _ {A : Type 0} (p : A → Bool) (d : A) where
   pub reject-out : (xs : List A) (x : A) (ys : List A) → p x ≡ true → reject p (xs ++ x ∷ ys) ≡ reject p (xs ++ ys)
   unfolding reject
   reject-out xs x ys e = reject-append xs (x ∷ ys) ∙ rw e (sym (reject-append xs ys))
-
-  -- the point of all of xs, whatever follows
-  pub firsts-prefix : (xs ys : List A) → firsts p (xs ++ ys) (length (select p xs)) (length (reject p xs)) ≡ xs
-  unfolding firsts select reject enter
-  firsts-prefix [] ys = firsts-none ys
-  firsts-prefix (x ∷ xs) ys = go (p x) (firsts-prefix xs ys)
-    where
-      go : (b : Bool) → firsts p (xs ++ ys) (length (select p xs)) (length (reject p xs)) ≡ xs
-          → enter x b (length (cond b (x ∷ select p xs) (select p xs))) (length (cond b (reject p xs) (x ∷ reject p xs))) (λ i′ j′. firsts p (xs ++ ys) i′ j′) ≡ x ∷ xs
-      go true e = ap {B = List A} (λ r. x ∷ r) e
-      go false e = ap {B = List A} (λ r. x ∷ r) e
-
-  -- a property of the first i that pass and the first j that do not
-  pub firsts-every : (Q : A → Type 0) (xs : List A) (i j : ℕ) → ((k : ℕ) → k < i → k < length (select p xs) → Q (getD (select p xs) k d))
-      → ((k : ℕ) → k < j → k < length (reject p xs) → Q (getD (reject p xs) k d)) → All Q (firsts p xs i j)
-  unfolding firsts select reject enter
-  firsts-every Q [] i j f g = tt
-  firsts-every Q (x ∷ xs) i j f g = go (p x) i j f g (λ i j f g. firsts-every Q xs i j f g)
-    where
-      go : (b : Bool) (i j : ℕ) → ((k : ℕ) → k < i → k < length (cond b (x ∷ select p xs) (select p xs)) → Q (getD (cond b (x ∷ select p xs) (select p xs)) k d))
-          → ((k : ℕ) → k < j → k < length (cond b (reject p xs) (x ∷ reject p xs)) → Q (getD (cond b (reject p xs) (x ∷ reject p xs)) k d))
-          → ((i j : ℕ) → ((k : ℕ) → k < i → k < length (select p xs) → Q (getD (select p xs) k d))
-          → ((k : ℕ) → k < j → k < length (reject p xs) → Q (getD (reject p xs) k d)) → All Q (firsts p xs i j))
-          → All Q (enter x b i j (λ i′ j′. firsts p xs i′ j′))
-      go true zero j f g ih = ih 0 j (λ k lt. absurd (not-suc-le-zero lt)) g
-      go true (suc i) j f g ih = (f 0 (suc-le-suc zero-le) (suc-le-suc zero-le), ih i j (λ k lt ln. f (suc k) (suc-le-suc lt) (suc-le-suc ln)) g)
-      go false i zero f g ih = ih i 0 f (λ k lt. absurd (not-suc-le-zero lt))
-      go false i (suc j) f g ih = (g 0 (suc-le-suc zero-le) (suc-le-suc zero-le), ih i j f (λ k lt ln. g (suc k) (suc-le-suc lt) (suc-le-suc ln)))
 
   -- where the j-th that p rejects stands, how many are before it, and a property of them all
   pub record Before (Q : A → Type 0) (xs : List A) (j : ℕ) : Type 0 where

@@ -13,6 +13,7 @@ use Rattle.jupiter.proofs.Lists as L
 use Rattle.jupiter.specs.Algebra.{Algebra}
 use Rattle.jupiter.specs.Made.{Name, Made, same, holds, names}
 use Rattle.jupiter.specs.Form.{form, inOrder, replay}
+pub use Rattle.jupiter.proofs.Grid.{is-false}
 use Rattle.jupiter.proofs.Grid.{eqb-eq, eqb-same, ltb-true, ltb-false, ltb-lt, below-suc}
 
 pub or-false : (b : Bool) → b || false ≡ b
@@ -45,16 +46,7 @@ same-eq x y e =
     λ i. record { line = a i; number = b i }
 
 pub same-differ : (x y : Name) → (x ≡ y → ⊥) → same x y ≡ false
-same-differ x y h = go (same x y) refl
-  where
-    go : (b : Bool) → same x y ≡ b → same x y ≡ false
-    go true e = absurd (h (same-eq x y e))
-    go false e = e
-
--- a test that leads to an absurdity fails
-pub is-false : (b : Bool) → (b ≡ true → ⊥) → b ≡ false
-is-false true h = absurd (h refl)
-is-false false h = refl
+same-differ x y h = is-false (same x y) (λ e. h (same-eq x y e))
 
 pub same-sym : (x y : Name) → same x y ≡ false → same y x ≡ false
 same-sym x y e = same-differ y x (λ q. true≢false (sym (same-refl x) ∙ ap (same x) (sym q) ∙ e))

@@ -1,18 +1,18 @@
 -- Lists of calls: each call is a step, so that what holds between calls holds at the end of every run.
-use Prim.Native.Nat.{ℕ, zero, suc, _≤_}
+use Prim.Native.Nat.{ℕ, zero, suc, _≤_, _<_}
 use native.Mathlib.Nat.{le-refl, le-trans}
 use mathlib.Core.Path.{_≡_, refl, sym, subst}
-use mathlib.Core.Bool.{Bool, true, false, not, cond, _&&_, false≢true}
+use mathlib.Core.Bool.{Bool, true, false, not, cond, _&&_}
 use mathlib.Core.Option.{Option, none, some, Option·none-ne-some, Option·some-injective}
 use mathlib.Core.List.{List, [], _∷_}
 use lib.Dec.{ltb, leb, eqb, leb→le, le→leb}
 use lib.ListN.{length, getElem?}
 use Rattle.jupiter.specs.Algebra.{Algebra, Laws}
 use Rattle.jupiter.specs.History.{History, order, madeBy, newName, afterEdit, afterUp, afterDown, afterJoin}
-use Rattle.jupiter.specs.Ends.{Ends, canSend, message, current, canTake, editing, takingUp, takingDown, ackingUp, ackingDown}
+use Rattle.jupiter.specs.Ends.{End, EditMessage, Ends, canSend, message, current, canTake, editing, takingUp, takingDown, ackingUp, ackingDown}
 use Rattle.jupiter.specs.Run.{Message, up, down, upAck, downAck, Call, edit, sendUp, sendDown, tellUp, tellDown, deliver, join, State, initial, writes, goes, lineOf, silent, unused, joins, receive, step, run}
-use Rattle.jupiter.proofs.Lists.{All, all-append, all-map}
-use Rattle.jupiter.proofs.Grid.{is-true, to-T, eqb-eq, ltb-lt}
+use Rattle.jupiter.proofs.Lists.{All, all-append, all-map, not-true}
+use Rattle.jupiter.proofs.Grid.{is-true, to-T, eqb-eq, ltb-lt, by-line}
 use Rattle.jupiter.proofs.World.{Inv}
 use Rattle.jupiter.proofs.Step.{Later, later-refl, later-trans, Step, opens, UpMessage, DownMessage, up-later, down-later}
 use Rattle.jupiter.proofs.Start.{whole, wholeMessage, message-same, from-opening, step-edit, step-up, step-down, step-ack-up, step-ack-down, step-join, up-message, down-message}
@@ -29,6 +29,19 @@ module _ {𝓐 : Algebra} where
   -- the ends of a state, with all counts from the first opening list
   abbrev pub wholeEnds : State 𝓐 → Ends 𝓐
   wholeEnds s = whole (s .start) (s .ends)
+
+-- what the tests of a call have found
+module _ {𝓐 : Algebra} where
+  is-current : (seen : ℕ) (v : End 𝓐) → current seen v ≡ true → v .acked ≤ seen
+  is-current seen v e = leb-le _ _ (and-left (leb (v .acked) seen) (leb seen (v .made)) e)
+
+  can-take : (m : EditMessage 𝓐) (v : End 𝓐) → canTake m v ≡ true → (m .number ≡ suc (v .taken)) × (v .acked ≤ m .seen)
+  can-take m v e =
+      let next = eqb (m .number) (suc (v .taken)) in
+      (eqb-eq _ _ (and-left next (current (m .seen) v) e), is-current (m .seen) v (and-right next (current (m .seen) v) e))
+
+  can-send : (k : ℕ) (v : End 𝓐) → canSend k v ≡ true → (v .acked < k) × (k ≤ v .made)
+  can-send k v e = (ltb-lt _ _ (and-left (ltb (v .acked) k) (leb k (v .made)) e), leb-le _ _ (and-right (ltb (v .acked) k) (leb k (v .made)) e))
 
 module _ {𝓐 : Algebra} (d : 𝓐 .Doc) where
   -- a message may be taken at any time
@@ -58,6 +71,11 @@ module _ {𝓐 : Algebra} (d : 𝓐 .Doc) where
 
   stays : (s : State 𝓐) → Reached s → Onward s s
   stays s r = record { reached = r; later = later-refl (wholeEnds s) (s .history) }
+
+  -- a call that its test skips leaves everything as it is
+  allowed : (s : State 𝓐) → Reached s → (b : Bool) (s′ : State 𝓐) → (b ≡ true → Onward s s′) → Onward s (cond b s′ s)
+  allowed s r true s′ f = f refl
+  allowed s r false s′ f = stays s r
 
   -- a step of the ends
   moves : (s : State 𝓐) → Reached s → (f : Ends 𝓐 → Ends 𝓐) (g : History 𝓐 → History 𝓐) → Longer (s .history) (g (s .history))
@@ -89,7 +107,9 @@ module _ {𝓐 : Algebra} (d : 𝓐 .Doc) where
         reached = record {
           inv = t .inv;
           fine = messages (s .messages) (and-right (eqb (madeBy (s .history) l) 0) (silent l (s .messages)) e) (r .fine);
-          openings = λ k. opening k (eqb l k) refl;
+          openings = by-line l
+              (λ k b. Opening d (order (s .history) k) (s .history .served) (cond b (s .history .served) (s .history .applied k)) (cond b n (s .start k)))
+              (opening-join d (wholeEnds s) (s .history) (r .inv) l none-made) (λ k q. r .openings k);
         };
         later = t .later;
       }
@@ -102,16 +122,6 @@ module _ {𝓐 : Algebra} (d : 𝓐 .Doc) where
 
       t : Step d (wholeEnds s) (s .history) (wholeEnds (joins l s)) (afterJoin l (s .history))
       t = step-join d (s .start) (s .ends) (s .history) (r .inv) l none-made
-
-      opening : (k : ℕ) (b : Bool) → eqb l k ≡ b
-          → Opening d (order (s .history) k) (s .history .served) (cond b (s .history .served) (s .history .applied k)) (cond b n (s .start k))
-      opening k true q =
-          subst (λ j. Opening d (order (s .history) j) (s .history .served) (s .history .served) n) (eqb-eq l k q) (opening-join d (wholeEnds s) (s .history) (r .inv) l none-made)
-      opening k false q = r .openings k
-
-      not-true : (b : Bool) → not b ≡ true → b ≡ false
-      not-true true q = absurd (false≢true q)
-      not-true false q = refl
 
       messages : (xs : List (Message 𝓐)) → silent l xs ≡ true → All (FineIn s) xs → All (FineIn (joins l s)) xs
       messages [] q ok = tt
@@ -129,70 +139,32 @@ module _ {𝓐 : Algebra} (d : 𝓐 .Doc) where
   module _ (laws : Laws 𝓐) where
     receive-ok : (s : State 𝓐) → Reached s → (x : Message 𝓐) → FineIn s x → Onward s (receive (some x) s)
     unfolding receive
-    receive-ok s r (up l m) ok = go (canTake m (s .ends .lines l)) refl
-      where
-        go : (b : Bool) → canTake m (s .ends .lines l) ≡ b → Onward s (cond b (goes (takingUp l m) (afterUp l) s) s)
-        go false e = stays s r
-        go true e =
-            let cur = and-right (eqb (m .number) (suc (s .ends .lines l .taken))) _ e in
-            moves s r (takingUp l m) (afterUp l) (longer-up l (s .history))
-            (step-up d (s .start) (s .ends) (s .history) (r .inv) laws l m ok (eqb-eq (m .number) (suc (s .ends .lines l .taken)) (and-left _ (current (m .seen) (s .ends .lines l)) e))
-            (leb-le _ _ (and-left (leb (s .ends .lines l .acked) (m .seen)) (leb (m .seen) (s .ends .lines l .made)) cur)))
-    receive-ok s r (down l m) ok = go (canTake m (s .ends .clients l)) refl
-      where
-        go : (b : Bool) → canTake m (s .ends .clients l) ≡ b → Onward s (cond b (goes (takingDown l m) (afterDown l) s) s)
-        go false e = stays s r
-        go true e =
-            let cur = and-right (eqb (m .number) (suc (s .ends .clients l .taken))) _ e in
-            moves s r (takingDown l m) (afterDown l) (longer-down l (s .history))
-            (step-down d (s .start) (s .ends) (s .history) (r .inv) l m ok (eqb-eq (m .number) (suc (s .ends .clients l .taken)) (and-left _ (current (m .seen) (s .ends .clients l)) e))
-            (leb-le _ _ (and-left (leb (s .ends .clients l .acked) (m .seen)) (leb (m .seen) (s .ends .clients l .made)) cur)))
-    receive-ok s r (upAck l n) ok = go (current n (s .ends .lines l)) refl
-      where
-        go : (b : Bool) → current n (s .ends .lines l) ≡ b → Onward s (cond b (goes (ackingUp l n) (λ h. h) s) s)
-        go false e = stays s r
-        go true e =
-            moves s r (ackingUp l n) (λ h. h) (longer-refl (s .history))
-            (step-ack-up d (s .start) (s .ends) (s .history) (r .inv) l n (leb-le _ _ (and-left (leb (s .ends .lines l .acked) n) (leb n (s .ends .lines l .made)) e)) ok)
-    receive-ok s r (downAck l n) ok = go (current n (s .ends .clients l)) refl
-      where
-        go : (b : Bool) → current n (s .ends .clients l) ≡ b → Onward s (cond b (goes (ackingDown l n) (λ h. h) s) s)
-        go false e = stays s r
-        go true e =
-            moves s r (ackingDown l n) (λ h. h) (longer-refl (s .history))
-            (step-ack-down d (s .start) (s .ends) (s .history) (r .inv) l n (leb-le _ _ (and-left (leb (s .ends .clients l .acked) n) (leb n (s .ends .clients l .made)) e)) ok)
+    receive-ok s r (up l m) ok =
+        allowed s r (canTake m (s .ends .lines l)) _ (λ e. moves s r (takingUp l m) (afterUp l) (longer-up l (s .history))
+        (step-up d (s .start) (s .ends) (s .history) (r .inv) laws l m ok (can-take m (s .ends .lines l) e .0) (can-take m (s .ends .lines l) e .1)))
+    receive-ok s r (down l m) ok =
+        allowed s r (canTake m (s .ends .clients l)) _ (λ e. moves s r (takingDown l m) (afterDown l) (longer-down l (s .history))
+        (step-down d (s .start) (s .ends) (s .history) (r .inv) l m ok (can-take m (s .ends .clients l) e .0) (can-take m (s .ends .clients l) e .1)))
+    receive-ok s r (upAck l n) ok =
+        allowed s r (current n (s .ends .lines l)) _ (λ e. moves s r (ackingUp l n) (λ h. h) (longer-refl (s .history))
+        (step-ack-up d (s .start) (s .ends) (s .history) (r .inv) l n (is-current n (s .ends .lines l) e) ok))
+    receive-ok s r (downAck l n) ok =
+        allowed s r (current n (s .ends .clients l)) _ (λ e. moves s r (ackingDown l n) (λ h. h) (longer-refl (s .history))
+        (step-ack-down d (s .start) (s .ends) (s .history) (r .inv) l n (is-current n (s .ends .clients l) e) ok))
 
     pub step-ok : (s : State 𝓐) → Reached s → (call : Call 𝓐) → Onward s (step s call)
     unfolding step receive
-    step-ok s r (edit l e) = go (bears && suits) refl
-      where
-        bears : Bool
-        bears = 𝓐 .by (newName (s .history) l) e
-
-        suits : Bool
-        suits = 𝓐 .fits e (s .ends .docs l)
-
-        go : (b : Bool) → bears && suits ≡ b → Onward s (cond b (goes (editing l e) (afterEdit l e) s) s)
-        go false q = stays s r
-        go true q =
-            moves s r (editing l e) (afterEdit l e) (longer-edit l e (s .history))
-            (step-edit d (s .start) (s .ends) (s .history) (r .inv) laws l e (to-T _ (and-left bears suits q)) (to-T _ (and-right bears suits q)))
-    step-ok s r (sendUp l k) = go (canSend k (s .ends .clients l)) refl
-      where
-        go : (b : Bool) → canSend k (s .ends .clients l) ≡ b → Onward s (cond b (writes (up l (message k (s .ends .clients l))) s) s)
-        go false q = stays s r
-        go true q =
-            wrote s r (up l (message k (s .ends .clients l)))
-            (up-message d (s .start) (s .ends) (s .history) (r .inv) l k (ltb-lt (s .ends .clients l .acked) k (and-left _ (leb k (s .ends .clients l .made)) q))
-            (leb-le k (s .ends .clients l .made) (and-right (ltb (s .ends .clients l .acked) k) _ q)))
-    step-ok s r (sendDown l k) = go (canSend k (s .ends .lines l)) refl
-      where
-        go : (b : Bool) → canSend k (s .ends .lines l) ≡ b → Onward s (cond b (writes (down l (message k (s .ends .lines l))) s) s)
-        go false q = stays s r
-        go true q =
-            wrote s r (down l (message k (s .ends .lines l)))
-            (down-message d (s .start) (s .ends) (s .history) (r .inv) l k (ltb-lt (s .ends .lines l .acked) k (and-left _ (leb k (s .ends .lines l .made)) q))
-            (leb-le k (s .ends .lines l .made) (and-right (ltb (s .ends .lines l .acked) k) _ q)))
+    step-ok s r (edit l e) =
+        let bears = 𝓐 .by (newName (s .history) l) e in
+        let suits = 𝓐 .fits e (s .ends .docs l) in
+        allowed s r (bears && suits) _ (λ q. moves s r (editing l e) (afterEdit l e) (longer-edit l e (s .history))
+        (step-edit d (s .start) (s .ends) (s .history) (r .inv) laws l e (to-T _ (and-left bears suits q)) (to-T _ (and-right bears suits q))))
+    step-ok s r (sendUp l k) =
+        let c = s .ends .clients l in
+        allowed s r (canSend k c) _ (λ q. wrote s r (up l (message k c)) (up-message d (s .start) (s .ends) (s .history) (r .inv) l k (can-send k c q .0) (can-send k c q .1)))
+    step-ok s r (sendDown l k) =
+        let v = s .ends .lines l in
+        allowed s r (canSend k v) _ (λ q. wrote s r (down l (message k v)) (down-message d (s .start) (s .ends) (s .history) (r .inv) l k (can-send k v q .0) (can-send k v q .1)))
     step-ok s r (tellUp l) = wrote s r (upAck l (s .ends .clients l .taken)) (le-refl _)
     step-ok s r (tellDown l) = wrote s r (downAck l (s .ends .lines l .taken)) (le-refl _)
     step-ok s r (deliver i) = go (getElem? (s .messages) i) refl
@@ -200,11 +172,7 @@ module _ {𝓐 : Algebra} (d : 𝓐 .Doc) where
         go : (x : Option (Message 𝓐)) → getElem? (s .messages) i ≡ x → Onward s (receive x s)
         go none e = stays s r
         go (some x) e = receive-ok s r x (all-get (FineIn s) (s .messages) i x (r .fine) e)
-    step-ok s r (join l) = go (unused l s) refl
-      where
-        go : (b : Bool) → unused l s ≡ b → Onward s (cond b (joins l s) s)
-        go false q = stays s r
-        go true q = joined-ok s r l q
+    step-ok s r (join l) = allowed s r (unused l s) _ (joined-ok s r l)
 
     pub run-ok : (cs : List (Call 𝓐)) (s : State 𝓐) → Reached s → Onward s (run s cs)
     unfolding run

@@ -6,17 +6,17 @@ use native.Mathlib.Omega.{arith}
 use mathlib.Core.Path.{_≡_, refl, sym, ap, _∙_, subst}
 use mathlib.Core.Bool.{Bool, true, false, cond, true≢false}
 use mathlib.Core.List.{List, [], _∷_, _++_, append-assoc, append-nil}
-use lib.Dec.{T, eqb}
+use lib.Dec.{T}
 use lib.ListN.{length}
 use Rattle.jupiter.specs.Algebra.{Algebra, Laws}
 use Rattle.jupiter.specs.Made.{Name, Made, holds, select, reject, names, isBy, mine, others}
 use Rattle.jupiter.specs.Form.{grown, listAt, inOrder, replay}
 use Rattle.jupiter.specs.Point.{blank, oth, ownForm, othForm}
-use Rattle.jupiter.specs.History.{History, noHistory, order, newName, newEdit, afterEdit, serves, afterUp, applies, afterDown}
-use Rattle.jupiter.specs.Ends.{EditMessage, Ends, opened, keeps, acks, takes, arrived, message, editing, takingUp, takingDown, ackingUp, ackingDown}
+use Rattle.jupiter.specs.History.{at, History, noHistory, order, newName, newEdit, afterEdit, serves, afterUp, applies, afterDown}
+use Rattle.jupiter.specs.Ends.{End, EditMessage, Ends, opened, keeps, acks, takes, arrived, message, editing, takingUp, takingDown, ackingUp, ackingDown}
 use Rattle.jupiter.proofs.Lists as L
 use Rattle.jupiter.proofs.Segment.{segment-none}
-use Rattle.jupiter.proofs.Grid.{eqb-eq, eqb-same, Grows, grows-refl, grows-trans}
+use Rattle.jupiter.proofs.Grid.{by-line, not-line, Grows, grows-refl, grows-trans}
 use Rattle.jupiter.proofs.Line.{UpOk, DownOk, up-on, down-on, send-up, send-down, up-arrives, up-edge, down-arrives, down-edge}
 use Rattle.jupiter.proofs.World.{named, edit-new, first-untaken, up-inv, up-grows, up-bound, o-new, o-new-to, taken, Inv, inv-edit, grows-edit, inv-ack-up, inv-ack-down, inv-down, first-missing}
 use Rattle.jupiter.proofs.Replay.{holds-more, inOrder-insert}
@@ -33,17 +33,30 @@ module _ {𝓐 : Algebra} where
     pub served-kept : (x : Name) → holds (names (h .served)) x ≡ true → holds (names (h′ .served)) x ≡ true
     pub served-same : inOrder (h′ .served) (h .served) ≡ inOrder (h .served) (h .served)
 
-  pub later-refl : (E : Ends 𝓐) (h : History 𝓐) → Later E h E h
-  later-refl E h =
+  -- no edit was made or taken by the server: the ends may count more as taken, and each client may have applied more
+  pub later-here : (E : Ends 𝓐) (h : History 𝓐) (E′ : Ends 𝓐) (applied : ℕ → List (Made 𝓐)) → ((l : ℕ) → E .clients l .taken ≤ E′ .clients l .taken) → ((l : ℕ) → E .lines l .taken ≤ E′ .lines l .taken)
+      → ((l : ℕ) (x : Name) → holds (names (h .applied l)) x ≡ true → holds (names (applied l)) x ≡ true) → Later E h E′ (record { served = h .served; untaken = h .untaken; applied = applied })
+  later-here E h E′ applied c v more =
       record {
         grows = λ l. grows-refl l (order h l);
-        c-later = λ l. le-refl _;
-        v-later = λ l. le-refl _;
-        kept = λ l x t. t;
+        c-later = c;
+        v-later = v;
+        kept = more;
         set-same = λ l. refl;
         served-kept = λ x t. t;
         served-same = refl;
       }
+
+  pub later-refl : (E : Ends 𝓐) (h : History 𝓐) → Later E h E h
+  later-refl E h = later-here E h E (h .applied) (λ l. le-refl _) (λ l. le-refl _) (λ l x t. t)
+
+  -- an end of line l in place of another: as many edits are taken, or more
+  pub taken-at : (l : ℕ) (v : End 𝓐) (f : ℕ → End 𝓐) → f l .taken ≤ v .taken → (k : ℕ) → f k .taken ≤ at l v f k .taken
+  taken-at l v f le = by-line l (λ k b. f k .taken ≤ cond b v (f k) .taken) le (λ k q. le-refl _)
+
+  -- client l applies one edit more
+  applied-at : (l : ℕ) (o : Made 𝓐) (f : ℕ → List (Made 𝓐)) (k : ℕ) (x : Name) → holds (names (f k)) x ≡ true → holds (names (at l (f l ++ (o ∷ [])) f k)) x ≡ true
+  applied-at l o f = by-line l (λ k b. (x : Name) → holds (names (f k)) x ≡ true → holds (names (cond b (f l ++ (o ∷ [])) (f k))) x ≡ true) (holds-more (f l) o) (λ k q x t. t)
 
   -- a smaller set is selected from the larger one's list
   smaller : (w A B : List (Made 𝓐)) → ((x : Name) → holds (names A) x ≡ true → holds (names B) x ≡ true) → inOrder (inOrder w B) A ≡ inOrder w A
@@ -155,31 +168,18 @@ module _ {𝓐 : Algebra} (d : 𝓐 .Doc) where
         inv = inv-edit d laws E h inv l e bears ok;
         later = record {
           grows = grows-edit d laws E h inv l e bears ok;
-          c-later = λ k. c-le k (eqb l k) refl;
+          c-later = taken-at l (keeps e (E .clients l)) (E .clients) (le-refl _);
           v-later = λ k. le-refl _;
-          kept = λ k x. kept′ k x (eqb l k) refl;
-          set-same = λ k. set-same′ k (eqb l k) refl;
+          kept = applied-at l (newEdit h l e) (h .applied);
+          set-same = by-line l
+              (λ k b. inOrder (h .served ++ cond b (h .untaken l ++ (newEdit h l e ∷ [])) (h .untaken k)) (h .applied k) ≡ inOrder (h .served ++ h .untaken k) (h .applied k))
+              (ap (λ r. inOrder r (h .applied l)) (sym (append-assoc (h .served) (h .untaken l) (newEdit h l e ∷ [])))
+              ∙ inOrder-insert (order h l) (newEdit h l e) [] (h .applied l) (edit-new d laws E h inv l e bears ok) ∙ ap (λ r. inOrder r (h .applied l)) (append-nil (order h l)))
+              (λ k q. refl);
           served-kept = λ x t. t;
           served-same = refl;
         };
       }
-    where
-      c-le : (k : ℕ) (b : Bool) → eqb l k ≡ b → E .clients k .taken ≤ cond b (keeps e (E .clients l)) (E .clients k) .taken
-      c-le k true q = subst (λ r. E .clients r .taken ≤ E .clients l .taken) (eqb-eq l k q) (le-refl _)
-      c-le k false q = le-refl _
-
-      kept′ : (k : ℕ) (x : Name) (b : Bool) → eqb l k ≡ b → holds (names (h .applied k)) x ≡ true
-          → holds (names (cond b (h .applied l ++ (newEdit h l e ∷ [])) (h .applied k))) x ≡ true
-      kept′ k x true q t = holds-more (h .applied l) (newEdit h l e) x (subst (λ r. holds (names (h .applied r)) x ≡ true) (sym (eqb-eq l k q)) t)
-      kept′ k x false q t = t
-
-      set-same′ : (k : ℕ) (b : Bool) → eqb l k ≡ b
-          → inOrder (h .served ++ cond b (h .untaken l ++ (newEdit h l e ∷ [])) (h .untaken k)) (h .applied k) ≡ inOrder (h .served ++ h .untaken k) (h .applied k)
-      set-same′ k true q =
-          subst (λ r. inOrder (h .served ++ (h .untaken l ++ (newEdit h l e ∷ []))) (h .applied r) ≡ inOrder (h .served ++ h .untaken r) (h .applied r)) (eqb-eq l k q)
-          (ap (λ r. inOrder r (h .applied l)) (sym (append-assoc (h .served) (h .untaken l) (newEdit h l e ∷ [])))
-          ∙ inOrder-insert (order h l) (newEdit h l e) [] (h .applied l) (edit-new d laws E h inv l e bears ok) ∙ ap (λ r. inOrder r (h .applied l)) (append-nil (order h l)))
-      set-same′ k false q = refl
 
   -- ---- the server takes the next edit of a line
   pub step-up : Laws 𝓐 → (E : Ends 𝓐) (h : History 𝓐) → Inv d E h → (l : ℕ) (x : EditMessage 𝓐) → UpOk l (order h l) (E .clients l .taken) x
@@ -196,21 +196,14 @@ module _ {𝓐 : Algebra} (d : 𝓐 .Doc) where
               c-later = λ k. le-refl _;
               v-later = up-bound d laws E h inv l x ok next cur o us split;
               kept = λ k y t. t;
-              set-same = λ k. set-same′ k (eqb l k) refl;
+              set-same = by-line l (λ k b. inOrder ((h .served ++ (o ∷ [])) ++ cond b us (h .untaken k)) (h .applied k) ≡ inOrder (h .served ++ h .untaken k) (h .applied k))
+                  (ap (λ r. inOrder r (h .applied l)) (append-assoc (h .served) (o ∷ []) us ∙ ap (λ r. h .served ++ r) (sym split)))
+                  (λ k q. ap (λ r. inOrder r (h .applied k)) (append-assoc (h .served) (o ∷ []) (h .untaken k))
+                  ∙ inOrder-insert (h .served) o (h .untaken k) (h .applied k) (o-new-to d laws E h inv l x ok next cur o us split k (not-line l k q)));
               served-kept = λ y t. holds-more (h .served) o y t;
               served-same = inOrder-insert (h .served) o [] (h .served) (o-new d laws E h inv l x ok next cur o us split) ∙ ap (λ r. inOrder r (h .served)) (append-nil (h .served));
             };
           }
-        where
-          set-same′ : (k : ℕ) (b : Bool) → eqb l k ≡ b
-              → inOrder ((h .served ++ (o ∷ [])) ++ cond b us (h .untaken k)) (h .applied k) ≡ inOrder (h .served ++ h .untaken k) (h .applied k)
-          set-same′ k true q =
-              subst (λ r. inOrder ((h .served ++ (o ∷ [])) ++ us) (h .applied r) ≡ inOrder (h .served ++ h .untaken r) (h .applied r)) (eqb-eq l k q)
-              (ap (λ r. inOrder r (h .applied l)) (append-assoc (h .served) (o ∷ []) us ∙ ap (λ r. h .served ++ r) (sym split)))
-          set-same′ k false q =
-              ap (λ r. inOrder r (h .applied k)) (append-assoc (h .served) (o ∷ []) (h .untaken k))
-              ∙ inOrder-insert (h .served) o (h .untaken k) (h .applied k)
-              (o-new-to d laws E h inv l x ok next cur o us split k (λ e. true≢false (sym (eqb-same l) ∙ ap (eqb l) e ∙ q)))
 
   -- ---- a client takes its next edit
   pub step-down : (E : Ends 𝓐) (h : History 𝓐) → Inv d E h → (l : ℕ) (x : EditMessage 𝓐) → DownOk l (order h l) (E .lines l .taken) x
@@ -219,65 +212,25 @@ module _ {𝓐 : Algebra} (d : 𝓐 .Doc) where
   step-down E h inv l x ok next cur =
       record {
         inv = inv-down d E h inv l x ok next cur;
-        later = subst (λ M. Later E h (takingDown l x E) (applies l M h)) (sym (first-missing d E h inv l x ok next cur)) (record {
-          grows = λ k. grows-refl k (order h k);
-          c-later = λ k. c-le k (eqb l k) refl;
-          v-later = λ k. le-refl _;
-          kept = λ k y. kept′ k y (eqb l k) refl;
-          set-same = λ k. refl;
-          served-kept = λ y t. t;
-          served-same = refl;
-        });
+        later = subst (λ M. Later E h (takingDown l x E) (applies l M h)) (sym (first-missing d E h inv l x ok next cur))
+            (later-here E h (takingDown l x E) _ (taken-at l (takes x (E .clients l)) (E .clients) (omega arith)) (λ k. le-refl _)
+            (applied-at l (oth l (order h l) (E .clients l .taken)) (h .applied)));
       }
-    where
-      c-le : (k : ℕ) (b : Bool) → eqb l k ≡ b → E .clients k .taken ≤ cond b (takes x (E .clients l)) (E .clients k) .taken
-      c-le k true q = subst (λ r. E .clients r .taken ≤ suc (E .clients l .taken)) (eqb-eq l k q) (omega arith)
-      c-le k false q = le-refl _
-
-      kept′ : (k : ℕ) (y : Name) (b : Bool) → eqb l k ≡ b → holds (names (h .applied k)) y ≡ true
-          → holds (names (cond b (h .applied l ++ (oth l (order h l) (E .clients l .taken) ∷ [])) (h .applied k))) y ≡ true
-      kept′ k y true q t =
-          holds-more (h .applied l) (oth l (order h l) (E .clients l .taken)) y (subst (λ r. holds (names (h .applied r)) y ≡ true) (sym (eqb-eq l k q)) t)
-      kept′ k y false q t = t
 
   -- ---- acknowledgements
   pub step-ack-up : (E : Ends 𝓐) (h : History 𝓐) → Inv d E h → (l s : ℕ) → E .lines l .acked ≤ s → s ≤ E .clients l .taken → Step E h (ackingUp l s E) h
   step-ack-up E h inv l s a b =
       record {
         inv = inv-ack-up d E h inv l s a b;
-        later = record {
-          grows = λ k. grows-refl k (order h k);
-          c-later = λ k. le-refl _;
-          v-later = λ k. v-le k (eqb l k) refl;
-          kept = λ k y t. t;
-          set-same = λ k. refl;
-          served-kept = λ y t. t;
-          served-same = refl;
-        };
+        later = later-here E h (ackingUp l s E) (h .applied) (λ k. le-refl _) (taken-at l (acks s (E .lines l)) (E .lines) (le-refl _)) (λ k y t. t);
       }
-    where
-      v-le : (k : ℕ) (b : Bool) → eqb l k ≡ b → E .lines k .taken ≤ cond b (acks s (E .lines l)) (E .lines k) .taken
-      v-le k true q = subst (λ r. E .lines r .taken ≤ E .lines l .taken) (eqb-eq l k q) (le-refl _)
-      v-le k false q = le-refl _
 
   pub step-ack-down : (E : Ends 𝓐) (h : History 𝓐) → Inv d E h → (l s : ℕ) → E .clients l .acked ≤ s → s ≤ E .lines l .taken → Step E h (ackingDown l s E) h
   step-ack-down E h inv l s a b =
       record {
         inv = inv-ack-down d E h inv l s a b;
-        later = record {
-          grows = λ k. grows-refl k (order h k);
-          c-later = λ k. c-le k (eqb l k) refl;
-          v-later = λ k. le-refl _;
-          kept = λ k y t. t;
-          set-same = λ k. refl;
-          served-kept = λ y t. t;
-          served-same = refl;
-        };
+        later = later-here E h (ackingDown l s E) (h .applied) (taken-at l (acks s (E .clients l)) (E .clients) (le-refl _)) (λ k. le-refl _) (λ k y t. t);
       }
-    where
-      c-le : (k : ℕ) (b : Bool) → eqb l k ≡ b → E .clients k .taken ≤ cond b (acks s (E .clients l)) (E .clients k) .taken
-      c-le k true q = subst (λ r. E .clients r .taken ≤ E .clients l .taken) (eqb-eq l k q) (le-refl _)
-      c-le k false q = le-refl _
 
   -- ---- messages
   -- what a message on line l must be, whenever it is taken

@@ -4,7 +4,7 @@ use native.Mathlib.Nat.{le-refl, le-trans}
 use native.Mathlib.Omega.{arith}
 use mathlib.Core.Path.{_≡_, refl, sym, ap, _∙_, subst}
 use mathlib.Core.Logic.{_≢_, _⊎_, inl, inr}
-use mathlib.Core.Bool.{Bool, true, false, cond, true≢false}
+use mathlib.Core.Bool.{true, false, cond}
 use mathlib.Core.List.{List, [], _∷_, _++_, append-assoc, append-nil}
 use lib.Dec.{T, ltb, eqb}
 use lib.ListN.{length, getD, drop, length-append}
@@ -18,7 +18,7 @@ use Rattle.jupiter.specs.Ends.{End, EditMessage, Ends, keeps, acks, take
 use Rattle.jupiter.proofs.Lists as L
 use Rattle.jupiter.proofs.Lists.{All, all-append}
 use Rattle.jupiter.proofs.Forms.{listAt-snoc}
-use Rattle.jupiter.proofs.Grid.{eqb-eq, eqb-same, eqb-differ, ltb-true, Grows, grows-refl, own-name}
+use Rattle.jupiter.proofs.Grid.{eqb-same, eqb-differ, ltb-true, by-line, not-line, Grows, grows-refl, own-name}
 use Rattle.jupiter.proofs.Extend.{NewOwn, row-own-cases, row-oth-cases, NewOth, col-grows, col-own-cases, col-oth-cases}
 use Rattle.jupiter.proofs.Closure.{Within, ClosedFrom, ClosedSet, Closed, closed-edit, within-snoc, closed-other, within-insert, context-of, closed-set-snoc, all-within, within-append}
 use Rattle.jupiter.proofs.Line.{UpOk, DownOk, LineAt, made-new, made-grows, made-fresh, line-edit, line-ack-up, line-ack-down, up-made, up-form, up-edge, line-up, down-made, line-down, line-other}
@@ -105,22 +105,13 @@ module _ {𝓐 : Algebra} (d : 𝓐 .Doc) where
     edit-closed : Closed (makes l o h)
     edit-closed =
         record {
-          order-closed = λ k. go k (eqb l k) refl;
-          applied-within = λ k. go′ k (eqb l k) refl;
-          applied-closed = λ k. go″ k (eqb l k) refl;
+          order-closed = by-line l (λ k b. ClosedFrom [] (h .served ++ cond b (us ++ (o ∷ [])) (h .untaken k)))
+              (subst (ClosedFrom []) assoc (closed-edit w (h .applied l) o refl (inv .closed .order-closed l) (inv .closed .applied-within l))) (λ k q. inv .closed .order-closed k);
+          applied-within = by-line l (λ k b. Within (names (cond b (h .applied l ++ (o ∷ [])) (h .applied k))) (h .served ++ cond b (us ++ (o ∷ [])) (h .untaken k)))
+              (subst (Within (names (h .applied l ++ (o ∷ [])))) assoc (within-snoc (h .applied l) w o (inv .closed .applied-within l))) (λ k q. inv .closed .applied-within k);
+          applied-closed = by-line l (λ k b. ClosedSet (cond b (h .applied l ++ (o ∷ [])) (h .applied k)))
+              (closed-set-snoc (h .applied l) o (inv .closed .applied-closed l) (λ n t. t)) (λ k q. inv .closed .applied-closed k);
         }
-      where
-        go : (k : ℕ) (b : Bool) → eqb l k ≡ b → ClosedFrom [] (h .served ++ cond b (us ++ (o ∷ [])) (h .untaken k))
-        go k true q = subst (ClosedFrom []) assoc (closed-edit w (h .applied l) o refl (inv .closed .order-closed l) (inv .closed .applied-within l))
-        go k false q = inv .closed .order-closed k
-
-        go′ : (k : ℕ) (b : Bool) → eqb l k ≡ b → Within (names (cond b (h .applied l ++ (o ∷ [])) (h .applied k))) (h .served ++ cond b (us ++ (o ∷ [])) (h .untaken k))
-        go′ k true q = subst (Within (names (h .applied l ++ (o ∷ [])))) assoc (within-snoc (h .applied l) w o (inv .closed .applied-within l))
-        go′ k false q = inv .closed .applied-within k
-
-        go″ : (k : ℕ) (b : Bool) → eqb l k ≡ b → ClosedSet (cond b (h .applied l ++ (o ∷ [])) (h .applied k))
-        go″ k true q = closed-set-snoc (h .applied l) o (inv .closed .applied-closed l) (λ n t. t)
-        go″ k false q = inv .closed .applied-closed k
 
     pub inv-edit : Inv (editing l e E) (afterEdit l e h)
     unfolding afterEdit
@@ -130,34 +121,34 @@ module _ {𝓐 : Algebra} (d : 𝓐 .Doc) where
           server-shown = inv .server-shown;
           closed = edit-closed;
           served-bound = inv .served-bound;
-          lines = λ k. go k (eqb l k) refl;
+          lines = by-line l (λ k b. LineInv k (h .served) (cond b (us ++ (o ∷ [])) (h .untaken k)) (cond b (h .applied l ++ (o ∷ [])) (h .applied k)) (taken E)
+              (cond b (keeps e (E .clients l)) (E .clients k)) (E .lines k) (cond b (𝓐 .apply e (E .docs l)) (E .docs k))) edit-line (λ k q. inv .lines k);
         }
-      where
-        go : (k : ℕ) (b : Bool) → eqb l k ≡ b
-            → LineInv k (h .served) (cond b (us ++ (o ∷ [])) (h .untaken k)) (cond b (h .applied l ++ (o ∷ [])) (h .applied k)) (taken E)
-            (cond b (keeps e (E .clients l)) (E .clients k)) (E .lines k) (cond b (𝓐 .apply e (E .docs l)) (E .docs k))
-        go k true q =
-            subst (λ r. LineInv r (h .served) (us ++ (o ∷ [])) (h .applied l ++ (o ∷ [])) (taken E) (keeps e (E .clients l)) (E .lines r) (𝓐 .apply e (E .docs l))) (eqb-eq l k q) edit-line
-        go k false q = inv .lines k
 
     pub edit-new : holds (names (h .applied l)) (o .name) ≡ false
     edit-new = made-fresh d l w (h .served) (h .applied l) (E .clients l) (E .lines l) (E .docs l) was laws e (newName h l .number) number bears ok
 
     pub grows-edit : (k : ℕ) → Grows k (order h k) (order (afterEdit l e h) k)
     unfolding afterEdit
-    grows-edit k = go (eqb l k) refl
-      where
-        go : (b : Bool) → eqb l k ≡ b → Grows k (h .served ++ h .untaken k) (h .served ++ cond b (us ++ (o ∷ [])) (h .untaken k))
-        go true q =
-            subst (λ r. Grows r (h .served ++ h .untaken r) (h .served ++ (us ++ (o ∷ [])))) (eqb-eq l k q)
-            (subst (Grows l w) assoc (made-grows d l w (h .served) (h .applied l) (E .clients l) (E .lines l) (E .docs l) was laws e (newName h l .number) number bears ok))
-        go false q = grows-refl k (h .served ++ h .untaken k)
+    grows-edit =
+        by-line l (λ k b. Grows k (h .served ++ h .untaken k) (h .served ++ cond b (us ++ (o ∷ [])) (h .untaken k)))
+        (subst (Grows l w) assoc (made-grows d l w (h .served) (h .applied l) (E .clients l) (E .lines l) (E .docs l) was laws e (newName h l .number) number bears ok))
+        (λ k q. grows-refl k (h .served ++ h .untaken k))
 
   -- ---- acknowledgements
   module _ (E : Ends 𝓐) (h : History 𝓐) (inv : Inv E h) (l s : ℕ) where
-    same-taken : (b : Bool) (k : ℕ) → eqb l k ≡ b → taken E k ≤ cond b (acks s (E .lines l)) (E .lines k) .taken
-    same-taken true k q = subst (λ r. taken E r ≤ taken E l) (eqb-eq l k q) (le-refl _)
-    same-taken false k q = le-refl _
+    -- the line k with other ends, of which as many edits are taken, and with higher bounds
+    again : (bound : ℕ → ℕ) → ((k : ℕ) → taken E k ≤ bound k) → (k : ℕ) (c v : End 𝓐) → v .taken ≡ E .lines k .taken
+        → LineAt d k (h .served ++ h .untaken k) (h .served) (h .applied k) c v (E .docs k) → LineInv k (h .served) (h .untaken k) (h .applied k) bound c v (E .docs k)
+    again bound le k c v q line =
+        record {
+          line = line;
+          untaken-own = inv .lines k .untaken-own;
+          v-count = q ∙ inv .lines k .v-count;
+          applied-bound = weaken k (taken E) bound le _ (inv .lines k .applied-bound);
+          context-bound = λ i hi. weaken k (taken E) bound le _ (inv .lines k .context-bound i hi);
+          oth-bound = λ j hj. le-trans (inv .lines k .oth-bound j hj) (le _);
+        }
 
     pub inv-ack-up : E .lines l .acked ≤ s → s ≤ E .clients l .taken → Inv (ackingUp l s E) h
     inv-ack-up a b =
@@ -165,51 +156,31 @@ module _ {𝓐 : Algebra} (d : 𝓐 .Doc) where
           doc-is = inv .doc-is;
           server-shown = inv .server-shown;
           closed = inv .closed;
-          served-bound = λ k x t. le-trans (inv .served-bound k x t) (same-taken (eqb l k) k refl);
-          lines = λ k. go k (eqb l k) refl;
+          served-bound = λ k x t. le-trans (inv .served-bound k x t) (le k);
+          lines = by-line l (λ k b. LineInv k (h .served) (h .untaken k) (h .applied k) bound (E .clients k) (cond b (acks s (E .lines l)) (E .lines k)) (E .docs k))
+              (again bound le l (E .clients l) (acks s (E .lines l)) refl
+              (line-ack-up d l (h .served ++ h .untaken l) (h .served) (h .applied l) (E .clients l) (E .lines l) (E .docs l) (inv .lines l .line) s a b))
+              (λ k q. again bound le k (E .clients k) (E .lines k) refl (inv .lines k .line));
         }
       where
         bound : ℕ → ℕ
         bound k = at l (acks s (E .lines l)) (E .lines) k .taken
 
         le : (k : ℕ) → taken E k ≤ bound k
-        le k = same-taken (eqb l k) k refl
-
-        old : (k : ℕ) (v : End 𝓐) → v .taken ≡ E .lines k .taken → LineAt d k (h .served ++ h .untaken k) (h .served) (h .applied k) (E .clients k) v (E .docs k)
-            → LineInv k (h .served) (h .untaken k) (h .applied k) bound (E .clients k) v (E .docs k)
-        old k v q line =
-            record {
-              line = line;
-              untaken-own = inv .lines k .untaken-own;
-              v-count = q ∙ inv .lines k .v-count;
-              applied-bound = weaken k (taken E) bound le _ (inv .lines k .applied-bound);
-              context-bound = λ i hi. weaken k (taken E) bound le _ (inv .lines k .context-bound i hi);
-              oth-bound = λ j hj. le-trans (inv .lines k .oth-bound j hj) (le _);
-            }
-
-        go : (k : ℕ) (b : Bool) → eqb l k ≡ b
-            → LineInv k (h .served) (h .untaken k) (h .applied k) bound (E .clients k) (cond b (acks s (E .lines l)) (E .lines k)) (E .docs k)
-        go k true q =
-            subst (λ r. LineInv r (h .served) (h .untaken r) (h .applied r) bound (E .clients r) (acks s (E .lines l)) (E .docs r)) (eqb-eq l k q)
-            (old l (acks s (E .lines l)) refl (line-ack-up d l (h .served ++ h .untaken l) (h .served) (h .applied l) (E .clients l) (E .lines l) (E .docs l) (inv .lines l .line) s a b))
-        go k false q = old k (E .lines k) refl (inv .lines k .line)
+        le = by-line l (λ k b. taken E k ≤ cond b (acks s (E .lines l)) (E .lines k) .taken) (le-refl _) (λ k q. le-refl _)
 
     pub inv-ack-down : E .clients l .acked ≤ s → s ≤ E .lines l .taken → Inv (ackingDown l s E) h
-    inv-ack-down a b = record { doc-is = inv .doc-is; server-shown = inv .server-shown; closed = inv .closed; served-bound = inv .served-bound; lines = λ k. go k (eqb l k) refl }
-      where
-        go : (k : ℕ) (b : Bool) → eqb l k ≡ b
-            → LineInv k (h .served) (h .untaken k) (h .applied k) (taken E) (cond b (acks s (E .clients l)) (E .clients k)) (E .lines k) (E .docs k)
-        go k true q =
-            subst (λ r. LineInv r (h .served) (h .untaken r) (h .applied r) (taken E) (acks s (E .clients l)) (E .lines r) (E .docs r)) (eqb-eq l k q)
-            (record {
-              line = line-ack-down d l (h .served ++ h .untaken l) (h .served) (h .applied l) (E .clients l) (E .lines l) (E .docs l) (inv .lines l .line) s a b;
-              untaken-own = inv .lines l .untaken-own;
-              v-count = inv .lines l .v-count;
-              applied-bound = inv .lines l .applied-bound;
-              context-bound = inv .lines l .context-bound;
-              oth-bound = inv .lines l .oth-bound;
-            })
-        go k false q = inv .lines k
+    inv-ack-down a b =
+        record {
+          doc-is = inv .doc-is;
+          server-shown = inv .server-shown;
+          closed = inv .closed;
+          served-bound = inv .served-bound;
+          lines = by-line l (λ k b. LineInv k (h .served) (h .untaken k) (h .applied k) (taken E) (cond b (acks s (E .clients l)) (E .clients k)) (E .lines k) (E .docs k))
+              (again (taken E) (λ k. le-refl _) l (acks s (E .clients l)) (E .lines l) refl
+              (line-ack-down d l (h .served ++ h .untaken l) (h .served) (h .applied l) (E .clients l) (E .lines l) (E .docs l) (inv .lines l .line) s a b))
+              (λ k q. inv .lines k);
+        }
 
   -- ---- a client takes its next edit
   module _ (E : Ends 𝓐) (h : History 𝓐) (inv : Inv E h) (l : ℕ) where
@@ -269,8 +240,10 @@ module _ {𝓐 : Algebra} (d : 𝓐 .Doc) where
     down-closed =
         record {
           order-closed = inv .closed .order-closed;
-          applied-within = λ k. go′ k (eqb l k) refl;
-          applied-closed = λ k. go″ k (eqb l k) refl;
+          applied-within = by-line l (λ k b. Within (names (cond b (h .applied l ++ (g ∷ [])) (h .applied k))) (h .served ++ h .untaken k))
+              (λ n t. pick n (holds-split (h .applied l) g n t)) (λ k q. inv .closed .applied-within k);
+          applied-closed = by-line l (λ k b. ClosedSet (cond b (h .applied l ++ (g ∷ [])) (h .applied k)))
+              (closed-set-snoc (h .applied l) g (inv .closed .applied-closed l) down-context) (λ k q. inv .closed .applied-closed k);
         }
       where
         in-order : holds (names dw) (g .name) ≡ true
@@ -279,19 +252,9 @@ module _ {𝓐 : Algebra} (d : 𝓐 .Doc) where
             subst (λ s. holds (names s) (g .name) ≡ true) (append-assoc (r .front) (g ∷ []) (r .back) ∙ sym (r .whole))
             (within-append (r .front ++ (g ∷ [])) (r .back) (g .name) (holds-last (r .front) g))
 
-        go′ : (k : ℕ) (b : Bool) → eqb l k ≡ b → Within (names (cond b (h .applied l ++ (g ∷ [])) (h .applied k))) (h .served ++ h .untaken k)
-        go′ k true q =
-            subst (λ r. Within (names (h .applied l ++ (g ∷ []))) (h .served ++ h .untaken r)) (eqb-eq l k q)
-            (λ n t. pick n (holds-split (h .applied l) g n t))
-          where
-            pick : (n : Name) → (holds (names (h .applied l)) n ≡ true) ⊎ (n ≡ g .name) → holds (names dw) n ≡ true
-            pick n (inl t) = inv .closed .applied-within l n t
-            pick n (inr e) = subst (λ y. holds (names dw) y ≡ true) (sym e) in-order
-        go′ k false q = inv .closed .applied-within k
-
-        go″ : (k : ℕ) (b : Bool) → eqb l k ≡ b → ClosedSet (cond b (h .applied l ++ (g ∷ [])) (h .applied k))
-        go″ k true q = closed-set-snoc (h .applied l) g (inv .closed .applied-closed l) down-context
-        go″ k false q = inv .closed .applied-closed k
+        pick : (n : Name) → (holds (names (h .applied l)) n ≡ true) ⊎ (n ≡ g .name) → holds (names dw) n ≡ true
+        pick n (inl t) = inv .closed .applied-within l n t
+        pick n (inr e) = subst (λ y. holds (names dw) y ≡ true) (sym e) in-order
 
     pub inv-down : Inv (takingDown l x E) (afterDown l h)
     unfolding applies
@@ -301,16 +264,9 @@ module _ {𝓐 : Algebra} (d : 𝓐 .Doc) where
           server-shown = inv .server-shown;
           closed = down-closed;
           served-bound = inv .served-bound;
-          lines = λ k. go k (eqb l k) refl;
+          lines = by-line l (λ k b. LineInv k (h .served) (h .untaken k) (cond b (h .applied l ++ (g ∷ [])) (h .applied k)) (taken E) (cond b (takes x (E .clients l)) (E .clients k))
+              (E .lines k) (cond b (𝓐 .apply (arrived x (E .clients l)) (E .docs l)) (E .docs k))) down-line (λ k q. inv .lines k);
         })
-      where
-        go : (k : ℕ) (b : Bool) → eqb l k ≡ b
-            → LineInv k (h .served) (h .untaken k) (cond b (h .applied l ++ (g ∷ [])) (h .applied k)) (taken E) (cond b (takes x (E .clients l)) (E .clients k))
-            (E .lines k) (cond b (𝓐 .apply (arrived x (E .clients l)) (E .docs l)) (E .docs k))
-        go k true q =
-            subst (λ r. LineInv r (h .served) (h .untaken r) (h .applied l ++ (g ∷ [])) (taken E) (takes x (E .clients l)) (E .lines r) (𝓐 .apply (arrived x (E .clients l)) (E .docs l)))
-            (eqb-eq l k q) down-line
-        go k false q = inv .lines k
 
     pub grows-down : (k : ℕ) → Grows k (order h k) (order (afterDown l h) k)
     unfolding applies
@@ -368,11 +324,7 @@ module _ {𝓐 : Algebra} (d : 𝓐 .Doc) where
     E′ = takingUp l x E
 
     pub up-bound : (k : ℕ) → taken E k ≤ taken E′ k
-    up-bound k = go (eqb l k) refl
-      where
-        go : (b : Bool) → eqb l k ≡ b → taken E k ≤ cond b (takes x (E .lines l)) (keeps (arrived x (E .lines l)) (E .lines k)) .taken
-        go true q = subst (λ r. taken E r ≤ suc a) (eqb-eq l k q) (omega arith)
-        go false q = le-refl _
+    up-bound = by-line l (λ k b. taken E k ≤ cond b (takes x (E .lines l)) (keeps (arrived x (E .lines l)) (E .lines k)) .taken) (omega arith) (λ k q. le-refl _)
 
     up-bound-l : taken E′ l ≡ suc a
     up-bound-l = ap (λ b. cond b (takes x (E .lines l)) (keeps (arrived x (E .lines l)) (E .lines l)) .taken) (eqb-same l)
@@ -453,26 +405,19 @@ module _ {𝓐 : Algebra} (d : 𝓐 .Doc) where
     unfolding serves
     up-closed =
         record {
-          order-closed = λ k. go k (eqb l k) refl;
-          applied-within = λ k. go′ k (eqb l k) refl;
+          order-closed = by-line l (λ k b. ClosedFrom [] ((h .served ++ (o ∷ [])) ++ cond b us (h .untaken k)))
+              (subst (ClosedFrom []) (sym (append-assoc (h .served) (o ∷ []) us)) own-order)
+              (λ k q. subst (ClosedFrom []) (sym (append-assoc (h .served) (o ∷ []) (h .untaken k)))
+              (closed-other (h .served) o us (h .untaken k) own-order (inv .closed .order-closed k)));
+          applied-within = by-line l (λ k b. Within (names (h .applied k)) ((h .served ++ (o ∷ [])) ++ cond b us (h .untaken k)))
+              (subst (Within (names (h .applied l))) (ap (λ r. h .served ++ r) split ∙ sym (append-assoc (h .served) (o ∷ []) us)) (inv .closed .applied-within l))
+              (λ k q. subst (Within (names (h .applied k))) (sym (append-assoc (h .served) (o ∷ []) (h .untaken k)))
+              (within-insert (h .applied k) (h .served) o (h .untaken k) (inv .closed .applied-within k)));
           applied-closed = inv .closed .applied-closed;
         }
       where
         own-order : ClosedFrom [] uw
         own-order = subst (λ r. ClosedFrom [] (h .served ++ r)) split (inv .closed .order-closed l)
-
-        go : (k : ℕ) (b : Bool) → eqb l k ≡ b → ClosedFrom [] ((h .served ++ (o ∷ [])) ++ cond b us (h .untaken k))
-        go k true q = subst (ClosedFrom []) (sym (append-assoc (h .served) (o ∷ []) us)) own-order
-        go k false q =
-            subst (ClosedFrom []) (sym (append-assoc (h .served) (o ∷ []) (h .untaken k))) (closed-other (h .served) o us (h .untaken k) own-order (inv .closed .order-closed k))
-
-        go′ : (k : ℕ) (b : Bool) → eqb l k ≡ b → Within (names (h .applied k)) ((h .served ++ (o ∷ [])) ++ cond b us (h .untaken k))
-        go′ k true q =
-            subst (λ r. Within (names (h .applied r)) ((h .served ++ (o ∷ [])) ++ us)) (eqb-eq l k q)
-            (subst (Within (names (h .applied l))) (ap (λ r. h .served ++ r) split ∙ sym (append-assoc (h .served) (o ∷ []) us)) (inv .closed .applied-within l))
-        go′ k false q =
-            subst (Within (names (h .applied k))) (sym (append-assoc (h .served) (o ∷ []) (h .untaken k)))
-            (within-insert (h .applied k) (h .served) o (h .untaken k) (inv .closed .applied-within k))
 
     pub up-inv : Inv E′ (serves l (o ∷ us) h)
     unfolding serves
@@ -482,32 +427,21 @@ module _ {𝓐 : Algebra} (d : 𝓐 .Doc) where
           server-shown = up-shown;
           closed = up-closed;
           served-bound = λ k y t. bound k y (holds-split (h .served) o (named k y) t);
-          lines = λ k. go k (eqb l k) refl;
+          lines = by-line l (λ k b. LineInv k (h .served ++ (o ∷ [])) (cond b us (h .untaken k)) (h .applied k) (taken E′) (E .clients k)
+              (cond b (takes x (E .lines l)) (keeps (arrived x (E .lines l)) (E .lines k))) (E .docs k)) up-line (λ k q. other-line k (not-line l k q));
         }
       where
         bound : (k y : ℕ) → (holds (names (h .served)) (named k y) ≡ true) ⊎ (named k y ≡ o .name) → y ≤ taken E′ k
         bound k y (inl t) = le-trans (inv .served-bound k y t) (up-bound k)
         bound k y (inr q) = subst (λ n. n .number ≤ taken E′ (n .line)) (sym (q ∙ o-name)) (omega (arith, up-bound-l))
 
-        go : (k : ℕ) (b : Bool) → eqb l k ≡ b
-            → LineInv k (h .served ++ (o ∷ [])) (cond b us (h .untaken k)) (h .applied k) (taken E′) (E .clients k)
-            (cond b (takes x (E .lines l)) (keeps (arrived x (E .lines l)) (E .lines k))) (E .docs k)
-        go k true q =
-            subst (λ r. LineInv r (h .served ++ (o ∷ [])) us (h .applied r) (taken E′) (E .clients r) (takes x (E .lines l)) (E .docs r)) (eqb-eq l k q) up-line
-        go k false q = other-line k (λ e. true≢false (sym (eqb-same l) ∙ ap (eqb l) e ∙ q))
-
     pub up-grows : (k : ℕ) → Grows k (order h k) (order (serves l (o ∷ us) h) k)
     unfolding serves
-    up-grows k = go (eqb l k) refl
-      where
-        go : (b : Bool) → eqb l k ≡ b → Grows k (h .served ++ h .untaken k) ((h .served ++ (o ∷ [])) ++ cond b us (h .untaken k))
-        go true q =
-            subst (λ r. Grows r (h .served ++ h .untaken r) ((h .served ++ (o ∷ [])) ++ us)) (eqb-eq l k q)
-            (subst (λ r. Grows l (h .served ++ r) ((h .served ++ (o ∷ [])) ++ us)) (sym split)
-            (subst (Grows l uw) (sym (append-assoc (h .served) (o ∷ []) us)) (grows-refl l uw)))
-        go false q =
-            subst (Grows k (h .served ++ h .untaken k)) (sym (append-assoc (h .served) (o ∷ []) (h .untaken k)))
-            (col-grows k (h .served) (h .untaken k) o (other-new k (λ e. true≢false (sym (eqb-same l) ∙ ap (eqb l) e ∙ q))))
+    up-grows =
+        by-line l (λ k b. Grows k (h .served ++ h .untaken k) ((h .served ++ (o ∷ [])) ++ cond b us (h .untaken k)))
+        (subst (λ r. Grows l (h .served ++ r) ((h .served ++ (o ∷ [])) ++ us)) (sym split) (subst (Grows l uw) (sym (append-assoc (h .served) (o ∷ []) us)) (grows-refl l uw)))
+        (λ k q. subst (Grows k (h .served ++ h .untaken k)) (sym (append-assoc (h .served) (o ∷ []) (h .untaken k)))
+        (col-grows k (h .served) (h .untaken k) o (other-new k (not-line l k q))))
 
     pub o-new-to : (k : ℕ) → l ≢ k → holds (names (h .applied k)) (o .name) ≡ false
     o-new-to k lk = new-to (names (h .applied k)) k lk (inv .lines k .applied-bound)

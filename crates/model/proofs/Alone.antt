@@ -9,19 +9,17 @@ use lib.ListN.{length, drop}
 use lib.Seq.{drop-append-seam}
 use Rattle.ot.specs.Edit.{Edit, Delete, Insert}
 use Rattle.wire.specs.declared.Message.the-variants as message
-use Rattle.wire.specs.declared.Read.{Read}
-use Rattle.wire.specs.declared.Read.the-variants as read
-use Rattle.wire.specs.Bytes.{bytesOf, parsed}
+use Rattle.wire.specs.Bytes.{bytesOf}
 use Rattle.model.specs.Limits.{maxPacket}
 use Rattle.model.specs.Questions.{Question, ask, asks, between, Report, noReport, Answer, answer, Sent, sent}
 use Rattle.model.specs.Packets.{joined, fitting, firstFits, putFrom, packed, handedOver}
-use Rattle.model.specs.Client.{Client, soundClient, ownRank, editClient, takeBackClient, clientMessage, sendClientQuestions, sendClient, tellClientQuestions, tellClient, clientTakesEdit, clientTakesAck, clientReads, takeClient, packClient, packetClient}
-use Rattle.model.specs.Server.{Server, soundServer, lineOf, serverMessage, sendServerQuestions, sendServer, tellServerQuestions, tellServer, serverTakesEdit, serverTakesAck, serverReads, takeServer, packServer, packetServer}
+use Rattle.model.specs.Client.{Client, soundClient, ownRank, editClient, takeBackClient, clientMessage, sendClientQuestions, sendClient, tellClientQuestions, tellClient, clientTakesEdit, clientTakesAck, takeClient, packClient, packetClient}
+use Rattle.model.specs.Server.{Server, soundServer, lineOf, serverMessage, sendServerQuestions, sendServer, tellServerQuestions, tellServer, serverTakesEdit, serverTakesAck, takeServer, packServer, packetServer}
 use Rattle.model.specs.Claim.{Back, Unwritten, PastStays, StretchAlone, LeavesAlone}
 use Rattle.model.specs.SheetOf.{ClientCalls, ServerCalls, End, client, server, answerAs, sheetOf}
 use Rattle.model.specs.Ours.{clientCalls, serverCalls, ours}
 use Rattle.model.proofs.Outcome as outcomes
-use Rattle.model.proofs.Outcome.{Outcome, outcome, Posted, posted, refusal-is}
+use Rattle.model.proofs.Outcome.{Outcome, outcome, Posted, posted, refusal-is, by-bytes}
 use Rattle.model.proofs.Packets.{handed-as, packet-law, packet-none, fitting-room, put-before, put-behind}
 
 back : {E : Type 0} (r : ℕ) (old new : E) (k : Report) → Back old (answer r old new k)
@@ -46,57 +44,29 @@ pub undo-back : (m : Client) → Back m (takeBackClient m)
 unfolding takeBackClient
 undo-back m = back _ m _ noReport
 
-client-reads : (m : Client) (r : Read) → Back m (clientReads m r)
-unfolding clientTakesEdit clientTakesAck
-client-reads m read.Refused = back _ m m noReport
-client-reads m (read.Message (message.Insert h p x q)) = back _ m _ _
-client-reads m (read.Message (message.Delete h p)) = back _ m _ _
-client-reads m (read.Message (message.Nothing h)) = back _ m _ _
-client-reads m (read.Message (message.Ack l d s)) = back _ m _ _
-
 pub client-back : (m : Client) (bytes : List ℕ) → Back m (takeClient m bytes)
-unfolding takeClient
-client-back m bytes = client-reads m (parsed bytes)
-
-server-reads : (m : Server) (r : Read) → Back m (serverReads m r)
-unfolding serverTakesEdit serverTakesAck
-server-reads m read.Refused = back _ m m noReport
-server-reads m (read.Message (message.Insert h p x q)) = back _ m _ _
-server-reads m (read.Message (message.Delete h p)) = back _ m _ _
-server-reads m (read.Message (message.Nothing h)) = back _ m _ _
-server-reads m (read.Message (message.Ack l d s)) = back _ m _ _
+unfolding takeClient clientTakesEdit clientTakesAck
+client-back m = by-bytes (Back m) soundClient m (clientTakesEdit m) (clientTakesAck m) (back _ m m noReport) (λ h e r. back _ m _ _) (λ l d s. back _ m _ _)
 
 pub server-back : (m : Server) (bytes : List ℕ) → Back m (takeServer m bytes)
-unfolding takeServer
-server-back m bytes = server-reads m (parsed bytes)
+unfolding takeServer serverTakesEdit serverTakesAck
+server-back m = by-bytes (Back m) soundServer m (serverTakesEdit m) (serverTakesAck m) (back _ m m noReport) (λ h e r. back _ m _ _) (λ l d s. back _ m _ _)
 
 -- an end that is not sound refuses every message by question 2
-client-reads-2 : (m : Client) (r : Read) → soundClient m ≡ false → clientReads m r .refusal ≡ 2
-unfolding clientTakesEdit clientTakesAck
-client-reads-2 m read.Refused e = refusal-is _ m _ _ ∙ rw e
-client-reads-2 m (read.Message (message.Insert h p x q)) e = refusal-is _ m _ _ ∙ rw e
-client-reads-2 m (read.Message (message.Delete h p)) e = refusal-is _ m _ _ ∙ rw e
-client-reads-2 m (read.Message (message.Nothing h)) e = refusal-is _ m _ _ ∙ rw e
-client-reads-2 m (read.Message (message.Ack l d s)) e = refusal-is _ m _ _ ∙ rw e
-
-server-reads-2 : (m : Server) (r : Read) → soundServer m ≡ false → serverReads m r .refusal ≡ 2
-unfolding serverTakesEdit serverTakesAck
-server-reads-2 m read.Refused e = refusal-is _ m _ _ ∙ rw e
-server-reads-2 m (read.Message (message.Insert h p x q)) e = refusal-is _ m _ _ ∙ rw e
-server-reads-2 m (read.Message (message.Delete h p)) e = refusal-is _ m _ _ ∙ rw e
-server-reads-2 m (read.Message (message.Nothing h)) e = refusal-is _ m _ _ ∙ rw e
-server-reads-2 m (read.Message (message.Ack l d s)) e = refusal-is _ m _ _ ∙ rw e
-
-refused-2 : {E : Type 0} (e : E) (a : Answer E) → a .refusal ≡ 2 → Back e a → (a .refusal ≡ 2) × (a .end ≡ e)
-refused-2 e a two b = (two, b (λ z. omega (arith, two, z)) .0)
+refused-2 : {E : Type 0} (e : E) (a : Answer E) → Back e a → a .refusal ≡ 2 → (a .refusal ≡ 2) × (a .end ≡ e)
+refused-2 e a b two = (two, b (λ z. omega (arith, two, z)) .0)
 
 client-unsound : (m : Client) → soundClient m ≡ false → (b : List ℕ) → (takeClient m b .refusal ≡ 2) × (takeClient m b .end ≡ m)
-unfolding takeClient
-client-unsound m e b = refused-2 m (clientReads m (parsed b)) (client-reads-2 m (parsed b) e) (client-reads m (parsed b))
+unfolding takeClient clientTakesEdit clientTakesAck
+client-unsound m u b =
+    refused-2 m (takeClient m b) (client-back m b)
+    (by-bytes (λ a. a .refusal ≡ 2) soundClient m (clientTakesEdit m) (clientTakesAck m) (refusal-is _ m _ _ ∙ rw u) (λ h e r. refusal-is _ m _ _ ∙ rw u) (λ l d s. refusal-is _ m _ _ ∙ rw u) b)
 
 server-unsound : (m : Server) → soundServer m ≡ false → (b : List ℕ) → (takeServer m b .refusal ≡ 2) × (takeServer m b .end ≡ m)
-unfolding takeServer
-server-unsound m e b = refused-2 m (serverReads m (parsed b)) (server-reads-2 m (parsed b) e) (server-reads m (parsed b))
+unfolding takeServer serverTakesEdit serverTakesAck
+server-unsound m u b =
+    refused-2 m (takeServer m b) (server-back m b)
+    (by-bytes (λ a. a .refusal ≡ 2) soundServer m (serverTakesEdit m) (serverTakesAck m) (refusal-is _ m _ _ ∙ rw u) (λ h e r. refusal-is _ m _ _ ∙ rw u) (λ l d s. refusal-is _ m _ _ ∙ rw u) b)
 
 -- a packet that is written changes its stretch alone
 packed-alone : (qs : List Question) (ms : List (List ℕ)) (offset : ℕ) (lent : List ℕ) → Unwritten lent (packed qs ms offset lent) × StretchAlone offset lent (packed qs ms offset lent)

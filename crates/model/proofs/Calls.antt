@@ -1,16 +1,16 @@
 -- Every call of a list of calls keeps the sheet with the theory.
 use mathlib.Core.Path.{_≡_, refl, ap, ap₂, sym, _∙_, subst}
-use mathlib.Core.Bool.{Bool, true, false, not, _&&_, cond}
-use mathlib.Core.Option.{Option, none, some}
+use mathlib.Core.Bool.{Bool, true, false, not, cond}
+use mathlib.Core.Option.{some}
 use mathlib.Core.List.{List, [], _∷_, _++_, map}
 use Prim.Native.Nat.{ℕ, zero, suc, _+_, _-_, _≤_, _<_}
 use native.Mathlib.Numerals.{add-one}
 use native.Mathlib.Omega.{arith}
 use native.Mathlib.Nat.{le-refl}
-use lib.Dec.{eqb, leb, ltb}
+use lib.Dec.{eqb, leb}
 use lib.ListN.{length, take, drop, getD, getElem?, List·getD-map}
 use lib.Seq.{take-append-seam}
-use borrow.Author.Tests.{eqb-true, ne-eqb, eq-eqb, leb-true, ltb-true, le-leb}
+use borrow.Author.Tests.{eqb-true, ne-eqb, eq-eqb, leb-true, le-leb}
 use Rattle.ot.specs.Edit.{Edit, Nothing, Delete, Insert, fits}
 use Rattle.list.specs.declared.Origin.{Origin}
 use Rattle.list.specs.Places.{Place}
@@ -34,21 +34,21 @@ use Rattle.jupiter.proofs.Step.{UpMessage, DownMessage, up-message, down-messag
 use Rattle.model.specs.Limits.{maxEdits, maxItems}
 use Rattle.model.specs.Questions.{ask, asks, noReport, Answer, answer, Sent}
 use Rattle.model.specs.Cross.{priority}
-use Rattle.model.specs.Line.{Line, other, lineMessage, lineReport}
+use Rattle.model.specs.Line.{Line, other, lineMessage, lineReport, takesBy}
 use Rattle.model.specs.Client.{Client, soundClient, listThen, edited, makeQuestions, editQuestions, editClient, takeBackQuestions, takeBackClient, clientMessage, sendClientQuestions, sendClient, tellClientQuestions, tellClient, clientTaken, clientAcked, clientEditQuestions, clientTakesEdit, clientAckQuestions, clientTakesAck, clientTakes, clientReads, takeClient}
 use Rattle.model.specs.Server.{Server, lineOf, makersOf, otherMaker, soundServer, makerAt, ownOrigin, serverMessage, sendServerQuestions, sendServer, tellServerQuestions, tellServer, serverTaken, serverAcked, serverEditQuestions, serverTakesEdit, serverAckQuestions, serverTakesAck, serverTakes, serverReads, takeServer}
 use Rattle.model.specs.Ranks.{rankOf}
 use Rattle.model.specs.Edits.{Named, noOrigin, Rule, editsBy, edits}
-use Rattle.model.specs.Sheet.{Call, insert, delete, takeBack, send, tell, receive, junk}
+use Rattle.model.specs.Sheet.{Call, takeBack, send, tell, receive, junk}
 use Rattle.model.specs.Log as logs
 use Rattle.model.specs.Log.{Log, headerOf, wireMessage, messageBytes, takenAt, editMessage, ackMessage, hears, writes, took, tookUp, tookDown, logged, refusedLog, log}
-use Rattle.model.specs.Run.{State, answered, written, handed, call, callable, unreadable, areBytes}
+use Rattle.model.specs.Run.{State, answered, written, handed, call, unreadable}
 use Rattle.model.specs.Ours.{End, client, server, answerAs, ours}
 use Rattle.model.proofs.Tests.{never, both, four, and-left, and-right, Yes, yes-all, between-true, true-between}
 use Rattle.model.proofs.SoundLine.{Asked, asked}
 use Rattle.model.proofs.SoundClient.{ClientFacts, client-facts, carryQuestions}
 use Rattle.model.proofs.SoundServer.{ServerFacts, server-facts, ServerLine, line-fact, makers-fact, maker-at, made-most, takenSum, lastQuestions}
-use Rattle.model.proofs.Sound.{three, edits-sound, takes-back, client-takes-edit, client-takes-ack, server-takes-edit, server-takes-ack}
+use Rattle.model.proofs.Sound.{edits-sound, takes-back, client-takes-edit, client-takes-ack, server-takes-edit, server-takes-ack}
 use Rattle.model.proofs.Instance.{makersIn}
 use Rattle.model.proofs.Origins.{up-origin}
 use Rattle.model.proofs.Small.{Small}
@@ -64,15 +64,16 @@ unfolding log
 log-no w c r h = rw (ne-eqb r 0 h)
 
 -- an edit message is what it says
+takes-message : {A : Type 0} (edit : Header → Edit → A) (ack : ℕ → ℕ → ℕ → A) (h : Header) (e : Edit) → takesBy edit ack (messageOf h e) ≡ edit h e
+takes-message edit ack h Nothing = refl
+takes-message edit ack h (Delete p) = refl
+takes-message edit ack h (Insert p x r) = refl
+
 pub client-message : (c : Client) (h : Header) (e : Edit) → clientTakes c (messageOf h e) ≡ clientTakesEdit c h e
-client-message c h Nothing = refl
-client-message c h (Delete p) = refl
-client-message c h (Insert p x r) = refl
+client-message c = takes-message (clientTakesEdit c) (clientTakesAck c)
 
 pub server-message : (s : Server) (h : Header) (e : Edit) → serverTakes s (messageOf h e) ≡ serverTakesEdit s h e
-server-message s h Nothing = refl
-server-message s h (Delete p) = refl
-server-message s h (Insert p x r) = refl
+server-message s = takes-message (serverTakesEdit s) (serverTakesAck s)
 
 header-range : (h : Header) (e : Edit) → inRange (messageOf h e) ≡ true → headerInRange h ≡ true
 unfolding inRange
@@ -149,24 +150,30 @@ module _ (n : ℕ) (items : List Place) {ranks : List ℕ} {from : Moment ranks}
     -- an edit message
     take-edit : (c : Call) (m : ends.EditMessage (edits ranks)) (k : ℕ) (direction : ℕ) → inRange (messageOf (headerOf k direction m) (m .edit .edit)) ≡ true
         → (direction ≡ 1 → DownMessage items E h k m) → (direction ≡ 1 → logged w c ≡ cond (eqb l k) (tookDown w k m) (hears w (w .heard)))
-        → refusedLog w c ≡ hears w (w .heard)
-        → (a : Answer Client)
-        → Outcome (asks (clientEditQuestions C (headerOf k direction m) (m .edit .edit))) C (clientTaken C (m .edit .origin) (m .seen) (m .edit .edit)) (lineReport (C .own) (m .seen) (m .edit .edit)) a
-        → soundClient (a .end) ≡ true → Sim n items from (answered ours s l c (answerAs client a))
-    unfolding log
-    take-edit c m k direction range fine made quiet a (outcomes.Outcome.no r) ok =
-        turned-down l c (asks (clientEditQuestions C (headerOf k direction m) (m .edit .edit))) (client C) r (sim .client-is l lo hi) quiet
-    take-edit c m k direction range fine made quiet a (outcomes.Outcome.yes r) ok =
-        let hd : Header = headerOf k direction m in
-        let y = yes-all (clientEditQuestions C hd (m .edit .edit)) (omega arith) r in
-        let q4 = four (eqb direction 1) (eqb k l) (priority (other n (rankOf ranks l)) (m .edit .edit)) (other n l (m .edit .origin .line)) (y .1 .0) in
-        let down-way : direction ≡ 1 = eqb-true direction 1 (q4 .0) in
-        let mine-way : k ≡ l = eqb-true k l (q4 .1) in
-        let q = asked (C .own) (E .docs l) hd (m .edit .edit) (carryQuestions C hd (m .edit .edit)) (y .1 .1) in
-        subst (λ (z : Log ranks). Sim n items from (record { ends = at l (client (clientTaken C (m .edit .origin) (m .seen) (m .edit .edit))) (s .ends); messages = s .messages; reports = s .reports ++ (lineReport (C .own) (m .seen) (m .edit .edit) ∷ []); recorded = z }))
-        (sym (made down-way ∙ ap (λ (i : ℕ). cond (eqb l i) (tookDown w i m) (hears w (w .heard))) mine-way ∙ rw (eq-eqb l l refl)))
-        (takes-down n items s sim l lo hi m (subst (λ (i : ℕ). DownMessage items E h i m) mine-way (fine down-way)) (q .next ∙ add-one (E .clients l .taken)) (q .low)
-        (small-range hd (m .edit .edit) range) (q .fit) ok)
+        → refusedLog w c ≡ hears w (w .heard) → Sim n items from (answered ours s l c (answerAs client (clientTakes C (messageOf (headerOf k direction m) (m .edit .edit)))))
+    unfolding log clientTakesEdit
+    take-edit c m k direction range fine made quiet =
+        subst (λ (a : Answer Client). Sim n items from (answered ours s l c (answerAs client a))) (sym (client-message C hd (m .edit .edit)))
+        (go (clientTakesEdit C hd (m .edit .edit))
+        (outcome (asks (clientEditQuestions C hd (m .edit .edit))) C (clientTaken C (m .edit .origin) (m .seen) (m .edit .edit)) (lineReport (C .own) (m .seen) (m .edit .edit)))
+        (client-takes-edit C hd (m .edit .edit) (header-range hd (m .edit .edit) range) sound))
+      where
+        hd : Header
+        hd = headerOf k direction m
+
+        go : (a : Answer Client) → Outcome (asks (clientEditQuestions C hd (m .edit .edit))) C (clientTaken C (m .edit .origin) (m .seen) (m .edit .edit)) (lineReport (C .own) (m .seen) (m .edit .edit)) a
+            → soundClient (a .end) ≡ true → Sim n items from (answered ours s l c (answerAs client a))
+        go a (outcomes.Outcome.no r) ok = turned-down l c (asks (clientEditQuestions C hd (m .edit .edit))) (client C) r (sim .client-is l lo hi) quiet
+        go a (outcomes.Outcome.yes r) ok =
+            let y = yes-all (clientEditQuestions C hd (m .edit .edit)) (omega arith) r in
+            let q4 = four (eqb direction 1) (eqb k l) (priority (other n (rankOf ranks l)) (m .edit .edit)) (other n l (m .edit .origin .line)) (y .1 .0) in
+            let down-way : direction ≡ 1 = eqb-true direction 1 (q4 .0) in
+            let mine-way : k ≡ l = eqb-true k l (q4 .1) in
+            let q = asked (C .own) (E .docs l) hd (m .edit .edit) (carryQuestions C hd (m .edit .edit)) (y .1 .1) in
+            subst (λ (z : Log ranks). Sim n items from (record { ends = at l (client (clientTaken C (m .edit .origin) (m .seen) (m .edit .edit))) (s .ends); messages = s .messages; reports = s .reports ++ (lineReport (C .own) (m .seen) (m .edit .edit) ∷ []); recorded = z }))
+            (sym (made down-way ∙ ap (λ (i : ℕ). cond (eqb l i) (tookDown w i m) (hears w (w .heard))) mine-way ∙ rw (eq-eqb l l refl)))
+            (takes-down n items s sim l lo hi m (subst (λ (i : ℕ). DownMessage items E h i m) mine-way (fine down-way)) (q .next ∙ add-one (E .clients l .taken)) (q .low)
+            (small-range hd (m .edit .edit) range) (q .fit) ok)
 
     -- an acknowledgement
     take-ack : (c : Call) (k direction seen : ℕ) → (direction ≡ 1 → seen ≤ E .lines k .taken) → (direction ≡ 1 → logged w c ≡ cond (eqb l k) (hears w (logs.hearing w k k seen)) (hears w (w .heard))) → refusedLog w c ≡ hears w (w .heard)
@@ -185,19 +192,9 @@ module _ (n : ℕ) (items : List Place) {ranks : List ℕ} {from : Moment ranks}
     -- a message that some sending wrote
     take-message : (c : Call) (x : Message (edits ranks)) → MessageOk n ranks items E h x → logged w c ≡ took w l (some x) → refusedLog w c ≡ hears w (w .heard)
         → Sim n items from (answered ours s l c (answerAs client (clientTakes C (wireMessage x))))
-    unfolding took clientTakesEdit clientTakesAck
-    take-message c (up k m) ok made quiet =
-        let hd : Header = headerOf k 0 m in
-        subst (λ (a : Answer Client). Sim n items from (answered ours s l c (answerAs client a))) (sym (client-message C hd (m .edit .edit)))
-        (take-edit c m k 0 (ok .1) (λ e. absurd (omega arith)) (λ e. absurd (omega arith)) quiet (clientTakesEdit C hd (m .edit .edit))
-        (outcome (asks (clientEditQuestions C hd (m .edit .edit))) C (clientTaken C (m .edit .origin) (m .seen) (m .edit .edit)) (lineReport (C .own) (m .seen) (m .edit .edit)))
-        (client-takes-edit C hd (m .edit .edit) (header-range hd (m .edit .edit) (ok .1)) sound))
-    take-message c (down k m) ok made quiet =
-        let hd : Header = headerOf k 1 m in
-        subst (λ (a : Answer Client). Sim n items from (answered ours s l c (answerAs client a))) (sym (client-message C hd (m .edit .edit)))
-        (take-edit c m k 1 (ok .1) (λ e. ok .0) (λ e. made) quiet (clientTakesEdit C hd (m .edit .edit))
-        (outcome (asks (clientEditQuestions C hd (m .edit .edit))) C (clientTaken C (m .edit .origin) (m .seen) (m .edit .edit)) (lineReport (C .own) (m .seen) (m .edit .edit)))
-        (client-takes-edit C hd (m .edit .edit) (header-range hd (m .edit .edit) (ok .1)) sound))
+    unfolding took clientTakesAck
+    take-message c (up k m) ok made quiet = take-edit c m k 0 (ok .1) (λ e. absurd (omega arith)) (λ e. absurd (omega arith)) quiet
+    take-message c (down k m) ok made quiet = take-edit c m k 1 (ok .1) (λ e. ok .0) (λ e. made) quiet
     take-message c (upAck k seen) ok made quiet =
         take-ack c k 0 seen (λ e. absurd (omega arith)) (λ e. absurd (omega arith)) quiet (clientTakesAck C k 0 seen) (outcome (asks (clientAckQuestions C k 0 seen)) C (clientAcked C seen) noReport) (client-takes-ack C k 0 seen sound)
     take-message c (downAck k seen) ok made quiet =
@@ -219,26 +216,32 @@ module _ (n : ℕ) (items : List Place) {ranks : List ℕ} {from : Moment ranks}
 
   serve-edit : (c : Call) (m : ends.EditMessage (edits ranks)) (k : ℕ) (direction : ℕ) → inRange (messageOf (headerOf k direction m) (m .edit .edit)) ≡ true
       → (direction ≡ 0 → UpMessage items E h k m) → (direction ≡ 0 → logged w c ≡ tookUp w k m)
-      → refusedLog w c ≡ hears w (w .heard)
-      → (a : Answer Server)
-      → Outcome (asks (serverEditQuestions S (headerOf k direction m) (m .edit .edit))) S (serverTaken S k (m .edit .origin) (m .seen) (m .edit .edit)) (lineReport (lineOf S k) (m .seen) (m .edit .edit)) a
-      → soundServer (a .end) ≡ true → Sim n items from (answered ours s 0 c (answerAs server a))
-  unfolding log
-  serve-edit c m k direction range fine made quiet a (outcomes.Outcome.no r) ok =
-      turned-down 0 c (asks (serverEditQuestions S (headerOf k direction m) (m .edit .edit))) (server S) r (sim .server-is) quiet
-  serve-edit c m k direction range fine made quiet a (outcomes.Outcome.yes r) ok =
-      let hd : Header = headerOf k direction m in
-      let y = yes-all (serverEditQuestions S hd (m .edit .edit)) (omega arith) r in
-      let q4 = four (eqb direction 0) (between 1 n k) (priority (eqb (rankOf ranks k)) (m .edit .edit)) (ownOrigin hd) (y .1 .0) in
-      let up-way : direction ≡ 0 = eqb-true direction 0 (q4 .0) in
-      let there = between-true 1 n k (q4 .1) in
-      let same = line-of k (there .0) (there .1) in
-      let q = subst (λ (v : Line). Asked v (E .doc) hd (m .edit .edit)) same (asked (lineOf S k) (E .doc) hd (m .edit .edit) (lastQuestions S hd (m .edit .edit)) (y .1 .1)) in
-      subst (λ (v : Line). Sim n items from (record { ends = at 0 (server (serverTaken S k (m .edit .origin) (m .seen) (m .edit .edit))) (s .ends); messages = s .messages; reports = s .reports ++ (lineReport v (m .seen) (m .edit .edit) ∷ []); recorded = logged w c }))
-      (sym same)
-      (subst (λ (z : Log ranks). Sim n items from (record { ends = at 0 (server (serverTaken S k (m .edit .origin) (m .seen) (m .edit .edit))) (s .ends); messages = s .messages; reports = s .reports ++ (lineReport (lineFrom (E .lines k) (sim .si k)) (m .seen) (m .edit .edit) ∷ []); recorded = z }))
-      (sym (made up-way))
-      (takes-up n items s sim k (there .0) (there .1) m (fine up-way) (q .next ∙ add-one (E .lines k .taken)) (q .low) (small-range hd (m .edit .edit) range) ok))
+      → refusedLog w c ≡ hears w (w .heard) → Sim n items from (answered ours s 0 c (answerAs server (serverTakes S (messageOf (headerOf k direction m) (m .edit .edit)))))
+  unfolding log serverTakesEdit
+  serve-edit c m k direction range fine made quiet =
+      subst (λ (a : Answer Server). Sim n items from (answered ours s 0 c (answerAs server a))) (sym (server-message S hd (m .edit .edit)))
+      (go (serverTakesEdit S hd (m .edit .edit))
+      (outcome (asks (serverEditQuestions S hd (m .edit .edit))) S (serverTaken S k (m .edit .origin) (m .seen) (m .edit .edit)) (lineReport (lineOf S k) (m .seen) (m .edit .edit)))
+      (server-takes-edit S hd (m .edit .edit) (header-range hd (m .edit .edit) range) (sim .server-sound)))
+    where
+      hd : Header
+      hd = headerOf k direction m
+
+      go : (a : Answer Server) → Outcome (asks (serverEditQuestions S hd (m .edit .edit))) S (serverTaken S k (m .edit .origin) (m .seen) (m .edit .edit)) (lineReport (lineOf S k) (m .seen) (m .edit .edit)) a
+          → soundServer (a .end) ≡ true → Sim n items from (answered ours s 0 c (answerAs server a))
+      go a (outcomes.Outcome.no r) ok = turned-down 0 c (asks (serverEditQuestions S hd (m .edit .edit))) (server S) r (sim .server-is) quiet
+      go a (outcomes.Outcome.yes r) ok =
+          let y = yes-all (serverEditQuestions S hd (m .edit .edit)) (omega arith) r in
+          let q4 = four (eqb direction 0) (between 1 n k) (priority (eqb (rankOf ranks k)) (m .edit .edit)) (ownOrigin hd) (y .1 .0) in
+          let up-way : direction ≡ 0 = eqb-true direction 0 (q4 .0) in
+          let there = between-true 1 n k (q4 .1) in
+          let same = line-of k (there .0) (there .1) in
+          let q = subst (λ (v : Line). Asked v (E .doc) hd (m .edit .edit)) same (asked (lineOf S k) (E .doc) hd (m .edit .edit) (lastQuestions S hd (m .edit .edit)) (y .1 .1)) in
+          subst (λ (v : Line). Sim n items from (record { ends = at 0 (server (serverTaken S k (m .edit .origin) (m .seen) (m .edit .edit))) (s .ends); messages = s .messages; reports = s .reports ++ (lineReport v (m .seen) (m .edit .edit) ∷ []); recorded = logged w c }))
+          (sym same)
+          (subst (λ (z : Log ranks). Sim n items from (record { ends = at 0 (server (serverTaken S k (m .edit .origin) (m .seen) (m .edit .edit))) (s .ends); messages = s .messages; reports = s .reports ++ (lineReport (lineFrom (E .lines k) (sim .si k)) (m .seen) (m .edit .edit) ∷ []); recorded = z }))
+          (sym (made up-way))
+          (takes-up n items s sim k (there .0) (there .1) m (fine up-way) (q .next ∙ add-one (E .lines k .taken)) (q .low) (small-range hd (m .edit .edit) range) ok))
 
   serve-ack : (c : Call) (k direction seen : ℕ) → (direction ≡ 0 → seen ≤ E .clients k .taken) → (direction ≡ 0 → logged w c ≡ hears w (logs.hearing w 0 k seen)) → refusedLog w c ≡ hears w (w .heard)
       → (a : Answer Server) → Outcome (asks (serverAckQuestions S k direction seen)) S (serverAcked S k seen) noReport a → soundServer (a .end) ≡ true
@@ -255,19 +258,9 @@ module _ (n : ℕ) (items : List Place) {ranks : List ℕ} {from : Moment ranks}
 
   serve-message : (c : Call) (x : Message (edits ranks)) → MessageOk n ranks items E h x → logged w c ≡ took w 0 (some x) → refusedLog w c ≡ hears w (w .heard)
       → Sim n items from (answered ours s 0 c (answerAs server (serverTakes S (wireMessage x))))
-  unfolding took serverTakesEdit serverTakesAck
-  serve-message c (up k m) ok made quiet =
-      let hd : Header = headerOf k 0 m in
-      subst (λ (a : Answer Server). Sim n items from (answered ours s 0 c (answerAs server a))) (sym (server-message S hd (m .edit .edit)))
-      (serve-edit c m k 0 (ok .1) (λ e. ok .0) (λ e. made) quiet (serverTakesEdit S hd (m .edit .edit))
-      (outcome (asks (serverEditQuestions S hd (m .edit .edit))) S (serverTaken S k (m .edit .origin) (m .seen) (m .edit .edit)) (lineReport (lineOf S k) (m .seen) (m .edit .edit)))
-      (server-takes-edit S hd (m .edit .edit) (header-range hd (m .edit .edit) (ok .1)) (sim .server-sound)))
-  serve-message c (down k m) ok made quiet =
-      let hd : Header = headerOf k 1 m in
-      subst (λ (a : Answer Server). Sim n items from (answered ours s 0 c (answerAs server a))) (sym (server-message S hd (m .edit .edit)))
-      (serve-edit c m k 1 (ok .1) (λ e. absurd (omega arith)) (λ e. absurd (omega arith)) quiet (serverTakesEdit S hd (m .edit .edit))
-      (outcome (asks (serverEditQuestions S hd (m .edit .edit))) S (serverTaken S k (m .edit .origin) (m .seen) (m .edit .edit)) (lineReport (lineOf S k) (m .seen) (m .edit .edit)))
-      (server-takes-edit S hd (m .edit .edit) (header-range hd (m .edit .edit) (ok .1)) (sim .server-sound)))
+  unfolding took serverTakesAck
+  serve-message c (up k m) ok made quiet = serve-edit c m k 0 (ok .1) (λ e. ok .0) (λ e. made) quiet
+  serve-message c (down k m) ok made quiet = serve-edit c m k 1 (ok .1) (λ e. absurd (omega arith)) (λ e. absurd (omega arith)) quiet
   serve-message c (upAck k seen) ok made quiet =
       serve-ack c k 0 seen (λ e. ok .0) (λ e. made) quiet (serverTakesAck S k 0 seen) (outcome (asks (serverAckQuestions S k 0 seen)) S (serverAcked S k seen) noReport) (server-takes-ack S k 0 seen (sim .server-sound))
   serve-message c (downAck k seen) ok made quiet =

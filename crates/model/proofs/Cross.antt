@@ -57,49 +57,39 @@ pub priorities-at : (good : ℕ → Bool) (es : List Edit) (i : ℕ) → i < len
 unfolding priorities
 priorities-at good es i = all-at (priority good) (priorities good) refl (λ e es. refl) es i Nothing
 
--- Priority and kind are read off the stamp, which no transformation changes.
-stamped : (ℕ → Bool) → Option (ℕ × ℕ) → Bool
-stamped good none = true
-stamped good (some s) = good (s .1)
+-- What is one value for all that inserts nothing, and of an insert is read off item and priority, no transformation changes: they are the stamp.
+module _ {A : Type 0} (f : Edit → A) (none-is : A) (some-is : ℕ → ℕ → A) (nothing : f Nothing ≡ none-is) (delete : (p : ℕ) → f (Delete p) ≡ none-is)
+    (insert : (p x r : ℕ) → f (Insert p x r) ≡ some-is x r) where
+  stamped : Option (ℕ × ℕ) → A
+  stamped none = none-is
+  stamped (some s) = some-is (s .0) (s .1)
 
-stamp-priority : (good : ℕ → Bool) (e : Edit) → priority good e ≡ stamped good (stamp e)
-unfolding stamp stamped
-stamp-priority good Nothing = refl
-stamp-priority good (Delete p) = refl
-stamp-priority good (Insert p x r) = refl
+  by-stamp : (e : Edit) → f e ≡ stamped (stamp e)
+  unfolding stamp stamped
+  by-stamp Nothing = nothing
+  by-stamp (Delete p) = delete p
+  by-stamp (Insert p x r) = insert p x r
+
+  pub kept-transformed : (a b : Edit) → f (transformed a b) ≡ f a
+  kept-transformed a b = by-stamp (transformed a b) ∙ ap stamped (laws .keeps a b) ∙ sym (by-stamp a)
+
+-- nor does it change past several edits
+pub kept-past : {A : Type 0} (f : Edit → A) → ((a b : Edit) → f (transformed a b) ≡ f a) → (e : Edit) (es : List Edit) → f (past e es) ≡ f e
+unfolding past
+kept-past f kept e [] = refl
+kept-past f kept e (p ∷ es) = kept-past f kept (transformed e p) es ∙ kept e p
 
 pub priority-transformed : (good : ℕ → Bool) (a b : Edit) → priority good (transformed a b) ≡ priority good a
-priority-transformed good a b =
-    stamp-priority good (transformed a b) ∙ ap (stamped good) (laws .keeps a b) ∙ sym (stamp-priority good a)
-
-counted : Option (ℕ × ℕ) → ℕ
-counted none = 0
-counted (some s) = 1
-
-stamp-inserts : (e : Edit) → insertsOf e ≡ counted (stamp e)
-unfolding stamp counted
-stamp-inserts Nothing = refl
-stamp-inserts (Delete p) = refl
-stamp-inserts (Insert p x r) = refl
+priority-transformed good = kept-transformed (priority good) true (λ x r. good r) refl (λ p. refl) (λ p x r. refl)
 
 pub inserts-transformed : (a b : Edit) → insertsOf (transformed a b) ≡ insertsOf a
-inserts-transformed a b = stamp-inserts (transformed a b) ∙ ap counted (laws .keeps a b) ∙ sym (stamp-inserts a)
+inserts-transformed = kept-transformed insertsOf 0 (λ x r. 1) refl (λ p. refl) (λ p x r. refl)
 
 pub priority-past : (good : ℕ → Bool) (e : Edit) (es : List Edit) → priority good (past e es) ≡ priority good e
-unfolding past
-priority-past good e [] = refl
-priority-past good e (p ∷ es) =
-    let rest = priority-past good (transformed e p) es in
-    let one = priority-transformed good e p in
-    cc
+priority-past good = kept-past (priority good) (priority-transformed good)
 
 pub inserts-past : (e : Edit) (es : List Edit) → insertsOf (past e es) ≡ insertsOf e
-unfolding past
-inserts-past e [] = refl
-inserts-past e (p ∷ es) =
-    let rest = inserts-past (transformed e p) es in
-    let one = inserts-transformed e p in
-    cc
+inserts-past = kept-past insertsOf inserts-transformed
 
 pub priorities-over : (good : ℕ → Bool) (e : Edit) (es : List Edit) → priorities good es ≡ true → priorities good (over e es) ≡ true
 unfolding over priorities

@@ -21,6 +21,7 @@ use Rattle.jupiter.specs.Run.{Message}
 use Rattle.jupiter.specs.Claims.{inserts}
 use Rattle.jupiter.proofs.Lists as L
 use Rattle.jupiter.proofs.Lists.{All, all-append, all-map}
+use Rattle.jupiter.proofs.Grid.{by-line, not-line}
 use Rattle.jupiter.proofs.Line.{LineAt, set-is, down-made, down-arrives}
 use Rattle.jupiter.proofs.World.{Inv, arrives, first-missing, first-untaken, mine-served, others-served}
 use Rattle.jupiter.proofs.Step.{Later, later-trans, Step, step-edit, step-up, step-down, step-ack-up, step-ack-down, UpMessage, DownMessage}
@@ -42,7 +43,7 @@ use Rattle.model.proofs.Instance.{to-T, by-rank, editsOf, map-drop, pas
 use Rattle.model.proofs.Inverse.{inverse-fits, carried-fits}
 use Rattle.model.proofs.Logs.{made-form, client-set}
 use Rattle.model.proofs.Small.{Small, small-transformed, small-past, small-over, all-drop, items-small, inverse-small}
-use Rattle.model.proofs.Sim.{lineFrom, clientFrom, serverFrom, MessageOk, OfLines, Moment, Sim, ranked, laws, at-lines, at-line, at-other, report-from, edited-from, taken-from, acked-from, server-taken-from, server-acked-from}
+use Rattle.model.proofs.Sim.{lineFrom, clientFrom, serverFrom, MessageOk, OfLines, Moment, Sim, beside, ranked, laws, at-other, at-its, report-from, edited-from, taken-from, acked-from, server-taken-from, server-acked-from}
 
 -- one edit more of line l
 inserts-one-more : {by : Rule} (l : ℕ) (xs : List (Made (editsBy by))) (o : Made (editsBy by)) → isBy l o ≡ true → inserts (mine l (xs ++ (o ∷ []))) ≡ inserts (mine l xs) + insertsOf (o .edit .edit)
@@ -114,43 +115,7 @@ module _ (n : ℕ) (items : List Place) {ranks : List ℕ} {from : Moment ranks}
 
   -- the end comes back as it was, and nothing is reported
   pub refused : (a : ℕ) → Sim n items from (record { ends = at a (s .ends a) (s .ends); messages = s .messages; reports = s .reports ++ (noReport ∷ []); recorded = hears w (w .heard) })
-  refused a =
-      record {
-        E = sim .E;
-        ci = sim .ci;
-        si = sim .si;
-        bk = sim .bk;
-        inv = sim .inv;
-        later = sim .later;
-        server-is = same 0 ∙ sim .server-is;
-        client-is = λ l p q. same l ∙ sim .client-is l p q;
-        server-sound = sim .server-sound;
-        client-sound = sim .client-sound;
-        server-shown = sim .server-shown;
-        client-shown = sim .client-shown;
-        server-heard = sim .server-heard;
-        client-heard = sim .client-heard;
-        messages = sim .messages;
-        written = sim .written;
-        reports = ap (λ (ks : List Report). one-more ks noReport) (sim .reports);
-        taken = sim .taken;
-        served-lines = sim .served-lines;
-        ci-is = sim .ci-is;
-        si-is = sim .si-is;
-        client-small = sim .client-small;
-        server-small = sim .server-small;
-        back-is = sim .back-is;
-        back-fits = sim .back-fits;
-        back-small = sim .back-small;
-        docs-small = sim .docs-small;
-      }
-    where
-      same : (j : ℕ) → at a (s .ends a) (s .ends) j ≡ s .ends j
-      same j = go (eqb a j) refl
-        where
-          go : (b : Bool) → eqb a j ≡ b → cond b (s .ends a) (s .ends j) ≡ s .ends j
-          go true e = ap (s .ends) (eqb-true a j e)
-          go false e = refl
+  refused a = beside sim (sim .later) (at-its a (s .ends a) (s .ends) refl) (sim .messages) (sim .written) (ap (λ (ks : List Report). one-more ks noReport) (sim .reports))
 
   -- ---- a client edits
 
@@ -185,6 +150,13 @@ module _ (n : ℕ) (items : List Place) {ranks : List ℕ} {from : Moment ranks}
       abbrev o : Made (edits ranks)
       o = newEdit h l named
 
+      -- the end and the list of line l as they are now, or of line j as they were
+      abbrev own-end : Bool → ℕ → ends.End (edits ranks)
+      own-end t j = cond t (keeps named (E .clients l)) (E .clients j)
+
+      abbrev own-list : Bool → ℕ → List Place
+      own-list t j = cond t (appliedNamed named (E .docs l)) (E .docs j)
+
       pub edits-on : Sim n items from (record { ends = at l (client (edited C e)) (s .ends); messages = s .messages; reports = s .reports ++ (noReport ∷ []); recorded = logs.edited w l e })
       unfolding afterEdit
       edits-on =
@@ -196,51 +168,32 @@ module _ (n : ℕ) (items : List Place) {ranks : List ℕ} {from : Moment ranks}
             inv = step .inv;
             later = later-trans _ _ _ _ _ _ (sim .later) (step .later);
             server-is = at-other l (client (edited C e)) (s .ends) 0 (λ z. omega arith) ∙ sim .server-is;
-            client-is = λ j a b.
-                at-lines (λ i x v d k u. x ≡ client (clientFrom n i ranks v d k u)) l (client (edited C e)) (keeps named (E .clients l)) (appliedNamed named (E .docs l)) (sim .ci l + insertsOf e) back
-                (s .ends) (E .clients) (E .docs) (sim .ci) (sim .bk) j (ap client is-edited) (sim .client-is j a b);
+            client-is = by-line l (λ j t. 1 ≤ j → j ≤ n → cond t (client (edited C e)) (s .ends j)
+                ≡ client (clientFrom n j ranks (own-end t j) (own-list t j) (cond t (sim .ci l + insertsOf e) (sim .ci j)) (cond t back (sim .bk j)))) (λ a b. ap client is-edited) (λ j q. sim .client-is j);
             server-sound = sim .server-sound;
-            client-sound = λ j a b.
-                at-line (λ i v d k u. soundClient (clientFrom n i ranks v d k u) ≡ true) l (keeps named (E .clients l)) (appliedNamed named (E .docs l)) (sim .ci l + insertsOf e) back
-                (E .clients) (E .docs) (sim .ci) (sim .bk) j (ap soundClient (sym is-edited) ∙ sound) (sim .client-sound j a b);
+            client-sound = by-line l (λ j t. 1 ≤ j → j ≤ n → soundClient (clientFrom n j ranks (own-end t j) (own-list t j) (cond t (sim .ci l + insertsOf e) (sim .ci j)) (cond t back (sim .bk j))) ≡ true)
+                (λ a b. ap soundClient (sym is-edited) ∙ sound) (λ j q. sim .client-sound j);
             server-shown = at-other l (appliedNamed (form o (setOf h l)) (w .shown l)) (w .shown) 0 (λ z. omega arith) ∙ sim .server-shown;
-            client-shown = λ j a b.
-                at-line (λ i x d (y : Unit {0}) (z : Unit {0}). x ≡ d) l (appliedNamed (form o (setOf h l)) (w .shown l)) (appliedNamed named (E .docs l)) tt tt
-                (w .shown) (E .docs) (λ i. tt) (λ i. tt) j
-                (ap₂ appliedNamed (client-set h l o named lo (made-form h l named)) (sim .client-shown l lo hi)) (sim .client-shown j a b);
+            client-shown = by-line l (λ j t. 1 ≤ j → j ≤ n → cond t (appliedNamed (form o (setOf h l)) (w .shown l)) (w .shown j) ≡ own-list t j)
+                (λ a b. ap₂ appliedNamed (client-set h l o named lo (made-form h l named)) (sim .client-shown l lo hi)) (λ j q. sim .client-shown j);
             server-heard = sim .server-heard;
-            client-heard = λ j a.
-                at-line (λ i v (x : Unit {0}) (y : Unit {0}) (z : Unit {0}). w .heard i i ≡ v .acked) l (keeps named (E .clients l)) tt tt tt
-                (E .clients) (λ i. tt) (λ i. tt) (λ i. tt) j (sim .client-heard l lo) (sim .client-heard j a);
+            client-heard = by-line l (λ j t. 1 ≤ j → w .heard j j ≡ own-end t j .acked) (sim .client-heard l) (λ j q. sim .client-heard j);
             messages = sim .messages;
             written = messages-later n ranks items E (editing l named E) h (afterEdit l named h) (sim .inv) (step .later) (w .messages) (sim .written);
             reports = ap (λ (ks : List Report). one-more ks noReport) (sim .reports);
-            taken = λ j.
-                at-line (λ i xs v (y : Unit {0}) (z : Unit {0}). length (others i xs) ≡ v .taken) l (h .applied l ++ (o ∷ [])) (keeps named (E .clients l)) tt tt
-                (h .applied) (E .clients) (λ i. tt) (λ i. tt) j
-                (ap length (L.reject-out (isBy l) blank (h .applied l) o [] (eq-eqb l l refl) ∙ ap (others l) (append-nil (h .applied l))) ∙ sim .taken l) (sim .taken j);
+            taken = by-line l (λ j t. length (others j (cond t (h .applied l ++ (o ∷ [])) (h .applied j))) ≡ own-end t j .taken)
+                (ap length (L.reject-out (isBy l) blank (h .applied l) o [] (eq-eqb l l refl) ∙ ap (others l) (append-nil (h .applied l))) ∙ sim .taken l) (λ j q. sim .taken j);
             served-lines = sim .served-lines;
-            ci-is = λ j.
-                at-line (λ i k us (y : Unit {0}) (z : Unit {0}). k ≡ inserts (mine i (h .served ++ us))) l (sim .ci l + insertsOf e) (h .untaken l ++ (o ∷ [])) tt tt
-                (sim .ci) (h .untaken) (λ i. tt) (λ i. tt) j
-                (omega (arith, sim .ci-is l, inserts-more l (h .served) (h .untaken l) o (eq-eqb l l refl))) (sim .ci-is j);
+            ci-is = by-line l (λ j t. cond t (sim .ci l + insertsOf e) (sim .ci j) ≡ inserts (mine j (h .served ++ cond t (h .untaken l ++ (o ∷ [])) (h .untaken j))))
+                (omega (arith, sim .ci-is l, inserts-more l (h .served) (h .untaken l) o (eq-eqb l l refl))) (λ j q. sim .ci-is j);
             si-is = sim .si-is;
-            client-small = λ j.
-                at-line (λ i v (x : Unit {0}) (y : Unit {0}) (z : Unit {0}). All Small (editsOf (v .pending))) l (keeps named (E .clients l)) tt tt tt
-                (E .clients) (λ i. tt) (λ i. tt) (λ i. tt) j (small-kept named (E .clients l) (sim .client-small l) sm) (sim .client-small j);
+            client-small = by-line l (λ j t. All Small (editsOf (own-end t j .pending))) (small-kept named (E .clients l) (sim .client-small l) sm) (λ j q. sim .client-small j);
             server-small = sim .server-small;
-            back-is = λ j.
-                at-line (λ i u v (y : Unit {0}) (z : Unit {0}). u ≡ v) l back (inverseOf (rankOf ranks l) (w .shown l) e) tt tt (sim .bk) (w .undo) (λ i. tt) (λ i. tt) j
-                (ap (λ (d : List Place). inverseOf (rankOf ranks l) d e) (sym (sim .client-shown l lo hi))) (sim .back-is j);
-            back-fits = λ j.
-                at-line (λ i u d (y : Unit {0}) (z : Unit {0}). fits u (length d) ≡ true) l back (appliedNamed named (E .docs l)) tt tt (sim .bk) (E .docs) (λ i. tt) (λ i. tt) j
-                (inverse-fits (rankOf ranks l) (named .origin) e (E .docs l) ok) (sim .back-fits j);
-            back-small = λ j.
-                at-line (λ i u (x : Unit {0}) (y : Unit {0}) (z : Unit {0}). Small u) l back tt tt tt (sim .bk) (λ i. tt) (λ i. tt) (λ i. tt) j
-                (inverse-small (rankOf ranks l) (E .docs l) e (sim .docs-small l)) (sim .back-small j);
-            docs-small = λ j.
-                at-line (λ i d (x : Unit {0}) (y : Unit {0}) (z : Unit {0}). areItems (itemsOf d) ≡ true) l (appliedNamed named (E .docs l)) tt tt tt
-                (E .docs) (λ i. tt) (λ i. tt) (λ i. tt) j (items-small (named .origin) e (E .docs l) sm (sim .docs-small l)) (sim .docs-small j);
+            back-is = by-line l (λ j t. cond t back (sim .bk j) ≡ cond t (inverseOf (rankOf ranks l) (w .shown l) e) (w .undo j))
+                (ap (λ (d : List Place). inverseOf (rankOf ranks l) d e) (sym (sim .client-shown l lo hi))) (λ j q. sim .back-is j);
+            back-fits = by-line l (λ j t. fits (cond t back (sim .bk j)) (length (own-list t j)) ≡ true) (inverse-fits (rankOf ranks l) (named .origin) e (E .docs l) ok) (λ j q. sim .back-fits j);
+            back-small = by-line l (λ j t. Small (cond t back (sim .bk j))) (inverse-small (rankOf ranks l) (E .docs l) e (sim .docs-small l)) (λ j q. sim .back-small j);
+            docs-small = by-line l (λ j t. areItems (itemsOf (own-list t j)) ≡ true) (items-small (named .origin) e (E .docs l) sm (sim .docs-small l)) (λ j q. sim .docs-small j);
           }
 
     -- ---- a client takes its next edit
@@ -275,6 +228,13 @@ module _ (n : ℕ) (items : List Place) {ranks : List ℕ} {from : Moment ranks}
       abbrev carried-back : Edit
       carried-back = transformed (sim .bk l) (came .edit)
 
+      -- the end and the list of line l as they are now, or of line j as they were
+      abbrev new-end : Bool → ℕ → ends.End (edits ranks)
+      new-end t j = cond t (takes x (E .clients l)) (E .clients j)
+
+      abbrev new-list : Bool → ℕ → List Place
+      new-list t j = cond t (appliedNamed came (E .docs l)) (E .docs j)
+
       came-fits : fits (came .edit) (length (E .docs l)) ≡ true
       came-fits = ap (λ (e : Edit). fits e (length (E .docs l))) (sym (past-same _ (x .edit) (x .seen - E .clients l .acked) (E .clients l .pending))) ∙ fit
 
@@ -297,51 +257,37 @@ module _ (n : ℕ) (items : List Place) {ranks : List ℕ} {from : Moment ranks}
             inv = down-step .inv;
             later = later-trans _ _ _ _ _ _ (sim .later) (down-step .later);
             server-is = at-other l (client (clientTaken C (x .edit .origin) (x .seen) (x .edit .edit))) (s .ends) 0 (λ z. omega arith) ∙ sim .server-is;
-            client-is = λ j a b.
-                at-line (λ i y v d u. y ≡ client (clientFrom n i ranks v d (sim .ci i) u)) l (client (clientTaken C (x .edit .origin) (x .seen) (x .edit .edit))) (takes x (E .clients l))
-                (appliedNamed came (E .docs l)) carried-back (s .ends) (E .clients) (E .docs) (sim .bk) j (ap client is-taken) (sim .client-is j a b);
+            client-is = by-line l (λ j t. 1 ≤ j → j ≤ n → cond t (client (clientTaken C (x .edit .origin) (x .seen) (x .edit .edit))) (s .ends j)
+                ≡ client (clientFrom n j ranks (new-end t j) (new-list t j) (sim .ci j) (cond t carried-back (sim .bk j)))) (λ a b. ap client is-taken) (λ j q. sim .client-is j);
             server-sound = sim .server-sound;
-            client-sound = λ j a b.
-                at-line (λ i (y : Unit {0}) v d u. soundClient (clientFrom n i ranks v d (sim .ci i) u) ≡ true) l tt (takes x (E .clients l))
-                (appliedNamed came (E .docs l)) carried-back (λ i. tt) (E .clients) (E .docs) (sim .bk) j (ap soundClient (sym is-taken) ∙ sound) (sim .client-sound j a b);
+            client-sound = by-line l (λ j t. 1 ≤ j → j ≤ n → soundClient (clientFrom n j ranks (new-end t j) (new-list t j) (sim .ci j) (cond t carried-back (sim .bk j))) ≡ true)
+                (λ a b. ap soundClient (sym is-taken) ∙ sound) (λ j q. sim .client-sound j);
             server-shown = at-other l (appliedNamed (form (logs.first (missing h l)) (setOf h l)) (w .shown l)) (w .shown) 0 (λ z. omega arith) ∙ sim .server-shown;
-            client-shown = λ j a b.
-                at-line (λ i y d (u : Unit {0}) (z : Unit {0}). y ≡ d) l (appliedNamed (form (logs.first (missing h l)) (setOf h l)) (w .shown l))
-                (appliedNamed came (E .docs l)) tt tt (w .shown) (E .docs) (λ i. tt) (λ i. tt) j
-                (ap₂ appliedNamed down-applied (sim .client-shown l lo hi)) (sim .client-shown j a b);
+            client-shown = by-line l (λ j t. 1 ≤ j → j ≤ n → cond t (appliedNamed (form (logs.first (missing h l)) (setOf h l)) (w .shown l)) (w .shown j) ≡ new-list t j)
+                (λ a b. ap₂ appliedNamed down-applied (sim .client-shown l lo hi)) (λ j q. sim .client-shown j);
             server-heard = λ j. unheard l (at l (x .seen) (w .heard l)) (w .heard) 0 j (λ z. omega arith) ∙ sim .server-heard j;
-            client-heard = λ j a.
-                at-line (λ i f v (y : Unit {0}) (z : Unit {0}). f i ≡ v .acked) l (at l (x .seen) (w .heard l)) (takes x (E .clients l)) tt tt
-                (w .heard) (E .clients) (λ i. tt) (λ i. tt) j (at-here l (x .seen) (w .heard l)) (sim .client-heard j a);
+            client-heard = by-line l (λ j t. 1 ≤ j → cond t (at l (x .seen) (w .heard l)) (w .heard j) j ≡ new-end t j .acked) (λ a. at-here l (x .seen) (w .heard l)) (λ j q. sim .client-heard j);
             messages = sim .messages;
             written = messages-later n ranks items E (takingDown l x E) h (afterDown l h) (sim .inv) (down-step .later) (w .messages) (sim .written);
             reports =
                 ap₂ one-more (sim .reports)
                 (report-from (E .clients l) (sim .ci l) x (madeAt h l l) (form (logs.first (missing h l)) (setOf h l)) (client-count h l (E .clients l .made) lo made-is) down-applied);
             taken = λ j.
-                subst (λ (es : List (Made (edits ranks))). length (others j (applies l es h .applied j)) ≡ at l (takes x (E .clients l)) (E .clients) j .taken) (sym missing-first)
-                (at-line (λ i xs v (y : Unit {0}) (z : Unit {0}). length (others i xs) ≡ v .taken) l (h .applied l ++ (g ∷ [])) (takes x (E .clients l)) tt tt
-                (h .applied) (E .clients) (λ i. tt) (λ i. tt) j
-                (ap length (others-snoc l (h .applied l) g g-other) ∙ length-append (others l (h .applied l)) (g ∷ []) ∙ omega (arith, sim .taken l)) (sim .taken j));
+                subst (λ (es : List (Made (edits ranks))). length (others j (applies l es h .applied j)) ≡ new-end (eqb l j) j .taken) (sym missing-first)
+                (by-line l (λ i t. length (others i (cond t (h .applied l ++ (g ∷ [])) (h .applied i))) ≡ new-end t i .taken)
+                (ap length (others-snoc l (h .applied l) g g-other) ∙ length-append (others l (h .applied l)) (g ∷ []) ∙ omega (arith, sim .taken l)) (λ i q. sim .taken i) j);
             served-lines = subst (λ (es : List (Made (edits ranks))). All (OfLines n) (applies l es h .served)) (sym missing-first) (sim .served-lines);
             ci-is = λ j. subst (λ (es : List (Made (edits ranks))). sim .ci j ≡ inserts (mine j (order (applies l es h) j))) (sym missing-first) (sim .ci-is j);
             si-is = λ j. subst (λ (es : List (Made (edits ranks))). sim .si j ≡ inserts (mine j (applies l es h .served))) (sym missing-first) (sim .si-is j);
-            client-small = λ j.
-                at-line (λ i v (y : Unit {0}) (z : Unit {0}) (k : Unit {0}). All Small (editsOf (v .pending))) l (takes x (E .clients l)) tt tt tt
-                (E .clients) (λ i. tt) (λ i. tt) (λ i. tt) j (small-taken x (E .clients l) (sim .client-small l)) (sim .client-small j);
+            client-small = by-line l (λ j t. All Small (editsOf (new-end t j .pending))) (small-taken x (E .clients l) (sim .client-small l)) (λ j q. sim .client-small j);
             server-small = sim .server-small;
-            back-is = λ j.
-                at-line (λ i u v (y : Unit {0}) (z : Unit {0}). u ≡ v) l carried-back (transformed (w .undo l) (form (logs.first (missing h l)) (setOf h l) .edit)) tt tt
-                (sim .bk) (w .undo) (λ i. tt) (λ i. tt) j (ap₂ transformed (sim .back-is l) (ap (λ (e : Named). e .edit) (sym down-applied))) (sim .back-is j);
-            back-fits = λ j.
-                at-line (λ i u d (y : Unit {0}) (z : Unit {0}). fits u (length d) ≡ true) l carried-back (appliedNamed came (E .docs l)) tt tt (sim .bk) (E .docs) (λ i. tt) (λ i. tt) j
-                (carried-fits (came .origin) (sim .bk l) (came .edit) (E .docs l) (sim .back-fits l) came-fits) (sim .back-fits j);
-            back-small = λ j.
-                at-line (λ i u (v : Unit {0}) (y : Unit {0}) (z : Unit {0}). Small u) l carried-back tt tt tt (sim .bk) (λ i. tt) (λ i. tt) (λ i. tt) j
-                (small-transformed (sim .bk l) (came .edit) ∙ sim .back-small l) (sim .back-small j);
-            docs-small = λ j.
-                at-line (λ i d (v : Unit {0}) (y : Unit {0}) (z : Unit {0}). areItems (itemsOf d) ≡ true) l (appliedNamed came (E .docs l)) tt tt tt
-                (E .docs) (λ i. tt) (λ i. tt) (λ i. tt) j (items-small (came .origin) (came .edit) (E .docs l) (small-arrived x (E .clients l) sm) (sim .docs-small l)) (sim .docs-small j);
+            back-is = by-line l (λ j t. cond t carried-back (sim .bk j) ≡ cond t (transformed (w .undo l) (form (logs.first (missing h l)) (setOf h l) .edit)) (w .undo j))
+                (ap₂ transformed (sim .back-is l) (ap (λ (e : Named). e .edit) (sym down-applied))) (λ j q. sim .back-is j);
+            back-fits = by-line l (λ j t. fits (cond t carried-back (sim .bk j)) (length (new-list t j)) ≡ true)
+                (carried-fits (came .origin) (sim .bk l) (came .edit) (E .docs l) (sim .back-fits l) came-fits) (λ j q. sim .back-fits j);
+            back-small = by-line l (λ j t. Small (cond t carried-back (sim .bk j))) (small-transformed (sim .bk l) (came .edit) ∙ sim .back-small l) (λ j q. sim .back-small j);
+            docs-small = by-line l (λ j t. areItems (itemsOf (new-list t j)) ≡ true)
+                (items-small (came .origin) (came .edit) (E .docs l) (small-arrived x (E .clients l) sm) (sim .docs-small l)) (λ j q. sim .docs-small j);
           }
 
     -- ---- the server takes a client's next edit
@@ -380,10 +326,7 @@ module _ (n : ℕ) (items : List Place) {ranks : List ℕ} {from : Moment ranks}
         o-by = subst (λ (r : List (Made (edits ranks))). All (λ y. isBy l y ≡ true) r) split (sim .inv .lines l .untaken-own) .0
 
         o-not : (j : ℕ) → eqb l j ≡ false → isBy j o ≡ false
-        o-not j e = ne-eqb j (o .name .line) (λ z. differ (sym e ∙ eq-eqb l j (eqb-true l (o .name .line) o-by ∙ sym z)))
-          where
-            differ : false ≡ true → ⊥
-            differ q = let z : _≡_ {A = ℕ} 0 1 = cc in omega arith
+        o-not j e = ne-eqb j (o .name .line) (λ z. not-line l j e (eqb-true l (o .name .line) o-by ∙ sym z))
 
         takes-split : Sim n items from (record {
           ends = at 0 (server (serverTaken S l (x .edit .origin) (x .seen) (x .edit .edit))) (s .ends);
@@ -414,9 +357,7 @@ module _ (n : ℕ) (items : List Place) {ranks : List ℕ} {from : Moment ranks}
               server-shown = ap₂ appliedNamed up-applied (sim .server-shown);
               client-shown = λ j b c. at-other 0 (appliedNamed (form o (h .served)) (w .shown 0)) (w .shown) j (λ z. omega arith) ∙ sim .client-shown j b c;
               client-heard = λ j b. unheard 0 (at l (x .seen) (w .heard 0)) (w .heard) j j (λ z. omega arith) ∙ sim .client-heard j b;
-              server-heard = λ j.
-                  at-line (λ i k v (y : Unit {0}) (z : Unit {0}). k ≡ v .acked) l (x .seen) (takes x (E .lines l)) tt tt (w .heard 0) (λ k. keeps a (E .lines k)) (λ i. tt) (λ i. tt) j
-                  refl (sim .server-heard j);
+              server-heard = by-line l (λ j t. cond t (x .seen) (w .heard 0 j) ≡ cond t (takes x (E .lines l)) (keeps a (E .lines j)) .acked) refl (λ j q. sim .server-heard j);
               messages = sim .messages;
               written = messages-later n ranks items E (takingUp l x E) h (serves l (o ∷ us) h) (sim .inv) (up-step .later) (w .messages) (sim .written);
               reports =
@@ -427,35 +368,23 @@ module _ (n : ℕ) (items : List Place) {ranks : List ℕ} {from : Moment ranks}
               served-lines =
                   all-append (OfLines n) (h .served) (o ∷ []) (sim .served-lines)
                   (let z : l ≡ o .name .line = eqb-true l (o .name .line) o-by in (omega arith, omega arith), tt);
-              ci-is = λ j. client-inserts j (eqb l j) refl;
-              si-is = λ j. server-inserts j (eqb l j) refl;
+              ci-is = by-line l (λ j t. sim .ci j ≡ inserts (mine j ((h .served ++ (o ∷ [])) ++ cond t us (h .untaken j))))
+                  (sim .ci-is l ∙ ap (λ (r : List (Made (edits ranks))). inserts (mine l (h .served ++ r))) split
+                  ∙ ap (λ (r : List (Made (edits ranks))). inserts (mine l r)) (sym (append-assoc (h .served) (o ∷ []) us)))
+                  (λ j q. sim .ci-is j ∙ ap inserts (sym (L.select-out (isBy j) blank (h .served) o (h .untaken j) (o-not j q)))
+                  ∙ ap (λ (r : List (Made (edits ranks))). inserts (mine j r)) (sym (append-assoc (h .served) (o ∷ []) (h .untaken j))));
+              si-is = by-line l (λ j t. cond t (sim .si l + insertsOf (x .edit .edit)) (sim .si j) ≡ inserts (mine j (h .served ++ (o ∷ []))))
+                  (omega (arith, sim .si-is l, first-inserts x ok next o us split, inserts-one-more l (h .served) o o-by))
+                  (λ j q. sim .si-is j ∙ ap (λ (r : List (Made (edits ranks))). inserts (mine j r)) (sym (append-nil (h .served)))
+                  ∙ ap inserts (sym (L.select-out (isBy j) blank (h .served) o [] (o-not j q))));
               client-small = sim .client-small;
-              server-small = λ j.
-                  at-line (λ i v (y : Unit {0}) (z : Unit {0}) (k : Unit {0}). All Small (editsOf (v .pending))) l (takes x (E .lines l)) tt tt tt
-                  (λ k. keeps a (E .lines k)) (λ i. tt) (λ i. tt) (λ i. tt) j (small-taken x (E .lines l) (sim .server-small l))
-                  (small-kept a (E .lines j) (sim .server-small j) (small-arrived x (E .lines l) sm));
+              server-small = by-line l (λ j t. All Small (editsOf (cond t (takes x (E .lines l)) (keeps a (E .lines j)) .pending))) (small-taken x (E .lines l) (sim .server-small l))
+                  (λ j q. small-kept a (E .lines j) (sim .server-small j) (small-arrived x (E .lines l) sm));
               back-is = sim .back-is;
               back-fits = sim .back-fits;
               back-small = sim .back-small;
               docs-small = sim .docs-small;
             }
-          where
-            client-inserts : (j : ℕ) (b : Bool) → eqb l j ≡ b → sim .ci j ≡ inserts (mine j ((h .served ++ (o ∷ [])) ++ cond b us (h .untaken j)))
-            client-inserts j true e =
-                sim .ci-is j
-                ∙ ap (λ (r : List (Made (edits ranks))). inserts (mine j (h .served ++ r))) (ap (h .untaken) (sym (eqb-true l j e)) ∙ split)
-                ∙ ap (λ (r : List (Made (edits ranks))). inserts (mine j r)) (sym (append-assoc (h .served) (o ∷ []) us))
-            client-inserts j false e =
-                sim .ci-is j
-                ∙ ap inserts (sym (L.select-out (isBy j) blank (h .served) o (h .untaken j) (o-not j e)))
-                ∙ ap (λ (r : List (Made (edits ranks))). inserts (mine j r)) (sym (append-assoc (h .served) (o ∷ []) (h .untaken j)))
-
-            server-inserts : (j : ℕ) (b : Bool) → eqb l j ≡ b → cond b (sim .si l + insertsOf (x .edit .edit)) (sim .si j) ≡ inserts (mine j (h .served ++ (o ∷ [])))
-            server-inserts j true e =
-                subst (λ (i : ℕ). sim .si l + insertsOf (x .edit .edit) ≡ inserts (mine i (h .served ++ (o ∷ [])))) (eqb-true l j e)
-                (omega (arith, sim .si-is l, first-inserts x ok next o us split, inserts-one-more l (h .served) o o-by))
-            server-inserts j false e =
-                sim .si-is j ∙ ap (λ (r : List (Made (edits ranks))). inserts (mine j r)) (sym (append-nil (h .served))) ∙ ap inserts (sym (L.select-out (isBy j) blank (h .served) o [] (o-not j e)))
 
       pub takes-up : Sim n items from (record {
         ends = at 0 (server (serverTaken S l (x .edit .origin) (x .seen) (x .edit .edit))) (s .ends);
@@ -489,6 +418,9 @@ module _ (n : ℕ) (items : List Place) {ranks : List ℕ} {from : Moment ranks}
       is-acked : clientAcked C seen ≡ clientFrom n l ranks (acks seen (E .clients l)) (E .docs l) (sim .ci l) (sim .bk l)
       is-acked = acked-from n l ranks (E .clients l) (E .docs l) (sim .ci l) (sim .bk l) seen
 
+      abbrev acked-end : Bool → ℕ → ends.End (edits ranks)
+      acked-end t j = cond t (acks seen (E .clients l)) (E .clients j)
+
       pub acks-down : Sim n items from (record {
         ends = at l (client (clientAcked C seen)) (s .ends);
         messages = s .messages;
@@ -504,31 +436,23 @@ module _ (n : ℕ) (items : List Place) {ranks : List ℕ} {from : Moment ranks}
             inv = acked-down .inv;
             later = later-trans _ _ _ _ _ _ (sim .later) (acked-down .later);
             server-is = at-other l (client (clientAcked C seen)) (s .ends) 0 (λ z. omega arith) ∙ sim .server-is;
-            client-is = λ j b c.
-                at-line (λ i y v (d : Unit {0}) (k : Unit {0}). y ≡ client (clientFrom n i ranks v (E .docs i) (sim .ci i) (sim .bk i))) l (client (clientAcked C seen)) (acks seen (E .clients l)) tt tt
-                (s .ends) (E .clients) (λ i. tt) (λ i. tt) j (ap client is-acked) (sim .client-is j b c);
+            client-is = by-line l (λ j t. 1 ≤ j → j ≤ n → cond t (client (clientAcked C seen)) (s .ends j) ≡ client (clientFrom n j ranks (acked-end t j) (E .docs j) (sim .ci j) (sim .bk j)))
+                (λ a b. ap client is-acked) (λ j q. sim .client-is j);
             server-sound = sim .server-sound;
-            client-sound = λ j b c.
-                at-line (λ i v (y : Unit {0}) (d : Unit {0}) (k : Unit {0}). soundClient (clientFrom n i ranks v (E .docs i) (sim .ci i) (sim .bk i)) ≡ true) l (acks seen (E .clients l)) tt tt tt
-                (E .clients) (λ i. tt) (λ i. tt) (λ i. tt) j (ap soundClient (sym is-acked) ∙ sound) (sim .client-sound j b c);
+            client-sound = by-line l (λ j t. 1 ≤ j → j ≤ n → soundClient (clientFrom n j ranks (acked-end t j) (E .docs j) (sim .ci j) (sim .bk j)) ≡ true)
+                (λ a b. ap soundClient (sym is-acked) ∙ sound) (λ j q. sim .client-sound j);
             server-shown = sim .server-shown;
             client-shown = sim .client-shown;
             server-heard = λ j. unheard l (at l seen (w .heard l)) (w .heard) 0 j (λ z. omega arith) ∙ sim .server-heard j;
-            client-heard = λ j a.
-                at-line (λ i f v (y : Unit {0}) (z : Unit {0}). f i ≡ v .acked) l (at l seen (w .heard l)) (acks seen (E .clients l)) tt tt
-                (w .heard) (E .clients) (λ i. tt) (λ i. tt) j (at-here l seen (w .heard l)) (sim .client-heard j a);
+            client-heard = by-line l (λ j t. 1 ≤ j → cond t (at l seen (w .heard l)) (w .heard j) j ≡ acked-end t j .acked) (λ a. at-here l seen (w .heard l)) (λ j q. sim .client-heard j);
             messages = sim .messages;
             written = messages-later n ranks items E (ackingDown l seen E) h h (sim .inv) (acked-down .later) (w .messages) (sim .written);
             reports = ap (λ (ks : List Report). one-more ks noReport) (sim .reports);
-            taken = λ j.
-                at-line (λ i v (y : Unit {0}) (d : Unit {0}) (k : Unit {0}). length (others i (h .applied i)) ≡ v .taken) l (acks seen (E .clients l)) tt tt tt
-                (E .clients) (λ i. tt) (λ i. tt) (λ i. tt) j (sim .taken l) (sim .taken j);
+            taken = by-line l (λ j t. length (others j (h .applied j)) ≡ acked-end t j .taken) (sim .taken l) (λ j q. sim .taken j);
             served-lines = sim .served-lines;
             ci-is = sim .ci-is;
             si-is = sim .si-is;
-            client-small = λ j.
-                at-line (λ i v (y : Unit {0}) (d : Unit {0}) (k : Unit {0}). All Small (editsOf (v .pending))) l (acks seen (E .clients l)) tt tt tt
-                (E .clients) (λ i. tt) (λ i. tt) (λ i. tt) j (small-unacked seen (E .clients l) (sim .client-small l)) (sim .client-small j);
+            client-small = by-line l (λ j t. All Small (editsOf (acked-end t j .pending))) (small-unacked seen (E .clients l) (sim .client-small l)) (λ j q. sim .client-small j);
             server-small = sim .server-small;
             back-is = sim .back-is;
             back-fits = sim .back-fits;
@@ -561,8 +485,7 @@ module _ (n : ℕ) (items : List Place) {ranks : List ℕ} {from : Moment ranks}
             server-shown = sim .server-shown;
             client-shown = sim .client-shown;
             client-heard = λ j b. unheard 0 (at l seen (w .heard 0)) (w .heard) j j (λ z. omega arith) ∙ sim .client-heard j b;
-            server-heard = λ j.
-                at-line (λ i k v (y : Unit {0}) (z : Unit {0}). k ≡ v .acked) l seen (acks seen (E .lines l)) tt tt (w .heard 0) (E .lines) (λ i. tt) (λ i. tt) j refl (sim .server-heard j);
+            server-heard = by-line l (λ j t. cond t seen (w .heard 0 j) ≡ cond t (acks seen (E .lines l)) (E .lines j) .acked) refl (λ j q. sim .server-heard j);
             messages = sim .messages;
             written = messages-later n ranks items E (ackingUp l seen E) h h (sim .inv) (acked-up .later) (w .messages) (sim .written);
             reports = ap (λ (ks : List Report). one-more ks noReport) (sim .reports);
@@ -571,9 +494,7 @@ module _ (n : ℕ) (items : List Place) {ranks : List ℕ} {from : Moment ranks}
             ci-is = sim .ci-is;
             si-is = sim .si-is;
             client-small = sim .client-small;
-            server-small = λ j.
-                at-line (λ i v (y : Unit {0}) (d : Unit {0}) (k : Unit {0}). All Small (editsOf (v .pending))) l (acks seen (E .lines l)) tt tt tt
-                (E .lines) (λ i. tt) (λ i. tt) (λ i. tt) j (small-unacked seen (E .lines l) (sim .server-small l)) (sim .server-small j);
+            server-small = by-line l (λ j t. All Small (editsOf (cond t (acks seen (E .lines l)) (E .lines j) .pending))) (small-unacked seen (E .lines l) (sim .server-small l)) (λ j q. sim .server-small j);
             back-is = sim .back-is;
             back-fits = sim .back-fits;
             back-small = sim .back-small;
@@ -584,35 +505,8 @@ module _ (n : ℕ) (items : List Place) {ranks : List ℕ} {from : Moment ranks}
   pub writes-all : (xs : List (Message (edits ranks))) → All (MessageOk n ranks items (sim .E) h) xs
       → Sim n items from (record { ends = s .ends; messages = s .messages ++ map messageBytes xs; reports = s .reports; recorded = packs w xs })
   writes-all xs ok =
-      record {
-        E = sim .E;
-        ci = sim .ci;
-        si = sim .si;
-        bk = sim .bk;
-        inv = sim .inv;
-        later = sim .later;
-        server-is = sim .server-is;
-        client-is = sim .client-is;
-        server-sound = sim .server-sound;
-        client-sound = sim .client-sound;
-        server-shown = sim .server-shown;
-        client-shown = sim .client-shown;
-        server-heard = sim .server-heard;
-        client-heard = sim .client-heard;
-        messages = ap (λ (ms : List (List ℕ)). ms ++ map messageBytes xs) (sim .messages) ∙ sym (map-append messageBytes (w .messages) xs);
-        written = all-append (MessageOk n ranks items (sim .E) h) (w .messages) xs (sim .written) ok;
-        reports = sim .reports;
-        taken = sim .taken;
-        served-lines = sim .served-lines;
-        ci-is = sim .ci-is;
-        si-is = sim .si-is;
-        client-small = sim .client-small;
-        server-small = sim .server-small;
-        back-is = sim .back-is;
-        back-fits = sim .back-fits;
-        back-small = sim .back-small;
-        docs-small = sim .docs-small;
-      }
+      beside sim (sim .later) (λ j. refl) (ap (λ (ms : List (List ℕ)). ms ++ map messageBytes xs) (sim .messages) ∙ sym (map-append messageBytes (w .messages) xs))
+      (all-append (MessageOk n ranks items (sim .E) h) (w .messages) xs (sim .written) ok) (sim .reports)
 
   pub writes-on : (x : Message (edits ranks)) → MessageOk n ranks items (sim .E) h x
       → Sim n items from (record { ends = s .ends; messages = s .messages ++ (messageBytes x ∷ []); reports = s .reports; recorded = writes w x })

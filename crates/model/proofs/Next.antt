@@ -28,7 +28,7 @@ use Rattle.jupiter.proofs.Meeting.{server-doc}
 use Rattle.jupiter.proofs.World.{first-untaken}
 use Rattle.jupiter.proofs.Step.{UpMessage, DownMessage, up-message, down-message, up-fits, down-fits}
 use Rattle.model.specs.Limits.{maxInserts, maxPending, maxItems}
-use Rattle.model.specs.Questions.{asks, Answer, Sent, sent}
+use Rattle.model.specs.Questions.{Question, asks, Answer, Sent, sent}
 use Rattle.model.specs.Cross.{allPlaced, priority, insertsOf}
 use Rattle.model.specs.Line.{Line, other, sendQuestions, carried, lineReport}
 use Rattle.model.specs.Client.{Client, clientMessage, sendClientQuestions, sendClient, inverseThen, clientTaken, clientEditQuestions, clientTakesEdit, clientReads, takeClient}
@@ -40,7 +40,7 @@ use Rattle.model.specs.Log.{headerOf, wireMessage, messageBytes, editMes
 use Rattle.model.specs.Run.{State}
 use Rattle.model.specs.Ours.{client, server, ours}
 use Rattle.model.specs.Claim.{Delivered}
-use Rattle.model.proofs.Tests.{both, Yes, all-yes, true-between}
+use Rattle.model.proofs.Tests.{_&_, both, Yes, all-yes, true-between}
 use Rattle.model.proofs.SoundLine.{Asked, yes-asked}
 use Rattle.model.proofs.SoundClient.{carryQuestions}
 use Rattle.model.proofs.SoundServer.{lastQuestions}
@@ -55,9 +55,16 @@ use Rattle.model.proofs.Calls.{client-message, server-message, up-is, u
 use Rattle.model.proofs.Bounds.{inserts-most, client-most, client-more, doc-most, client-placed, server-placed}
 
 -- a sending that no question refused
-pub sent-all : (r : ℕ) (bytes lent : List ℕ) → r ≡ 0 → sent r bytes lent ≡ record { refusal = 0; written = length bytes; buffer = bytes ++ drop (length bytes) lent }
+abbrev posted : List ℕ → List ℕ → Sent
+posted bytes lent = record { refusal = 0; written = length bytes; buffer = bytes ++ drop (length bytes) lent }
+
+sent-all : (qs : List Question) (bytes lent : List ℕ) → Yes qs → sent (asks qs) bytes lent ≡ posted bytes lent
 unfolding sent
-sent-all r bytes lent e = rw e
+sent-all qs bytes lent y = rw (all-yes qs y)
+
+-- what was sent is handed over whole
+handed-on : {E : Type 0} (takes : List ℕ → Answer E) (bytes lent : List ℕ) (r : Sent) (a : Answer E) → r ≡ posted bytes lent → takes bytes ≡ a → takes (take (r .written) (r .buffer)) ≡ a
+handed-on takes bytes lent r a sent taken = ap (λ (q : Sent). takes (take (q .written) (q .buffer))) sent ∙ ap takes (take-append-seam bytes (drop (length bytes) lent)) ∙ taken
 
 -- a pending edit for which the lent bytes are enough: questions 13 and 14
 yes-sends : (v : Line) (number : ℕ) (m : message.Message) (lent : List ℕ) → v .acked < number → number ≤ v .made → length (bytesOf m) ≤ length lent
@@ -152,51 +159,43 @@ module _ (n : ℕ) (items : List Place) {ranks : List ℕ} {from : Moment ranks}
     down-written : bytesOf (serverMessage S l number) ≡ messageBytes (editMessage h 0 l number)
     down-written = down-bytes n items s sim l lo hi number low more ∙ ap messageBytes (sym (down-is n items s sim l lo hi number low more))
 
-    down-sent : sendServer S l number lent
-        ≡ record { refusal = 0; written = length (bytesOf (serverMessage S l number)); buffer = bytesOf (serverMessage S l number) ++ drop (length (bytesOf (serverMessage S l number))) lent }
+    down-sent : sendServer S l number lent ≡ posted (bytesOf (serverMessage S l number)) lent
     unfolding sendServer
     down-sent =
-        sent-all (asks (sendServerQuestions S l number lent)) (bytesOf (serverMessage S l number)) lent
-        (all-yes (sendServerQuestions S l number lent) (
-          sim .server-sound,
-          (
-            true-between 1 n l lo hi,
-            yes-sends (lineOf S l) number (serverMessage S l number) lent (on-line (λ u. u .acked < number) low) (on-line (λ u. number ≤ u .made) more)
-                (subst (λ (b : List ℕ). length b ≤ length lent) (sym down-written) long),
-          ),
-        ))
+        sent-all (sendServerQuestions S l number lent) (bytesOf (serverMessage S l number)) lent
+        (sim .server-sound
+        & true-between 1 n l lo hi
+        & yes-sends (lineOf S l) number (serverMessage S l number) lent (on-line (λ u. u .acked < number) low) (on-line (λ u. number ≤ u .made) more)
+        (subst (λ (b : List ℕ). length b ≤ length lent) (sym down-written) long))
 
     lined : Lined n ranks (down l x)
     lined = down-ok n items s sim l lo hi number low more .2
 
     down-asks : asks (clientEditQuestions C hd (x .edit .edit)) ≡ 0
     down-asks =
-        all-yes (clientEditQuestions C hd (x .edit .edit)) (
-          sim .client-sound l lo hi,
-          (
-            both (eqb l l && priority (other n (rankOf ranks l)) (x .edit .edit)) (other n l (x .edit .origin .line))
-                (both (eqb l l) (priority (other n (rankOf ranks l)) (x .edit .edit)) (eq-eqb l l refl) (lined .2)) (lined .3),
-            yes-asked (C .own) (E .docs l) hd (x .edit .edit) (carryQuestions C hd (x .edit .edit)) (down-asked x ok refl (line .c-acked)) (down-stands x ok refl (line .c-acked), tt),
-          ),
-        )
+        all-yes (clientEditQuestions C hd (x .edit .edit))
+        (sim .client-sound l lo hi
+        & both (eqb l l && priority (other n (rankOf ranks l)) (x .edit .edit)) (other n l (x .edit .origin .line))
+        (both (eqb l l) (priority (other n (rankOf ranks l)) (x .edit .edit)) (eq-eqb l l refl) (lined .2)) (lined .3)
+        & yes-asked (C .own) (E .docs l) hd (x .edit .edit) (carryQuestions C hd (x .edit .edit)) (down-asked x ok refl (line .c-acked)) (down-stands x ok refl (line .c-acked), tt))
 
     -- what was written reads as the message, and the client takes it
-    down-taken : takeClient C (take (length (bytesOf (serverMessage S l number))) (bytesOf (serverMessage S l number) ++ drop (length (bytesOf (serverMessage S l number))) lent))
+    down-taken : takeClient C (bytesOf (serverMessage S l number))
         ≡ record { refusal = 0; end = clientTaken C (x .edit .origin) (v .taken) (x .edit .edit); report = lineReport (C .own) (v .taken) (x .edit .edit) }
     unfolding takeClient clientTakesEdit
     down-taken =
-        ap (λ (b : List ℕ). clientReads C (parsed b))
-        (take-append-seam (bytesOf (serverMessage S l number)) (drop (length (bytesOf (serverMessage S l number))) lent) ∙ down-bytes n items s sim l lo hi number low more)
+        ap (λ (b : List ℕ). clientReads C (parsed b)) (down-bytes n items s sim l lo hi number low more)
         ∙ ap (clientReads C) (codec .written-read (wireMessage (down l x)) (down-ok n items s sim l lo hi number low more .1))
         ∙ client-message C hd (x .edit .edit)
         ∙ new-end (asks (clientEditQuestions C hd (x .edit .edit))) C (clientTaken C (x .edit .origin) (v .taken) (x .edit .edit)) (lineReport (C .own) (v .taken) (x .edit .edit)) down-asks
 
     pub delivers-down : Delivered ours (server S) (client C) l number lent
     delivers-down =
+        let taken = handed-on (takeClient C) (bytesOf (serverMessage S l number)) lent (sendServer S l number lent) _ down-sent down-taken in
         record {
           sends = ap (λ (r : Sent). r .refusal) down-sent;
-          takes = ap (λ (r : Sent). takeClient C (take (r .written) (r .buffer)) .refusal) down-sent ∙ ap (λ (r : Answer Client). r .refusal) down-taken;
-          rises = ap (λ (r : Sent). takeClient C (take (r .written) (r .buffer)) .end .own .taken) down-sent ∙ ap (λ (r : Answer Client). r .end .own .taken) down-taken ∙ add-one (c .taken);
+          takes = ap (λ (r : Answer Client). r .refusal) taken;
+          rises = ap (λ (r : Answer Client). r .end .own .taken) taken ∙ add-one (c .taken);
         }
 
   -- question 4 of an edit that goes up
@@ -263,18 +262,13 @@ module _ (n : ℕ) (items : List Place) {ranks : List ℕ} {from : Moment ranks}
     up-written : bytesOf (clientMessage C up-number) ≡ messageBytes (editMessage h l l up-number)
     up-written = up-bytes n items s sim l lo hi up-number up-low more ∙ ap messageBytes (sym (up-is n items s sim l lo hi up-number up-low more l))
 
-    up-sent : sendClient C l up-number lent
-        ≡ record { refusal = 0; written = length (bytesOf (clientMessage C up-number)); buffer = bytesOf (clientMessage C up-number) ++ drop (length (bytesOf (clientMessage C up-number))) lent }
+    up-sent : sendClient C l up-number lent ≡ posted (bytesOf (clientMessage C up-number)) lent
     unfolding sendClient
     up-sent =
-        sent-all (asks (sendClientQuestions C l up-number lent)) (bytesOf (clientMessage C up-number)) lent
-        (all-yes (sendClientQuestions C l up-number lent) (
-          sim .client-sound l lo hi,
-          (
-            eq-eqb l l refl,
-            yes-sends (C .own) up-number (clientMessage C up-number) lent up-low more (subst (λ (b : List ℕ). length b ≤ length lent) (sym up-written) long),
-          ),
-        ))
+        sent-all (sendClientQuestions C l up-number lent) (bytesOf (clientMessage C up-number)) lent
+        (sim .client-sound l lo hi
+        & eq-eqb l l refl
+        & yes-sends (C .own) up-number (clientMessage C up-number) lent up-low more (subst (λ (b : List ℕ). length b ≤ length lent) (sym up-written) long))
 
     up-roomy : othersRoomy (l - 1) (S .lines) ≡ true
     up-roomy =
@@ -283,21 +277,16 @@ module _ (n : ℕ) (items : List Place) {ranks : List ℕ} {from : Moment ranks}
 
     up-asks : asks (serverEditQuestions S up-hd (y .edit .edit)) ≡ 0
     up-asks =
-        all-yes (serverEditQuestions S up-hd (y .edit .edit)) (
-          sim .server-sound,
-          (
-            up-4 y okay (up-ok n items s sim l lo hi up-number up-low more .2),
-            yes-asked (lineOf S l) (E .doc) up-hd (y .edit .edit) (lastQuestions S up-hd (y .edit .edit)) (up-asked y okay refl (line .v-acked))
-                (up-10 y okay refl (line .v-acked), (up-roomy, tt)),
-          ),
-        )
+        all-yes (serverEditQuestions S up-hd (y .edit .edit))
+        (sim .server-sound
+        & up-4 y okay (up-ok n items s sim l lo hi up-number up-low more .2)
+        & yes-asked (lineOf S l) (E .doc) up-hd (y .edit .edit) (lastQuestions S up-hd (y .edit .edit)) (up-asked y okay refl (line .v-acked)) (up-10 y okay refl (line .v-acked) & up-roomy & tt))
 
-    up-taken : takeServer S (take (length (bytesOf (clientMessage C up-number))) (bytesOf (clientMessage C up-number) ++ drop (length (bytesOf (clientMessage C up-number))) lent))
+    up-taken : takeServer S (bytesOf (clientMessage C up-number))
         ≡ record { refusal = 0; end = serverTaken S l (y .edit .origin) (c .taken) (y .edit .edit); report = lineReport (lineOf S l) (c .taken) (y .edit .edit) }
     unfolding takeServer serverTakesEdit
     up-taken =
-        ap (λ (b : List ℕ). serverReads S (parsed b))
-        (take-append-seam (bytesOf (clientMessage C up-number)) (drop (length (bytesOf (clientMessage C up-number))) lent) ∙ up-bytes n items s sim l lo hi up-number up-low more)
+        ap (λ (b : List ℕ). serverReads S (parsed b)) (up-bytes n items s sim l lo hi up-number up-low more)
         ∙ ap (serverReads S) (codec .written-read (wireMessage (up l y)) (up-ok n items s sim l lo hi up-number up-low more .1))
         ∙ server-message S up-hd (y .edit .edit)
         ∙ new-end (asks (serverEditQuestions S up-hd (y .edit .edit))) S (serverTaken S l (y .edit .origin) (c .taken) (y .edit .edit)) (lineReport (lineOf S l) (c .taken) (y .edit .edit)) up-asks
@@ -312,9 +301,10 @@ module _ (n : ℕ) (items : List Place) {ranks : List ℕ} {from : Moment ranks}
 
     pub delivers-up : Delivered ours (client C) (server S) l (suc (lineOf S l .taken)) lent
     delivers-up =
+        let taken = handed-on (takeServer S) (bytesOf (clientMessage C up-number)) lent (sendClient C l up-number lent) _ up-sent up-taken in
         subst (λ (u : Line). Delivered ours (client C) (server S) l (suc (u .taken)) lent) (sym same-line)
         (record {
           sends = ap (λ (r : Sent). r .refusal) up-sent;
-          takes = ap (λ (r : Sent). takeServer S (take (r .written) (r .buffer)) .refusal) up-sent ∙ ap (λ (r : Answer Server). r .refusal) up-taken;
-          rises = ap (λ (r : Sent). lineOf (takeServer S (take (r .written) (r .buffer)) .end) l .taken) up-sent ∙ ap (λ (r : Answer Server). lineOf (r .end) l .taken) up-taken ∙ up-rises;
+          takes = ap (λ (r : Answer Server). r .refusal) taken;
+          rises = ap (λ (r : Answer Server). lineOf (r .end) l .taken) taken ∙ up-rises;
         })

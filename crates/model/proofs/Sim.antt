@@ -1,13 +1,12 @@
 -- The sheet follows the theory: its ends are the theory's ends with 01's limits, and its log is the theory's history.
-use mathlib.Core.Path.{_≡_, refl, ap, ap₂, sym, _∙_, subst}
-use mathlib.Core.Bool.{Bool, true, false, cond}
+use mathlib.Core.Path.{_≡_, refl, ap, ap₂, sym, _∙_}
+use mathlib.Core.Bool.{true, cond}
 use mathlib.Core.List.{List, [], _∷_, _++_, map, map-append}
 use Prim.Native.Nat.{ℕ, suc, _+_, _-_, _≤_}
 use native.Mathlib.Numerals.{add-one}
 use native.Mathlib.Omega.{arith}
 use lib.Dec.{eqb}
 use lib.ListN.{length, drop}
-use borrow.Author.Tests.{eqb-true}
 use Rattle.ot.specs.Edit.{Edit, fits, transformed}
 use Rattle.list.specs.declared.Origin.{Origin}
 use Rattle.list.specs.Places.{Place, itemsOf, appliedBy}
@@ -20,6 +19,7 @@ use Rattle.jupiter.specs.Ends.{Ends, EditMessage, keeps, acks, takes, arrived}
 use Rattle.jupiter.specs.Run.{Message, up, down, upAck, downAck}
 use Rattle.jupiter.specs.Claims.{inserts}
 use Rattle.jupiter.proofs.Lists.{All}
+use Rattle.jupiter.proofs.Grid.{by-line}
 use Rattle.jupiter.proofs.World.{Inv}
 use Rattle.jupiter.proofs.Step.{Later, later-refl}
 use Rattle.jupiter.proofs.Runs.{Fine}
@@ -31,9 +31,9 @@ use Rattle.model.specs.Client.{Client, soundClient, with, edited, client
 use Rattle.model.specs.Server.{Server, lineOf, makersOf, soundServer, atPlace, unackedMakers, serverTaken, serverAcked}
 use Rattle.model.specs.Ranks.{rankOf}
 use Rattle.model.specs.Edits.{Named, appliedNamed, Rule, editsBy, edits}
-use Rattle.model.specs.Log.{wireMessage, messageBytes}
+use Rattle.model.specs.Log.{Log, wireMessage, messageBytes}
 use Rattle.model.specs.Run.{State, areItems}
-use Rattle.model.specs.Ours.{client, server, ours}
+use Rattle.model.specs.Ours.{End, client, server, ours}
 use Rattle.model.proofs.Table.{table, table-cong, table-get, table-at, cond-ne}
 use Rattle.model.proofs.Ranks.{Ranking, ranking-facts}
 use Rattle.model.proofs.SoundServer.{server-facts}
@@ -111,30 +111,38 @@ pub record Sim (n : ℕ) (items : List Place) {ranks : List ℕ} (from : Moment 
   pub back-small : (l : ℕ) → Small (bk l)
   pub docs-small : (l : ℕ) → areItems (itemsOf (E .docs l)) ≡ true
 
+-- a log with other messages and reports
+abbrev pub writing : {ranks : List ℕ} → Log ranks → List (Message (edits ranks)) → List Report → Log ranks
+writing w xs ks = record { history = w .history; shown = w .shown; undo = w .undo; heard = w .heard; messages = xs; reports = ks }
+
 -- the moment that a simulation has come to, and from which it may go on
 abbrev pub present : {n : ℕ} {items : List Place} {ranks : List ℕ} {from : Moment ranks} {s : State ours ranks} → Sim n items from s → Moment ranks
 present {s = s} sim = record { ends = sim .E; history = s .recorded .history }
 
-pub from-here : {n : ℕ} {items : List Place} {ranks : List ℕ} {from : Moment ranks} {s : State ours ranks} (sim : Sim n items from s) → Sim n items (present sim) s
-from-here {s = s} sim =
+-- another state with the same ends and edits: it may count from another moment, and have other messages and reports
+pub beside : {n : ℕ} {items : List Place} {ranks : List ℕ} {from from′ : Moment ranks} {s : State ours ranks} {now : ℕ → End} {bytes : List (List ℕ)} {xs : List (Message (edits ranks))}
+    {ks ls : List Report} (sim : Sim n items from s) → Later (from′ .ends) (from′ .history) (sim .E) (s .recorded .history) → ((j : ℕ) → now j ≡ s .ends j) → bytes ≡ map messageBytes xs
+    → All (MessageOk n ranks items (sim .E) (s .recorded .history)) xs → ks ≡ ls
+    → Sim n items from′ (record { ends = now; messages = bytes; reports = ks; recorded = writing (s .recorded) xs ls })
+beside sim later same bytes-are ok reports-are =
     record {
       E = sim .E;
       ci = sim .ci;
       si = sim .si;
       bk = sim .bk;
       inv = sim .inv;
-      later = later-refl (sim .E) (s .recorded .history);
-      server-is = sim .server-is;
-      client-is = sim .client-is;
+      later = later;
+      server-is = same 0 ∙ sim .server-is;
+      client-is = λ l p q. same l ∙ sim .client-is l p q;
       server-sound = sim .server-sound;
       client-sound = sim .client-sound;
       server-shown = sim .server-shown;
       client-shown = sim .client-shown;
       server-heard = sim .server-heard;
       client-heard = sim .client-heard;
-      messages = sim .messages;
-      written = sim .written;
-      reports = sim .reports;
+      messages = bytes-are;
+      written = ok;
+      reports = reports-are;
       taken = sim .taken;
       served-lines = sim .served-lines;
       ci-is = sim .ci-is;
@@ -147,6 +155,9 @@ from-here {s = s} sim =
       docs-small = sim .docs-small;
     }
 
+pub from-here : {n : ℕ} {items : List Place} {ranks : List ℕ} {from : Moment ranks} {s : State ours ranks} (sim : Sim n items from s) → Sim n items (present sim) s
+from-here {s = s} sim = beside sim (later-refl (sim .E) (s .recorded .history)) (λ j. refl) (sim .messages) (sim .written) (sim .reports)
+
 -- question 2 has found a ranking, and so the edits have the theory's laws
 pub ranked : {n : ℕ} {items : List Place} {ranks : List ℕ} {from : Moment ranks} {s : State ours ranks} → Sim n items from s → Ranking n ranks
 ranked {n = n} {items = items} {ranks = ranks} sim =
@@ -156,22 +167,12 @@ pub laws : {n : ℕ} {items : List Place} {ranks : List ℕ} {from : Moment rank
 laws sim = edit-laws (ranked sim)
 
 -- ---- one line changed, the others as they were
-module _ {A B C D F : Type 0} (R : ℕ → A → B → C → D → F → Type 0) (l : ℕ) (v : A) (w : B) (x : C) (y : D) (z : F)
-    (f : ℕ → A) (g : ℕ → B) (h : ℕ → C) (k : ℕ → D) (m : ℕ → F) where
-  pub at-lines : (j : ℕ) → R l v w x y z → R j (f j) (g j) (h j) (k j) (m j) → R j (at l v f j) (at l w g j) (at l x h j) (at l y k j) (at l z m j)
-  at-lines j here there = go (eqb l j) refl
-    where
-      go : (b : Bool) → eqb l j ≡ b → R j (cond b v (f j)) (cond b w (g j)) (cond b x (h j)) (cond b y (k j)) (cond b z (m j))
-      go true e = subst (λ (i : ℕ). R i v w x y z) (eqb-true l j e) here
-      go false e = there
-
--- of four families
-module _ {A B C D : Type 0} (R : ℕ → A → B → C → D → Type 0) (l : ℕ) (v : A) (w : B) (x : C) (y : D) (f : ℕ → A) (g : ℕ → B) (h : ℕ → C) (k : ℕ → D) where
-  pub at-line : (j : ℕ) → R l v w x y → R j (f j) (g j) (h j) (k j) → R j (at l v f j) (at l w g j) (at l x h j) (at l y k j)
-  at-line = at-lines (λ i a b c d (u : Unit {0}). R i a b c d) l v w x y tt f g h k (λ i. tt)
-
 pub at-other : {A : Type 0} (l : ℕ) (v : A) (f : ℕ → A) (j : ℕ) → (l ≡ j → ⊥) → at l v f j ≡ f j
 at-other l v f j h = cond-ne l j v (f j) h
+
+-- a line's own value put in its place
+pub at-its : {A : Type 0} (l : ℕ) (v : A) (f : ℕ → A) → f l ≡ v → (j : ℕ) → at l v f j ≡ f j
+at-its l v f e = by-line l (λ j b. cond b v (f j) ≡ f j) (sym e) (λ j q. refl)
 
 -- ---- a line and the ends after a call, as the theory's
 
@@ -249,8 +250,8 @@ module _ {by : Rule} (n initial : ℕ) (ranks : List ℕ) (items : List Place) (
       ∙ table-cong (λ j. cond (eqb l j) (f (u j)) (g (u j))) h 1 n (λ j a b. one j)
 
   -- the origins that line l keeps once it has seen so many
-  dropped : (seen : ℕ) (os : List Origin) → os ≡ makersIn (vs l .pending) → unackedMakers S l seen os ≡ makersIn (drop (seen - vs l .acked) (vs l .pending))
-  dropped seen os e = ap₂ (λ (v : Line) (r : List Origin). drop (seen - v .acked) r) line-from e ∙ map-drop (λ d. d .origin) (seen - vs l .acked) (vs l .pending)
+  dropped : (seen : ℕ) → unackedMakers S l seen (makersIn (vs l .pending)) ≡ makersIn (drop (seen - vs l .acked) (vs l .pending))
+  dropped seen = ap (λ (v : Line). drop (seen - v .acked) (makersIn (vs l .pending))) line-from ∙ map-drop (λ d. d .origin) (seen - vs l .acked) (vs l .pending)
 
   module _ (x : EditMessage (editsBy by)) where
     abbrev c : Edit
@@ -268,22 +269,20 @@ module _ {by : Rule} (n initial : ℕ) (ranks : List ℕ) (items : List Place) (
     abbrev taking : Line → Line
     taking v = lineTaken (v .inserts + insertsOf (x .edit .edit)) (x .seen) (x .edit .edit) v
 
-    taken-line : (j : ℕ) (y : Bool) → eqb l j ≡ y
-        → cond y (taking (lineFrom (vs j) (is j))) (lineKeeps (is j) c (lineFrom (vs j) (is j)))
-        ≡ lineFrom (cond y (takes x (vs l)) (keeps a (vs j))) (cond y (is l + insertsOf (x .edit .edit)) (is j))
-    taken-line j true e =
-        subst (λ (k : ℕ). taking (lineFrom (vs k) (is k)) ≡ lineFrom (takes x (vs l)) (is l + insertsOf (x .edit .edit))) (eqb-true l j e)
+    taken-line : (j : ℕ) → cond (eqb l j) (taking (lineFrom (vs j) (is j))) (lineKeeps (is j) c (lineFrom (vs j) (is j))) ≡ lineFrom (vs′ j) (is′ j)
+    taken-line =
+        by-line l (λ j t. cond t (taking (lineFrom (vs j) (is j))) (lineKeeps (is j) c (lineFrom (vs j) (is j)))
+        ≡ lineFrom (cond t (takes x (vs l)) (keeps a (vs j))) (cond t (is l + insertsOf (x .edit .edit)) (is j)))
         (taken-line-from (vs l) (is l) (is l + insertsOf (x .edit .edit)) x)
-    taken-line j false e = ap (λ (d : Edit). lineKeeps (is j) d (lineFrom (vs j) (is j))) (carried-from x) ∙ kept-line-from (vs j) (is j) (is j) a
+        (λ j q. ap (λ (d : Edit). lineKeeps (is j) d (lineFrom (vs j) (is j))) (carried-from x) ∙ kept-line-from (vs j) (is j) (is j) a)
 
-    taken-makers : (j : ℕ) (y : Bool) → eqb l j ≡ y
-        → cond y (unackedMakers S l (x .seen) (makersIn (vs j .pending))) (makersIn (vs j .pending) ++ (x .edit .origin ∷ [])) ≡ makersIn (cond y (takes x (vs l)) (keeps a (vs j)) .pending)
-    taken-makers j true e =
-        dropped (x .seen) (makersIn (vs j .pending)) (ap (λ (k : ℕ). makersIn (vs k .pending)) (sym (eqb-true l j e)))
-        ∙ sym (over-origins by (x .edit) (drop (x .seen - vs l .acked) (vs l .pending)))
-    taken-makers j false e =
-        ap (λ (o : Origin). makersIn (vs j .pending) ++ (o ∷ [])) (sym (past-origin by (x .edit) (drop (x .seen - vs l .acked) (vs l .pending))))
-        ∙ sym (map-append (λ d. d .origin) (vs j .pending) (a ∷ []))
+    taken-makers : (j : ℕ) → cond (eqb l j) (unackedMakers S l (x .seen) (makersIn (vs j .pending))) (makersIn (vs j .pending) ++ (x .edit .origin ∷ [])) ≡ makersIn (vs′ j .pending)
+    taken-makers =
+        by-line l (λ j t. cond t (unackedMakers S l (x .seen) (makersIn (vs j .pending))) (makersIn (vs j .pending) ++ (x .edit .origin ∷ []))
+        ≡ makersIn (cond t (takes x (vs l)) (keeps a (vs j)) .pending))
+        (dropped (x .seen) ∙ sym (over-origins by (x .edit) (drop (x .seen - vs l .acked) (vs l .pending))))
+        (λ j q. ap (λ (o : Origin). makersIn (vs j .pending) ++ (o ∷ [])) (sym (past-origin by (x .edit) (drop (x .seen - vs l .acked) (vs l .pending))))
+        ∙ sym (map-append (λ d. d .origin) (vs j .pending) (a ∷ [])))
 
     pub server-taken-from : serverTaken S l (x .edit .origin) (x .seen) (x .edit .edit) ≡ serverFrom n initial ranks (appliedNamed a items) vs′ is′
     server-taken-from =
@@ -292,21 +291,23 @@ module _ {by : Rule} (n initial : ℕ) (ranks : List ℕ) (items : List Place) (
           initial = initial;
           ranks = ranks;
           items = arrived-list (vs l) items x c (carried-from x) i;
-          lines = changed taking (λ v. lineKeeps (v .inserts) c v) (λ j. lineFrom (vs j) (is j)) (λ j. lineFrom (vs′ j) (is′ j)) (λ j. taken-line j (eqb l j) refl) i;
-          makers = changed (unackedMakers S l (x .seen)) (λ os. os ++ (x .edit .origin ∷ [])) (λ j. makersIn (vs j .pending)) (λ j. makersIn (vs′ j .pending)) (λ j. taken-makers j (eqb l j) refl) i;
+          lines = changed taking (λ v. lineKeeps (v .inserts) c v) (λ j. lineFrom (vs j) (is j)) (λ j. lineFrom (vs′ j) (is′ j)) taken-line i;
+          makers = changed (unackedMakers S l (x .seen)) (λ os. os ++ (x .edit .origin ∷ [])) (λ j. makersIn (vs j .pending)) (λ j. makersIn (vs′ j .pending)) taken-makers i;
         }
 
   module _ (seen : ℕ) where
     abbrev ws : ℕ → ends.End (editsBy by)
     ws = at l (acks seen (vs l)) vs
 
-    acked-line : (j : ℕ) (y : Bool) → eqb l j ≡ y → cond y (lineAcked seen (lineFrom (vs j) (is j))) (lineFrom (vs j) (is j)) ≡ lineFrom (cond y (acks seen (vs l)) (vs j)) (is j)
-    acked-line j true e = subst (λ (k : ℕ). lineAcked seen (lineFrom (vs k) (is k)) ≡ lineFrom (acks seen (vs l)) (is k)) (eqb-true l j e) (acked-line-from (vs l) (is l) seen)
-    acked-line j false e = refl
+    acked-line : (j : ℕ) → cond (eqb l j) (lineAcked seen (lineFrom (vs j) (is j))) (lineFrom (vs j) (is j)) ≡ lineFrom (ws j) (is j)
+    acked-line =
+        by-line l (λ j t. cond t (lineAcked seen (lineFrom (vs j) (is j))) (lineFrom (vs j) (is j)) ≡ lineFrom (cond t (acks seen (vs l)) (vs j)) (is j))
+        (acked-line-from (vs l) (is l) seen) (λ j q. refl)
 
-    acked-makers : (j : ℕ) (y : Bool) → eqb l j ≡ y → cond y (unackedMakers S l seen (makersIn (vs j .pending))) (makersIn (vs j .pending)) ≡ makersIn (cond y (acks seen (vs l)) (vs j) .pending)
-    acked-makers j true e = dropped seen (makersIn (vs j .pending)) (ap (λ (k : ℕ). makersIn (vs k .pending)) (sym (eqb-true l j e)))
-    acked-makers j false e = refl
+    acked-makers : (j : ℕ) → cond (eqb l j) (unackedMakers S l seen (makersIn (vs j .pending))) (makersIn (vs j .pending)) ≡ makersIn (ws j .pending)
+    acked-makers =
+        by-line l (λ j t. cond t (unackedMakers S l seen (makersIn (vs j .pending))) (makersIn (vs j .pending)) ≡ makersIn (cond t (acks seen (vs l)) (vs j) .pending))
+        (dropped seen) (λ j q. refl)
 
     pub server-acked-from : serverAcked S l seen ≡ serverFrom n initial ranks items ws is
     server-acked-from =
@@ -315,6 +316,6 @@ module _ {by : Rule} (n initial : ℕ) (ranks : List ℕ) (items : List Place) (
           initial = initial;
           ranks = ranks;
           items = items;
-          lines = changed (lineAcked seen) (λ v. v) (λ j. lineFrom (vs j) (is j)) (λ j. lineFrom (ws j) (is j)) (λ j. acked-line j (eqb l j) refl) i;
-          makers = changed (unackedMakers S l seen) (λ os. os) (λ j. makersIn (vs j .pending)) (λ j. makersIn (ws j .pending)) (λ j. acked-makers j (eqb l j) refl) i;
+          lines = changed (lineAcked seen) (λ v. v) (λ j. lineFrom (vs j) (is j)) (λ j. lineFrom (ws j) (is j)) acked-line i;
+          makers = changed (unackedMakers S l seen) (λ os. os) (λ j. makersIn (vs j .pending)) (λ j. makersIn (ws j .pending)) acked-makers i;
         }

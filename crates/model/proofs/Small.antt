@@ -1,7 +1,6 @@
 -- Items of 32 bits: what every edit of a list of calls has, and no transformation changes; and so every item on a list.
 use mathlib.Core.Path.{_≡_, refl, ap, sym, _∙_}
 use mathlib.Core.Bool.{Bool, true}
-use mathlib.Core.Option.{Option, none, some}
 use mathlib.Core.List.{List, [], _∷_}
 use Prim.Native.Nat.{ℕ, zero, suc, _-_, _<_}
 use native.Mathlib.Omega.{arith}
@@ -9,9 +8,7 @@ use lib.Dec.{leb, ltb}
 use lib.ListN.{length, getD, drop}
 use borrow.Author.Tests.{leb-true, ltb-true, le-leb, lt-ltb}
 use Rattle.ot.specs.Edit.{Edit, Nothing, Delete, Insert, transformed}
-use Rattle.ot.specs.Laws.{stamp}
 use Rattle.ot.proofs.Fits.{all-applied}
-use Rattle.ot.proofs.Laws.{laws}
 use Rattle.list.specs.declared.Origin.{Origin}
 use Rattle.list.specs.Places.{Place, itemsOf, appliedBy}
 use Rattle.list.proofs.Places.{items-applied}
@@ -20,32 +17,21 @@ use Rattle.model.specs.Cross.{past, over}
 use Rattle.model.specs.Inverse.{inverseOf}
 use Rattle.model.specs.Run.{areItems}
 use Rattle.model.proofs.Tests.{and-left, and-right}
+use Rattle.model.proofs.Cross.{kept-transformed, kept-past}
 
 abbrev pub small : Edit → Bool
 small Nothing = true
 small (Delete p) = true
 small (Insert p x r) = leb x 4294967295
 
-stamped : Option (ℕ × ℕ) → Bool
-stamped none = true
-stamped (some s) = leb (s .0) 4294967295
-
-stamp-small : (e : Edit) → small e ≡ stamped (stamp e)
-unfolding stamp stamped
-stamp-small Nothing = refl
-stamp-small (Delete p) = refl
-stamp-small (Insert p x r) = refl
-
 pub small-transformed : (a b : Edit) → small (transformed a b) ≡ small a
-small-transformed a b = stamp-small (transformed a b) ∙ ap stamped (laws .keeps a b) ∙ sym (stamp-small a)
+small-transformed = kept-transformed small true (λ x r. leb x 4294967295) refl (λ p. refl) (λ p x r. refl)
 
 abbrev pub Small : Edit → Type 0
 Small e = small e ≡ true
 
 pub small-past : (e : Edit) (es : List Edit) → Small e → Small (past e es)
-unfolding past
-small-past e [] h = h
-small-past e (p ∷ es) h = small-past (transformed e p) es (small-transformed e p ∙ h)
+small-past e es h = kept-past small small-transformed e es ∙ h
 
 pub small-over : (e : Edit) (es : List Edit) → All Small es → All Small (over e es)
 unfolding over

@@ -12,24 +12,19 @@ use Rattle.ot.specs.Laws.{within}
 use Rattle.list.specs.Places.{initialPlaces}
 use Rattle.list.proofs.Places.{initial-length, initial-numbered}
 use Rattle.wire.specs.declared.Header.{Header}
-use Rattle.wire.specs.declared.Message.{Message}
-use Rattle.wire.specs.declared.Message.the-variants as message
-use Rattle.wire.specs.declared.Read.{Read}
-use Rattle.wire.specs.declared.Read.the-variants as read
-use Rattle.wire.specs.Message.{inRange, headerInRange}
-use Rattle.wire.specs.Bytes.{parsed}
-use Rattle.wire.proofs.Ranges.{header-bounds, insert-bounds, delete-bounds}
-use Rattle.wire.proofs.Codec.{codec}
+use Rattle.wire.specs.Message.{headerInRange}
+use Rattle.wire.proofs.Ranges.{header-bounds}
 use Rattle.model.specs.Limits.{maxLines, maxInserts, maxPending, maxItems, maxInitial}
 use Rattle.model.specs.Questions.{ask, asks, between, Report, noReport, Answer, answer}
 use Rattle.model.specs.Cross.{priority, insertsOf}
 use Rattle.model.specs.Ranks.{rankOf}
 use Rattle.model.specs.Line.{Line, noLine, other, lineReport}
-use Rattle.model.specs.Client.{Client, ownRank, noClient, soundClient, openClientQuestions, openClient, listThen, edited, makeQuestions, editQuestions, editClient, takeBackQuestions, takeBackClient, clientTaken, clientAcked, clientEditQuestions, clientTakesEdit, clientAckQuestions, clientTakesAck, clientReads, takeClient}
-use Rattle.model.specs.Server.{Server, noServer, lineOf, total, otherMakers, ownOrigin, soundServer, openServerQuestions, openServer, serverTaken, serverAcked, serverEditQuestions, serverTakesEdit, serverAckQuestions, serverTakesAck, serverReads, takeServer}
+use Rattle.model.specs.Client.{Client, ownRank, noClient, soundClient, openClientQuestions, openClient, listThen, edited, makeQuestions, editQuestions, editClient, takeBackQuestions, takeBackClient, clientTaken, clientAcked, clientEditQuestions, clientTakesEdit, clientAckQuestions, clientTakesAck, takeClient}
+use Rattle.model.specs.Server.{Server, noServer, lineOf, total, otherMakers, ownOrigin, soundServer, openServerQuestions, openServer, serverTaken, serverAcked, serverEditQuestions, serverTakesEdit, serverAckQuestions, serverTakesAck, takeServer}
 use Rattle.model.specs.Sound.{KeepsSound}
 pub use Rattle.model.proofs.Tests.{three}
 use Rattle.model.proofs.Tests.{four, and-left, and-right, hold, Yes, yes-all, answer-keeps, between-true}
+use Rattle.model.proofs.Outcome.{by-bytes}
 use Rattle.model.proofs.SoundLine.{no-line, asked}
 use Rattle.model.proofs.SoundClient.{client-facts, facts-client, carryQuestions, edited-sound, taken-sound, acked-sound}
 use Rattle.model.proofs.SoundServer.{LinesFacts, MakersFacts, server-facts, facts-server, inserts-one, lastQuestions, server-taken-sound, server-acked-sound}
@@ -114,20 +109,12 @@ client-takes-ack c l d seen s =
     facts-client (clientAcked c seen)
     (acked-sound c seen (client-facts c s) (leb-true (c .own .acked) seen (y .1 .1 .0)) (leb-true seen (c .own .made) (y .1 .1 .1 .0))))
 
-client-reads : (c : Client) (m : Read) → ((x : Message) → m ≡ read.Message x → inRange x ≡ true) → soundClient c ≡ true → soundClient (clientReads c m .end) ≡ true
-unfolding inRange
-client-reads c read.Refused r s =
-    answer-keeps (λ d. soundClient d ≡ true) (asks (ask 2 (soundClient c) ∷ ask 3 false ∷ [])) c c noReport s (λ z. s)
-client-reads c (read.Message (message.Insert h p x q)) r s =
-    client-takes-edit c h (Insert p x q) (insert-bounds h p x q (r (message.Insert h p x q) refl) .header-in-range) s
-client-reads c (read.Message (message.Delete h p)) r s =
-    client-takes-edit c h (Delete p) (delete-bounds h p (r (message.Delete h p) refl) .header-in-range) s
-client-reads c (read.Message (message.Nothing h)) r s = client-takes-edit c h Nothing (r (message.Nothing h) refl) s
-client-reads c (read.Message (message.Ack l d k)) r s = client-takes-ack c l d k s
-
 pub client-takes : (c : Client) (bytes : List ℕ) → soundClient c ≡ true → soundClient (takeClient c bytes .end) ≡ true
 unfolding takeClient
-client-takes c bytes s = client-reads c (parsed bytes) (λ m e. codec .read-in-range bytes m e) s
+client-takes c bytes s =
+    by-bytes (λ a. soundClient (a .end) ≡ true) soundClient c (clientTakesEdit c) (clientTakesAck c)
+    (answer-keeps (λ d. soundClient d ≡ true) (asks (ask 2 (soundClient c) ∷ ask 3 false ∷ [])) c c noReport s (λ z. s))
+    (λ h e range. client-takes-edit c h e range s) (λ l d k. client-takes-ack c l d k s) bytes
 
 -- ---- the server
 
@@ -205,20 +192,12 @@ server-takes-ack s l d seen t =
     facts-server (serverAcked s l seen)
     (server-acked-sound s l seen (server-facts s t) (lines .0) (lines .1) (leb-true (lineOf s l .acked) seen (y .1 .1 .0)) (leb-true seen (lineOf s l .made) (y .1 .1 .1 .0))))
 
-server-reads : (s : Server) (m : Read) → ((x : Message) → m ≡ read.Message x → inRange x ≡ true) → soundServer s ≡ true → soundServer (serverReads s m .end) ≡ true
-unfolding inRange
-server-reads s read.Refused r t =
-    answer-keeps (λ d. soundServer d ≡ true) (asks (ask 2 (soundServer s) ∷ ask 3 false ∷ [])) s s noReport t (λ z. t)
-server-reads s (read.Message (message.Insert h p x q)) r t =
-    server-takes-edit s h (Insert p x q) (insert-bounds h p x q (r (message.Insert h p x q) refl) .header-in-range) t
-server-reads s (read.Message (message.Delete h p)) r t =
-    server-takes-edit s h (Delete p) (delete-bounds h p (r (message.Delete h p) refl) .header-in-range) t
-server-reads s (read.Message (message.Nothing h)) r t = server-takes-edit s h Nothing (r (message.Nothing h) refl) t
-server-reads s (read.Message (message.Ack l d k)) r t = server-takes-ack s l d k t
-
 pub server-takes : (s : Server) (bytes : List ℕ) → soundServer s ≡ true → soundServer (takeServer s bytes .end) ≡ true
 unfolding takeServer
-server-takes s bytes t = server-reads s (parsed bytes) (λ m e. codec .read-in-range bytes m e) t
+server-takes s bytes t =
+    by-bytes (λ a. soundServer (a .end) ≡ true) soundServer s (serverTakesEdit s) (serverTakesAck s)
+    (answer-keeps (λ d. soundServer d ≡ true) (asks (ask 2 (soundServer s) ∷ ask 3 false ∷ [])) s s noReport t (λ z. t))
+    (λ h e range. server-takes-edit s h e range t) (λ l d k. server-takes-ack s l d k t) bytes
 
 pub keeps-sound : KeepsSound
 keeps-sound =

@@ -18,7 +18,7 @@ use Rattle.model.specs.Ranks.{ranking}
 use Rattle.model.specs.Inverse.{inverseStands}
 use Rattle.model.specs.Line.{carried}
 use Rattle.model.specs.Client.{Client, ownRank, clientTests, soundClient, originHere, listThen, edited, inverseThen, clientTaken, clientAcked}
-use Rattle.model.proofs.Tests.{hold, held, between-true, true-between}
+use Rattle.model.proofs.Tests.{_&_, hold, held, between-true, true-between}
 use Rattle.model.proofs.Cross.{fits-placed}
 use Rattle.model.proofs.Inverse.{InverseFacts, inverse-facts, facts-inverse, made-inverse, carried-inverse}
 use Rattle.model.proofs.SoundLine.{LineFacts, line-facts, facts-line, Asked, kept-line, taken-line, acked-line}
@@ -52,25 +52,15 @@ client-facts c s =
 pub facts-client : (c : Client) → ClientFacts c → soundClient c ≡ true
 unfolding soundClient
 facts-client c f =
-    held (clientTests c) (
-      true-between 1 maxLines (c .n) (f .lines .0) (f .lines .1),
-      (
-        true-between 1 (c .n) (c .line) (f .line .0) (f .line .1),
-        (
-          f .ranked,
-          (
-            le-leb (length (c .items)) maxItems (f .items),
-            (
-              f .numbers,
-              (
-                le-leb (c .own .taken) maxOthers (f .taken),
-                (facts-inverse (ownRank c) (c .own .made) (c .inverse) (f .inverse), facts-line (c .own .made) (eqb (ownRank c)) (c .own) (f .own)),
-              ),
-            ),
-          ),
-        ),
-      ),
-    )
+    held (clientTests c)
+    (true-between 1 maxLines (c .n) (f .lines .0) (f .lines .1)
+    & true-between 1 (c .n) (c .line) (f .line .0) (f .line .1)
+    & f .ranked
+    & le-leb (length (c .items)) maxItems (f .items)
+    & f .numbers
+    & le-leb (c .own .taken) maxOthers (f .taken)
+    & facts-inverse (ownRank c) (c .own .made) (c .inverse) (f .inverse)
+    & facts-line (c .own .made) (eqb (ownRank c)) (c .own) (f .own))
 
 -- An edit of its own, where no question said no.
 pub edited-sound : (c : Client) (e : Edit) → ClientFacts c → priority (eqb (ownRank c)) e ≡ true

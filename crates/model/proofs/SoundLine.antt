@@ -14,7 +14,7 @@ use Rattle.model.specs.Limits.{maxInserts, maxEdits, maxPending, maxItem
 use Rattle.model.specs.Questions.{Question}
 use Rattle.model.specs.Cross.{over, allPlaced, placed, priority, priorities}
 use Rattle.model.specs.Line.{Line, noLine, lineTests, lineKeeps, unacked, lineAcked, lineTaken, carried, takeQuestions}
-use Rattle.model.proofs.Tests.{both, three, Hold, Yes}
+use Rattle.model.proofs.Tests.{_&_, both, three, Hold, Yes}
 use Rattle.model.proofs.Cross.{placed-append, placed-drop, priorities-append, priorities-drop, priorities-over, length-over}
 
 -- question 2 of a line as facts; its client made k edits
@@ -42,19 +42,16 @@ line-facts k right v h =
     }
 
 pub facts-line : (k : ℕ) (right : ℕ → Bool) (v : Line) → LineFacts k right v → Hold (lineTests k right v)
-facts-line k right v f = (
-  le-leb k maxEdits (f .edits),
-  (
-    le-leb (v .acked) (v .made) (f .acked),
-    (
-      le-leb (v .made - v .acked) maxPending (f .room),
-      (
-        eq-eqb (length (v .pending)) (v .made - v .acked) (f .count),
-        (f .placed, (f .priorities, (le-leb (v .inserts) maxInserts (f .inserts), (le-leb (v .inserts) k (f .inserts-edits), tt)))),
-      ),
-    ),
-  ),
-)
+facts-line k right v f =
+    le-leb k maxEdits (f .edits)
+    & le-leb (v .acked) (v .made) (f .acked)
+    & le-leb (v .made - v .acked) maxPending (f .room)
+    & eq-eqb (length (v .pending)) (v .made - v .acked) (f .count)
+    & f .placed
+    & f .priorities
+    & le-leb (v .inserts) maxInserts (f .inserts)
+    & le-leb (v .inserts) k (f .inserts-edits)
+    & tt
 
 pub no-line : (right : ℕ → Bool) → LineFacts 0 right noLine
 unfolding allPlaced priorities
@@ -94,25 +91,17 @@ asked v items h e more y =
     }
 
 pub yes-asked : (v : Line) (items : List Place) (h : Header) (e : Edit) (more : List Question) → Asked v items h e → Yes more → Yes (takeQuestions v items h e more)
-yes-asked v items h e more q rest = (
-  lt-ltb (v .taken) (h .number) (omega (arith, q .next)),
-  (
-    eq-eqb (h .number) (v .taken + 1) (q .next),
-    (
-      le-leb (v .acked) (h .seen) (q .low),
-      (
-        le-leb (h .seen) (v .made) (q .high),
-        (
-          both (fits (carried v (h .seen) e) (length items) && allPlaced (over e (unacked v (h .seen))))
-              (leb (length (appliedBy (h .origin) (carried v (h .seen) e) items)) maxItems)
-              (both (fits (carried v (h .seen) e) (length items)) (allPlaced (over e (unacked v (h .seen)))) (q .fit) (q .placed))
-              (le-leb (length (appliedBy (h .origin) (carried v (h .seen) e) items)) maxItems (q .size)),
-          rest,
-        ),
-      ),
-    ),
-  ),
-)
+yes-asked v items h e more q rest =
+    let q9 =
+    both (fits (carried v (h .seen) e) (length items) && allPlaced (over e (unacked v (h .seen)))) (leb (length (appliedBy (h .origin) (carried v (h .seen) e) items)) maxItems)
+    (both (fits (carried v (h .seen) e) (length items)) (allPlaced (over e (unacked v (h .seen)))) (q .fit) (q .placed))
+    (le-leb (length (appliedBy (h .origin) (carried v (h .seen) e) items)) maxItems (q .size)) in
+    lt-ltb (v .taken) (h .number) (omega (arith, q .next))
+    & eq-eqb (h .number) (v .taken + 1) (q .next)
+    & le-leb (v .acked) (h .seen) (q .low)
+    & le-leb (h .seen) (v .made) (q .high)
+    & q9
+    & rest
 
 -- One more edit is kept, where question 12 said yes.
 pub kept-line : (k k′ : ℕ) (right : ℕ → Bool) (i : ℕ) (e : Edit) (v : Line) → LineFacts k right v → k′ ≤ maxEdits → i ≤ maxInserts → i ≤ k′

@@ -19,7 +19,7 @@ use Rattle.model.specs.Ranks.{rankOf, ranking}
 use Rattle.model.specs.Line.{Line, noLine, other, unacked, carried, lineAcked, lineTaken, lineKeeps, roomy}
 use Rattle.model.specs.Edits.{noOrigin}
 use Rattle.model.specs.Server.{Server, lineOf, total, serverLineTests, soundLine, soundLines, otherMaker, otherMakers, soundMakers, makersOf, serverTests, soundServer, atPlace, unackedMakers, serverAcked, serverTaken, othersRoomy}
-use Rattle.model.proofs.Tests.{both, and-left, and-right, hold, held, never, between-true, true-between, all-append, all-drop, all-at}
+use Rattle.model.proofs.Tests.{_&_, both, and-left, and-right, hold, held, never, between-true, true-between, all-append, all-drop, all-at}
 use Rattle.model.proofs.Ranks.{Ranking, ranking-facts}
 use Rattle.model.proofs.Cross.{fits-placed, size-inserts, priority-past, inserts-past}
 use Rattle.model.proofs.SoundLine.{LineFacts, line-facts, facts-line, Asked, kept-line, taken-line, acked-line}
@@ -134,31 +134,17 @@ server-facts s e =
 pub facts-server : (s : Server) → ServerFacts s → soundServer s ≡ true
 unfolding soundServer
 facts-server s f =
-    held (serverTests s) (
-      true-between 1 maxLines (s .n) (f .n .0) (f .n .1),
-      (
-        le-leb (s .initial) maxInitial (f .initial),
-        (
-          f .ranked,
-          (
-            le-leb (length (s .items)) maxItems (f .items),
-            (
-              f .numbers,
-              (
-                eq-eqb (length (s .lines)) (s .n) (f .count),
-                (
-                  facts-lines (s .n) (s .ranks) (takenSum (s .lines)) 1 (s .lines) (f .lines),
-                  (
-                    facts-makers (s .n) 1 (s .lines) (s .makers) (f .makers),
-                    (le-leb (length (s .items)) (s .initial + insertSum (s .lines)) (f .inserted), tt),
-                  ),
-                ),
-              ),
-            ),
-          ),
-        ),
-      ),
-    )
+    held (serverTests s)
+    (true-between 1 maxLines (s .n) (f .n .0) (f .n .1)
+    & le-leb (s .initial) maxInitial (f .initial)
+    & f .ranked
+    & le-leb (length (s .items)) maxItems (f .items)
+    & f .numbers
+    & eq-eqb (length (s .lines)) (s .n) (f .count)
+    & facts-lines (s .n) (s .ranks) (takenSum (s .lines)) 1 (s .lines) (f .lines)
+    & facts-makers (s .n) 1 (s .lines) (s .makers) (f .makers)
+    & le-leb (length (s .items)) (s .initial + insertSum (s .lines)) (f .inserted)
+    & tt)
 
 pub inserts-one : (e : Edit) → insertsOf e ≤ 1
 inserts-one Nothing = omega arith

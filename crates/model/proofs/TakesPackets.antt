@@ -1,14 +1,14 @@
 -- A packet that is taken keeps the sheet with the theory, as its messages one after another do.
 use mathlib.Core.Path.{_≡_, refl, ap, ap₂, sym, _∙_, subst}
 use mathlib.Core.Bool.{Bool, true, false, cond}
-use mathlib.Core.Option.{Option, none, some}
+use mathlib.Core.Option.{some}
 use mathlib.Core.List.{List, [], _∷_, _++_, append-assoc, map}
 use Prim.Native.Nat.{ℕ, zero, suc, _+_, _≤_, _<_}
 use native.Mathlib.Nat.{le-refl}
 use native.Mathlib.Omega.{arith}
 use lib.Dec.{eqb, ltb}
 use lib.ListN.{length, getD, getElem?, take, drop, length-append}
-use borrow.Author.Tests.{eqb-true, eqb-false, ne-eqb, eq-eqb, ltb-true}
+use borrow.Author.Tests.{eqb-true, eqb-false, ltb-true}
 use Rattle.list.specs.Places.{Place}
 use Rattle.wire.specs.declared.Read.the-variants as read
 use Rattle.wire.specs.Bytes.{parsed}
@@ -27,7 +27,7 @@ use Rattle.model.specs.Ours.{End, client, server, answerAs, ours}
 use Rattle.model.proofs.Packets.{Whole, whole-bytes, handedThen, handed-some, handed-step, handed-as, unpacked-sound}
 use Rattle.model.proofs.Logs.{at-same}
 use Rattle.model.proofs.Alone.{alone}
-use Rattle.model.proofs.Sim.{clientFrom, serverFrom, MessageOk, Moment, Sim}
+use Rattle.model.proofs.Sim.{clientFrom, serverFrom, MessageOk, Moment, Sim, writing, beside, at-its}
 use Rattle.model.proofs.Calls.{written-as, takes-at}
 use Rattle.model.proofs.Numbers.{hands-at, junk-at}
 
@@ -53,52 +53,7 @@ at-twice a v u f j = go (eqb a j)
     go true = refl
     go false = refl
 
-at-its : {A : Type 0} (a : ℕ) (v : A) (f : ℕ → A) → f a ≡ v → (j : ℕ) → at a v f j ≡ f j
-at-its {A} a v f e j = go (eqb a j) refl
-  where
-    go : (b : Bool) → eqb a j ≡ b → cond b v (f j) ≡ f j
-    go true t = sym e ∙ ap f (eqb-true a j t)
-    go false t = refl
-
--- another log of reports, and what is the same otherwise
-abbrev pub withReports : {ranks : List ℕ} → Log ranks → List Report → Log ranks
-withReports w ks = record { history = w .history; shown = w .shown; undo = w .undo; heard = w .heard; messages = w .messages; reports = ks }
-
 module _ (n : ℕ) (items : List Place) (ranks : List ℕ) (from : Moment ranks) where
-  -- the same ends and messages, with other reports
-  reported-as : (s : State ours ranks) (sim : Sim n items from s) (ends : ℕ → End) → ((j : ℕ) → ends j ≡ s .ends j) → (ks ls : List Report) → ks ≡ ls
-      → Sim n items from (record { ends = ends; messages = s .messages; reports = ks; recorded = withReports (s .recorded) ls })
-  reported-as s sim ends same ks ls e =
-      record {
-        E = sim .E;
-        ci = sim .ci;
-        si = sim .si;
-        bk = sim .bk;
-        inv = sim .inv;
-        later = sim .later;
-        server-is = same 0 ∙ sim .server-is;
-        client-is = λ l p q. same l ∙ sim .client-is l p q;
-        server-sound = sim .server-sound;
-        client-sound = sim .client-sound;
-        server-shown = sim .server-shown;
-        client-shown = sim .client-shown;
-        server-heard = sim .server-heard;
-        client-heard = sim .client-heard;
-        messages = sim .messages;
-        written = sim .written;
-        reports = e;
-        taken = sim .taken;
-        served-lines = sim .served-lines;
-        ci-is = sim .ci-is;
-        si-is = sim .si-is;
-        client-small = sim .client-small;
-        server-small = sim .server-small;
-        back-is = sim .back-is;
-        back-fits = sim .back-fits;
-        back-small = sim .back-small;
-        docs-small = sim .docs-small;
-      }
-
   module _ (few : length items ≤ maxInitial) (a : ℕ) (hi : a ≤ n) where
     -- messages of the list, end to end, and a tail
     abbrev bytesFrom : State ours ranks → List ℕ → List ℕ → List ℕ
@@ -285,9 +240,8 @@ module _ (n : ℕ) (items : List Place) (ranks : List ℕ) (from : Moment ranks)
             follows =
                 subst (λ (k : ℕ). Sim n items from (record { ends = at a (r .end) (s .ends); messages = s .messages; reports = s .reports ++ (r .report ∷ []); recorded = tookPacket w0 a k js })) (sym passed)
                 (subst (λ (ms : List (List ℕ)). Sim n items from (record { ends = at a (r .end) (s .ends); messages = ms; reports = s .reports ++ (r .report ∷ []); recorded = tookPacket w0 a (w .k) js })) (w .messages-are)
-                (subst (λ (l : Log ranks). Sim n items from (record { ends = at a (r .end) (s .ends); messages = w .then .messages; reports = s .reports ++ (r .report ∷ []); recorded = withReports l (w0 .reports ++ (counted (w .k) ∷ [])) })) (w .recorded-is)
-                (reported-as (w .then) (w .sim) (at a (r .end) (s .ends)) (w .ends-are) (s .reports ++ (r .report ∷ [])) (w0 .reports ++ (counted (w .k) ∷ []))
-                (ap₂ (λ (ks : List Report) (k : Report). ks ++ (k ∷ [])) (sim .reports) report))));
+                (subst (λ (l : Log ranks). Sim n items from (record { ends = at a (r .end) (s .ends); messages = w .then .messages; reports = s .reports ++ (r .report ∷ []); recorded = writing l (l .messages) (w0 .reports ++ (counted (w .k) ∷ [])) })) (w .recorded-is)
+                (beside (w .sim) (w .sim .later) (w .ends-are) (w .sim .messages) (w .sim .written) (ap₂ (λ (ks : List Report) (k : Report). ks ++ (k ∷ [])) (sim .reports) report))));
             handing-is = handed-by true e ∙ w .handing-is ∙ ap (λ (k : ℕ). record { count = k; refusal = r .refusal }) (all ∙ sym passed);
             report-is = report ∙ ap counted (sym passed);
           }
@@ -296,7 +250,7 @@ module _ (n : ℕ) (items : List Place) (ranks : List ℕ) (from : Moment ranks)
       unfolding tookFirst
       too-long e =
           record {
-            follows = reported-as s sim (at a (s .ends a) (s .ends)) (at-its a (s .ends a) (s .ends) refl) (s .reports ++ (noReport ∷ [])) (s .recorded .reports ++ (counted 0 ∷ [])) (ap (λ (ks : List Report). ks ++ (noReport ∷ [])) (sim .reports));
+            follows = beside sim (sim .later) (at-its a (s .ends a) (s .ends) refl) (sim .messages) (sim .written) (ap (λ (ks : List Report). ks ++ (noReport ∷ [])) (sim .reports));
             handing-is = handed-by false e;
             report-is = refl;
           }

@@ -52,6 +52,11 @@ abbrev pub Hold : List Bool → Type 0
 Hold [] = Unit {0}
 Hold (b ∷ bs) = (b ≡ true) × Hold bs
 
+-- such facts, one after another
+infixr 4 _&_
+abbrev pub _&_ : {A B : Type 0} → A → B → A × B
+a & b = (a, b)
+
 pub hold : (bs : List Bool) → every bs ≡ true → Hold bs
 hold [] e = tt
 hold (b ∷ bs) e = (and-left b (every bs) e, hold bs (and-right b (every bs) e))

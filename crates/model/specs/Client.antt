@@ -1,6 +1,6 @@
 -- The client's end (01: the bay end) as a record over lists, question 2, and its calls.
 use Prim.Native.Nat.{ℕ, _+_}
-use mathlib.Core.Bool.{Bool, false, not, _&&_}
+use mathlib.Core.Bool.{Bool, not, _&&_}
 use mathlib.Core.List.{List, [], _∷_, map}
 use lib.Dec.{leb, ltb, eqb}
 use lib.ListN.{length}
@@ -11,7 +11,6 @@ use Rattle.wire.specs.declared.Header.{Header}
 use Rattle.wire.specs.declared.Message.{Message}
 use Rattle.wire.specs.declared.Message.the-variants as message
 use Rattle.wire.specs.declared.Read.{Read}
-use Rattle.wire.specs.declared.Read.the-variants as read
 use Rattle.wire.specs.Bytes.{bytesOf, parsed}
 use Rattle.model.specs.Limits.{maxLines, maxInserts, maxEdits, maxOthers, maxItems, maxInitial}
 use Rattle.model.specs.Questions.{Question, ask, asks, every, between, noReport, Answer, answer, Sent, sent}
@@ -19,7 +18,7 @@ use Rattle.model.specs.Cross.{priority, insertsOf}
 use Rattle.model.specs.Packets.{packed, unpacked}
 use Rattle.model.specs.Ranks.{rankOf, ranking}
 use Rattle.model.specs.Inverse.{inverseOf, isNothing, inverseStands, soundInverse}
-use Rattle.model.specs.Line.{Line, noLine, other, lineTests, roomy, lineKeeps, lineMessage, sendQuestions, pendingNumbers, lineAcked, lineTaken, carried, lineReport, seenQuestions, takeQuestions}
+use Rattle.model.specs.Line.{Line, noLine, other, lineTests, roomy, lineKeeps, lineMessage, sendQuestions, pendingNumbers, lineAcked, lineTaken, carried, lineReport, seenQuestions, takeQuestions, takesBy, readsBy}
 
 pub record Client : Type 0 where
   -- how many clients the sheet has, and which this one is
@@ -187,15 +186,10 @@ clientTakesAck c line direction seen =
     noReport
 
 abbrev pub clientTakes : Client → Message → Answer Client
-clientTakes c (message.Insert h p x r) = clientTakesEdit c h (Insert p x r)
-clientTakes c (message.Delete h p) = clientTakesEdit c h (Delete p)
-clientTakes c (message.Nothing h) = clientTakesEdit c h Nothing
-clientTakes c (message.Ack l d s) = clientTakesAck c l d s
+clientTakes c = takesBy (clientTakesEdit c) (clientTakesAck c)
 
--- bytes that are no message: questions 2 and 3
 abbrev pub clientReads : Client → Read → Answer Client
-clientReads c read.Refused = answer (asks (ask 2 (soundClient c) ∷ ask 3 false ∷ [])) c c noReport
-clientReads c (read.Message m) = clientTakes c m
+clientReads c = readsBy soundClient c (clientTakes c)
 
 unfoldable pub takeClient : Client → List ℕ → Answer Client
 takeClient c bytes = clientReads c (parsed bytes)

@@ -1,19 +1,22 @@
 -- One line as either end keeps it (01: "The server keeps the same per line"): its counts and its pending edits.
 use Prim.Native.Nat.{ℕ, zero, suc, _+_, _-_}
-use mathlib.Core.Bool.{Bool, _&&_, not}
+use mathlib.Core.Bool.{Bool, false, _&&_, not}
 use mathlib.Core.List.{List, [], _∷_, _++_}
 use lib.Dec.{leb, ltb, eqb}
 use lib.ListN.{length, getD, drop}
 use Rattle.ot.specs.Form.{positionOf}
-use Rattle.ot.specs.Edit.{Edit, Nothing, formOf, fits}
+use Rattle.ot.specs.Edit.{Edit, Nothing, Delete, Insert, formOf, fits}
 use Rattle.list.specs.declared.Origin.{Origin}
 use Rattle.list.specs.Places.{Place, appliedBy}
 use Rattle.wire.specs.declared.Header.{Header}
 use Rattle.wire.specs.declared.Message.{Message}
+use Rattle.wire.specs.declared.Message.the-variants as message
+use Rattle.wire.specs.declared.Read.{Read}
+use Rattle.wire.specs.declared.Read.the-variants as read
 use Rattle.wire.specs.Message.{messageOf}
 use Rattle.wire.specs.Bytes.{bytesOf}
 use Rattle.model.specs.Limits.{maxInserts, maxEdits, maxPending, maxItems}
-use Rattle.model.specs.Questions.{Question, ask, between, Report}
+use Rattle.model.specs.Questions.{Question, ask, asks, between, Report, noReport, Answer, answer}
 use Rattle.model.specs.Cross.{past, over, allPlaced, priorities}
 
 pub record Line : Type 0 where
@@ -123,3 +126,15 @@ takeQuestions v items h e more =
     (fits (carried v (h .seen) e) (length items) && allPlaced (over e (unacked v (h .seen)))
     && leb (length (appliedBy (h .origin) (carried v (h .seen) e) items)) maxItems)
     ∷ more
+
+-- What an end answers to a message, by its answers to an edit under a header and to an acknowledgement.
+abbrev pub takesBy : {A : Type 0} → (Header → Edit → A) → (ℕ → ℕ → ℕ → A) → Message → A
+takesBy edit ack (message.Insert h p x r) = edit h (Insert p x r)
+takesBy edit ack (message.Delete h p) = edit h (Delete p)
+takesBy edit ack (message.Nothing h) = edit h Nothing
+takesBy edit ack (message.Ack l d seen) = ack l d seen
+
+-- What it answers to what it read. Bytes that are no message: questions 2 and 3.
+abbrev pub readsBy : {E : Type 0} → (E → Bool) → E → (Message → Answer E) → Read → Answer E
+readsBy sound c takes read.Refused = answer (asks (ask 2 (sound c) ∷ ask 3 false ∷ [])) c c noReport
+readsBy sound c takes (read.Message m) = takes m

@@ -4,21 +4,20 @@ use mathlib.Core.Bool.{Bool, true, false, _&&_}
 use mathlib.Core.List.{List, [], _∷_, _++_, map}
 use lib.Dec.{leb, eqb}
 use lib.ListN.{length, getD, drop, replicate}
-use Rattle.ot.specs.Edit.{Edit, Nothing, Delete, Insert}
+use Rattle.ot.specs.Edit.{Edit}
 use Rattle.list.specs.declared.Origin.{Origin}
 use Rattle.list.specs.Places.{Place, initialPlaces, appliedBy, numbered}
 use Rattle.wire.specs.declared.Header.{Header}
 use Rattle.wire.specs.declared.Message.{Message}
 use Rattle.wire.specs.declared.Message.the-variants as message
 use Rattle.wire.specs.declared.Read.{Read}
-use Rattle.wire.specs.declared.Read.the-variants as read
 use Rattle.wire.specs.Bytes.{bytesOf, parsed}
 use Rattle.model.specs.Limits.{maxLines, maxInserts, maxEdits, maxItems, maxInitial}
 use Rattle.model.specs.Questions.{Question, ask, asks, every, between, noReport, Answer, answer, Sent, sent}
 use Rattle.model.specs.Cross.{priority, insertsOf}
 use Rattle.model.specs.Packets.{packed, unpacked}
 use Rattle.model.specs.Ranks.{rankOf, ranking}
-use Rattle.model.specs.Line.{Line, noLine, other, lineTests, roomy, lineKeeps, lineMessage, sendQuestions, pendingNumbers, lineAcked, lineTaken, carried, lineReport, seenQuestions, takeQuestions}
+use Rattle.model.specs.Line.{Line, noLine, other, lineTests, roomy, lineKeeps, lineMessage, sendQuestions, pendingNumbers, lineAcked, lineTaken, carried, lineReport, seenQuestions, takeQuestions, takesBy, readsBy}
 
 pub record Server : Type 0 where
   pub n : ℕ
@@ -212,15 +211,10 @@ serverTakesAck s line direction seen =
     noReport
 
 abbrev pub serverTakes : Server → Message → Answer Server
-serverTakes s (message.Insert h p x r) = serverTakesEdit s h (Insert p x r)
-serverTakes s (message.Delete h p) = serverTakesEdit s h (Delete p)
-serverTakes s (message.Nothing h) = serverTakesEdit s h Nothing
-serverTakes s (message.Ack l d seen) = serverTakesAck s l d seen
+serverTakes s = takesBy (serverTakesEdit s) (serverTakesAck s)
 
--- bytes that are no message: questions 2 and 3
 abbrev pub serverReads : Server → Read → Answer Server
-serverReads s read.Refused = answer (asks (ask 2 (soundServer s) ∷ ask 3 false ∷ [])) s s noReport
-serverReads s (read.Message m) = serverTakes s m
+serverReads s = readsBy soundServer s (serverTakes s)
 
 unfoldable pub takeServer : Server → List ℕ → Answer Server
 takeServer s bytes = serverReads s (parsed bytes)

@@ -4,20 +4,19 @@ use mathlib.Core.Bool.{not, _&&_, cond}
 use mathlib.Core.List.{List, [], _∷_, reverse}
 use lib.Dec.{ltb, eqb}
 use lib.ListN.{length, take, drop}
-use Rattle.ot.specs.Edit.{Edit, Nothing, Delete, Insert, transformed}
+use Rattle.ot.specs.Edit.{Edit, transformed}
 use Rattle.list.specs.declared.Origin.{Origin}
 use Rattle.list.specs.Places.{Place, appliedBy}
 use Rattle.wire.specs.declared.Header.{Header}
-use Rattle.wire.specs.declared.Message.the-variants as message
 use Rattle.wire.specs.declared.Read.{Read}
 use Rattle.wire.specs.declared.Read.the-variants as read
 use Rattle.wire.specs.Bytes.{parsed}
 use Rattle.model.specs.Questions.{asks, Report, noReport, Answer, answer}
 use Rattle.model.specs.Packets.{nextSize, counted, handedOver, unpacked}
 use Rattle.model.specs.Ranks.{lineRanks}
-use Rattle.model.specs.Line.{unacked, lineReport}
-use Rattle.model.specs.Client.{Client, soundClient, with, insertClient, clientAcked, clientTaken, clientTakesAck, clientEditQuestions, inverseThen, clientReads, takeClient, packetClient}
-use Rattle.model.specs.Server.{Server, soundServer, lineOf, serverReads, takeServer}
+use Rattle.model.specs.Line.{unacked, lineReport, takesBy, readsBy}
+use Rattle.model.specs.Client.{Client, soundClient, with, openClient, insertClient, clientAcked, clientTaken, clientTakesAck, clientEditQuestions, inverseThen, takeClient, packetClient}
+use Rattle.model.specs.Server.{Server, soundServer, lineOf, openServer, serverTakesEdit, serverTakesAck, takeServer, packetServer}
 use Rattle.model.specs.Numbers.{allBut}
 use Rattle.model.specs.Sheet.{Sheet}
 use Rattle.model.specs.SheetOf.{ClientCalls, ServerCalls, sheetOf, answerAs}
@@ -25,16 +24,16 @@ use Rattle.model.specs.Claim.{Converges}
 use Rattle.model.specs.Consequences.{OneOrder}
 use Rattle.model.specs.Ours.{clientCalls, serverCalls}
 
--- ours, but a client inserts and takes in another way, a message and a packet
-abbrev pub clientAs : (Client → ℕ → ℕ → Answer Client) → (Client → List ℕ → Answer Client) → (Client → List ℕ → Answer Client) → ClientCalls
-clientAs insert take takePacket =
+-- ours, but a client opens, inserts and takes in another way, a message and a packet
+abbrev pub clientAs : (ℕ → ℕ → List ℕ → List ℕ → Answer Client) → (Client → ℕ → ℕ → Answer Client) → (Client → List ℕ → Answer Client) → (Client → List ℕ → Answer Client) → ClientCalls
+clientAs opens insert take takePacket =
     record {
       Client = Client;
       items = clientCalls .items;
       total = clientCalls .total;
       made = clientCalls .made;
       taken = clientCalls .taken;
-      opens = clientCalls .opens;
+      opens = opens;
       insert = insert;
       delete = clientCalls .delete;
       takeBack = clientCalls .takeBack;
@@ -45,15 +44,15 @@ clientAs insert take takePacket =
       takePacket = takePacket;
     }
 
-abbrev pub serverAs : (Server → List ℕ → Answer Server) → (Server → List ℕ → Answer Server) → ServerCalls
-serverAs take takePacket =
+abbrev pub serverAs : (ℕ → List ℕ → List ℕ → Answer Server) → (Server → List ℕ → Answer Server) → (Server → List ℕ → Answer Server) → ServerCalls
+serverAs opens take takePacket =
     record {
       Server = Server;
       items = serverCalls .items;
       total = serverCalls .total;
       made = serverCalls .made;
       taken = serverCalls .taken;
-      opens = serverCalls .opens;
+      opens = opens;
       send = serverCalls .send;
       tell = serverCalls .tell;
       take = take;
@@ -62,11 +61,11 @@ serverAs take takePacket =
     }
 
 abbrev pub insertingAs : (Client → ℕ → ℕ → Answer Client) → Sheet
-insertingAs insert = sheetOf (clientAs insert takeClient packetClient) serverCalls
+insertingAs insert = sheetOf (clientAs openClient insert takeClient packetClient) serverCalls
 
 -- both ends take in another way
 abbrev pub takingAs : (Client → List ℕ → Answer Client) → (Server → List ℕ → Answer Server) → Sheet
-takingAs client server = sheetOf (clientAs insertClient client (unpacked soundClient client)) (serverAs server (unpacked soundServer server))
+takingAs client server = sheetOf (clientAs openClient insertClient client (unpacked soundClient client)) (serverAs openServer server (unpacked soundServer server))
 
 -- ---- the list
 
@@ -163,10 +162,7 @@ takesFirst c h e =
 
 abbrev pub readsFirst : Client → Read → Answer Client
 readsFirst c read.Refused = answer 3 c c noReport
-readsFirst c (read.Message (message.Insert h p x r)) = takesFirst c h (Insert p x r)
-readsFirst c (read.Message (message.Delete h p)) = takesFirst c h (Delete p)
-readsFirst c (read.Message (message.Nothing h)) = takesFirst c h Nothing
-readsFirst c (read.Message (message.Ack l d s)) = clientTakesAck c l d s
+readsFirst c (read.Message m) = takesBy (takesFirst c) (clientTakesAck c) m
 
 abbrev pub firstOnly : Sheet
 firstOnly = takingAs (λ c bytes. readsFirst c (parsed bytes)) takeServer
@@ -210,10 +206,7 @@ forgiving r = takingAs (λ c bytes. forgive (takeClient c bytes)) (λ s bytes. f
 
 -- The seen of a repeated message is used to drop pending edits.
 abbrev pub usesSeen : Client → Answer Client → Read → Answer Client
-usesSeen c a (read.Message (message.Delete h p)) = cond (eqb (a .refusal) 5) (record { refusal = 5; end = clientAcked c (h .seen); report = noReport }) a
-usesSeen c a (read.Message (message.Insert h p x r)) = cond (eqb (a .refusal) 5) (record { refusal = 5; end = clientAcked c (h .seen); report = noReport }) a
-usesSeen c a (read.Message (message.Nothing h)) = cond (eqb (a .refusal) 5) (record { refusal = 5; end = clientAcked c (h .seen); report = noReport }) a
-usesSeen c a (read.Message (message.Ack l d s)) = a
+usesSeen c a (read.Message m) = takesBy (λ h e. cond (eqb (a .refusal) 5) (record { refusal = 5; end = clientAcked c (h .seen); report = noReport }) a) (λ l d s. a) m
 usesSeen c a read.Refused = a
 
 abbrev pub listening : Sheet
@@ -228,11 +221,7 @@ roomBelow room s line a =
     (record { refusal = 12; end = s; report = noReport }) a
 
 abbrev pub takesBelow : ℕ → Server → Read → Answer Server
-takesBelow room s (read.Message (message.Insert h p x r)) = roomBelow room s (h .line) (serverReads s (read.Message (message.Insert h p x r)))
-takesBelow room s (read.Message (message.Delete h p)) = roomBelow room s (h .line) (serverReads s (read.Message (message.Delete h p)))
-takesBelow room s (read.Message (message.Nothing h)) = roomBelow room s (h .line) (serverReads s (read.Message (message.Nothing h)))
-takesBelow room s (read.Message (message.Ack l d seen)) = serverReads s (read.Message (message.Ack l d seen))
-takesBelow room s read.Refused = serverReads s read.Refused
+takesBelow room s = readsBy soundServer s (takesBy (λ h e. roomBelow room s (h .line) (serverTakesEdit s h e)) (serverTakesAck s))
 
 abbrev pub early : ℕ → Sheet
 early room = takingAs takeClient (λ s bytes. takesBelow room s (parsed bytes))
@@ -255,35 +244,8 @@ serverRanked ranks s = record { n = s .n; initial = s .initial; ranks = ranks s;
 abbrev pub rankingAs : (Client → List ℕ) → (Server → List ℕ) → Sheet
 rankingAs clientRanks serverRanks =
     sheetOf
-    (record {
-      Client = Client;
-      items = clientCalls .items;
-      total = clientCalls .total;
-      made = clientCalls .made;
-      taken = clientCalls .taken;
-      opens = λ n l ranks items. answerAs (clientRanked clientRanks) (clientCalls .opens n l ranks items);
-      insert = clientCalls .insert;
-      delete = clientCalls .delete;
-      takeBack = clientCalls .takeBack;
-      send = clientCalls .send;
-      tell = clientCalls .tell;
-      take = clientCalls .take;
-      pack = clientCalls .pack;
-      takePacket = clientCalls .takePacket;
-    })
-    (record {
-      Server = Server;
-      items = serverCalls .items;
-      total = serverCalls .total;
-      made = serverCalls .made;
-      taken = serverCalls .taken;
-      opens = λ n ranks items. answerAs (serverRanked serverRanks) (serverCalls .opens n ranks items);
-      send = serverCalls .send;
-      tell = serverCalls .tell;
-      take = serverCalls .take;
-      pack = serverCalls .pack;
-      takePacket = serverCalls .takePacket;
-    })
+    (clientAs (λ n l ranks items. answerAs (clientRanked clientRanks) (openClient n l ranks items)) insertClient takeClient packetClient)
+    (serverAs (λ n ranks items. answerAs (serverRanked serverRanks) (openServer n ranks items)) takeServer packetServer)
 
 -- The ranks are ignored: the lower line stays in a tie.
 abbrev pub byLine : Sheet
@@ -300,11 +262,7 @@ abbrev pub takesAs : (Header → Origin) → Client → Header → Edit → Answ
 takesAs origin c h e = answer (asks (clientEditQuestions c h e)) c (clientTaken c (origin h) (h .seen) e) (lineReport (c .own) (h .seen) e)
 
 abbrev pub readsAs : (Header → Origin) → Client → Read → Answer Client
-readsAs origin c read.Refused = clientReads c read.Refused
-readsAs origin c (read.Message (message.Insert h p x r)) = takesAs origin c h (Insert p x r)
-readsAs origin c (read.Message (message.Delete h p)) = takesAs origin c h (Delete p)
-readsAs origin c (read.Message (message.Nothing h)) = takesAs origin c h Nothing
-readsAs origin c (read.Message (message.Ack l d s)) = clientTakesAck c l d s
+readsAs origin c = readsBy soundClient c (takesBy (takesAs origin c) (clientTakesAck c))
 
 abbrev pub originAs : (Header → Origin) → Sheet
 originAs origin = takingAs (λ c bytes. readsAs origin c (parsed bytes)) takeServer
@@ -321,19 +279,12 @@ byMessage = originAs (λ h. record { line = h .origin .line; number = h .number 
 
 -- A taking leaves another inverse, by the one stored, the client as it was, and the message's seen and edit.
 abbrev pub carryingAs : (Client → ℕ → Edit → Edit) → Sheet
-carryingAs inverse = takingAs (λ c bytes. reads c (parsed bytes)) takeServer
+carryingAs inverse = takingAs (λ c bytes. readsBy soundClient c (takesBy (takes c) (clientTakesAck c)) (parsed bytes)) takeServer
   where
     takes : Client → Header → Edit → Answer Client
     takes c h e =
         let then = clientTaken c (h .origin) (h .seen) e in
         answer (asks (clientEditQuestions c h e)) c (with then (then .items) (then .own) (inverse c (h .seen) e)) (lineReport (c .own) (h .seen) e)
-
-    reads : Client → Read → Answer Client
-    reads c read.Refused = clientReads c read.Refused
-    reads c (read.Message (message.Insert h p x r)) = takes c h (Insert p x r)
-    reads c (read.Message (message.Delete h p)) = takes c h (Delete p)
-    reads c (read.Message (message.Nothing h)) = takes c h Nothing
-    reads c (read.Message (message.Ack l d s)) = clientTakesAck c l d s
 
 -- The inverse is not carried.
 abbrev pub uncarried : Sheet
@@ -346,7 +297,7 @@ carriedPastArrived = carryingAs (λ c seen e. transformed (c .inverse) e)
 -- ---- packets
 
 abbrev pub packetsAs : (Client → List ℕ → Answer Client) → (Server → List ℕ → Answer Server) → Sheet
-packetsAs takesClient takesServer = sheetOf (clientAs insertClient takeClient takesClient) (serverAs takeServer takesServer)
+packetsAs takesClient takesServer = sheetOf (clientAs openClient insertClient takeClient takesClient) (serverAs openServer takeServer takesServer)
 
 -- A packet goes on after a refusal: the messages behind the refused one are taken too.
 unfoldable pub goesOn : {E : Type 0} → (E → List ℕ → Answer E) → ℕ → ℕ → ℕ → E → List ℕ → Answer E
