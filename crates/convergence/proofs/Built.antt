@@ -15,7 +15,6 @@ use Rattle.model.proofs.Sound.{keeps-sound}
 use Rattle.model.proofs.Alone.{ClientAlone, ServerAlone, edit-back, undo-back, client-back, server-back, client-alone, server-alone}
 use Rattle.model.proofs.Packets.{packet-law, packet-none}
 use Rattle.model.proofs.Converges as model-converges
-use Rattle.model.proofs.Consequences.{consequences}
 use Rattle.line.specs.Line.{countsOf}
 use Rattle.client.specs.declared.Client.{Client}
 use Rattle.client.specs.View as clientView
@@ -30,8 +29,7 @@ use Rattle.server.specs.Packets as serverPackets
 use Rattle.c_client.proofs.Calls as clientLent
 use Rattle.c_server.proofs.Calls as serverLent
 use Rattle.convergence.specs.Built.{clientAnswer, serverAnswer, clientCalls, serverCalls, built, Claimed, BuiltCarried}
-use Rattle.convergence.proofs.Ranks.{ranks-bytes}
-use Rattle.convergence.proofs.Carry.{carries}
+use Rattle.convergence.proofs.Carry.{carries, carried-by}
 use Rattle.convergence.proofs.Pairs.{ClientFollows, ServerFollows, Both, follows}
 use Rattle.convergence.proofs.Stored.{Stored, Stands, given, unsound, alike, sending-alike, opened-stands, answer-back, sending-alone, packing-alone, unsound-refuses, odd-alike}
 
@@ -180,13 +178,4 @@ claimed =
     (follows clientCalls ours.clientCalls serverCalls ours.serverCalls (Stands clients) (Stands servers) client-follows server-follows) model-converges.converges
 
 pub carried : BuiltCarried
-carried =
-    record {
-      claimed = claimed;
-      ranks = ranks-bytes built claimed;
-      consistent = consequences .consistent built claimed;
-      order = consequences .order built claimed;
-      refusals = consequences .refusals built claimed;
-      takes-back = consequences .takes-back built claimed;
-      agree = consequences .agree built ours.ours claimed model-converges.converges;
-    }
+carried = carried-by built ours.ours claimed model-converges.converges

@@ -23,6 +23,9 @@ use Rattle.model.specs.Run.{State, areBytes, unreadable, callable, answered, wr
 use Rattle.model.specs.Claim.{Delivered, Enough, OnLine, Holds, LeavesAlone, Opened, Converges}
 use Rattle.model.proofs.Tests.{and-left, between-true}
 use Rattle.model.proofs.Sound.{three}
+use Rattle.model.proofs.Consequences.{consequences}
+use Rattle.convergence.specs.Built.{Carried}
+use Rattle.convergence.proofs.Ranks.{ranks-bytes}
 
 pub record Alike {A B : Type 0} (R : A → B → Type 0) (a : Answer A) (b : Answer B) : Type 0 where
   pub refusal : a .refusal ≡ b .refusal
@@ -318,3 +321,16 @@ module _ (S T : Sheet) (R : S .End → T .End → Type 0) where
             let t = start T n ranks items in
             holds-same f (c .alone) n ranks (run S n s calls) (run T n t calls) (same-run f (c .alone) n ranks calls s t (starts f (c .alone) n ranks items o′)) (c .holds n ranks items o′ calls);
       }
+
+-- what the claim of a sheet gives, beside another that it holds of
+pub carried-by : (S T : Sheet) → Converges S → Converges T → Carried S T
+carried-by S T c d =
+    record {
+      claimed = c;
+      ranks = ranks-bytes S c;
+      consistent = consequences .consistent S c;
+      order = consequences .order S c;
+      refusals = consequences .refusals S c;
+      takes-back = consequences .takes-back S c;
+      agree = consequences .agree S T c d;
+    }

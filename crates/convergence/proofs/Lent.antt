@@ -5,10 +5,8 @@ use mathlib.Core.List.{List}
 use lib.ListN.{length}
 use Rattle.model.specs.Client as model
 use Rattle.model.specs.Server as models
-use Rattle.model.specs.Claim.{Converges}
 use Rattle.model.proofs.Sound.{keeps-sound}
 use Rattle.model.proofs.Alone.{ClientAlone, ServerAlone, edit-back, undo-back, client-back, server-back, client-alone, server-alone}
-use Rattle.model.proofs.Consequences.{consequences}
 use Rattle.client.specs.declared.Client.{Client}
 use Rattle.client.specs.View as clientView
 use Rattle.client.proofs.Stored.{stored-sizes}
@@ -24,8 +22,7 @@ use Rattle.c_packet.specs.Calls as packets
 use Rattle.c_server.proofs.Ends as serverEnds
 use Rattle.convergence.specs.Built.{clientCalls, serverCalls, built}
 use Rattle.convergence.specs.Lent.{answerOf, clientsLent, serverLent, lent, LentCarried}
-use Rattle.convergence.proofs.Ranks.{ranks-bytes}
-use Rattle.convergence.proofs.Carry.{carries}
+use Rattle.convergence.proofs.Carry.{carries, carried-by}
 use Rattle.convergence.proofs.Pairs.{ClientFollows, ServerFollows, Both, follows}
 use Rattle.convergence.proofs.Built.{clients, servers, struct-client-alone, struct-server-alone, claimed}
 use Rattle.convergence.proofs.Stored.{Alone, Stretch, unsent-alone, unsent-stretch, odd-small}
@@ -218,21 +215,9 @@ server-follows b h =
 
 -- ---- the claim
 
-module _ (cs : ℕ → List ℕ) (ss : List ℕ) (h : (l : ℕ) → clientLayout.size ≤ length (cs l)) (k : serverLayout.size ≤ length ss) where
-  lent-claimed : Converges (lent cs ss)
-  lent-claimed =
-      carries (lent cs ss) built (Both (clientsLent cs) clientCalls (serverLent ss) serverCalls (Are clientForm) (Are serverForm))
-      (follows (clientsLent cs) clientCalls (serverLent ss) serverCalls (Are clientForm) (Are serverForm) (client-follows cs h) (server-follows ss k)) claimed
-
 pub lent-carried : LentCarried
 lent-carried cs ss h k =
-    let holds = lent-claimed cs ss h k in
-    record {
-      claimed = holds;
-      ranks = ranks-bytes (lent cs ss) holds;
-      consistent = consequences .consistent (lent cs ss) holds;
-      order = consequences .order (lent cs ss) holds;
-      refusals = consequences .refusals (lent cs ss) holds;
-      takes-back = consequences .takes-back (lent cs ss) holds;
-      agree = consequences .agree (lent cs ss) built holds claimed;
-    }
+    let claim =
+    carries (lent cs ss) built (Both (clientsLent cs) clientCalls (serverLent ss) serverCalls (Are clientForm) (Are serverForm))
+    (follows (clientsLent cs) clientCalls (serverLent ss) serverCalls (Are clientForm) (Are serverForm) (client-follows cs h) (server-follows ss k)) claimed in
+    carried-by (lent cs ss) built claim claimed
