@@ -11,7 +11,7 @@ use borrow.Author.Tests.{leb-true}
 use Rattle.list.specs.Places.{Place}
 use Rattle.wire.specs.Bytes.{parsed}
 use Rattle.jupiter.specs.Form.{replay}
-use Rattle.jupiter.specs.History.{History, order, missing}
+use Rattle.jupiter.specs.History.{History, order, missing, at}
 use Rattle.jupiter.specs.Origins.{Once}
 use Rattle.model.specs.Limits.{maxPacket}
 use Rattle.model.specs.Questions.{Report, Answer, Sent, between}
@@ -19,7 +19,7 @@ use Rattle.model.specs.Packets.{nextSize, messagesIn, known, packetFrom, counte
 use Rattle.model.specs.Edits.{nameOf, edits}
 use Rattle.model.specs.Sheet.{Sheet, Call, insert, delete, takeBack, send, tell, receive, pack, packet, junk}
 use Rattle.model.specs.Log.{Log, log, tookPacket}
-use Rattle.model.specs.Run.{State, areBytes, unreadable, callable, answered, written, handed, packedInto, packetOf, packetTaken, call, handedNumber, numberOf, run, opened, start}
+use Rattle.model.specs.Run.{State, areBytes, unreadable, callable, answered, written, handed, packetOf, packetTaken, call, handedNumber, numberOf, run, opened, start}
 use Rattle.model.specs.Claim.{Delivered, Enough, OnLine, Holds, LeavesAlone, Opened, Converges}
 use Rattle.model.proofs.Tests.{and-left, between-true}
 use Rattle.model.proofs.Sound.{three}
@@ -107,36 +107,37 @@ module _ (S T : Sheet) (R : S .End → T .End → Type 0) where
       pub reports : s .reports ≡ t .reports
       pub recorded : s .recorded ≡ t .recorded
 
-    same-answered : (s : State S ranks) (t : State T ranks) → Same s t → (a : ℕ) (c : Call) (x : Answer (S .End)) (y : Answer (T .End)) → Alike R x y → Same (answered S s a c x) (answered T t a c y)
-    same-answered s t m a c x y k =
+    -- a call that answers an end: the new ends are alike, whatever is logged
+    same-answered : (s : State S ranks) (t : State T ranks) → Same s t → (a : ℕ) (x : Answer (S .End)) (y : Answer (T .End)) → Alike R x y → (v w : Log ranks) → v ≡ w
+        → Same (record { ends = at a (x .end) (s .ends); messages = s .messages; reports = s .reports ++ (x .report ∷ []); recorded = v })
+        (record { ends = at a (y .end) (t .ends); messages = t .messages; reports = t .reports ++ (y .report ∷ []); recorded = w })
+    same-answered s t m a x y k v w logged =
         record {
           ends = λ j h. go j h (eqb a j);
           messages = m .messages;
           reports = ap₂ (λ (ks : List Report) (i : Report). ks ++ (i ∷ [])) (m .reports) (k .report);
-          recorded = ap₂ (λ (w : Log ranks) (r : ℕ). log w c r) (m .recorded) (k .refusal);
+          recorded = logged;
         }
       where
         go : (j : ℕ) → j ≤ n → (b : Bool) → R (cond b (x .end) (s .ends j)) (cond b (y .end) (t .ends j))
         go j h true = k .ends
         go j h false = m .ends j h
 
-    same-written : (s : State S ranks) (t : State T ranks) → Same s t → (c : Call) (x y : Sent) → x ≡ y → Same (written S s c x) (written T t c y)
-    same-written s t m c x y e =
-        record {
-          ends = m .ends;
-          messages = ap₂ (λ (ms : List (List ℕ)) (r : Sent). cond (eqb (r .refusal) 0) (ms ++ (take (r .written) (r .buffer) ∷ [])) ms) (m .messages) e;
-          reports = m .reports;
-          recorded = ap₂ (λ (w : Log ranks) (r : Sent). log w c (r .refusal)) (m .recorded) e;
-        }
+    same-logged : (s : State S ranks) (t : State T ranks) → Same s t → (a : ℕ) (c : Call) (x : Answer (S .End)) (y : Answer (T .End)) → Alike R x y → Same (answered S s a c x) (answered T t a c y)
+    same-logged s t m a c x y k = same-answered s t m a x y k _ _ (ap₂ (λ (w : Log ranks) (r : ℕ). log w c r) (m .recorded) (k .refusal))
 
-    same-packed : (s : State S ranks) (t : State T ranks) → Same s t → (c : Call) (offset : ℕ) (x y : Sent) → x ≡ y → Same (packedInto S s c offset x) (packedInto T t c offset y)
-    same-packed s t m c offset x y e =
-        record {
-          ends = m .ends;
-          messages = ap₂ (λ (ms : List (List ℕ)) (r : Sent). ms ++ messagesIn (r .written) (take (r .written) (drop offset (r .buffer)))) (m .messages) e;
-          reports = m .reports;
-          recorded = ap₂ (λ (w : Log ranks) (r : Sent). log w c (r .refusal)) (m .recorded) e;
-        }
+    same-packet : (s : State S ranks) (t : State T ranks) → Same s t → (a : ℕ) (is : List ℕ) (x : Answer (S .End)) (y : Answer (T .End)) → Alike R x y → Same (packetTaken S s a is x) (packetTaken T t a is y)
+    same-packet s t m a is x y k = same-answered s t m a x y k _ _ (λ i. tookPacket (m .recorded i) a (k .report i .passed) (known (length (m .messages i)) is))
+
+    -- a sending: the messages are those of before, with what add makes of the one answer
+    same-sent : (s : State S ranks) (t : State T ranks) → Same s t → (c : Call) (add : List (List ℕ) → Sent → List (List ℕ)) (x y : Sent) → x ≡ y
+        → Same (record { ends = s .ends; messages = add (s .messages) x; reports = s .reports; recorded = log (s .recorded) c (x .refusal) })
+        (record { ends = t .ends; messages = add (t .messages) y; reports = t .reports; recorded = log (t .recorded) c (y .refusal) })
+    same-sent s t m c add x y e =
+        record { ends = m .ends; messages = ap₂ add (m .messages) e; reports = m .reports; recorded = ap₂ (λ (w : Log ranks) (r : Sent). log w c (r .refusal)) (m .recorded) e }
+
+    same-written : (s : State S ranks) (t : State T ranks) → Same s t → (c : Call) (x y : Sent) → x ≡ y → Same (written S s c x) (written T t c y)
+    same-written s t m c = same-sent s t m c (λ ms r. cond (eqb (r .refusal) 0) (ms ++ (take (r .written) (r .buffer) ∷ [])) ms)
 
     -- the packet of the same numbers is taken at both
     packets-alike : (s : State S ranks) (t : State T ranks) → Same s t → (a : ℕ) → a ≤ n → (is tail : List ℕ)
@@ -145,30 +146,17 @@ module _ (S T : Sheet) (R : S .End → T .End → Type 0) where
         subst (λ (ms : List (List ℕ)). Alike R (S .takePacket (s .ends a) (packetFrom ms is tail)) (T .takePacket (t .ends a) (packetFrom (t .messages) is tail))) (sym (m .messages))
         (packet-alike f g (s .ends a) (t .ends a) (m .ends a h) (packetFrom (t .messages) is tail))
 
-    same-packet : (s : State S ranks) (t : State T ranks) → Same s t → (a : ℕ) (is : List ℕ) (x : Answer (S .End)) (y : Answer (T .End)) → Alike R x y → Same (packetTaken S s a is x) (packetTaken T t a is y)
-    same-packet s t m a is x y k =
-        record {
-          ends = λ j h. go j h (eqb a j);
-          messages = m .messages;
-          reports = ap₂ (λ (ks : List Report) (i : Report). ks ++ (i ∷ [])) (m .reports) (k .report);
-          recorded = λ i. tookPacket (m .recorded i) a (k .report i .passed) (known (length (m .messages i)) is);
-        }
-      where
-        go : (j : ℕ) → j ≤ n → (b : Bool) → R (cond b (x .end) (s .ends j)) (cond b (y .end) (t .ends j))
-        go j h true = k .ends
-        go j h false = m .ends j h
-
     same-call : (s : State S ranks) (t : State T ranks) → Same s t → (c : Call) → callable n c ≡ true → Same (call S s c) (call T t c)
     unfolding call callable handed
     same-call s t m (insert l p x) ok =
         let h = between-true 1 n l (three (between 1 n l) (ltb p 65536) (ltb x 4294967296) ok .0) in
-        same-answered s t m l (insert l p x) (S .insert (s .ends l) p x) (T .insert (t .ends l) p x) (f .inserts (s .ends l) (t .ends l) (m .ends l (h .1)) p x)
+        same-logged s t m l (insert l p x) (S .insert (s .ends l) p x) (T .insert (t .ends l) p x) (f .inserts (s .ends l) (t .ends l) (m .ends l (h .1)) p x)
     same-call s t m (delete l p) ok =
         let h = between-true 1 n l (and-left (between 1 n l) (ltb p 65536) ok) in
-        same-answered s t m l (delete l p) (S .delete (s .ends l) p) (T .delete (t .ends l) p) (f .deletes (s .ends l) (t .ends l) (m .ends l (h .1)) p)
+        same-logged s t m l (delete l p) (S .delete (s .ends l) p) (T .delete (t .ends l) p) (f .deletes (s .ends l) (t .ends l) (m .ends l (h .1)) p)
     same-call s t m (takeBack l) ok =
         let h = between-true 1 n l ok in
-        same-answered s t m l (takeBack l) (S .takeBack (s .ends l)) (T .takeBack (t .ends l)) (f .takes-back (s .ends l) (t .ends l) (m .ends l (h .1)))
+        same-logged s t m l (takeBack l) (S .takeBack (s .ends l)) (T .takeBack (t .ends l)) (f .takes-back (s .ends l) (t .ends l) (m .ends l (h .1)))
     same-call s t m (send a l number lent) ok =
         let h = leb-true a n (three (leb a n) (ltb l 256) (ltb number 65536) (and-left (leb a n && ltb l 256 && ltb number 65536) (areBytes lent) ok) .0) in
         same-written s t m (send a l number lent) (S .send (s .ends a) l number lent) (T .send (t .ends a) l number lent) (f .sends (s .ends a) (t .ends a) (m .ends a h) l number lent)
@@ -180,16 +168,16 @@ module _ (S T : Sheet) (R : S .End → T .End → Type 0) where
       where
         go : (b : Option (List ℕ)) → Same (handed S s a (receive a i) b) (handed T t a (receive a i) b)
         go none = m
-        go (some b) = same-answered s t m a (receive a i) (S .take (s .ends a) b) (T .take (t .ends a) b) (f .takes (s .ends a) (t .ends a) (m .ends a (leb-true a n ok)) b)
+        go (some b) = same-logged s t m a (receive a i) (S .take (s .ends a) b) (T .take (t .ends a) b) (f .takes (s .ends a) (t .ends a) (m .ends a (leb-true a n ok)) b)
     same-call s t m (pack a l offset lent) ok =
         let h = leb-true a n (three (leb a n) (ltb l 256) (areBytes lent) ok .0) in
-        same-packed s t m (pack a l offset lent) offset (S .pack (s .ends a) l lent offset) (T .pack (t .ends a) l lent offset) (f .packs (s .ends a) (t .ends a) (m .ends a h) l lent offset)
+        same-sent s t m (pack a l offset lent) (λ ms r. ms ++ messagesIn (r .written) (take (r .written) (drop offset (r .buffer)))) (S .pack (s .ends a) l lent offset) (T .pack (t .ends a) l lent offset) (f .packs (s .ends a) (t .ends a) (m .ends a h) l lent offset)
     same-call s t m (packet a is tail) ok =
         let h = leb-true a n (three (leb a n) (areBytes tail) (unreadable (parsed (take (nextSize tail) tail))) ok .0) in
         same-packet s t m a is (S .takePacket (s .ends a) (packetOf S s is tail)) (T .takePacket (t .ends a) (packetOf T t is tail)) (packets-alike s t m a h is tail)
     same-call s t m (junk a bytes) ok =
         let h = leb-true a n (three (leb a n) (areBytes bytes) (unreadable (parsed bytes)) ok .0) in
-        same-answered s t m a (junk a bytes) (S .take (s .ends a) bytes) (T .take (t .ends a) bytes) (f .takes (s .ends a) (t .ends a) (m .ends a h) bytes)
+        same-logged s t m a (junk a bytes) (S .take (s .ends a) bytes) (T .take (t .ends a) bytes) (f .takes (s .ends a) (t .ends a) (m .ends a h) bytes)
 
     same-run : (calls : List Call) (s : State S ranks) (t : State T ranks) → Same s t → Same (run S n s calls) (run T n t calls)
     unfolding run
