@@ -1,7 +1,6 @@
 -- What a call on a packet over lent bytes answers, by the call on the end that was read from them. Over either end.
 use Prim.Native.Nat.{ℕ, _%_, _≤_, _<_}
 use mathlib.Core.Path.{_≡_, ap, sym, _∙_}
-use mathlib.Core.Bool.{Bool}
 use mathlib.Core.List.{List}
 use lib.ListN.{length, drop}
 use Rattle.model.specs.Questions.{Answer}

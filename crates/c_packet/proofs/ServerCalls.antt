@@ -1,12 +1,9 @@
 -- The calls on packets of the server over lent bytes.
 use Prim.Native.Nat.{ℕ, _%_, _≤_, _<_}
 use native.Mathlib.Omega.{arith}
-use mathlib.Core.Path.{_≡_, ap, sym, _∙_, subst}
-use mathlib.Core.Bool.{Bool, true, false, cond}
+use mathlib.Core.Path.{_≡_, ap, _∙_}
 use mathlib.Core.List.{List}
 use lib.ListN.{length, drop}
-use Rattle.wire.specs.declared.Read.{Read}
-use Rattle.wire.specs.Bytes.{parsed}
 use Rattle.model.specs.Questions as model
 use Rattle.model.specs.Server as server
 use Rattle.model.specs.Packets.{nextSize}
@@ -22,7 +19,7 @@ use Rattle.c_server.specs.Layout.{size, bytesIn, endIn}
 use Rattle.c_server.specs.Reading.{cappedEnd}
 use Rattle.c_server.proofs.Calls.{servers}
 use Rattle.c_packet.specs.Calls.{returned, serverSome, serverOne, serverPacketIn, serverTakenAtIn}
-use Rattle.c_packet.proofs.Sizes.{long-refused, unread-refused}
+use Rattle.c_packet.proofs.Sizes.{unread-refused, long-unread}
 use Rattle.c_packet.proofs.Calls.{packet-called, message-called}
 
 -- the length of a packet fits the answer
@@ -32,15 +29,9 @@ pack-fits c line out offset s after e = omega (arith, ap (λ (m : model.Sent). m
 -- a message of more than 17 bytes is refused
 pub long-message : (c : Server) (m : List ℕ) → 17 < length m → taking c m .refusal ≡ 0 → ⊥
 unfolding guarded server.takeServer
-long-message c m h = go (sound c)
-  where
-    unread : server.serverReads (view c) (parsed m) .refusal ≡ 0 → ⊥
-    unread =
-        subst (λ (r : Read). server.serverReads (view c) r .refusal ≡ 0 → ⊥) (sym (long-refused m h)) (unread-refused (view c) (server.soundServer (view c)))
-
-    go : (b : Bool) → cond b (given c (server.serverReads (view c) (parsed m))) (refusedWith 2 c) .refusal ≡ 0 → ⊥
-    go true = unread
-    go false = λ z. omega (arith, z)
+long-message c =
+    long-unread (λ (a : Answer). a .refusal) (λ r. given c (server.serverReads (view c) r)) (refusedWith 2 c) (unread-refused (view c) (server.soundServer (view c)))
+    (λ z. omega (arith, z)) (sound c)
 
 module _ (end : List ℕ) (enough : size ≤ length end) (e : Server) (is : e ≡ cappedEnd (endIn end)) (packet : List ℕ) (a : Answer) (r : ℕ) (after : List ℕ) where
   pub packet-answered : a ≡ packetTaken e packet → returned r after ≡ serverSome a end → returned r after ≡ serverPacketIn end packet

@@ -7,7 +7,8 @@ use mathlib.Core.List.{List, [], _∷_}
 use lib.Dec.{eqb, leb, ltb}
 use lib.ListN.{length, getD, take, drop, drop-of-length-le}
 use lib.Seq.{length-take-le}
-use borrow.Author.Tests.{ne-eqb, eqb-true, eqb-false, leb-true, leb-false, ltb-true, ltb-false}
+use borrow.Author.Tests.{ne-eqb, eqb-false, leb-true, leb-false, ltb-true, ltb-false}
+use Rattle.wire.specs.declared.Read.{Read}
 use Rattle.wire.specs.declared.Read.the-variants as read
 use Rattle.wire.specs.Bytes.{sizeOfKind, parsed}
 use Rattle.model.specs.Limits.{maxPacket}
@@ -49,7 +50,7 @@ size-few k = go (eqb k 5) (eqb k 7) (eqb k 8) (eqb k 4)
     go false false false false = omega arith
 
 -- longer bytes are no message
-pub long-refused : (s : List ℕ) → 17 < length s → parsed s ≡ read.Refused
+long-refused : (s : List ℕ) → 17 < length s → parsed s ≡ read.Refused
 unfolding parsed
 long-refused s h = simp (ne-eqb (length s) (sizeOfKind (getD s 0 0)) (λ e. omega (arith, e, size-few (getD s 0 0))), and-false)
 
@@ -58,6 +59,12 @@ pub unread-refused : {M : Type 0} (m : M) (b : Bool) → answer (asks (ask 2 b �
 unfolding answer
 unread-refused m true e = omega (arith, e)
 unread-refused m false e = omega (arith, e)
+
+-- So an end refuses longer bytes. It answers no′ if it is not sound, and else by what it reads.
+pub long-unread : {A : Type 0} (refusal : A → ℕ) (yes′ : Read → A) (no′ : A) → (refusal (yes′ read.Refused) ≡ 0 → ⊥) → (refusal no′ ≡ 0 → ⊥)
+    → (b : Bool) (s : List ℕ) → 17 < length s → refusal (cond b (yes′ (parsed s)) no′) ≡ 0 → ⊥
+long-unread refusal yes′ no′ p q true s h = subst (λ (r : Read). refusal (yes′ r) ≡ 0 → ⊥) (sym (long-refused s h)) p
+long-unread refusal yes′ no′ p q false s h = q
 
 module _ {E : Type 0} (sound : E → Bool) (taking : E → List ℕ → Answer E) (long : (e : E) (m : List ℕ) → 17 < length m → taking e m .refusal ≡ 0 → ⊥) where
   pub taken-few : (e : E) (bytes : List ℕ) (at : ℕ) → messageTaken sound taking e bytes at .refusal ≡ 0 → nextSize (drop at bytes) ≤ 17

@@ -6,40 +6,43 @@ use Prim.Native.Nat.{ℕ}
 use lib.ListN.{length}
 use Rattle.model.specs.Limits.{maxPacket}
 use Rattle.model.specs.Questions.{between, noReport}
+use Rattle.model.specs.Claim.{Back}
 use Rattle.model.specs.SheetOf.{ClientCalls, ServerCalls, End, client, server, answerAs, sheetOf}
 use Rattle.model.proofs.Alone.{ClientAlone, ServerAlone, both-alone}
-use Rattle.convergence.proofs.Carry.{Alike, Follows}
+use Rattle.convergence.proofs.Carry.{Alike, EndFollows, Follows}
+
+-- A client on line l, by the calls that the server has too: it opens on that line.
+abbrev pub onLine : ℕ → ClientCalls → ServerCalls
+onLine l c =
+    record {
+      Server = c .Client;
+      items = c .items;
+      total = c .total;
+      made = λ e k. c .made e;
+      taken = λ e k. c .taken e;
+      opens = λ n. c .opens n l;
+      send = c .send;
+      tell = c .tell;
+      take = c .take;
+      pack = c .pack;
+      takePacket = c .takePacket;
+    }
+
+-- what a client leaves alone by these calls, and with them by those that it alone has
+pub line-alone : (l : ℕ) (c : ClientCalls) → ClientAlone c → ServerAlone (onLine l c)
+line-alone l c a = record { takes = a .takes; packets = a .packets; no-packets = a .no-packets; packs = a .packs; sends = a .sends; tells = a .tells }
+
+pub edits-alone : (l : ℕ) (c : ClientCalls) → ServerAlone (onLine l c) → ((e : c .Client) (p x : ℕ) → Back e (c .insert e p x)) → ((e : c .Client) (p : ℕ) → Back e (c .delete e p))
+    → ((e : c .Client) → Back e (c .takeBack e)) → ClientAlone c
+edits-alone l c a i d t =
+    record { inserts = i; deletes = d; takes-back = t; takes = a .takes; packets = a .packets; no-packets = a .no-packets; packs = a .packs; sends = a .sends; tells = a .tells }
 
 pub record ClientFollows (c d : ClientCalls) (R : c .Client → d .Client → Type 0) : Type 0 where
-  pub items : (a : c .Client) (b : d .Client) → R a b → c .items a ≡ d .items b
-  pub total : (a : c .Client) (b : d .Client) → R a b → c .total a ≡ d .total b
-  pub made : (a : c .Client) (b : d .Client) → R a b → c .made a ≡ d .made b
-  pub taken : (a : c .Client) (b : d .Client) → R a b → c .taken a ≡ d .taken b
-  pub opens-refusal : (n l : ℕ) (ranks xs : List ℕ) → c .opens n l ranks xs .refusal ≡ d .opens n l ranks xs .refusal
-  pub opens : (n l : ℕ) (ranks xs : List ℕ) → d .opens n l ranks xs .refusal ≡ 0 → R (c .opens n l ranks xs .end) (d .opens n l ranks xs .end)
+  pub end : (l : ℕ) → EndFollows (onLine l c) (onLine l d) R
   pub inserts : (a : c .Client) (b : d .Client) → R a b → (p x : ℕ) → Alike R (c .insert a p x) (d .insert b p x)
   pub deletes : (a : c .Client) (b : d .Client) → R a b → (p : ℕ) → Alike R (c .delete a p) (d .delete b p)
   pub takes-back : (a : c .Client) (b : d .Client) → R a b → Alike R (c .takeBack a) (d .takeBack b)
-  pub takes : (a : c .Client) (b : d .Client) → R a b → (bytes : List ℕ) → Alike R (c .take a bytes) (d .take b bytes)
-  pub packets : (a : c .Client) (b : d .Client) → R a b → (bytes : List ℕ) → between 1 maxPacket (length bytes) ≡ false → c .takePacket a bytes .refusal ≡ d .takePacket b bytes .refusal
-  pub packs : (a : c .Client) (b : d .Client) → R a b → (l : ℕ) (lent : List ℕ) (offset : ℕ) → c .pack a l lent offset ≡ d .pack b l lent offset
-  pub sends : (a : c .Client) (b : d .Client) → R a b → (l number : ℕ) (lent : List ℕ) → c .send a l number lent ≡ d .send b l number lent
-  pub tells : (a : c .Client) (b : d .Client) → R a b → (l : ℕ) (lent : List ℕ) → c .tell a l lent ≡ d .tell b l lent
   pub alone : ClientAlone c
-
-pub record ServerFollows (v w : ServerCalls) (R : v .Server → w .Server → Type 0) : Type 0 where
-  pub items : (a : v .Server) (b : w .Server) → R a b → v .items a ≡ w .items b
-  pub total : (a : v .Server) (b : w .Server) → R a b → v .total a ≡ w .total b
-  pub made : (a : v .Server) (b : w .Server) → R a b → (l : ℕ) → v .made a l ≡ w .made b l
-  pub taken : (a : v .Server) (b : w .Server) → R a b → (l : ℕ) → v .taken a l ≡ w .taken b l
-  pub opens-refusal : (n : ℕ) (ranks xs : List ℕ) → v .opens n ranks xs .refusal ≡ w .opens n ranks xs .refusal
-  pub opens : (n : ℕ) (ranks xs : List ℕ) → w .opens n ranks xs .refusal ≡ 0 → R (v .opens n ranks xs .end) (w .opens n ranks xs .end)
-  pub takes : (a : v .Server) (b : w .Server) → R a b → (bytes : List ℕ) → Alike R (v .take a bytes) (w .take b bytes)
-  pub packets : (a : v .Server) (b : w .Server) → R a b → (bytes : List ℕ) → between 1 maxPacket (length bytes) ≡ false → v .takePacket a bytes .refusal ≡ w .takePacket b bytes .refusal
-  pub packs : (a : v .Server) (b : w .Server) → R a b → (l : ℕ) (lent : List ℕ) (offset : ℕ) → v .pack a l lent offset ≡ w .pack b l lent offset
-  pub sends : (a : v .Server) (b : w .Server) → R a b → (l number : ℕ) (lent : List ℕ) → v .send a l number lent ≡ w .send b l number lent
-  pub tells : (a : v .Server) (b : w .Server) → R a b → (l : ℕ) (lent : List ℕ) → v .tell a l lent ≡ w .tell b l lent
-  pub alone : ServerAlone v
 
 module _ (c d : ClientCalls) (v w : ServerCalls) (P : c .Client → d .Client → Type 0) (Q : v .Server → w .Server → Type 0) where
   abbrev Here : Type 0
@@ -62,26 +65,29 @@ module _ (c d : ClientCalls) (v w : ServerCalls) (P : c .Client → d .Client �
   either G f g (server a) (client b) r = absurd r
   either G f g (server a) (server b) r = g a b r
 
-  pub follows : ClientFollows c d P → ServerFollows v w Q → Follows (sheetOf c v) (sheetOf d w) Both
-  follows f g =
+  pub follows : ClientFollows c d P → EndFollows v w Q → ServerAlone v → Follows (sheetOf c v) (sheetOf d w) Both
+  follows f g still =
       record {
-        items = either (λ a b r. sheetOf c v .items a ≡ sheetOf d w .items b) (f .items) (g .items);
-        total = either (λ a b r. sheetOf c v .total a ≡ sheetOf d w .total b) (f .total) (g .total);
-        made = either (λ a b r. (l : ℕ) → sheetOf c v .made a l ≡ sheetOf d w .made b l) (λ a b r l. f .made a b r) (g .made);
-        taken = either (λ a b r. (l : ℕ) → sheetOf c v .taken a l ≡ sheetOf d w .taken b l) (λ a b r l. f .taken a b r) (g .taken);
-        server-refusal = g .opens-refusal;
-        server-opens = g .opens;
-        client-refusal = f .opens-refusal;
-        client-opens = f .opens;
+        end =
+            record {
+              items = either (λ a b r. sheetOf c v .items a ≡ sheetOf d w .items b) (f .end 0 .items) (g .items);
+              total = either (λ a b r. sheetOf c v .total a ≡ sheetOf d w .total b) (f .end 0 .total) (g .total);
+              made = either (λ a b r. (l : ℕ) → sheetOf c v .made a l ≡ sheetOf d w .made b l) (f .end 0 .made) (g .made);
+              taken = either (λ a b r. (l : ℕ) → sheetOf c v .taken a l ≡ sheetOf d w .taken b l) (f .end 0 .taken) (g .taken);
+              opens-refusal = g .opens-refusal;
+              opens = g .opens;
+              takes = either (λ a b r. (bytes : List ℕ) → Alike Both (sheetOf c v .take a bytes) (sheetOf d w .take b bytes)) (λ a b r bytes. asClient _ _ (f .end 0 .takes a b r bytes)) (λ a b r bytes. asServer _ _ (g .takes a b r bytes));
+              packets = either (λ a b r. (bytes : List ℕ) → between 1 maxPacket (length bytes) ≡ false → sheetOf c v .takePacket a bytes .refusal ≡ sheetOf d w .takePacket b bytes .refusal) (f .end 0 .packets) (g .packets);
+              packs = either (λ a b r. (l : ℕ) (lent : List ℕ) (offset : ℕ) → sheetOf c v .pack a l lent offset ≡ sheetOf d w .pack b l lent offset) (f .end 0 .packs) (g .packs);
+              sends = either (λ a b r. (l number : ℕ) (lent : List ℕ) → sheetOf c v .send a l number lent ≡ sheetOf d w .send b l number lent) (f .end 0 .sends) (g .sends);
+              tells = either (λ a b r. (l : ℕ) (lent : List ℕ) → sheetOf c v .tell a l lent ≡ sheetOf d w .tell b l lent) (f .end 0 .tells) (g .tells);
+            };
+        client-refusal = λ n l. f .end l .opens-refusal n;
+        client-opens = λ n l. f .end l .opens n;
         inserts = either (λ a b r. (p x : ℕ) → Alike Both (sheetOf c v .insert a p x) (sheetOf d w .insert b p x)) (λ a b r p x. asClient _ _ (f .inserts a b r p x)) (λ a b r p x. unmade a b r);
         deletes = either (λ a b r. (p : ℕ) → Alike Both (sheetOf c v .delete a p) (sheetOf d w .delete b p)) (λ a b r p. asClient _ _ (f .deletes a b r p)) (λ a b r p. unmade a b r);
         takes-back = either (λ a b r. Alike Both (sheetOf c v .takeBack a) (sheetOf d w .takeBack b)) (λ a b r. asClient _ _ (f .takes-back a b r)) unmade;
-        takes = either (λ a b r. (bytes : List ℕ) → Alike Both (sheetOf c v .take a bytes) (sheetOf d w .take b bytes)) (λ a b r bytes. asClient _ _ (f .takes a b r bytes)) (λ a b r bytes. asServer _ _ (g .takes a b r bytes));
-        packets = either (λ a b r. (bytes : List ℕ) → between 1 maxPacket (length bytes) ≡ false → sheetOf c v .takePacket a bytes .refusal ≡ sheetOf d w .takePacket b bytes .refusal) (f .packets) (g .packets);
-        packs = either (λ a b r. (l : ℕ) (lent : List ℕ) (offset : ℕ) → sheetOf c v .pack a l lent offset ≡ sheetOf d w .pack b l lent offset) (f .packs) (g .packs);
-        sends = either (λ a b r. (l number : ℕ) (lent : List ℕ) → sheetOf c v .send a l number lent ≡ sheetOf d w .send b l number lent) (f .sends) (g .sends);
-        tells = either (λ a b r. (l : ℕ) (lent : List ℕ) → sheetOf c v .tell a l lent ≡ sheetOf d w .tell b l lent) (f .tells) (g .tells);
-        alone = both-alone c v (f .alone) (g .alone);
+        alone = both-alone c v (f .alone) still;
       }
     where
       asClient : (x : _) (y : _) → Alike P x y → Alike Both (answerAs client x) (answerAs client y)

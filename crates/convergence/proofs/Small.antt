@@ -7,7 +7,7 @@ use mathlib.Core.Bool.{Bool, true, false, _&&_, cond}
 use mathlib.Core.List.{List, [], _∷_, _++_, map}
 use lib.Dec.{eqb, leb}
 use lib.ListN.{length}
-use borrow.Author.Tests.{eq-eqb, leb-true}
+use borrow.Author.Tests.{leb-true}
 use Rattle.ot.specs.Form.{positionOf}
 use Rattle.ot.specs.Edit.{Edit, Nothing, Delete, Insert, fits}
 use Rattle.list.specs.Places.{initialPlaces}
@@ -25,7 +25,6 @@ use Rattle.model.specs.Questions.{Question, ask, asks, between, Report, noRepor
 use Rattle.model.specs.Ranks.{rankOf}
 use Rattle.model.specs.Packets.{firstFits, packed}
 use Rattle.model.specs.Line.{noLine, numbersFrom, carried, positionAt, lineReport}
-use Rattle.model.specs.Claim.{Back}
 use Rattle.model.specs.Client as model
 use Rattle.model.specs.Server as models
 use Rattle.model.proofs.Tests.{Numbered, and-right, yes-all, between-true, four}
@@ -39,8 +38,6 @@ use Rattle.line.specs.Taking.{arrivalOf}
 use Rattle.line.proofs.Packets.{written-small}
 use Rattle.line.proofs.Decisions.{arrival-position}
 use Rattle.c_layout.proofs.Called.{sent-few}
-use Rattle.convergence.proofs.Stored.{Stored, given, answer-either, sending-either, answer-back}
-use Rattle.convergence.proofs.Unpack.{Form, Narrow, Little, Fits, Changing, Sending}
 
 -- ---- questions have small numbers
 
@@ -56,10 +53,16 @@ asks-small (q ∷ qs) h = go (q .yes) (asks-small qs (h .1))
     go true k = k
     go false k = h .0
 
+-- an answer fits its number, and its report in 16 bits a number
+pub record Narrow (k : Report) : Type 0 where
+  pub passed : k .passed < 65536
+  pub arrived : k .arrived < 65536
+  pub applied : k .applied < 65536
+
 abbrev pub Small : {E : Type 0} → Answer E → Type 0
 Small a = (a .refusal < 256) × Narrow (a .report)
 
-nothing-narrow : Narrow noReport
+pub nothing-narrow : Narrow noReport
 nothing-narrow = record { passed = omega arith; arrived = omega arith; applied = omega arith }
 
 -- an answer whose report is narrow where nothing was refused
@@ -69,6 +72,10 @@ answer-small {E} qs old new k h few = go (answer (asks qs) old new k) (outcome (
     go : (a : Answer E) → Outcome (asks qs) old new k a → Small a
     go a (outcomes.Outcome.no d) = (asks-small qs h, nothing-narrow)
     go a (outcomes.Outcome.yes e) = (omega arith, few e)
+
+pub record Little (s : Sent) : Type 0 where
+  pub refusal : s .refusal < 256
+  pub written : s .written < 65536
 
 sent-little : (qs : List Question) (m : Message) (lent : List ℕ) → Numbers qs → Little (sent (asks qs) (bytesOf m) lent)
 sent-little qs m lent h =
@@ -219,37 +226,3 @@ server-pack-little m l lent offset =
     let y = yes-all qs (omega arith) z in
     let on = between-true 1 (m .n) l (y .1 .0) in
     line-fact m (server-facts m (y .0)) l (on .0) (on .1) .line .room)
-
--- ---- the calls of the structs, whichever end
-
-module _ {E M : Type 0} (k : Stored E M) (form : Form E) (stored-whole : (m : M) → k .soundEnd m ≡ true → form .Whole (k .store m)) where
-  pub given-fits : (e : E) (a : Answer M) → Small a → (a .refusal ≡ 0 → k .soundEnd (a .end) ≡ true) → Fits (form .Whole) (given (k .store) e a)
-  given-fits e a h s =
-      record {
-        refusal = h .0;
-        report = h .1;
-        whole = λ z. subst (λ (t : Bool). form .Whole (cond t (k .store (a .end)) e)) (sym (eq-eqb (a .refusal) 0 z)) (stored-whole (a .end) (s z));
-      }
-
-  answer-fits : (e : E) (a : Answer M) → Small a → (k .soundEnd (k .view e) ≡ true → k .soundEnd (a .end) ≡ true) → Fits (form .Whole) (k .answer e a)
-  answer-fits e a h s =
-      answer-either k (Fits (form .Whole)) e a (λ t. given-fits e a h (λ z. s (k .sound-view e t)))
-      (record { refusal = omega arith; report = nothing-narrow; whole = λ z. absurd (omega arith) })
-
-  pub changing : (call : M → Answer M) → ((m : M) → Small (call m)) → ((m : M) → Back m (call m))
-      → ((m : M) → k .soundEnd m ≡ true → k .soundEnd (call m .end) ≡ true) → Changing form (λ e. k .answer e (call (k .view e)))
-  changing call small back keeps =
-      record {
-        fits = λ e. answer-fits e (call (k .view e)) (small (k .view e)) (keeps (k .view e));
-        back = λ e. answer-back k e (call (k .view e)) (back (k .view e));
-      }
-
-  -- a sending, with what it leaves alone
-  pub sending : (A : Sent → Type 0) (out : List ℕ) → ((r : ℕ) → A (record { refusal = r; written = 0; buffer = out })) → (call : M → Sent) → ((m : M) → Little (call m)) → ((m : M) → A (call m))
-      → Sending form A out (λ e. k .sending e (call (k .view e)) out)
-  sending A out refused call little alone =
-      record {
-        little = λ e. sending-either k Little e (call (k .view e)) out (little (k .view e)) (record { refusal = omega arith; written = omega arith });
-        alone = λ e. sending-either k A e (call (k .view e)) out (alone (k .view e)) (refused 2);
-        refused = refused;
-      }
