@@ -1,7 +1,17 @@
-// A packet is messages end to end. This crate finds where each of them ends.
+// A packet is messages end to end: how long it may be, and where each of them ends.
 ghost use mathlib.Core.Path.{_≡_};
+ghost use lib.ListN.{length};
+ghost use Rattle.limits.specs.Limits.{maxPacket};
+ghost use Rattle.model.specs.Questions.{between};
 ghost use Rattle.wire_packet.specs.Packet.{messageStart, messageEnd};
 use wire::reading::Size;
+
+// Has a packet 1 to 1,400 bytes? That is question 15.
+pub fn has_length(packet: &[u8]) -> bool
+    ensures { λ r. ⌜ r ≡ between 1 maxPacket (length (now (packet .entry))) ⌝ }
+{
+    (1 <= packet.len()) & (packet.len() <= limits::PACKET)
+}
 
 // Where the message ends that begins at `at`: as many bytes on as its kind says. A byte that is no kind, and a message that is cut off,
 // take the rest of the packet. Past the end no message begins, and the end itself is the answer.
