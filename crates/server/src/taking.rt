@@ -163,16 +163,24 @@ fn take_message(k: Counts, words: &mut [u32], m: Message) -> Changed
     }
 }
 
+// Questions 3 to 10 and 12 at a server that question 2 found sound.
+pub fn take_sound(k: Counts, words: &mut [u32], bytes: &[u8]) -> Changed
+    requires { ⌜ Sizes k (now words) × Sound (serverOf k (now words)) ⌝ }
+    ensures { λ r. ⌜ answerOf r (now (words .exit)) ≡ taken (serverOf k (now (words .entry))) (now (bytes .entry)) ⌝ }
+{
+    let Read::Message(m) = wire::reading::parse(bytes) else {
+        return crate::refused(3, k);
+    };
+    take_message(k, words, m)
+}
+
 // Takes one message, in place.
 pub fn take(k: Counts, words: &mut [u32], bytes: &[u8]) -> Changed
     requires { ⌜ Sizes k (now words) ⌝ }
     ensures { λ r. ⌜ answerOf r (now (words .exit)) ≡ taken (serverOf k (now (words .entry))) (now (bytes .entry)) ⌝ }
 {
     if crate::is_sound(k, words) {
-        let Read::Message(m) = wire::reading::parse(bytes) else {
-            return crate::refused(3, k);
-        };
-        return take_message(k, words, m);
+        return take_sound(k, words, bytes);
     }
     crate::refused(2, k)
 }
