@@ -1,7 +1,7 @@
 -- A sound client of the model: the struct for it is sound, and means that client.
 use Prim.Native.Nat.{ℕ, zero, suc, _+_, _-_, _≤_}
 use native.Mathlib.Omega.{arith}
-use mathlib.Core.Path.{_≡_, refl, ap, _∙_, sym}
+use mathlib.Core.Path.{_≡_, refl, ap, _∙_, sym, subst}
 use mathlib.Core.Bool.{true}
 use mathlib.Core.List.{List}
 use lib.Dec.{eqb}
@@ -26,7 +26,7 @@ use Rattle.line.specs.Line.{lineOf, countsOf}
 use Rattle.line.specs.Sound.{soundLine, tidy}
 use Rattle.line.proofs.Stored as lines
 use Rattle.client.specs.declared.Client.{Client}
-use Rattle.client.specs.View.{size, itemsIn, slotsIn, originsIn, listIn, inverseIn, inverseStored, view, store, unusedZero, soundTests, sound, Sizes}
+use Rattle.client.specs.View.{size, itemsIn, slotsIn, originsIn, listIn, inverseIn, inverseStored, view, store, unusedZero, soundTests, sound, Sound, Sizes}
 use Rattle.client.proofs.Words.{stored-items, stored-slots, stored-origins, stored-long}
 use Rattle.client.proofs.Inverses.{ranks-fit, inverse-read, inverse-tidy}
 use Rattle.client.proofs.Sound.{sound-facts}
@@ -129,6 +129,13 @@ module _ (m : model.Client) (s : model.soundClient m ≡ true) where
           both (allZero (drop (length (m .items)) (itemsIn words))) (allZero (drop (length (m .items)) (originsIn words)))
           (part-unused (itemsOf (m .items)) (itemsIn words) (stored-items m (f .items)) (items-length (m .items)))
           (part-unused (originsOf (m .items)) (originsIn words) (stored-origins m (f .items) few) (origins-length (m .items)))
+
+  pub store-sound : Sound (store m)
+  store-sound = sound-facts (store m) stored-sizes client-stored
+
+-- A sound client has the lengths of the struct for it.
+pub sound-sizes : (c : Client) → Sound c → Sizes (c .counts) (c .words)
+sound-sizes c s = subst (λ (d : Client). Sizes (d .counts) (d .words)) (sym (s .whole)) (stored-sizes (view c) (s .model))
 
 -- A client that question 2 finds sound is the struct for what it stands for, and that is sound.
 module _ (c : Client) (z : Sizes (c .counts) (c .words)) (s : sound c ≡ true) where

@@ -1,39 +1,35 @@
 -- A packet at a client: one message by the code's answer, the loop over all, and what questions 2 and 15 refuse.
 use Prim.Native.Nat.{ℕ, _+_, _-_, _≤_, _<_}
-use mathlib.Core.Path.{_≡_, refl, ap, sym, _∙_}
+use mathlib.Core.Path.{_≡_, refl, ap, sym, _∙_, subst}
 use mathlib.Core.Bool.{Bool, true, false, cond}
-use mathlib.Core.List.{List, [], _∷_}
+use mathlib.Core.List.{List, []}
 use lib.Dec.{eqb}
 use lib.ListN.{length, take, drop, drop-of-length-le}
 use lib.Seq.{take-nil}
-use Rattle.limits.specs.Limits.{maxLines, maxPacket}
+use Rattle.limits.specs.Limits.{maxPacket}
 use Rattle.wire.specs.Bytes.{parsed}
 use Rattle.model.specs.Questions as model
 use Rattle.model.specs.Client as client
 use Rattle.model.specs.Client.{takeClient}
-use Rattle.ranks.proofs.Laws.{stored-length}
+use Rattle.model.proofs.Sound.{client-takes}
 use Rattle.line.specs.Taking.{reportIn}
 use Rattle.wire_packet.specs.Packet.{messageStart, messageEnd}
 use Rattle.wire_packet.proofs.Ends.{start-left}
-use Rattle.wire_packet.proofs.Handing.{Handing, refusedBy, handing-end, handing-stop, handing-turn, packet-refused, packet-asks, packet-few, message-refused, message-asks}
+use Rattle.wire_packet.proofs.Handing.{Handing, handing-end, handing-stop, handing-turn, packet-unsound, packet-length, packet-taken, packet-few, message-unsound, message-length, message-taken}
 use Rattle.client.specs.declared.Client.{Client}
 use Rattle.client.specs.declared.Counts.{Counts}
 use Rattle.client.specs.declared.Answer.{Answer}
 use Rattle.client.specs.declared.Changed.{Changed}
-use Rattle.client.specs.View.{clientOf, view, store, sound, Sound, Sizes}
+use Rattle.client.specs.View.{clientOf, view, store, sound, Sound}
 use Rattle.client.specs.Answers.{refusedWith, guarded, taken, answerOf, refusedCounts}
-use Rattle.client.proofs.Answers.{unsound}
+use Rattle.client.proofs.Stored.{store-sound}
 use Rattle.client.proofs.Takes.{read-refused}
 use Rattle.client.specs.Packets.{clientAnswer, answerIn, taking, messagesTaken, packetTaken, takenAt, countedCounts}
 
--- every taking asks question 2 first
-unsound-taking : (c : Client) → sound c ≡ false → (m : List ℕ) → taking c m ≡ refusedBy 2 c
-unsound-taking c h m = sym (ap clientAnswer (unsound c (takeClient (view c) m) h))
-
--- a taking leaves as many ranks as there are lines
-ranks-taken : (c : Client) (bytes : List ℕ) → length (c .counts .ranks) ≡ maxLines → length (taken c bytes .client .counts .ranks) ≡ maxLines
+-- a sound client that takes any bytes is sound again
+sound-after : (c : Client) → Sound c → (bytes : List ℕ) → Sound (taken c bytes .client)
 unfolding guarded
-ranks-taken c bytes h = go (sound c) (eqb (takeClient (view c) bytes .refusal) 0)
+sound-after c s bytes = go (sound c) (eqb (a .refusal) 0)
   where
     a : model.Answer client.Client
     a = takeClient (view c) bytes
@@ -41,20 +37,16 @@ ranks-taken c bytes h = go (sound c) (eqb (takeClient (view c) bytes .refusal) 0
     if : Bool → Answer
     if done = record { refusal = a .refusal; report = reportIn (a .report); client = cond done (store (a .end)) c }
 
-    go : (s done : Bool) → length (cond s (if done) (refusedWith 2 c) .client .counts .ranks) ≡ maxLines
-    go true true = stored-length (a .end .ranks)
-    go true false = h
-    go false done = h
+    go : (asked done : Bool) → Sound (cond asked (if done) (refusedWith 2 c) .client)
+    go true true = store-sound (a .end) (client-takes (view c) bytes (s .model))
+    go true false = s
+    go false done = s
 
 -- ---- the loop
 
-pub sizes-taken : {k : Counts} {words : List ℕ} → Sizes k words → (bytes : List ℕ) (a : Changed) (after : List ℕ) → length after ≡ length words
-    → answerOf a after ≡ taken (clientOf k words) bytes → Sizes (a .counts) after
-sizes-taken {k} {words} z bytes a after long e =
-    record {
-      words = long ∙ z .words;
-      ranks = ap (λ (r : Answer). length (r .client .counts .ranks)) e ∙ ranks-taken (clientOf k words) bytes (z .ranks);
-    }
+pub sound-taken : {k : Counts} {words : List ℕ} → Sound (clientOf k words) → (bytes : List ℕ) (a : Changed) (after : List ℕ)
+    → answerOf a after ≡ taken (clientOf k words) bytes → Sound (clientOf (a .counts) after)
+sound-taken {k} {words} s bytes a after e = subst (λ (r : Answer). Sound (r .client)) (sym e) (sound-after (clientOf k words) s bytes)
 
 module _ (start : Client) (bytes : List ℕ) {at count : ℕ} {k : Counts} {words : List ℕ} (h : Handing taking bytes start at count (clientOf k words)) where
   pub all-end : length bytes ≤ at → (r : Changed) → r ≡ countedCounts 0 count k → answerOf r words ≡ messagesTaken start bytes
@@ -77,20 +69,31 @@ module _ (k : Counts) (words bytes : List ℕ) where
   abbrev c : Client
   c = clientOf k words
 
-  pub packet-all : model.between 1 maxPacket (length bytes) ≡ true → messagesTaken (clientOf k words) bytes ≡ packetTaken (clientOf k words) bytes
-  packet-all l = ap answerIn (packet-asks sound taking c bytes l (unsound-taking c))
+  -- question 2 says no
+  module _ (h : sound (clientOf k words) ≡ false) (r : Changed) (er : r ≡ refusedCounts 2 k) where
+    pub packet-no : answerOf r words ≡ packetTaken (clientOf k words) bytes
+    packet-no = ap (λ (q : Changed). answerOf q words) er ∙ ap answerIn (packet-unsound sound taking c bytes h)
 
-  module _ (l : model.between 1 maxPacket (length bytes) ≡ false) (r : Changed)
-      (er : r ≡ refusedCounts (model.asks (model.ask 2 (sound (clientOf k words)) ∷ model.ask 15 false ∷ [])) k) where
-    pub packet-none : answerOf r words ≡ packetTaken (clientOf k words) bytes
-    packet-none = ap (λ (q : Changed). answerOf q words) er ∙ ap answerIn (packet-refused sound taking c bytes l)
+    pub message-no : (at : ℕ) → answerOf r words ≡ takenAt (clientOf k words) bytes at
+    message-no at = ap (λ (q : Changed). answerOf q words) er ∙ ap answerIn (message-unsound sound taking c bytes at h)
 
-    pub message-none : (at : ℕ) → answerOf r words ≡ takenAt (clientOf k words) bytes at
-    message-none at = ap (λ (q : Changed). answerOf q words) er ∙ ap answerIn (message-refused sound taking c bytes at l)
+  module _ (s : Sound (clientOf k words)) where
+    -- question 15 says no
+    module _ (l : model.between 1 maxPacket (length bytes) ≡ false) (r : Changed) (er : r ≡ refusedCounts 15 k) where
+      pub packet-none : answerOf r words ≡ packetTaken (clientOf k words) bytes
+      packet-none = ap (λ (q : Changed). answerOf q words) er ∙ ap answerIn (packet-length sound taking c bytes (s .yes) l)
 
-  pub message-one : (at from to : ℕ) → from ≡ messageStart bytes at → to ≡ messageEnd bytes from → model.between 1 maxPacket (length bytes) ≡ true
-      → taken (clientOf k words) (take (to - from) (drop from bytes)) ≡ takenAt (clientOf k words) bytes at
-  message-one at from to ef et l = ap answerIn (message-asks sound taking c bytes at from to ef et l (unsound-taking c))
+      pub message-none : (at : ℕ) → answerOf r words ≡ takenAt (clientOf k words) bytes at
+      message-none at = ap (λ (q : Changed). answerOf q words) er ∙ ap answerIn (message-length sound taking c bytes at (s .yes) l)
+
+    -- both say yes
+    module _ (l : model.between 1 maxPacket (length bytes) ≡ true) where
+      pub packet-all : messagesTaken (clientOf k words) bytes ≡ packetTaken (clientOf k words) bytes
+      packet-all = ap answerIn (packet-taken sound taking c bytes (s .yes) l)
+
+      pub message-one : (at from to : ℕ) → from ≡ messageStart bytes at → to ≡ messageEnd bytes from
+          → taken (clientOf k words) (take (to - from) (drop from bytes)) ≡ takenAt (clientOf k words) bytes at
+      message-one at from to ef et = ap answerIn (message-taken sound taking c bytes at from to ef et (s .yes) l)
 
 -- At the end of a packet and past it no message begins: question 3 says no.
 pub none-begins : (c : Client) → Sound c → (bytes : List ℕ) (at : ℕ) → model.between 1 maxPacket (length bytes) ≡ true → length bytes ≤ at
@@ -101,7 +104,7 @@ none-begins c s bytes at l past =
     let to : ℕ = messageEnd bytes from in
     let none : take (to - from) (drop from bytes) ≡ [] =
     ap (take (to - from)) (start-left bytes at ∙ drop-of-length-le bytes {i = at} past) ∙ take-nil (to - from) in
-    read-refused c s [] refl ∙ sym (ap (taken c) none) ∙ message-one (c .counts) (c .words) bytes at from to refl refl l
+    read-refused c s [] refl ∙ sym (ap (taken c) none) ∙ message-one (c .counts) (c .words) bytes s l at from to refl refl
 
 -- At most 1,400 messages are taken, so that their count fits 16 bits.
 pub taken-few : (c : Client) (bytes : List ℕ) → packetTaken c bytes .report .passed ≤ maxPacket

@@ -1,14 +1,11 @@
 // A client's packets (02: N2): its pending edits in one packet, and the messages of a packet taken in order.
 ghost use Prim.Native.Nat.{_-_, _≤_};
 ghost use mathlib.Core.Path.{_≡_};
-ghost use mathlib.Core.Bool.{false};
-ghost use mathlib.Core.List.{[], _∷_};
 ghost use lib.ListN.{length};
 ghost use Rattle.limits.specs.Limits.{maxPacket};
-ghost use Rattle.model.specs.Questions.{ask, asks};
 ghost use Rattle.line.specs.Sending.{answered};
-ghost use Rattle.client.specs.View.{clientOf, sound, Sizes};
-ghost use Rattle.client.specs.Answers.{answerOf, refusedCounts};
+ghost use Rattle.client.specs.View.{clientOf, Sound, Sizes};
+ghost use Rattle.client.specs.Answers.{answerOf};
 ghost use Rattle.client.specs.Packets.{packedEdits, OwnOrigins, messagesTaken, packetTaken, takenAt, countedCounts};
 use crate::Answer;
 use crate::Changed;
@@ -65,9 +62,9 @@ fn counted(refusal: u8, count: u16, k: Counts) -> Changed
     }
 }
 
-// Takes the messages one after another, up to the first that is refused.
+// Takes the messages one after another, up to the first that is refused, at a client that question 2 found sound. Taking keeps it sound.
 fn take_all(k: Counts, words: &mut [u32], packet: &[u8]) -> Changed
-    requires { ⌜ Sizes k (now words) × (length (now packet) ≤ maxPacket) ⌝ }
+    requires { ⌜ (Sizes k (now words) × Sound (clientOf k (now words))) × (length (now packet) ≤ maxPacket) ⌝ }
     ensures { λ r. ⌜ answerOf r (now (words .exit)) ≡ messagesTaken (clientOf k (now (words .entry))) (now (packet .entry)) ⌝ }
 {
     let mut counts = k;
@@ -75,7 +72,7 @@ fn take_all(k: Counts, words: &mut [u32], packet: &[u8]) -> Changed
     let mut count: u16 = 0;
     while at < packet.len() {
         let end = wire_packet::message_end(packet, at);
-        let a = crate::taking::take(counts, words, &packet[at..end]);
+        let a = crate::taking::take_sound(counts, words, &packet[at..end]);
         counts = a.counts;
         if a.refusal != 0 {
             return counted(a.refusal, count, counts);
@@ -86,27 +83,18 @@ fn take_all(k: Counts, words: &mut [u32], packet: &[u8]) -> Changed
     counted(0, count, counts)
 }
 
-// What a packet of another length answers: question 15, unless question 2 said no.
-fn refused_length(k: Counts, words: &[u32]) -> Changed
-    requires { ⌜ Sizes k (now words) ⌝ }
-    ensures { λ r. ⌜ r ≡ refusedCounts (asks (ask 2 (sound (clientOf k (now (words .entry)))) ∷ ask 15 false ∷ [])) k ⌝ }
-{
-    if crate::is_sound(k, words) {
-        return crate::refused(15, k);
-    }
-    crate::refused(2, k)
-}
-
-// Takes the messages of a packet, in place, up to the first that is refused, and reports how many were taken. Question 2 comes before 15:
-// where the packet has its length, its first message asks it.
+// Takes the messages of a packet, in place, up to the first that is refused, and reports how many were taken. Question 2 is asked once, before 15.
 pub fn take(k: Counts, words: &mut [u32], packet: &[u8]) -> Changed
     requires { ⌜ Sizes k (now words) ⌝ }
     ensures { λ r. ⌜ answerOf r (now (words .exit)) ≡ packetTaken (clientOf k (now (words .entry))) (now (packet .entry)) ⌝ }
 {
-    if wire_packet::has_length(packet) {
-        return take_all(k, words, packet);
+    if crate::is_sound(k, words) {
+        if wire_packet::has_length(packet) {
+            return take_all(k, words, packet);
+        }
+        return crate::refused(15, k);
     }
-    refused_length(k, words)
+    crate::refused(2, k)
 }
 
 // Takes the one message of a packet that begins at a place, in place. At the packet's end and past it there are no bytes, which are no message.
@@ -114,12 +102,15 @@ pub fn take_at(k: Counts, words: &mut [u32], packet: &[u8], at: usize) -> Change
     requires { ⌜ Sizes k (now words) ⌝ }
     ensures { λ r. ⌜ answerOf r (now (words .exit)) ≡ takenAt (clientOf k (now (words .entry))) (now (packet .entry)) at ⌝ }
 {
-    if wire_packet::has_length(packet) {
-        let start = wire_packet::message_start(packet, at);
-        let end = wire_packet::message_end(packet, start);
-        return crate::taking::take(k, words, &packet[start..end]);
+    if !crate::is_sound(k, words) {
+        return crate::refused(2, k);
     }
-    refused_length(k, words)
+    if !wire_packet::has_length(packet) {
+        return crate::refused(15, k);
+    }
+    let start = wire_packet::message_start(packet, at);
+    let end = wire_packet::message_end(packet, start);
+    crate::taking::take_sound(k, words, &packet[start..end])
 }
 
 impl Client {

@@ -79,7 +79,7 @@ fn take_arrival(k: Counts, words: &mut [u32], a: Arrival) -> Changed
 }
 
 // Questions 3 to 9 at a client that question 2 found sound.
-fn take_sound(k: Counts, words: &mut [u32], bytes: &[u8]) -> Changed
+pub(crate) fn take_sound(k: Counts, words: &mut [u32], bytes: &[u8]) -> Changed
     requires { ⌜ Sizes k (now words) × Sound (clientOf k (now words)) ⌝ }
     ensures { λ r. ⌜ answerOf r (now (words .exit)) ≡ taken (clientOf k (now (words .entry))) (now (bytes .entry)) ⌝ }
 {

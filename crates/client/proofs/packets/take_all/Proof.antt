@@ -7,15 +7,16 @@ use lib.ListN.{length, take, drop}
 use denote.Ref.{now}
 use Rattle.wire_packet.proofs.Ends.{end-after, end-within}
 use Rattle.wire_packet.proofs.Handing.{Handing, handing-start}
-use Rattle.client.specs.View.{clientOf, Sizes}
+use Rattle.client.specs.View.{clientOf, Sound, Sizes}
 use Rattle.client.specs.Packets.{taking}
-use Rattle.client.proofs.TakesAll.{sizes-taken, all-end, all-stop, all-turn}
+use Rattle.client.proofs.Stored.{sound-sizes}
+use Rattle.client.proofs.TakesAll.{sound-taken, all-end, all-stop, all-turn}
 use Rattle.client.proofs.packets.take_all.Statement.{statement}
 use Rattle.client.proofs.packets.take_all.Tie as tie
 
 abbrev Inv-loop : tie.InvT-loop
 Inv-loop words₀ packet counts₀ at₀ count₀ words counts at count =
-    Sizes counts words × Handing taking packet (clientOf counts₀ words₀) at count (clientOf counts words)
+    Sound (clientOf counts words) × Handing taking packet (clientOf counts₀ words₀) at count (clientOf counts words)
 
 abbrev μ-loop : tie.MeasureT-loop
 μ-loop words₀ packet counts₀ at₀ count₀ words counts at count = length packet - at
@@ -23,15 +24,19 @@ abbrev μ-loop : tie.MeasureT-loop
 abbrev start : tie.At-loop Inv-loop μ-loop → tie.Start Inv-loop μ-loop
 start c = c .before .before .before
 
+-- the lengths at a turn are those that every sound client has
+sizes : (c : tie.At-loop Inv-loop μ-loop) → Sizes (c .loop .counts) (c .loop .words)
+sizes c = sound-sizes (clientOf (c .loop .counts) (c .loop .words)) (c .loop .inv .0)
+
 -- ---- one turn: the end of the message is found, and the message taken
 
 abbrev turn : tie.After-message-end Inv-loop μ-loop → tie.In-loop Inv-loop μ-loop
 turn c = c .before
 
-abbrev found : tie.After-take Inv-loop μ-loop → tie.After-message-end Inv-loop μ-loop
+abbrev found : tie.After-take-sound Inv-loop μ-loop → tie.After-message-end Inv-loop μ-loop
 found c = c .before .before .before
 
-abbrev took : tie.After-struct-known Inv-loop μ-loop → tie.After-take Inv-loop μ-loop
+abbrev took : tie.After-struct-known Inv-loop μ-loop → tie.After-take-sound Inv-loop μ-loop
 took c = c .before .before .before .before
 
 -- what is lent: the message from its place to its end
@@ -53,22 +58,22 @@ within c =
 loop-holds : tie.Need-loop-holds Inv-loop μ-loop
 loop-holds c =
     let s = c .before .before in
-    (s .pre .0, handing-start taking (now (s .args .packet)) (clientOf (s .args .k) (now (s .args .words))))
+    (s .pre .0 .1, handing-start taking (now (s .args .packet)) (clientOf (s .args .k) (now (s .args .words))))
 
 message-end-requires : tie.Need-message-end-requires Inv-loop μ-loop
 message-end-requires c κs = tt
 
-sub-take : tie.Need-sub-take Inv-loop μ-loop
-sub-take c = omega (arith, after (c .before))
+sub-take-sound : tie.Need-sub-take-sound Inv-loop μ-loop
+sub-take-sound c = omega (arith, after (c .before))
 
-part-take-start : tie.Need-part-take-start Inv-loop μ-loop
-part-take-start c = omega (arith, after (c .before), within (c .before))
+part-take-sound-start : tie.Need-part-take-sound-start Inv-loop μ-loop
+part-take-sound-start c = omega (arith, after (c .before), within (c .before))
 
-part-take-end : tie.Need-part-take-end Inv-loop μ-loop
-part-take-end c = omega (arith, after (c .before), within (c .before))
+part-take-sound-end : tie.Need-part-take-sound-end Inv-loop μ-loop
+part-take-sound-end c = omega (arith, after (c .before), within (c .before))
 
-take-requires : tie.Need-take-requires Inv-loop μ-loop
-take-requires c κs = turn (c .before .before) .before .loop .inv .0
+take-sound-requires : tie.Need-take-sound-requires Inv-loop μ-loop
+take-sound-requires c κs = let l = turn (c .before .before) .before in (sizes l, l .loop .inv .0)
 
 counted-requires : tie.Need-counted-requires Inv-loop μ-loop
 counted-requires c κs = tt
@@ -77,7 +82,7 @@ same-length : tie.Need-same-length Inv-loop μ-loop
 same-length c =
     let w = took (c .before .before) in
     let l = turn (found w) .before in
-    w .take .kept .1 .0 ∙ l .loop .inv .0 .words ∙ sym (start l .pre .0 .words)
+    w .take-sound .kept .1 .0 ∙ sizes l .words ∙ sym (start l .pre .0 .0 .words)
 
 returns : tie.Need-returns Inv-loop μ-loop
 returns c =
@@ -87,7 +92,7 @@ returns c =
     let l = turn f .before in
     let a = start l .args in
     all-stop (clientOf (a .k) (now (a .words))) (now (a .packet)) (l .loop .inv .1) (turn f .loop-test .taken) (f .message-end .result) (f .message-end .ensures)
-    (w .take .result) (w .take .last .1 .0) (w .take .ensures) (λ z. t .if1 .taken (omega (arith, z))) (c .counted .result) (c .counted .ensures)
+    (w .take-sound .result) (w .take-sound .last .1 .0) (w .take-sound .ensures) (λ z. t .if1 .taken (omega (arith, z))) (c .counted .result) (c .counted .ensures)
 
 add-count : tie.Need-add-count Inv-loop μ-loop
 add-count c =
@@ -104,16 +109,16 @@ loop-again c =
     let f = found w in
     let l = turn f .before in
     let a = start l .args in (
-      sizes-taken (l .loop .inv .0) (message f) (w .take .result) (w .take .last .1 .0) (w .take .kept .1 .0) (w .take .ensures),
+      sound-taken (l .loop .inv .0) (message f) (w .take-sound .result) (w .take-sound .last .1 .0) (w .take-sound .ensures),
       all-turn (clientOf (a .k) (now (a .words))) (now (a .packet)) (l .loop .inv .1) (turn f .loop-test .taken) (f .message-end .result) (f .message-end .ensures)
-          (w .take .result) (w .take .last .1 .0) (w .take .ensures) (omega (arith, c .if1 .left)),
+          (w .take-sound .result) (w .take-sound .last .1 .0) (w .take-sound .ensures) (omega (arith, c .if1 .left)),
     )
 
 counted-requires-2 : tie.Need-counted-requires-2 Inv-loop μ-loop
 counted-requires-2 c κs = tt
 
 same-length-2 : tie.Need-same-length-2 Inv-loop μ-loop
-same-length-2 c = let l = c .before .before in l .loop .inv .0 .words ∙ sym (start l .pre .0 .words)
+same-length-2 c = let l = c .before .before in sizes l .words ∙ sym (start l .pre .0 .0 .words)
 
 returns-2 : tie.Need-returns-2 Inv-loop μ-loop
 returns-2 c =
@@ -129,10 +134,10 @@ take-all-spec =
     μ-loop
     loop-holds
     message-end-requires
-    sub-take
-    part-take-start
-    part-take-end
-    take-requires
+    sub-take-sound
+    part-take-sound-start
+    part-take-sound-end
+    take-sound-requires
     counted-requires
     same-length
     returns
