@@ -1,21 +1,18 @@
 -- A packet at a client: one message by the code's answer, the loop over all, and what questions 2 and 15 refuse.
 use Prim.Native.Nat.{ℕ, _+_, _-_, _≤_, _<_}
-use mathlib.Core.Path.{_≡_, refl, ap, sym, _∙_, subst}
+use mathlib.Core.Path.{_≡_, ap, sym, _∙_, subst}
 use mathlib.Core.Bool.{Bool, true, false, cond}
-use mathlib.Core.List.{List, []}
+use mathlib.Core.List.{List}
 use lib.Dec.{eqb}
-use lib.ListN.{length, take, drop, drop-of-length-le}
-use lib.Seq.{take-nil}
+use lib.ListN.{length, take, drop}
 use Rattle.limits.specs.Limits.{maxPacket}
-use Rattle.wire.specs.Bytes.{parsed}
 use Rattle.model.specs.Questions as model
 use Rattle.model.specs.Client as client
 use Rattle.model.specs.Client.{takeClient}
 use Rattle.model.proofs.Sound.{client-takes}
 use Rattle.line.specs.Taking.{reportIn}
 use Rattle.wire_packet.specs.Packet.{messageStart, messageEnd}
-use Rattle.wire_packet.proofs.Ends.{start-left}
-use Rattle.wire_packet.proofs.Handing.{Handing, handing-end, handing-stop, handing-turn, packet-unsound, packet-length, packet-taken, packet-few, message-unsound, message-length, message-taken}
+use Rattle.wire_packet.proofs.Handing.{Handing, handing-end, handing-stop, handing-turn, packet-unsound, packet-length, packet-taken, message-unsound, message-length, message-taken}
 use Rattle.client.specs.declared.Client.{Client}
 use Rattle.client.specs.declared.Counts.{Counts}
 use Rattle.client.specs.declared.Answer.{Answer}
@@ -23,7 +20,6 @@ use Rattle.client.specs.declared.Changed.{Changed}
 use Rattle.client.specs.View.{clientOf, view, store, sound, Sound}
 use Rattle.client.specs.Answers.{refusedWith, guarded, taken, answerOf, refusedCounts}
 use Rattle.client.proofs.Stored.{store-sound}
-use Rattle.client.proofs.Takes.{read-refused}
 use Rattle.client.specs.Packets.{clientAnswer, answerIn, taking, messagesTaken, packetTaken, takenAt, countedCounts}
 
 -- a sound client that takes any bytes is sound again
@@ -94,18 +90,3 @@ module _ (k : Counts) (words bytes : List ℕ) where
       pub message-one : (at from to : ℕ) → from ≡ messageStart bytes at → to ≡ messageEnd bytes from
           → taken (clientOf k words) (take (to - from) (drop from bytes)) ≡ takenAt (clientOf k words) bytes at
       message-one at from to ef et = ap answerIn (message-taken sound taking c bytes at from to ef et (s .yes) l)
-
--- At the end of a packet and past it no message begins: question 3 says no.
-pub none-begins : (c : Client) → Sound c → (bytes : List ℕ) (at : ℕ) → model.between 1 maxPacket (length bytes) ≡ true → length bytes ≤ at
-    → refusedWith 3 c ≡ takenAt c bytes at
-unfolding parsed
-none-begins c s bytes at l past =
-    let from : ℕ = messageStart bytes at in
-    let to : ℕ = messageEnd bytes from in
-    let none : take (to - from) (drop from bytes) ≡ [] =
-    ap (take (to - from)) (start-left bytes at ∙ drop-of-length-le bytes {i = at} past) ∙ take-nil (to - from) in
-    read-refused c s [] refl ∙ sym (ap (taken c) none) ∙ message-one (c .counts) (c .words) bytes s l at from to refl refl
-
--- At most 1,400 messages are taken, so that their count fits 16 bits.
-pub taken-few : (c : Client) (bytes : List ℕ) → packetTaken c bytes .report .passed ≤ maxPacket
-taken-few c bytes = packet-few sound taking c bytes

@@ -12,7 +12,7 @@ use Rattle.model.specs.Server.{takeServer}
 use Rattle.model.proofs.Sound.{server-takes}
 use Rattle.line.specs.Taking.{reportIn}
 use Rattle.wire_packet.specs.Packet.{messageStart, messageEnd}
-use Rattle.wire_packet.proofs.Handing.{Handing, handing-end, handing-stop, handing-turn, packet-unsound, packet-length, packet-taken, packet-few, message-unsound, message-length, message-taken}
+use Rattle.wire_packet.proofs.Handing.{Handing, handing-end, handing-stop, handing-turn, packet-unsound, packet-length, packet-taken, message-unsound, message-length, message-taken}
 use Rattle.server.specs.declared.Server.{Server}
 use Rattle.server.specs.declared.Counts.{Counts}
 use Rattle.server.specs.declared.Answer.{Answer}
@@ -99,7 +99,3 @@ module _ (k : Counts) (words bytes : List ℕ) where
       pub message-one : (at from to : ℕ) → from ≡ messageStart bytes at → to ≡ messageEnd bytes from
           → taken (serverOf k words) (take (to - from) (drop from bytes)) ≡ takenAt (serverOf k words) bytes at
       message-one at from to ef et = ap answerIn (message-taken sound taking s bytes at from to ef et (h .yes) l)
-
--- At most 1,400 messages are taken, so that their count fits 16 bits.
-pub taken-few : (s : Server) (bytes : List ℕ) → packetTaken s bytes .report .passed ≤ maxPacket
-taken-few s bytes = packet-few sound taking s bytes

@@ -164,7 +164,7 @@ fn take_message(k: Counts, words: &mut [u32], m: Message) -> Changed
 }
 
 // Questions 3 to 10 and 12 at a server that question 2 found sound.
-pub fn take_sound(k: Counts, words: &mut [u32], bytes: &[u8]) -> Changed
+pub(crate) fn take_sound(k: Counts, words: &mut [u32], bytes: &[u8]) -> Changed
     requires { ⌜ Sizes k (now words) × Sound (serverOf k (now words)) ⌝ }
     ensures { λ r. ⌜ answerOf r (now (words .exit)) ≡ taken (serverOf k (now (words .entry))) (now (bytes .entry)) ⌝ }
 {

@@ -12,7 +12,6 @@ use borrow.Author.Tests.{eq-eqb, ne-eqb, eqb-true, eqb-false}
 use Rattle.model.specs.Limits.{maxPacket}
 use Rattle.model.specs.Questions.{ask, asks, between, noReport, Answer}
 use Rattle.model.specs.Packets.{nextSize, counted, handedOver, unpacked}
-use Rattle.model.proofs.Tests.{between-true}
 use Rattle.wire_packet.specs.Packet.{messageStart, messageEnd, messageTaken}
 use Rattle.wire_packet.proofs.Ends.{next-least, end-after, end-within, sub-is, drop-is, start-left}
 
@@ -94,19 +93,6 @@ module _ {E : Type 0} (taking : E → List ℕ → Answer E) where
           ∙ sym (ap (λ (b : Bool). cond b (allTaken count e) (goesOn count (next e bytes) (rest n count e bytes))) (ne-eqb (length bytes) 0 (λ z. omega (arith, z))))
           ∙ sym (ap (λ (m : ℕ). handedOver taking m count e bytes) en)
 
-  -- each message has a byte, so there are no more than bytes
-  handed-few : (most count : ℕ) (e : E) (bytes : List ℕ) → handedOver taking most count e bytes .report .passed ≤ count + most
-  unfolding handedOver
-  handed-few zero count e bytes = omega arith
-  handed-few (suc most) count e bytes =
-      go (eqb (length bytes) 0) (eqb (next e bytes .refusal) 0) (handed-few most (suc count) (next e bytes .end) (drop (nextSize bytes) bytes))
-    where
-      go : (none taken : Bool) → rest most count e bytes .report .passed ≤ suc count + most
-          → cond none (allTaken count e) (cond taken (rest most count e bytes) (stoppedAt count (next e bytes))) .report .passed ≤ count + suc most
-      go true taken h = omega arith
-      go false true h = omega arith
-      go false false h = omega arith
-
 -- ---- the loop by offsets
 
 -- The messages before a place were taken, so many of them, and made this of the end.
@@ -164,11 +150,6 @@ module _ {E : Type 0} (sound : E → Bool) (taking : E → List ℕ → Answer E
   abbrev asked : Bool → Bool → Answer E → Answer E
   asked s l a = let r = asks (ask 2 s ∷ ask 15 l ∷ []) in cond (eqb r 0) a (refusedBy r e)
 
-  -- a packet of another length
-  refused-is : (s : Bool) (a : Answer E) → refusedBy (asks (ask 2 s ∷ ask 15 false ∷ [])) e ≡ asked s false a
-  refused-is true a = refl
-  refused-is false a = refl
-
   unpacked-is : (s l : Bool) → sound e ≡ s → rightLength ≡ l → asked s l (handed taking 0 e bytes) ≡ unpacked sound taking e bytes
   unfolding unpacked
   unpacked-is s l es el = ap₂ (λ (x y : Bool). asked x y (handed taking 0 e bytes)) (sym es) (sym el)
@@ -179,34 +160,8 @@ module _ {E : Type 0} (sound : E → Bool) (taking : E → List ℕ → Answer E
   pub packet-length : sound e ≡ true → between 1 maxPacket (length bytes) ≡ false → refusedBy 15 e ≡ unpacked sound taking e bytes
   packet-length h l = unpacked-is true false h l
 
-  pub packet-refused : between 1 maxPacket (length bytes) ≡ false
-      → refusedBy (asks (ask 2 (sound e) ∷ ask 15 false ∷ [])) e ≡ unpacked sound taking e bytes
-  packet-refused l = refused-is (sound e) (handed taking 0 e bytes) ∙ unpacked-is (sound e) false refl l
-
   pub packet-taken : sound e ≡ true → between 1 maxPacket (length bytes) ≡ true → handedOver taking (length bytes) 0 e bytes ≡ unpacked sound taking e bytes
   packet-taken h l = unpacked-is true true h l
-
-  -- Where every taking asks question 2 first, a packet that has its length needs not ask it: its first message does.
-  pub packet-asks : between 1 maxPacket (length bytes) ≡ true → (sound e ≡ false → (m : List ℕ) → taking e m ≡ refusedBy 2 e)
-      → handedOver taking (length bytes) 0 e bytes ≡ unpacked sound taking e bytes
-  packet-asks l unsound = go (sound e) refl
-    where
-      go : (s : Bool) → sound e ≡ s → handedOver taking (length bytes) 0 e bytes ≡ unpacked sound taking e bytes
-      go true t = packet-taken t l
-      go false f =
-          sym (handed-next taking 0 e bytes (between-true 1 maxPacket (length bytes) l .0) (refusedBy 2 e) (sym (unsound f (take (nextSize bytes) bytes))))
-          ∙ packet-unsound f
-
-  -- At most 1,400 messages are taken, so that their count fits 16 bits.
-  pub packet-few : unpacked sound taking e bytes .report .passed ≤ maxPacket
-  packet-few = go (sound e) rightLength refl refl
-    where
-      go : (s l : Bool) → sound e ≡ s → rightLength ≡ l → unpacked sound taking e bytes .report .passed ≤ maxPacket
-      go false l es el = omega (arith, ap (λ (a : Answer E). a .report .passed) (packet-unsound es))
-      go true false es el = omega (arith, ap (λ (a : Answer E). a .report .passed) (packet-length es el))
-      go true true es el =
-          let most = between-true 1 maxPacket (length bytes) el .1 in
-          omega (arith, ap (λ (a : Answer E). a .report .passed) (packet-taken es el), handed-few taking (length bytes) 0 e bytes, most)
 
   -- ---- one message of a packet
 
@@ -224,10 +179,6 @@ module _ {E : Type 0} (sound : E → Bool) (taking : E → List ℕ → Answer E
     pub message-length : sound e ≡ true → between 1 maxPacket (length bytes) ≡ false → refusedBy 15 e ≡ messageTaken sound taking e bytes at
     message-length h l = taken-is true false h l
 
-    pub message-refused : between 1 maxPacket (length bytes) ≡ false
-        → refusedBy (asks (ask 2 (sound e) ∷ ask 15 false ∷ [])) e ≡ messageTaken sound taking e bytes at
-    message-refused l = refused-is (sound e) here ∙ taken-is (sound e) false refl l
-
     -- the message is lent from its start, where no other bytes are left than at its place, to its end
     module _ (from to : ℕ) (ef : from ≡ messageStart bytes at) (et : to ≡ messageEnd bytes from) where
       lent-is : take (to - from) (drop from bytes) ≡ take (nextSize (drop at bytes)) (drop at bytes)
@@ -238,12 +189,3 @@ module _ {E : Type 0} (sound : E → Bool) (taking : E → List ℕ → Answer E
       pub message-taken : sound e ≡ true → between 1 maxPacket (length bytes) ≡ true
           → taking e (take (to - from) (drop from bytes)) ≡ messageTaken sound taking e bytes at
       message-taken h l = ap (taking e) lent-is ∙ taken-is true true h l
-
-      -- where every taking asks question 2 first
-      pub message-asks : between 1 maxPacket (length bytes) ≡ true → (sound e ≡ false → (m : List ℕ) → taking e m ≡ refusedBy 2 e)
-          → taking e (take (to - from) (drop from bytes)) ≡ messageTaken sound taking e bytes at
-      message-asks l unsound = go (sound e) refl
-        where
-          go : (s : Bool) → sound e ≡ s → taking e (take (to - from) (drop from bytes)) ≡ messageTaken sound taking e bytes at
-          go true t = message-taken t l
-          go false f = unsound f (take (to - from) (drop from bytes)) ∙ message-unsound f
