@@ -1,6 +1,7 @@
 // The server's calls over its lent bytes: question 18, the end read into words of its own, the call on these, and unless it was refused the
 // end written back. An answer is one number: the refusal, the count or length beside it, and of a taking its positions. Words and numbers are read and written by
 // two calls: that of the words is short enough to be inlined, and becomes a copy of memory.
+#![tactic(auto)]
 pub mod layout;
 
 ghost use Rattle.std.specs.Prelude.{◌≡◌, ◌*◌, ◌≤◌, length};

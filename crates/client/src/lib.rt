@@ -1,6 +1,7 @@
 // The client's end of a sheet (01: the bay end): its state, opening, question 2, and what the calls that change it share.
 // A client is its numbers and one array of words. The calls get the numbers by value and change lent words in place; the methods, which take
 // a client by value and hand it back, are thin: they lend its words.
+#![tactic(auto)]
 pub mod editing;
 pub mod packets;
 pub mod sending;
@@ -20,14 +21,14 @@ use list::Origin;
 use ot::Form;
 
 // An edit that taking back would make, or nothing: its place as in a slot, position * 256 + priority, and the item of an insert.
-#[derive(Drop)]
+#[derive(Clone, Copy)]
 pub struct Inverse {
     pub place: u32,
     pub item: u32,
 }
 
 // The numbers of a client.
-#[derive(Drop)]
+#[derive(Clone, Copy)]
 pub struct Counts {
     pub own: Line,
     // how many items the list has, and their seconds together
@@ -43,7 +44,7 @@ pub struct Counts {
 }
 
 // All state of a client. Unused places are zero.
-#[derive(Drop)]
+#[derive(Clone, Copy)]
 pub struct Client {
     pub counts: Counts,
     // the items, of which the first len are the list; then the words of its line, the pending edits; then the items' origins
@@ -59,7 +60,7 @@ pub struct Changed {
 }
 
 // What a method answers: the same, with the client.
-#[derive(Drop)]
+#[derive(Clone, Copy)]
 pub struct Answer {
     pub refusal: u8,
     pub report: Report,

@@ -1,4 +1,5 @@
 // The limits of a sheet by name. The ends have them as associated constants.
+#![tactic(auto)]
 
 // clients of a sheet
 pub const LINES: u8 = 8;

@@ -1,4 +1,5 @@
 // One line as either end has it (01: "The server keeps the same per line"): its counts by value, its pending edits in lent words.
+#![tactic(auto)]
 pub mod packing;
 pub mod sending;
 pub mod soundness;
@@ -16,7 +17,7 @@ use limits::{ITEMS, PENDING};
 use ot::Form;
 
 // The counts of a line.
-#[derive(Drop)]
+#[derive(Clone, Copy)]
 pub struct Line {
     // edits made for it: at the client its own, at the server those taken on all other lines
     pub made: u16,

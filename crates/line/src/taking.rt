@@ -14,7 +14,7 @@ use pending::Crossed;
 use wire::{Header, Message};
 
 // A message, edit or acknowledgement alike: an acknowledgement carries no edit and has no number and no origin.
-#[derive(Drop)]
+#[derive(Clone, Copy)]
 pub struct Arrival {
     pub line: u8,
     pub direction: u8,
@@ -29,7 +29,7 @@ pub struct Arrival {
 
 // What the taking of an edit reports: how many pending edits it was transformed past, the position in which it arrived, and the one in which it
 // was applied, 0 for nothing.
-#[derive(Drop)]
+#[derive(Clone, Copy)]
 pub struct Report {
     pub passed: u16,
     pub arrived: u16,

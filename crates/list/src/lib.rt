@@ -1,5 +1,6 @@
 // A list in the first places of an array: the initial list, an edit applied in place, and the test that unused places are zero. A place
 // holds an item and its origin; items and origins are arrays of their own, an origin a word.
+#![tactic(auto)]
 ghost use Rattle.std.specs.Prelude.{◌≡◌, ℕ, ◌-◌, ◌<◌, ◌≤◌, List, [], ◌∷◌, ◌++◌, length, get_or, take, drop, replicate, true};
 ghost use Rattle.ot.specs.Edit.{edit, applied, fits};
 ghost use Rattle.limits.specs.Limits.{max_initial};
@@ -14,7 +15,7 @@ use ot::Form;
 const SECONDS: u32 = 4096;
 
 // Which edit put an item on the list: its client's line and its number there. Line 0 is the initial list, with the place as number.
-#[derive(Drop)]
+#[derive(Clone, Copy)]
 pub struct Origin {
     pub line: u8,
     pub number: u16,

@@ -1,4 +1,5 @@
 // Operational transformation: the form of one edit after another.
+#![tactic(auto)]
 ghost use Rattle.std.specs.Prelude.{◌≡◌, ℕ, ◌<◌};
 ghost use Rattle.ot.specs.Form.{position_of, how, shifted, delete_after, moved_so};
 ghost use Rattle.ot.specs.Edit.{edit, fits};
@@ -6,7 +7,7 @@ ghost use Rattle.ot.specs.Edit.{edit, fits};
 // The form of an edit: what it does, and where. Positions count from 1. The item that an insert brings stands beside the form: no
 // transformation looks at it.
 // Nothing stands first: an unused place of an array then holds it, and no second value for "empty" is needed.
-#[derive(Drop)]
+#[derive(Clone, Copy)]
 pub enum Form {
     // what became of a delete whose item another edit had deleted already
     Nothing,
@@ -17,7 +18,7 @@ pub enum Form {
 }
 
 // How a position moves past another edit: not at all, down one, up one; or the edit is gone.
-#[derive(Drop)]
+#[derive(Clone, Copy)]
 pub enum Move {
     Still,
     Down,

@@ -1,6 +1,7 @@
 // The server's end of a sheet: its state, opening, and question 2.
 // The server is its numbers and one array of words. The calls get the numbers by value and change lent words in place; the methods, which
 // take the server by value and hand it back, are thin: they lend its words.
+#![tactic(auto)]
 mod deciding;
 pub mod packets;
 mod parts;
@@ -21,7 +22,7 @@ use line::Line;
 use line::taking::{Report, no_report};
 
 // The numbers of the server.
-#[derive(Drop)]
+#[derive(Clone, Copy)]
 pub struct Counts {
     // how many lines are in use
     pub n: u8,
@@ -37,7 +38,7 @@ pub struct Counts {
 }
 
 // All state of the server. Unused places are zero.
-#[derive(Drop)]
+#[derive(Clone, Copy)]
 pub struct Server {
     pub counts: Counts,
     // the items, of which the first len are the list; then the words of each line, its pending edits; then the items' origins, and of each line

@@ -1,4 +1,5 @@
 // The run program: standard input, and what `sheet_run` makes of it on standard output.
+#![tactic(auto)]
 fn main() {
     let mut input = [0u8; 65537];
     let mut output = [0u8; 262144];

@@ -1,4 +1,5 @@
 // What the run program reads, as bytes: words, numbers and commands.
+#![tactic(auto)]
 ghost use Rattle.std.specs.Prelude.{◌≡◌, ◌<◌, ◌≤◌, length};
 ghost use Rattle.sheet_text.specs.Text.{before, words_of, same as Text·same};
 ghost use Rattle.sheet_print.specs.Decimal.{too_wide, with_digit, number_of};
@@ -9,7 +10,7 @@ pub mod first;
 
 // What a line of the script orders. A client is named by its line (01: the bay), of 1 to the number of clients. What a verb has no use
 // for is 0, and so is all of a line that orders nothing.
-#[derive(Drop)]
+#[derive(Clone, Copy)]
 pub struct Order {
     pub verb: u8,
     pub line: u8,

@@ -1,5 +1,6 @@
 // The marked cases P1 to P10 by the code that runs. An edit is printed as its kind (1 insert, 2 delete, 3 nothing), position, item and
 // priority; a message as its bytes, written and read again.
+#![tactic(auto)]
 ghost use Rattle.std.specs.Prelude.{◌<◌};
 ghost use Rattle.ot.specs.Form.{position_of};
 

@@ -1,5 +1,6 @@
 // The edges of the run program: each script of data/ by name, and what is printed for it. Another implementation of the rules
 // printed the expected output.
+#![tactic(auto)]
 
 fn line(text: &[u8]) {
     io::write_all(1, text);

@@ -1,5 +1,6 @@
 // The slips at the bench, and the edges of seen and of origins, by the ends that run. A script of the run program sends every message fresh, so that it
 // reaches none of them. Each line is what calls answered: a refusal's number or 0, and where it says so a count.
+#![tactic(auto)]
 ghost use Rattle.std.specs.Prelude.{◌≡◌, [], ◌∷◌};
 ghost use Rattle.client.specs.Answers.{inserted, taken};
 

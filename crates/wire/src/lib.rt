@@ -1,4 +1,5 @@
 // Messages between a client and the server. specs/Bytes.antt says what their bytes are.
+#![tactic(auto)]
 pub mod reading;
 pub mod writing;
 
@@ -11,7 +12,7 @@ use ot::Form;
 
 // What every edit message has beside its edit. Direction 0 goes up to the server, 1 down to a client. The origin (02: N4) is the line of the
 // client that made the edit, and its number there.
-#[derive(Drop)]
+#[derive(Clone, Copy)]
 pub struct Header {
     pub line: u8,
     pub direction: u8,
@@ -21,7 +22,7 @@ pub struct Header {
 }
 
 // A message, a variant for each kind.
-#[derive(Drop)]
+#[derive(Clone, Copy)]
 pub enum Message {
     // position, item, priority
     Insert(Header, u16, u32, u8),
