@@ -1,0 +1,14 @@
+-- The invariants and measures of the loops.
+use Prim.Native.Nat.{◌-◌, ◌≤◌}
+use native.Mathlib.Omega.{arith}
+use mathlib.Core.Path.{◌≡◌, refl}
+use lib.ListN.{length, length-set}
+use Rattle.list.proofs.Sweep.{swept}
+use Rattle.c_layout.proofs.Ranked.{copy_turn, copy_end}
+use Rattle.c_layout.proofs.ranks.copy.Given as goal
+
+abbrev pub invariant-loop-i : goal.invariant-loop-i
+invariant-loop-i l = (l.i ≤ l.i-end) × (length l.to ≡ length l.initial.to) × (l.to ≡ swept l.from l.initial.to l.i)
+
+abbrev pub decreases-loop-i : goal.decreases-loop-i
+decreases-loop-i l = l.i-end - l.i

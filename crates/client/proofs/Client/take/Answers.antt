@@ -1,0 +1,6 @@
+-- `Client::take` meets its contract: it lends its words to `taking::take` and joins what comes back.
+use mathlib.Core.Path.{◌∙◌}
+use Rattle.client.proofs.Client.take.Goals as goal
+
+pub returns : goal.returns
+returns c = c.joined.ensures ∙ c.take-a.ensures

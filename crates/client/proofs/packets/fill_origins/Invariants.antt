@@ -1,0 +1,12 @@
+-- The invariants and measures of the loops.
+use Prim.Native.Nat.{◌-◌, ◌<◌}
+use native.Mathlib.Omega.{arith}
+use lib.ListN.{length}
+use Rattle.client.proofs.Origins.{OriginsTo, origins_start, origins_turn, origins_end}
+use Rattle.client.proofs.packets.fill_origins.Given as goal
+
+abbrev pub invariant-loop-number : goal.invariant-loop-number
+invariant-loop-number l = OriginsTo l.line l.acked l.initial.origins l.origins l.number l.i
+
+abbrev pub decreases-loop-number : goal.decreases-loop-number
+decreases-loop-number l = l.made - l.number

@@ -1,0 +1,19 @@
+-- The invariants and measures of the loops.
+use Rattle.line.proofs.All.{all_start, all_turn, all_end}
+use Rattle.pending.specs.Slots.{all_from}
+use Rattle.line.specs.Slots.{kept_maker, kept_maker_at}
+use mathlib.Core.Bool.{Bool, ◌&&◌}
+use mathlib.Core.Path.{◌≡◌, refl, ap, ◌∙◌}
+use lib.Dec.{ltb}
+use lib.ListN.{get_or}
+use native.Mathlib.Omega.{arith}
+use Prim.Native.Nat.{ℕ, ◌-◌, ◌≤◌, ◌<◌}
+use Rattle.line.proofs.soundness.makers_kept.Given as goal
+
+-- what the loop has found, with what it has still to look at, is the answer; i and j count the same word
+abbrev pub invariant-loop-j : goal.invariant-loop-j
+invariant-loop-j l =
+    ((l.j ≤ l.slots) × (l.i ≡ l.j)) × ((l.right && all_from (kept_maker_at l.n l.line l.count l.words) l.j (l.slots - l.j)) ≡ all_from (kept_maker_at l.n l.line l.count l.words) 0 l.slots)
+
+abbrev pub decreases-loop-j : goal.decreases-loop-j
+decreases-loop-j l = l.slots - l.j

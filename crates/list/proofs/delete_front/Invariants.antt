@@ -1,0 +1,11 @@
+-- The invariants and measures of the loops.
+use Prim.Native.Nat.{◌-◌}
+use native.Mathlib.Omega.{arith}
+use Rattle.list.proofs.Sweep.{Falling, falling_start, falling_turn, falling_end}
+use Rattle.list.proofs.delete_front.Given as goal
+
+abbrev pub invariant-loop-i : goal.invariant-loop-i
+invariant-loop-i l = Falling 0 l.initial.part l.part l.i
+
+abbrev pub decreases-loop-i : goal.decreases-loop-i
+decreases-loop-i l = l.last - l.i

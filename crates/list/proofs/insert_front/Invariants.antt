@@ -1,0 +1,11 @@
+-- The invariants and measures of the loops.
+use Prim.Native.Nat.{◌-◌}
+use native.Mathlib.Omega.{arith}
+use Rattle.list.proofs.Sweep.{Rising, rising_start, rising_turn, rising_end}
+use Rattle.list.proofs.insert_front.Given as goal
+
+abbrev pub invariant-loop-i : goal.invariant-loop-i
+invariant-loop-i l = Rising l.initial.part l.x l.part l.i
+
+abbrev pub decreases-loop-i : goal.decreases-loop-i
+decreases-loop-i l = l.i

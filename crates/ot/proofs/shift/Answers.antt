@@ -1,0 +1,23 @@
+-- `ot::shift` meets its contract: a return for each move.
+use Rattle.ot.specs.Form.{shifted}
+use Rattle.ot.proofs.shift.Goals as goal
+
+pub returns-then-p-eq0 : goal.returns-then-p-eq0
+unfolding shifted
+returns-then-p-eq0 c = simp (c.in-Down.is, c.if-p-eq0.true)
+
+pub returns-in-Still : goal.returns-in-Still
+unfolding shifted
+returns-in-Still c = simp c.in-Still.is
+
+pub returns-else-p-eq0 : goal.returns-else-p-eq0
+unfolding shifted
+returns-else-p-eq0 c = simp c.in-Down.is
+
+pub returns-in-Up : goal.returns-in-Up
+unfolding shifted
+returns-in-Up c = simp c.in-Up.is
+
+pub returns-in-Gone : goal.returns-in-Gone
+unfolding shifted
+returns-in-Gone c = simp c.in-Gone.is

@@ -1,0 +1,10 @@
+use mathlib.Core.Path.{◌∙◌}
+use Rattle.server.proofs.Counted.{counted}
+use borrow.Author.Rules.{rules}
+use Rattle.server.proofs.Server.take.Goals as goal
+
+pub take-a-requires : goal.take-a-requires
+take-a-requires c = record { words = search rules; lines = search (rules, counted); ranks = search rules }
+
+pub returns : goal.returns
+returns c = c.joined.ensures ∙ c.take-a.ensures

@@ -1,0 +1,20 @@
+-- The invariants and measures of the loops.
+use native.Mathlib.Omega.{arith}
+use Prim.Native.Nat.{ℕ, ◌-◌, ◌≤◌}
+use mathlib.Core.Path.{◌≡◌, refl, ◌∙◌}
+use mathlib.Core.Bool.{Bool, ◌&&◌}
+use Rattle.limits.specs.Limits.{max_lines}
+use Rattle.pending.specs.Slots.{all_from}
+use Rattle.line.proofs.All.{all_start, all_turn, all_end}
+use Rattle.server.specs.View.{counts_at}
+use Rattle.server.specs.Totals.{line_sound_at}
+use Rattle.server.proofs.Lines.{line_answers}
+use Rattle.server.proofs.lines_sound.Given as goal
+
+-- what the loop has found, with the lines that it has still to look at, is the answer
+abbrev pub invariant-loop-i : goal.invariant-loop-i
+invariant-loop-i l =
+    (l.i ≤ max_lines) × ((l.well && all_from (line_sound_at l.k l.taken l.words) l.i (max_lines - l.i)) ≡ all_from (line_sound_at l.k l.taken l.words) 0 max_lines)
+
+abbrev pub decreases-loop-i : goal.decreases-loop-i
+decreases-loop-i l = max_lines - l.i

@@ -1,0 +1,65 @@
+-- `take_all` meets its contract: the messages before a place are taken, and the next is lent from there to its end (proofs/TakesAll.antt).
+use Prim.Native.Nat.{ℕ, ◌-◌, ◌≤◌, ◌<◌}
+use native.Mathlib.Omega.{arith}
+use mathlib.Core.Path.{sym, ◌∙◌}
+use mathlib.Core.List.{List}
+use lib.ListN.{length, take, drop}
+use Rattle.wire_packet.proofs.Ends.{end_after, end_within}
+use Rattle.wire_packet.proofs.Handing.{Handing, handing_start}
+use Rattle.server.specs.View.{server_of, Sound, Sizes}
+use Rattle.server.specs.Packets.{taking}
+use Rattle.server.proofs.TakesAll.{sound_taken, all_end, all_stop, all_turn}
+use Rattle.server.proofs.packets.take_all.Goals as goal
+use Rattle.server.proofs.packets.take_all.Goals.{After-message_end-end}
+
+-- the message ends behind its place, and within the packet
+after : (c : After-message_end-end) → c.loop-at.at < c.message_end-end.result
+after c =
+    let more = end_after c.args.packet.now c.loop-at.at c.loop-at-test.true in
+    omega (arith, c.message_end-end.ensures, more)
+
+within : (c : After-message_end-end) → c.message_end-end.result ≤ length c.args.packet.now
+within c =
+    omega (arith, c.message_end-end.ensures, end_within c.args.packet.now c.loop-at.at)
+
+pub loop-at-init : goal.loop-at-init
+loop-at-init c =
+    (c.requires.0, handing_start taking c.args.packet.now (server_of c.args.k c.args.words.now))
+
+pub slice_bounds-take_sound-count : goal.slice_bounds-take_sound-count
+slice_bounds-take_sound-count c = omega (arith, after (goal.at.slice_bounds-take_sound-count c).After-message_end-end)
+
+pub slice_bounds-take_sound-start : goal.slice_bounds-take_sound-start
+slice_bounds-take_sound-start c = omega (arith, after (goal.at.slice_bounds-take_sound-start c).After-message_end-end, within (goal.at.slice_bounds-take_sound-start c).After-message_end-end)
+
+pub slice_bounds-take_sound-end : goal.slice_bounds-take_sound-end
+slice_bounds-take_sound-end c = omega (arith, after (goal.at.slice_bounds-take_sound-end c).After-message_end-end, within (goal.at.slice_bounds-take_sound-end c).After-message_end-end)
+
+pub take_sound-a-requires : goal.take_sound-a-requires
+take_sound-a-requires c = c.loop-at.invariant.0
+
+pub returns-then-a-ne0 : goal.returns-then-a-ne0
+returns-then-a-ne0 c =
+    let a = c.args in
+    all_stop (server_of a.k a.words.now) a.packet.now c.loop-at.invariant.1 c.loop-at-test.true c.message_end-end.result c.message_end-end.ensures
+    c.take_sound-a.result c.take_sound-a.new.words c.take_sound-a.ensures (λ z. c.if-a-ne0.true (omega (arith, z))) c.counted.result c.counted.ensures
+
+pub overflow_add-count : goal.overflow_add-count
+overflow_add-count c =
+    omega (arith, c.loop-at.invariant.1.few, after (goal.at.overflow_add-count c).After-message_end-end, within (goal.at.overflow_add-count c).After-message_end-end, c.requires.1)
+
+pub loop-at-smaller : goal.loop-at-smaller
+loop-at-smaller c = omega (arith, after (goal.at.loop-at-smaller c).After-message_end-end, within (goal.at.loop-at-smaller c).After-message_end-end)
+
+pub loop-at-preserved : goal.loop-at-preserved
+loop-at-preserved c =
+    let a = c.args in (
+      sound_taken c.loop-at.invariant.0 ((take (c.message_end-end.result - c.loop-at.at) (drop c.loop-at.at c.args.packet.now))) c.take_sound-a.result c.take_sound-a.new.words c.take_sound-a.ensures,
+      all_turn (server_of a.k a.words.now) a.packet.now c.loop-at.invariant.1 c.loop-at-test.true c.message_end-end.result c.message_end-end.ensures
+          c.take_sound-a.result c.take_sound-a.new.words c.take_sound-a.ensures (omega (arith, c.if-a-ne0.false)),
+    )
+
+pub returns : goal.returns
+returns c =
+    let a = c.args in
+    all_end (server_of a.k a.words.now) a.packet.now c.loop-at.invariant.1 (omega (arith, c.loop-at-test.false)) c.counted-2.result c.counted-2.ensures

@@ -1,0 +1,18 @@
+use Rattle.wire.specs.Bytes.{bytes_of}
+use Rattle.wire.proofs.writing.size.Goals as goal
+
+pub returns-in-Insert : goal.returns-in-Insert
+unfolding bytes_of
+returns-in-Insert c = simp c.in-Insert.is
+
+pub returns-in-Delete : goal.returns-in-Delete
+unfolding bytes_of
+returns-in-Delete c = simp c.in-Delete.is
+
+pub returns-in-Nothing : goal.returns-in-Nothing
+unfolding bytes_of
+returns-in-Nothing c = simp c.in-Nothing.is
+
+pub returns-in-Ack : goal.returns-in-Ack
+unfolding bytes_of
+returns-in-Ack c = simp c.in-Ack.is

@@ -1,0 +1,11 @@
+-- The invariants and measures of the loops.
+use Prim.Native.Nat.{◌-◌}
+use native.Mathlib.Omega.{arith}
+use Rattle.wire.proofs.Buffer.{CopiedBy, copied_start, copied_turn, copied_pass, copied_end, enough, too_long}
+use Rattle.wire.proofs.writing.write.Given as goal
+
+abbrev pub invariant-loop-i : goal.invariant-loop-i
+invariant-loop-i l = CopiedBy l.b l.initial.out l.n l.out l.i
+
+abbrev pub decreases-loop-i : goal.decreases-loop-i
+decreases-loop-i l = 17 - l.i
