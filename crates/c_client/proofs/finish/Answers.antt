@@ -1,0 +1,19 @@
+use Rattle.client.specs.View.{client_of}
+use Rattle.c_layout.proofs.Called.{changed_no, changed_done}
+use Rattle.c_client.specs.Layout.{size, bytes_in}
+use Rattle.c_client.specs.Calls.{answered}
+use Rattle.c_client.proofs.finish.Goals as goal
+
+pub returns-then-a-ne0 : goal.returns-then-a-ne0
+unfolding answered
+returns-then-a-ne0 c =
+    let a = c.args in
+    let new = bytes_in (client_of a.a.counts a.words.now) in
+    changed_no size a.a.refusal a.a.report new a.end.now c.report.result c.if-a-ne0.true c.report.ensures
+
+pub returns : goal.returns
+unfolding answered
+returns c =
+    let a = c.args in
+    let new = bytes_in (client_of a.a.counts a.words.now) in
+    changed_done size a.a.refusal a.a.report new a.end.now c.report-2.result c.write.new.bytes c.if-a-ne0.false c.report-2.ensures c.write.ensures

@@ -1,0 +1,9 @@
+use mathlib.Core.Path.{ap, sym}
+use lib.Seq.{length-take-le}
+use Rattle.server.specs.declared.Answer.{Answer}
+use Rattle.test_timing.specs.Opened.{server_with}
+use Rattle.test_timing.proofs.server_with.Goals as goal
+
+pub returns : goal.returns
+unfolding server_with
+returns c = ap (λ (a : Answer). a.server) c.open-a.ensures
