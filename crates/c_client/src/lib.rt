@@ -1,6 +1,7 @@
 // A client's calls over its lent bytes: question 18, the end read into words of its own, the call on these, and unless it was refused the
 // end written back. An answer is one number: the refusal, the count or length beside it, and of a taking its positions.
 #![tactic(auto)]
+
 pub mod layout;
 
 ghost use Rattle.std.specs.Prelude.{◌≡◌, ◌*◌, ◌≤◌, length};

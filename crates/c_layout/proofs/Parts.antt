@@ -7,7 +7,7 @@ use lib.ListN.{length, take, drop, length-take, length-drop, length-append, take
 use lib.Seq.{take_at, drop_at, drop-drop, length-take-le}
 use Rattle.list.specs.Parts.{part}
 use Rattle.c_layout.specs.Words.{Order, low_first, words_by, words_of, bytes_of, put_at, Bytes}
-use Rattle.c_layout.proofs.Words.{written_back, words_length, bytes_length, read_one}
+use Rattle.c_layout.proofs.Words.{written_back, words_length, read_one}
 
 -- ---- reading
 

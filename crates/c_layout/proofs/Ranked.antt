@@ -1,5 +1,5 @@
 -- The ranks of an end in its bytes: copied there and back, and the bytes of an end in parts with the ranks between its words.
-use Prim.Native.Nat.{ℕ, zero, suc, ◌+◌, ◌*◌, ◌<◌, ◌≤◌}
+use Prim.Native.Nat.{ℕ, ◌+◌, ◌*◌, ◌<◌, ◌≤◌}
 use native.Mathlib.Numerals.{add-one}
 use native.Mathlib.Omega.{arith}
 use mathlib.Core.Path.{◌≡◌, refl, ap, ap₂, sym, ◌∙◌}
@@ -7,7 +7,6 @@ use mathlib.Core.List.{List, [], ◌∷◌, ◌++◌, append_assoc}
 use lib.ListN.{length, get_or, set, take, drop, length-drop, length-append, take-append-drop, drop_of_length-le}
 use lib.Seq.{take_at, drop_at, drop-drop, get_or-drop, length-take-le}
 use Rattle.limits.specs.Limits.{max_lines}
-use Rattle.list.specs.Parts.{part}
 use Rattle.list.proofs.Sweep.{swept, swept_store, swept_to}
 use Rattle.c_layout.specs.Words.{low_first, word_at, words_by, words_of, bytes_of, put_at, Bytes}
 use Rattle.c_layout.specs.Ranks.{ranks_in, ranked}

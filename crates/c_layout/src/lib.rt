@@ -1,5 +1,6 @@
 // Lent bytes as words and back, four bytes to a word. The words of an end have their low byte first, opening items their high byte first.
 #![tactic(auto)]
+
 pub mod numbers;
 pub mod ranks;
 

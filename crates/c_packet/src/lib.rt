@@ -2,6 +2,7 @@
 // message was taken the end written back. An answer is one number: the refusal, and beside it how many bytes were written or how many messages
 // were taken. Of one message of a packet it is the answer of its taking, and how many bytes the message has.
 #![tactic(auto)]
+
 pub mod client_end;
 pub mod server_end;
 

@@ -13,7 +13,6 @@ use Rattle.model.specs.Line as line
 use Rattle.model.specs.Server as model
 use Rattle.model.proofs.Tests.{hold, and_left}
 use Rattle.model.proofs.SoundServer.{ServerFacts, server_facts, line_fact, made_most}
-use Rattle.line.specs.declared.Line.{Line}
 use Rattle.line.specs.Line.{counts_of}
 use Rattle.line.specs.Sound.{empty_line}
 use Rattle.line.proofs.Stored.{empty_counts}

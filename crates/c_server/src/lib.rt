@@ -2,6 +2,7 @@
 // end written back. An answer is one number: the refusal, the count or length beside it, and of a taking its positions. Words and numbers are read and written by
 // two calls: that of the words is short enough to be inlined, and becomes a copy of memory.
 #![tactic(auto)]
+
 pub mod layout;
 
 ghost use Rattle.std.specs.Prelude.{◌≡◌, ◌*◌, ◌≤◌, length};

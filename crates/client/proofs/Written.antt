@@ -32,7 +32,7 @@ use Rattle.line.proofs.Room.{room_items, room_origins, room_length}
 use Rattle.line.specs.declared.taking.Report.{Report}
 use Rattle.client.specs.declared.Client.{Client}
 use Rattle.client.specs.declared.Inverse.{Inverse}
-use Rattle.client.specs.View.{size, items_in, slots_in, origins_in, origins as from, inverse_stored, client_of, view, store, Sound, Applied}
+use Rattle.client.specs.View.{size, items_in, origins_in, origins as from, inverse_stored, client_of, view, store, Sound, Applied}
 use Rattle.client.specs.Answers.{done_counts}
 use Rattle.client.proofs.Words.{items_long, origins_long, parts_are, stored_items, stored_origins, with_slots, with_origins, with_places, slots_wrote, origins_wrote, places_long, places_items, places_slots, places_origins}
 

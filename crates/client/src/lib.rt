@@ -2,6 +2,7 @@
 // A client is its numbers and one array of words. The calls get the numbers by value and change lent words in place; the methods, which take
 // a client by value and hand it back, are thin: they lend its words.
 #![tactic(auto)]
+
 pub mod editing;
 pub mod packets;
 pub mod sending;

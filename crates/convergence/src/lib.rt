@@ -1,6 +1,7 @@
 // The methods of both ends, each with the call of the sheet `built` that it is for its contract: what is claimed of `built` is claimed of the
 // methods.
 #![tactic(auto)]
+
 ghost use Rattle.std.specs.Prelude.{◌≡◌};
 ghost use Rattle.line.specs.Sending.{answered};
 ghost use Rattle.convergence.specs.Built.{of_client, of_server, from_client, from_server, built};

@@ -18,7 +18,7 @@ use Rattle.jupiter.proofs.Lists as L
 use Rattle.jupiter.proofs.Lists.{All, all_at}
 use Rattle.jupiter.proofs.Grid.{ltb_true, ltb_lt, own_line, own_name, oth_line, doc_at}
 use Rattle.jupiter.proofs.Line.{LineAt, between_good}
-use Rattle.jupiter.proofs.World.{mine_served, others_served, Inv, taken, missing_is}
+use Rattle.jupiter.proofs.World.{mine_served, others_served, Inv, missing_is}
 use Rattle.jupiter.proofs.Replay.{or_true, same_refl, same_eq, is_false, holds_more, held_next, holds_in}
 
 and_false : (b : Bool) → b && false ≡ false

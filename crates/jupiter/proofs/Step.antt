@@ -1,6 +1,6 @@
 -- The step that each accepted call is, for whoever goes through the protocol call by call: the invariant holds behind it, and everything
 -- that was known stays as it was (`Later`). Messages are carried by `UpMessage` and `DownMessage`, which sending gives and `Later` keeps.
-use Prim.Native.Nat.{ℕ, suc, ◌+◌, ◌≤◌, ◌<◌, zero-le}
+use Prim.Native.Nat.{ℕ, suc, ◌≤◌, ◌<◌, zero-le}
 use native.Mathlib.Nat.{not-suc-le-zero, le_refl, le_trans}
 use native.Mathlib.Omega.{arith}
 use mathlib.Core.Path.{◌≡◌, refl, sym, ap, ◌∙◌, subst}
@@ -18,7 +18,7 @@ use Rattle.jupiter.proofs.Lists as L
 use Rattle.jupiter.proofs.Segment.{segment_none}
 use Rattle.jupiter.proofs.Grid.{by_line_lem, not_line, Grows, grows_refl, grows_trans}
 use Rattle.jupiter.proofs.Line.{UpOk, DownOk, up_on, down_on, send_up, send_down, up_arrives, up_edge, down_arrives, down_edge}
-use Rattle.jupiter.proofs.World.{named, edit_new, first_untaken, up_inv, up_grows, up_bound, o_new, o_new_to, taken, Inv, inv_edit, grows_edit, inv_ack_up, inv_ack_down, inv_down, first_missing}
+use Rattle.jupiter.proofs.World.{named, edit_new, first_untaken, up_inv, up_grows, up_bound, o_new, o_new_to, Inv, inv_edit, grows_edit, inv_ack_up, inv_ack_down, inv_down, first_missing}
 use Rattle.jupiter.proofs.Replay.{holds_more, in_order_insert}
 
 -- ---- what stays

@@ -13,7 +13,7 @@ use Rattle.jupiter.specs.Form.{form, in_order}
 use Rattle.jupiter.specs.Point.{point, blank, own, oth, own_form, oth_form}
 use Rattle.jupiter.specs.History.{History, order, missing}
 use Rattle.jupiter.specs.Ends.{End, EditMessage, Ends, arrived, message}
-use Rattle.jupiter.specs.Run.{Message, up, down, up_ack, down_ack, edit, State, initial, run}
+use Rattle.jupiter.specs.Run.{Message, up, down, up_ack, down_ack, State, initial, run}
 use Rattle.jupiter.specs.Claims.{ClosedSet, Written, Delivers, LineClaim, Claim, Who, server, client, set_of, Converges, QuiescentConsistency}
 use Rattle.jupiter.proofs.Lists.{all_at}
 use Rattle.jupiter.proofs.Segment.{segment_length, segment_get}

@@ -1,5 +1,5 @@
 -- The ends of the protocol, with no limit on any count (01: "Lines, numbers, buffers").
-use Rattle.std.specs.Prelude.{ℕ, suc, ◌+◌, ◌-◌, Bool, ◌&&◌, List, [], ◌∷◌, ◌++◌, eqb, leb, ltb, drop, get_or}
+use Rattle.std.specs.Prelude.{ℕ, suc, ◌-◌, Bool, ◌&&◌, List, [], ◌∷◌, ◌++◌, eqb, leb, ltb, drop, get_or}
 use Rattle.jupiter.specs.Algebra.{Algebra}
 use Rattle.jupiter.specs.History.{at}
 

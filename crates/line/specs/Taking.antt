@@ -1,5 +1,5 @@
 -- What a message makes of a line, before anything is written: questions 5 to 9 and the decision.
-use Rattle.std.specs.Prelude.{ℕ, ◌+◌, ◌-◌, ◌≤◌, ◌≡◌, Bool, true, false, ◌&&◌, cond, List, [], ◌∷◌, ◌++◌, map, leb, ltb, eqb, length, take, drop, replicate}
+use Rattle.std.specs.Prelude.{ℕ, ◌+◌, ◌-◌, ◌≤◌, ◌≡◌, Bool, true, false, ◌&&◌, cond, List, [], ◌∷◌, ◌++◌, map, leb, ltb, eqb, take, drop, replicate}
 use Rattle.limits.specs.Limits.{max_pending}
 use Rattle.ot.specs.declared.Form.{Form}
 use Rattle.ot.specs.declared.Form.TheVariants as form

@@ -1,5 +1,6 @@
 // One line as either end has it (01: "The server keeps the same per line"): its counts by value, its pending edits in lent words.
 #![tactic(auto)]
+
 pub mod packing;
 pub mod sending;
 pub mod soundness;

@@ -1,8 +1,8 @@
 -- An array in parts: what a written part leaves of the others.
 use Prim.Native.Nat.{ℕ, ◌+◌, ◌-◌, ◌≤◌, ◌<◌}
 use native.Mathlib.Omega.{arith}
-use mathlib.Core.Path.{◌≡◌, refl, ap, sym, ◌∙◌}
-use mathlib.Core.List.{List, [], ◌∷◌, ◌++◌}
+use mathlib.Core.Path.{◌≡◌, ap, sym, ◌∙◌}
+use mathlib.Core.List.{List, ◌++◌}
 use lib.ListN.{length, take, drop, set, length-append, length-take, length-drop, length-set, take-append-drop}
 use lib.Seq.{take_at, drop_at, drop-set-add, drop-set-lt, take-set-lt, take-set-le, take-append-le, drop-append-le, length-take-le, drop-drop}
 use borrow.Rule.Slice.PartMut.{put_mid}

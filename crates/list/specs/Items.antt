@@ -1,5 +1,5 @@
 -- A list in the first places of an array, and the array after an edit of the list.
-use Rattle.std.specs.Prelude.{ℕ, ◌+◌, ◌-◌, ◌≤◌, ◌≡◌, Bool, true, ◌&&◌, List, [], ◌∷◌, ◌++◌, eqb, length, take, drop, replicate}
+use Rattle.std.specs.Prelude.{ℕ, ◌-◌, ◌≤◌, ◌≡◌, Bool, true, ◌&&◌, List, [], ◌∷◌, ◌++◌, eqb, length, take, drop, replicate}
 use Rattle.limits.specs.Limits.{max_items, max_initial}
 use Rattle.ot.specs.Edit.{Edit, Nothing, Delete, Insert, applied, fits, size_after}
 

@@ -1,6 +1,7 @@
 // A list in the first places of an array: the initial list, an edit applied in place, and the test that unused places are zero. A place
 // holds an item and its origin; items and origins are arrays of their own, an origin a word.
 #![tactic(auto)]
+
 ghost use Rattle.std.specs.Prelude.{◌≡◌, ℕ, ◌-◌, ◌<◌, ◌≤◌, List, [], ◌∷◌, ◌++◌, length, get_or, take, drop, replicate, true};
 ghost use Rattle.ot.specs.Edit.{edit, applied, fits};
 ghost use Rattle.limits.specs.Limits.{max_initial};

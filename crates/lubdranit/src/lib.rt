@@ -1,6 +1,7 @@
 // What other languages link (include/lubdranit.h): the calls of both ends over lent bytes, and the run program in memory. A slice goes over as
 // a pointer and a length. Each function hands on to the crate that has the call, and has its contract.
 #![tactic(auto)]
+
 ghost use Rattle.std.specs.Prelude.{◌≡◌};
 ghost use Rattle.c_layout.specs.Called.{returned};
 ghost use Rattle.c_client.specs.Layout.{size as client_size};

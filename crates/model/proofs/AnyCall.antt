@@ -5,7 +5,7 @@ use mathlib.Core.Option.{Option, none, some}
 use mathlib.Core.List.{List}
 use Prim.Native.Nat.{ℕ, ◌≤◌}
 use native.Mathlib.Omega.{arith}
-use lib.Dec.{eqb, leb, ltb}
+use lib.Dec.{leb, ltb}
 use lib.ListN.{length, take, get_elem?}
 use borrow.Author.Tests.{eq-eqb, leb-true, ltb-true, le-leb}
 use Rattle.ot.specs.Edit.{Delete, Insert}

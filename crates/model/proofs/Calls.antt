@@ -42,7 +42,7 @@ use Rattle.model.specs.Edits.{Named, no_origin, Rule, edits_by, edits}
 use Rattle.model.specs.Sheet.{Call, take_back, send, tell, receive, junk}
 use Rattle.model.specs.Log as logs
 use Rattle.model.specs.Log.{Log, header_of, wire_message, message_bytes, taken_at, edit_message, ack_message, hears, writes, took, took_up, took_down, logged, refused_log, log}
-use Rattle.model.specs.Run.{State, answered, written, handed, call, unreadable}
+use Rattle.model.specs.Run.{State, answered, written, unreadable}
 use Rattle.model.specs.Ours.{End, client, server, answer_as, ours}
 use Rattle.model.proofs.Tests.{never, both, four, and_left, and_right, Yes, yes_all, between_true, true_between}
 use Rattle.model.proofs.SoundLine.{Asked, asked}

@@ -31,7 +31,7 @@ use Rattle.model.specs.Log.{Log, named_by, edited, log, took_packet, made_at, ta
 use Rattle.model.specs.Numbers.{taking, handing, packet_handed, number}
 use Rattle.model.specs.Run.{State, callable, handed, handed_number, packet_of, call, number_of, run, start}
 use Rattle.model.specs.Claim.{Holds, Opened, Converges}
-use Rattle.model.specs.Ours.{server, ours}
+use Rattle.model.specs.Ours.{ours}
 use Rattle.model.specs.Order.{SameOrder}
 use Rattle.model.specs.Consequences.{applied_at, after, edit_of, spared_by, Consistent, OneOrder, TakingRefusals, TakesBack, Agree, Consequences}
 use Rattle.model.proofs.Tests.{true_between}

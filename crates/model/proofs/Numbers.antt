@@ -8,7 +8,7 @@ use native.Mathlib.Omega.{arith}
 use lib.Dec.{eqb, leb, ltb}
 use lib.ListN.{length, drop, get_elem?}
 use borrow.Author.Tests.{eqb-true, leb-true, le-leb}
-use Rattle.ot.specs.Edit.{Edit, Delete, Insert, fits}
+use Rattle.ot.specs.Edit.{Edit, fits}
 use Rattle.list.specs.declared.Origin.{Origin}
 use Rattle.list.specs.Places.{Place, applied_by}
 use Rattle.wire.specs.declared.Header.{Header}
@@ -27,7 +27,7 @@ use Rattle.jupiter.specs.Claims.{inserts}
 use Rattle.jupiter.proofs.Lists.{All}
 use Rattle.jupiter.proofs.Step.{DownMessage}
 use Rattle.model.specs.Limits.{max_inserts, max_edits, max_pending, max_items}
-use Rattle.model.specs.Questions.{Question, ask, asks, Report, no_report, Answer, answer, Sent, sent}
+use Rattle.model.specs.Questions.{Question, ask, asks, no_report, Answer, Sent, sent}
 use Rattle.model.specs.Cross.{priority, inserts_of}
 use Rattle.model.specs.Line.{Line, other, take_questions, line_report}
 use Rattle.model.specs.Client.{Client, sound_client, origin_here, edited, make_questions, edit_questions, edit_client, take_back_questions, take_back_client, client_message, send_client_questions, send_client, tell_client_questions, tell_client, client_taken, client_acked, client_edit_questions, client_takes_edit, client_ack_questions, client_takes_ack, client_takes, client_reads, take_client}
@@ -35,12 +35,11 @@ use Rattle.model.specs.Server.{Server, line_of, sound_server, server_message, se
 use Rattle.model.specs.Ranks.{rank_of}
 use Rattle.model.specs.Inverse.{is_nothing}
 use Rattle.model.specs.Edits.{edits}
-use Rattle.model.specs.Sheet.{Call, insert, delete, take_back, send, tell, receive, junk}
 use Rattle.model.specs.Log.{Log, header_of, wire_message, message_bytes, named_by, made_at, taken_at}
 use Rattle.model.specs.Numbers.{room_on, all_but, editing, undoing, sending, telling, next, taking, handing, number}
-use Rattle.model.specs.Run.{State, callable, are_bytes, unreadable, handed_number, number_of}
+use Rattle.model.specs.Run.{State, handed_number}
 use Rattle.model.specs.Ours.{End, ours}
-use Rattle.model.proofs.Tests.{Alike, alike, never, both, three, and_left, between_true, true_between}
+use Rattle.model.proofs.Tests.{Alike, alike, never, both, three, between_true, true_between}
 use Rattle.model.proofs.SoundLine.{Asked, yes_asked}
 use Rattle.model.proofs.SoundClient.{carry_questions}
 use Rattle.model.proofs.SoundServer.{last_questions}
@@ -48,7 +47,7 @@ use Rattle.model.proofs.Outcome.{refusal_is}
 use Rattle.model.proofs.Sim.{client_from, server_from, line_from, line_from_lem, Lined, MessageOk, Moment, Sim}
 use Rattle.model.proofs.Counts.{client_made, client_taken_lem, server_made, server_taken_lem}
 use Rattle.model.proofs.Rooms.{same_room}
-use Rattle.model.proofs.Calls.{client_message_lem, server_message_lem, unread, up_is, up_bytes, down_is, down_bytes}
+use Rattle.model.proofs.Calls.{client_message_lem, server_message_lem, up_is, up_bytes, down_is, down_bytes}
 use Rattle.model.proofs.Next.{up_4, down_asked, down_stands, up_asked, up_10}
 
 sent_is : (r : ℕ) (bytes lent : List ℕ) → (sent r bytes lent).refusal ≡ r

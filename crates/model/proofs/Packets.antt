@@ -1,22 +1,21 @@
 -- Packets: messages end to end, a packet taken message by message, and a packet in a stretch of a buffer.
 use mathlib.Core.Path.{◌≡◌, refl, ap, sym, ◌∙◌, subst}
 use mathlib.Core.Bool.{Bool, true, false, cond, ◌&&◌}
-use mathlib.Core.List.{List, [], ◌∷◌, ◌++◌, append_assoc, map}
-use Prim.Native.Nat.{ℕ, zero, suc, ◌+◌, ◌-◌, ◌≤◌, ◌<◌}
-use native.Mathlib.Numerals.{add-one}
+use mathlib.Core.List.{List, [], ◌∷◌, ◌++◌, append_assoc}
+use Prim.Native.Nat.{ℕ, zero, suc, ◌+◌, ◌-◌, ◌≤◌}
 use native.Mathlib.Nat.{le_refl}
 use native.Mathlib.Omega.{arith}
-use lib.Dec.{eqb, leb, ltb}
+use lib.Dec.{eqb, leb}
 use lib.ListN.{length, get_or, take, drop, length-append}
 use lib.Seq.{length-take-le, take-append_seam, drop-append_seam}
-use borrow.Author.Tests.{eqb-true, eqb-false, ne_eqb, le-leb, leb-true, leb-false}
+use borrow.Author.Tests.{ne_eqb, le-leb, leb-true}
 use Rattle.wire.specs.declared.Message.{Message}
 use Rattle.wire.specs.declared.Message.TheVariants as message
 use Rattle.wire.specs.Bytes.{bytes_of, size_of_kind}
 use Rattle.jupiter.proofs.Lists.{All}
 use Rattle.model.specs.Limits.{max_packet}
-use Rattle.model.specs.Questions.{Question, ask, asks, between, Report, no_report, Answer, Sent}
-use Rattle.model.specs.Packets.{joined, fitting, first_fits, put_from, packed, next_size, messages_in, known, counted, handed_over, unpacked}
+use Rattle.model.specs.Questions.{between, no_report, Answer}
+use Rattle.model.specs.Packets.{joined, fitting, put_from, next_size, messages_in, counted, handed_over, unpacked}
 use Rattle.model.specs.SheetOf.{answer_as}
 use Rattle.model.proofs.Tests.{and_left}
 

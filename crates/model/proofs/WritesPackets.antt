@@ -18,14 +18,14 @@ use Rattle.jupiter.proofs.Lists.{All}
 use Rattle.model.specs.Questions.{Question, ask, asks, between, Sent}
 use Rattle.model.specs.Packets.{joined, fitting, first_fits, put_from, packed, messages_in}
 use Rattle.model.specs.Line.{Line, numbers_from, pending_numbers}
-use Rattle.model.specs.Client.{Client, sound_client, client_message, pack_client}
+use Rattle.model.specs.Client.{sound_client, client_message, pack_client}
 use Rattle.model.specs.Server.{Server, line_of, sound_server, server_message, pack_server}
 use Rattle.model.specs.Edits.{Rule, edits_by, edits}
 use Rattle.model.specs.Sheet.{Call, pack}
 use Rattle.model.specs.Log.{Log, wire_message, message_bytes, edit_message, made_at, fitting_messages, pending_messages, packs, log, logged, refused_log}
-use Rattle.model.specs.Numbers.{owns, packing}
+use Rattle.model.specs.Numbers.{packing}
 use Rattle.model.specs.Run.{State, packed_into}
-use Rattle.model.specs.Ours.{End, client, server, ours}
+use Rattle.model.specs.Ours.{End, ours}
 use Rattle.model.proofs.Tests.{Alike, alike, yes_all, between_true}
 use Rattle.model.proofs.Packets.{Whole, whole_bytes, messages_in_lem, fitting_room, put_read}
 use Rattle.model.proofs.Sim.{client_from, server_from, line_from, line_from_lem, MessageOk, Moment, Sim}

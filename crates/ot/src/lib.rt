@@ -1,5 +1,6 @@
 // Operational transformation: the form of one edit after another.
 #![tactic(auto)]
+
 ghost use Rattle.std.specs.Prelude.{◌≡◌, ℕ, ◌<◌};
 ghost use Rattle.ot.specs.Form.{position_of, how, shifted, delete_after, moved_so};
 ghost use Rattle.ot.specs.Edit.{edit, fits};

@@ -3,7 +3,7 @@ use Rattle.std.specs.Prelude.{ℕ, zero, suc, ◌+◌, ◌≤◌, ◌≡◌, Boo
 use Rattle.limits.specs.Limits.{max_pending}
 use Rattle.ot.specs.declared.Form.{Form}
 use Rattle.ot.specs.Form.{moved}
-use Rattle.ot.specs.Edit.{Edit, edit, form_of}
+use Rattle.ot.specs.Edit.{edit}
 use Rattle.list.specs.Items.{padded}
 use Rattle.model.specs.Cross.{placed}
 use Rattle.pending.specs.declared.Crossed.{Crossed}

@@ -1,6 +1,7 @@
 // The pending edits of a line (01: its kept edits) as words that can be lent. A line has 64 slots, and a slot two words: its place,
 // position * 256 + priority, among the first 64 words, and the item that the edit brings among the last 64.
 #![tactic(auto)]
+
 ghost use Rattle.std.specs.Prelude.{◌≡◌, ◌++◌, ◌+◌, ◌≤◌, ◌<◌, length, get_or, set, take, drop, replicate};
 ghost use Rattle.limits.specs.Limits.{max_items, max_pending};
 ghost use Rattle.ot.specs.Form.{position_of};

@@ -1,5 +1,6 @@
 // The ranks of the lines, which say who stays in a tie: question 16, and the ranks as an end stores them.
 #![tactic(auto)]
+
 ghost use Rattle.std.specs.Prelude.{◌≡◌, ◌≤◌, length, get_or};
 ghost use Rattle.limits.specs.Limits.{max_lines};
 ghost use Rattle.model.specs.Ranks.{rank_of, each_once, ranking};

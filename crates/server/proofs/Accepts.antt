@@ -1,17 +1,17 @@
 -- What is written where a message is accepted is the one struct for the server that the model makes.
-use Prim.Native.Nat.{ℕ, zero, suc, ◌+◌, ◌-◌, ◌≤◌, ◌<◌}
+use Prim.Native.Nat.{ℕ, zero, suc, ◌-◌, ◌≤◌, ◌<◌}
 use native.Mathlib.Omega.{arith}
 use mathlib.Core.Path.{◌≡◌, refl, ap, sym, ◌∙◌, subst}
 use mathlib.Core.Bool.{Bool, true, false, cond}
 use mathlib.Core.List.{List, [], ◌∷◌, ◌++◌, map}
 use lib.Dec.{ltb, eqb}
-use lib.ListN.{length, get_or, set, take, drop, length-map, length-set, length-take, get_or-eq_default}
+use lib.ListN.{length, get_or, set, take, drop, length-map, length-set, get_or-eq_default}
 use lib.Seq.{get_or-set_same, get_or-set_other}
 use borrow.Author.Tests.{eqb-true, eqb-false, eq-eqb, ne_eqb, ltb-true, ltb-false, le-ltb}
 use Rattle.limits.specs.Limits.{max_items, max_lines, max_pending}
 use Rattle.ot.specs.Edit.{Edit, edit, applied, fits}
 use Rattle.list.specs.declared.Origin.{Origin}
-use Rattle.list.specs.Items.{padded, stored, Room}
+use Rattle.list.specs.Items.{padded, stored}
 use Rattle.list.specs.Places.{applied_by, items_of, origins_of, word_of, origin_at}
 use Rattle.list.specs.Seconds.{total_seconds, running_time}
 use Rattle.list.proofs.Pad.{pad_snoc}
@@ -31,7 +31,7 @@ use Rattle.line.specs.Taking.{line_then, edit_then, accepted}
 use Rattle.line.proofs.Accepting.{accepted_slots}
 use Rattle.line.proofs.Decisions.{then_edit}
 use Rattle.server.specs.declared.Counts.{Counts}
-use Rattle.server.specs.View.{size, slots_at, makers_at, counts_at, line_at, makers_of, server_of, view, store, Sound, SlotsWrote, MakersWrote, Applied}
+use Rattle.server.specs.View.{slots_at, makers_at, counts_at, line_at, makers_of, server_of, view, store, Sound, SlotsWrote, MakersWrote, Applied}
 use Rattle.server.specs.Decides.{place_of, inserts_then, Decided}
 use Rattle.server.specs.Taking.{KeptBy, makers_left, with_line, takes_it, keeps_it, server_then}
 use Rattle.server.proofs.Rows.{Row, makers_for, store_is}

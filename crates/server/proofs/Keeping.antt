@@ -1,5 +1,5 @@
 -- The loop by which the other lines keep an edit: its start, a turn, and a turn that leaves a line out.
-use Prim.Native.Nat.{ℕ, ◌+◌, ◌-◌, ◌≤◌, ◌<◌}
+use Prim.Native.Nat.{ℕ, ◌+◌, ◌≤◌, ◌<◌}
 use native.Mathlib.Omega.{arith}
 use mathlib.Core.Path.{◌≡◌, refl, ap, sym, ◌∙◌, subst}
 use mathlib.Core.Bool.{Bool, true, false, ◌&&◌, not, cond}
@@ -16,7 +16,7 @@ use Rattle.line.specs.declared.Line.{Line}
 use Rattle.line.specs.Line.{counts_of, Kept}
 use Rattle.line.specs.Keeping.{with_kept}
 use Rattle.server.specs.declared.Counts.{Counts}
-use Rattle.server.specs.View.{size, items_in, origins_in, slots_at, makers_at, counts_at, Sizes, Parts, SlotsWrote, MakersWrote}
+use Rattle.server.specs.View.{size, slots_at, makers_at, counts_at, SlotsWrote, MakersWrote}
 use Rattle.server.specs.Taking.{keeps, slots_kept, makers_kept, KeptBy}
 
 -- ---- which lines keep it

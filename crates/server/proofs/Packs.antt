@@ -4,7 +4,7 @@ use native.Mathlib.Omega.{arith}
 use mathlib.Core.Path.{◌≡◌, refl, ap, sym, ◌∙◌, subst}
 use mathlib.Core.Bool.{Bool, true, false, cond}
 use mathlib.Core.List.{List, [], ◌∷◌, map}
-use lib.ListN.{length, get_or}
+use lib.ListN.{get_or}
 use Rattle.limits.specs.Limits.{max_lines, max_pending}
 use Rattle.list.specs.Places.{origin_at}
 use Rattle.wire.specs.Bytes.{bytes_of}

@@ -1,5 +1,5 @@
 -- The struct line by line: what the one struct for a server holds of each line, and that a struct which holds it is that one.
-use Prim.Native.Nat.{ℕ, zero, suc, ◌+◌, ◌-◌, ◌*◌, ◌≤◌, ◌<◌}
+use Prim.Native.Nat.{ℕ, zero, suc, ◌+◌, ◌*◌, ◌≤◌, ◌<◌}
 use native.Mathlib.Omega.{arith}
 use mathlib.Core.Path.{◌≡◌, refl, ap, ap₂, sym, ◌∙◌}
 use mathlib.Core.List.{List, [], ◌∷◌, ◌++◌, map, append_assoc, append-nil}
@@ -20,10 +20,9 @@ use Rattle.ranks.proofs.Laws.{stored_length}
 use Rattle.pending.specs.Slots as pending
 use Rattle.pending.specs.Slots.{slots_of}
 use Rattle.pending.proofs.Slots.{slots_length}
-use Rattle.line.specs.declared.Line.{Line}
 use Rattle.line.specs.Line.{counts_of}
 use Rattle.server.specs.declared.Counts.{Counts}
-use Rattle.server.specs.View.{size, origins, makers, items_in, origins_in, slots_at, makers_at, counts_at, server_of, all_lines, slots_of_lines, all_makers, words_of_makers, counts, store, Sizes}
+use Rattle.server.specs.View.{size, origins, makers, items_in, origins_in, slots_at, makers_at, counts_at, server_of, all_lines, slots_of_lines, all_makers, words_of_makers, store, Sizes}
 
 -- ---- parts of one length, one after the other
 

@@ -1,5 +1,5 @@
 -- Opening by its parts: the questions as one number, the numbers of a new server, its words.
-use Rattle.std.specs.Prelude.{ℕ, Bool, ◌&&◌, cond, List, leb, length, replicate}
+use Rattle.std.specs.Prelude.{ℕ, ◌&&◌, cond, List, leb, replicate}
 use Rattle.limits.specs.Limits.{max_lines, max_initial, max_pending}
 use Rattle.list.specs.Items.{stored}
 use Rattle.list.specs.Places.{initial_places, origins_of}

@@ -1,10 +1,9 @@
 -- Question 2 by the numbers: what all lines in use took together, and one line in use.
-use Rattle.std.specs.Prelude.{ℕ, ◌+◌, ◌-◌, ◌≤◌, ◌≡◌, Bool, ◌&&◌, List, [], leb}
+use Rattle.std.specs.Prelude.{ℕ, ◌+◌, ◌≤◌, ◌≡◌, Bool, ◌&&◌, List, [], leb}
 use Rattle.limits.specs.Limits.{max_lines, max_items, max_initial}
 use Rattle.model.specs.Ranks.{rank_of}
 use Rattle.model.specs.Line as line
 use Rattle.model.specs.Server.{total}
-use Rattle.line.specs.declared.Line.{Line}
 use Rattle.server.specs.Right.{sound_used, sound_makers, sound_either}
 use Rattle.server.specs.declared.Counts.{Counts}
 use Rattle.server.specs.declared.Totals.{Totals}

@@ -1,5 +1,5 @@
 -- The server's end in numbers and words: the model's server that these are, and back; question 2 of them.
-use Rattle.std.specs.Prelude.{ℕ, zero, suc, ◌+◌, ◌-◌, ◌<◌, ◌≡◌, Bool, true, ◌&&◌, cond, List, [], ◌∷◌, ◌++◌, map, leb, eqb, length, get_or, take, drop}
+use Rattle.std.specs.Prelude.{ℕ, zero, suc, ◌-◌, ◌<◌, ◌≡◌, Bool, true, ◌&&◌, cond, List, [], ◌∷◌, ◌++◌, map, leb, eqb, length, get_or, take, drop}
 use Rattle.limits.specs.Limits.{max_lines, max_items, max_pending}
 use Rattle.ot.specs.declared.Form.{Form}
 use Rattle.ot.specs.Edit.{edit, size_after}

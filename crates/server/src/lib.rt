@@ -2,6 +2,7 @@
 // The server is its numbers and one array of words. The calls get the numbers by value and change lent words in place; the methods, which
 // take the server by value and hand it back, are thin: they lend its words.
 #![tactic(auto)]
+
 mod deciding;
 pub mod packets;
 mod parts;

@@ -1,6 +1,7 @@
 // A server and its clients, as the run program holds them: opening the clients, and what an order does to the ends. An end is its numbers
 // and its words. The clients stand side by side, client j's words from 1,152 * j on in one array, so that each call changes its end in place.
 #![tactic(auto)]
+
 ghost use Rattle.std.specs.Prelude.{◌≡◌, replicate};
 ghost use Rattle.limits.specs.Limits.{max_lines};
 ghost use Rattle.model.specs.Ranks.{line_ranks};

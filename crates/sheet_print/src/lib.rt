@@ -1,6 +1,7 @@
 // What the run program prints, as bytes, into a lent buffer. Each function takes the place of the next byte and answers the place after what it
 // wrote.
 #![tactic(auto)]
+
 ghost use Rattle.std.specs.Prelude.{◌≡◌, ◌+◌, ◌*◌, ◌^◌, ◌<◌, ◌≤◌, ◌∷◌};
 ghost use Rattle.sheet_print.specs.Sink.{sink, put as Sink·put, puts as Sink·puts};
 ghost use Rattle.sheet_print.specs.Lines.{replied, server_list, client_list, unknown as Lines·unknown};

@@ -1,5 +1,6 @@
 // The run program over a text: reads lines, makes the calls that they name on a server and its clients, and prints.
 #![tactic(auto)]
+
 ghost use Rattle.std.specs.Prelude.{◌≡◌, map, ◌≤◌, drop};
 ghost use Rattle.limits.specs.Limits.{max_lines};
 ghost use Rattle.client.specs.View.{view};

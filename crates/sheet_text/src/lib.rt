@@ -1,5 +1,6 @@
 // What the run program reads, as bytes: words, numbers and commands.
 #![tactic(auto)]
+
 ghost use Rattle.std.specs.Prelude.{◌≡◌, ◌<◌, ◌≤◌, length};
 ghost use Rattle.sheet_text.specs.Text.{before, words_of, same as Text·same};
 ghost use Rattle.sheet_print.specs.Decimal.{too_wide, with_digit, number_of};

@@ -1,6 +1,7 @@
 // For benchmarks alone: methods by value, each called again and again on the same end. The loops stand inside the library, so that what is
 // timed is the method with the copy of its end. Each function answers what one call of the method answers.
 #![tactic(auto)]
+
 ghost use Rattle.std.specs.Prelude.{◌≡◌};
 ghost use Rattle.client.specs.Answers as client;
 ghost use Rattle.server.specs.Answers as server;

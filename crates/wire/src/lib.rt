@@ -1,5 +1,6 @@
 // Messages between a client and the server. specs/Bytes.antt says what their bytes are.
 #![tactic(auto)]
+
 pub mod reading;
 pub mod writing;
 

@@ -1,5 +1,6 @@
 // A packet is messages end to end: how long it may be, and where each of them ends.
 #![tactic(auto)]
+
 ghost use Rattle.std.specs.Prelude.{◌≡◌, length};
 ghost use Rattle.limits.specs.Limits.{max_packet};
 ghost use Rattle.model.specs.Questions.{between};

@@ -1,10 +1,7 @@
-use Prim.Native.Nat.{◌-◌, ◌*◌, ◌≤◌}
 use native.Mathlib.Omega.{arith}
-use mathlib.Core.Path.{◌≡◌, refl}
-use lib.ListN.{length, length-set}
+use mathlib.Core.Path.{refl}
+use lib.ListN.{length-set}
 use Rattle.c_layout.proofs.Loops.{write_turn, write_end}
-use Rattle.c_layout.specs.Words.{bytes_of}
-use Rattle.list.proofs.Sweep.{swept}
 use Rattle.c_layout.proofs.encode.Goals as goal
 
 pub loop-i-init : goal.loop-i-init
@@ -23,12 +20,11 @@ pub bounds-bytes-first-in-loop-i-3 : goal.bounds-bytes-first-in-loop-i-3
 bounds-bytes-first-in-loop-i-3 c = simp length-set (omega (arith, c.loop-i.invariant.1))
 
 pub loop-i-preserved : goal.loop-i-preserved
-loop-i-preserved c =
-    (
-      omega arith,
-      simp length-set c.loop-i.invariant.1,
-      write_turn c.args.words.now c.args.bytes.now c.requires c.loop-i.i c.loop-i.bytes (omega arith) c.loop-i.invariant.2,
-    )
+loop-i-preserved c = (
+  omega arith,
+  simp length-set c.loop-i.invariant.1,
+  write_turn c.args.words.now c.args.bytes.now c.requires c.loop-i.i c.loop-i.bytes (omega arith) c.loop-i.invariant.2,
+)
 
 pub returns : goal.returns
 returns c =

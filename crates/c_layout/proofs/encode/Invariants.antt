@@ -1,9 +1,7 @@
 -- The invariants and measures of the loops.
 use Prim.Native.Nat.{◌-◌, ◌*◌, ◌≤◌}
-use native.Mathlib.Omega.{arith}
-use mathlib.Core.Path.{◌≡◌, refl}
-use lib.ListN.{length, length-set}
-use Rattle.c_layout.proofs.Loops.{write_turn, write_end}
+use mathlib.Core.Path.{◌≡◌}
+use lib.ListN.{length}
 use Rattle.c_layout.specs.Words.{bytes_of}
 use Rattle.list.proofs.Sweep.{swept}
 use Rattle.c_layout.proofs.encode.Given as goal

@@ -1,6 +1,4 @@
 -- `apply` meets its contract: the edit with its origin as the item on the origins, then the edit on the items (proofs/Written.antt).
-use mathlib.Core.Path.{◌≡◌}
-use lib.ListN.{length}
 use Rattle.line.proofs.Room.{room_form}
 use Rattle.client.proofs.Written.{applied_both}
 use borrow.Author.Rules.{rules}

@@ -1,7 +1,6 @@
 -- `list::apply` meets its contract: the part that changes, put back, is the edited list.
 use native.Mathlib.Omega.{arith}
-use Prim.Native.Nat.{ℕ, ◌+◌, ◌-◌, ◌≤◌}
-use mathlib.Core.List.{List}
+use Prim.Native.Nat.{◌+◌, ◌-◌, ◌≤◌}
 use lib.ListN.{length}
 use Rattle.list.proofs.Array.{room_delete, room_insert, part_some, part_deleted, part_inserted, edited_nothing, edited_delete, edited_insert}
 use Rattle.list.proofs.apply.Goals as goal

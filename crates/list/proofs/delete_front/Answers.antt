@@ -1,7 +1,6 @@
 -- `list::delete_front` meets its contract: each turn is a law of proofs/Sweep.antt.
-use Prim.Native.Nat.{◌-◌}
 use native.Mathlib.Omega.{arith}
-use Rattle.list.proofs.Sweep.{Falling, falling_start, falling_turn, falling_end}
+use Rattle.list.proofs.Sweep.{falling_start, falling_turn, falling_end}
 use Rattle.list.proofs.delete_front.Goals as goal
 
 pub loop-i-init : goal.loop-i-init

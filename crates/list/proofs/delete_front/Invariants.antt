@@ -1,7 +1,6 @@
 -- The invariants and measures of the loops.
 use Prim.Native.Nat.{◌-◌}
-use native.Mathlib.Omega.{arith}
-use Rattle.list.proofs.Sweep.{Falling, falling_start, falling_turn, falling_end}
+use Rattle.list.proofs.Sweep.{Falling}
 use Rattle.list.proofs.delete_front.Given as goal
 
 abbrev pub invariant-loop-i : goal.invariant-loop-i

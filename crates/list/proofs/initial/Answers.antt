@@ -1,10 +1,10 @@
 -- `list::initial` meets its contract: each turn is a law of proofs/Items.antt.
-use Prim.Native.Nat.{◌-◌, ◌<◌}
+use Prim.Native.Nat.{◌<◌}
 use native.Mathlib.Omega.{arith}
 use lib.ListN.{length}
 use Rattle.limits.specs.Limits.{max_initial}
 use Rattle.list.specs.Items.{capacity}
-use Rattle.list.proofs.Items.{Filling, filling_start, filling_turn, filling_stop, going, done}
+use Rattle.list.proofs.Items.{filling_start, filling_turn, filling_stop, going, done}
 use Rattle.list.proofs.initial.Goals as goal
 use Rattle.list.proofs.initial.Goals.{In-loop-i}
 

@@ -1,10 +1,8 @@
 -- The invariants and measures of the loops.
-use Prim.Native.Nat.{◌-◌, ◌<◌}
-use native.Mathlib.Omega.{arith}
-use lib.ListN.{length}
+use Prim.Native.Nat.{◌-◌}
 use Rattle.limits.specs.Limits.{max_initial}
 use Rattle.list.specs.Items.{capacity}
-use Rattle.list.proofs.Items.{Filling, filling_start, filling_turn, filling_stop, going, done}
+use Rattle.list.proofs.Items.{Filling}
 use Rattle.list.proofs.initial.Given as goal
 
 abbrev pub invariant-loop-i : goal.invariant-loop-i

@@ -1,9 +1,7 @@
 -- `list::initial_origins` meets its contract: each turn is a law of proofs/Places.antt.
-use Prim.Native.Nat.{◌-◌}
 use native.Mathlib.Omega.{arith}
-use Rattle.limits.specs.Limits.{max_initial}
 use Rattle.list.specs.Items.{capacity}
-use Rattle.list.proofs.Places.{Numbering, numbering_start, numbering_turn, numbering_end}
+use Rattle.list.proofs.Places.{numbering_start, numbering_turn, numbering_end}
 use Rattle.list.proofs.initial_origins.Goals as goal
 
 pub loop-i-init : goal.loop-i-init

@@ -1,9 +1,8 @@
 -- The invariants and measures of the loops.
 use Prim.Native.Nat.{◌-◌}
-use native.Mathlib.Omega.{arith}
 use Rattle.limits.specs.Limits.{max_initial}
 use Rattle.list.specs.Items.{capacity}
-use Rattle.list.proofs.Places.{Numbering, numbering_start, numbering_turn, numbering_end}
+use Rattle.list.proofs.Places.{Numbering}
 use Rattle.list.proofs.initial_origins.Given as goal
 
 abbrev pub invariant-loop-i : goal.invariant-loop-i

@@ -1,7 +1,7 @@
 -- `list::insert_front` meets its contract: each turn is a law of proofs/Sweep.antt.
 use Prim.Native.Nat.{◌-◌}
 use native.Mathlib.Omega.{arith}
-use Rattle.list.proofs.Sweep.{Rising, rising_start, rising_turn, rising_end}
+use Rattle.list.proofs.Sweep.{rising_start, rising_turn, rising_end}
 use Rattle.list.proofs.insert_front.Goals as goal
 
 pub loop-i-init : goal.loop-i-init

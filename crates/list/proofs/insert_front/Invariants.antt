@@ -1,7 +1,5 @@
 -- The invariants and measures of the loops.
-use Prim.Native.Nat.{◌-◌}
-use native.Mathlib.Omega.{arith}
-use Rattle.list.proofs.Sweep.{Rising, rising_start, rising_turn, rising_end}
+use Rattle.list.proofs.Sweep.{Rising}
 use Rattle.list.proofs.insert_front.Given as goal
 
 abbrev pub invariant-loop-i : goal.invariant-loop-i

@@ -1,8 +1,7 @@
 -- `list::total` meets its contract: what is added so far, with what is still to be added, is the total.
 use native.Mathlib.Omega.{arith}
-use Prim.Native.Nat.{ℕ, ◌+◌, ◌-◌, ◌<◌}
+use Prim.Native.Nat.{◌+◌, ◌<◌}
 use mathlib.Core.Path.{◌≡◌}
-use mathlib.Core.List.{List}
 use lib.ListN.{length, get_or, take, drop}
 use Rattle.list.specs.Seconds.{seconds_of, total_seconds}
 use Rattle.list.proofs.Items.{going, done}

@@ -1,12 +1,8 @@
 -- The invariants and measures of the loops.
-use native.Mathlib.Omega.{arith}
-use Prim.Native.Nat.{ℕ, ◌+◌, ◌-◌, ◌<◌}
+use Prim.Native.Nat.{◌+◌, ◌-◌}
 use mathlib.Core.Path.{◌≡◌}
-use mathlib.Core.List.{List}
-use lib.ListN.{length, get_or, take, drop}
-use Rattle.list.specs.Seconds.{seconds_of, total_seconds}
-use Rattle.list.proofs.Items.{going, done}
-use Rattle.list.proofs.Seconds.{total_part_few, total_part_turn, total_end}
+use lib.ListN.{take, drop}
+use Rattle.list.specs.Seconds.{total_seconds}
 use Rattle.list.proofs.total.Given as goal
 
 abbrev pub invariant-loop-i : goal.invariant-loop-i

@@ -1,8 +1,7 @@
 -- `list::total_after` meets its contract: by the form of the edit.
 use native.Mathlib.Omega.{arith}
-use Prim.Native.Nat.{ℕ, ◌+◌, ◌-◌, ◌≤◌}
+use Prim.Native.Nat.{◌+◌, ◌-◌, ◌≤◌}
 use mathlib.Core.Path.{◌≡◌}
-use mathlib.Core.List.{List}
 use lib.ListN.{length}
 use Rattle.ot.specs.declared.Form.{Form}
 use Rattle.ot.specs.Edit.{edit, applied}

@@ -1,11 +1,7 @@
 -- `list::zero_from` meets its contract: what is gathered, with what is still to be looked at, is the answer.
-use Prim.Native.Nat.{◌-◌}
 use native.Mathlib.Omega.{arith}
-use mathlib.Core.Path.{◌≡◌, refl, ◌∙◌}
-use mathlib.Core.Bool.{◌&&◌}
+use mathlib.Core.Path.{◌∙◌}
 use lib.Dec.{eqb}
-use lib.ListN.{length, drop}
-use Rattle.list.specs.Items.{all_zero}
 use Rattle.list.proofs.Items.{zero_turn, zero_end}
 use Rattle.list.proofs.zero_from.Goals as goal
 

@@ -1,12 +1,10 @@
 -- The invariants and measures of the loops.
 use Prim.Native.Nat.{◌-◌}
-use native.Mathlib.Omega.{arith}
-use mathlib.Core.Path.{◌≡◌, refl, ◌∙◌}
+use mathlib.Core.Path.{◌≡◌}
 use mathlib.Core.Bool.{◌&&◌}
 use lib.Dec.{eqb}
 use lib.ListN.{length, drop}
 use Rattle.list.specs.Items.{all_zero}
-use Rattle.list.proofs.Items.{zero_turn, zero_end}
 use Rattle.list.proofs.zero_from.Given as goal
 
 abbrev pub invariant-loop-i : goal.invariant-loop-i

@@ -1,5 +1,4 @@
 -- `ot::fit` meets its contract.
-use mathlib.Core.Path.{refl}
 use Rattle.ot.specs.Edit.{fits}
 use Rattle.ot.proofs.fit.Goals as goal
 

@@ -1,11 +1,11 @@
 -- `pending::cross` meets its contract: each turn is a law of proofs/Crossing.antt.
-use Prim.Native.Nat.{◌-◌, ◌+◌, ◌≤◌}
+use Prim.Native.Nat.{◌+◌, ◌≤◌}
 use native.Mathlib.Omega.{arith}
 use mathlib.Core.Path.{ap}
 use Rattle.limits.specs.Limits.{max_pending}
 use Rattle.ot.specs.Form.{position_of}
 use Rattle.pending.specs.Crossing.{Ready}
-use Rattle.pending.proofs.Crossing.{Crossing, crossing_start, pending_position, current_position, crossing_turn, crossing_answer, crossing_places}
+use Rattle.pending.proofs.Crossing.{crossing_start, pending_position, current_position, crossing_turn, crossing_answer, crossing_places}
 use Rattle.pending.proofs.cross.Goals as goal
 use Rattle.pending.proofs.cross.Goals.{At-loop-passed}
 

@@ -1,11 +1,6 @@
 -- The invariants and measures of the loops.
-use Prim.Native.Nat.{◌-◌, ◌+◌, ◌≤◌}
-use native.Mathlib.Omega.{arith}
-use mathlib.Core.Path.{ap}
-use Rattle.limits.specs.Limits.{max_pending}
-use Rattle.ot.specs.Form.{position_of}
-use Rattle.pending.specs.Crossing.{Ready}
-use Rattle.pending.proofs.Crossing.{Crossing, crossing_start, pending_position, current_position, crossing_turn, crossing_answer, crossing_places}
+use Prim.Native.Nat.{◌-◌}
+use Rattle.pending.proofs.Crossing.{Crossing}
 use Rattle.pending.proofs.cross.Given as goal
 
 abbrev pub invariant-loop-passed : goal.invariant-loop-passed

@@ -1,7 +1,5 @@
 -- `pending::moved_down` meets its contract: each turn is a law of proofs/Writing.antt.
-use Prim.Native.Nat.{◌-◌}
-use native.Mathlib.Omega.{arith}
-use Rattle.pending.proofs.Writing.{Moving, moving_start, moving_turn, moving_end}
+use Rattle.pending.proofs.Writing.{moving_start, moving_turn, moving_end}
 use Rattle.pending.proofs.moved_down.Goals as goal
 
 pub loop-i-init : goal.loop-i-init

@@ -1,7 +1,6 @@
 -- The invariants and measures of the loops.
 use Prim.Native.Nat.{◌-◌}
-use native.Mathlib.Omega.{arith}
-use Rattle.pending.proofs.Writing.{Moving, moving_start, moving_turn, moving_end}
+use Rattle.pending.proofs.Writing.{Moving}
 use Rattle.pending.proofs.moved_down.Given as goal
 
 abbrev pub invariant-loop-i : goal.invariant-loop-i

@@ -1,9 +1,6 @@
 -- `pending::put` meets its contract: each turn is a law of proofs/Writing.antt.
-use Prim.Native.Nat.{◌-◌}
-use native.Mathlib.Omega.{arith}
-use mathlib.Core.Path.{◌≡◌, refl, ◌∙◌}
-use lib.ListN.{length, get_or, length-set}
-use Rattle.list.proofs.Sweep.{swept}
+use mathlib.Core.Path.{refl, ◌∙◌}
+use lib.ListN.{get_or, length-set}
 use Rattle.pending.proofs.Writing.{put_turn, put_end}
 use Rattle.pending.proofs.put.Goals as goal
 

@@ -1,10 +1,8 @@
 -- The invariants and measures of the loops.
 use Prim.Native.Nat.{◌-◌}
-use native.Mathlib.Omega.{arith}
-use mathlib.Core.Path.{◌≡◌, refl, ◌∙◌}
-use lib.ListN.{length, get_or, length-set}
+use mathlib.Core.Path.{◌≡◌}
+use lib.ListN.{length}
 use Rattle.list.proofs.Sweep.{swept}
-use Rattle.pending.proofs.Writing.{put_turn, put_end}
 use Rattle.pending.proofs.put.Given as goal
 
 abbrev pub invariant-loop-i : goal.invariant-loop-i

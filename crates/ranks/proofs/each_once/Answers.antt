@@ -2,7 +2,7 @@
 use Prim.Native.Nat.{◌-◌, ◌<◌}
 use native.Mathlib.Omega.{arith}
 use lib.ListN.{get_or}
-use Rattle.ranks.proofs.Scan.{Scan, scan_start, scan_turn, scan_end}
+use Rattle.ranks.proofs.Scan.{scan_start, scan_turn, scan_end}
 use Rattle.ranks.proofs.each_once.Goals as goal
 use Rattle.ranks.proofs.each_once.Goals.{After-shared_slice_known-1}
 

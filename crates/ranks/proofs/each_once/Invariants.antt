@@ -1,8 +1,5 @@
 -- The invariants and measures of the loops.
-use Prim.Native.Nat.{◌-◌, ◌<◌}
-use native.Mathlib.Omega.{arith}
-use lib.ListN.{get_or}
-use Rattle.ranks.proofs.Scan.{Scan, scan_start, scan_turn, scan_end}
+use Rattle.ranks.proofs.Scan.{Scan}
 use Rattle.ranks.proofs.each_once.Given as goal
 
 abbrev pub invariant-loop-i : goal.invariant-loop-i

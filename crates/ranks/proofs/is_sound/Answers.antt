@@ -1,13 +1,9 @@
 -- `ranks::is_sound` meets its contract.
-use Prim.Native.Nat.{◌-◌, ◌≤◌}
+use Prim.Native.Nat.{◌≤◌}
 use native.Mathlib.Omega.{arith}
-use mathlib.Core.Path.{◌≡◌, refl, sym, ◌∙◌}
-use mathlib.Core.Bool.{◌&&◌}
-use lib.Dec.{eqb}
-use lib.ListN.{length, drop}
+use mathlib.Core.Path.{sym, ◌∙◌}
+use lib.ListN.{length}
 use lib.Seq.{length-take-le}
-use Rattle.limits.specs.Limits.{max_lines}
-use Rattle.list.specs.Items.{all_zero}
 use Rattle.list.proofs.Items.{zero_turn}
 use Rattle.ranks.proofs.Scan.{sound_end_lem}
 use Rattle.ranks.proofs.is_sound.Goals as goal

@@ -1,9 +1,8 @@
 -- `ranks::store` meets its contract: each turn is a law of list's proofs/Items.antt.
-use Prim.Native.Nat.{◌-◌}
 use native.Mathlib.Omega.{arith}
 use mathlib.Core.Path.{refl}
 use Rattle.limits.specs.Limits.{max_lines}
-use Rattle.list.proofs.Items.{Filling, filling_start, filling_turn, filling_end}
+use Rattle.list.proofs.Items.{filling_start, filling_turn, filling_end}
 use Rattle.ranks.proofs.store.Goals as goal
 
 pub loop-i-init : goal.loop-i-init

@@ -1,9 +1,7 @@
 -- The invariants and measures of the loops.
 use Prim.Native.Nat.{◌-◌}
-use native.Mathlib.Omega.{arith}
-use mathlib.Core.Path.{refl}
 use Rattle.limits.specs.Limits.{max_lines}
-use Rattle.list.proofs.Items.{Filling, filling_start, filling_turn, filling_end}
+use Rattle.list.proofs.Items.{Filling}
 use Rattle.ranks.proofs.store.Given as goal
 
 abbrev pub invariant-loop-i : goal.invariant-loop-i

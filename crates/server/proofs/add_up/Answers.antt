@@ -1,7 +1,5 @@
 use native.Mathlib.Omega.{arith}
-use Prim.Native.Nat.{◌-◌}
-use Rattle.server.specs.declared.Counts.{Counts}
-use Rattle.server.proofs.Lines.{Adding, adding_start, adding_turn, adding_end}
+use Rattle.server.proofs.Lines.{adding_start, adding_turn, adding_end}
 use Rattle.server.proofs.add_up.Goals as goal
 
 pub loop-i-init : goal.loop-i-init

@@ -1,8 +1,6 @@
 -- The invariants and measures of the loops.
-use native.Mathlib.Omega.{arith}
 use Prim.Native.Nat.{◌-◌}
-use Rattle.server.specs.declared.Counts.{Counts}
-use Rattle.server.proofs.Lines.{Adding, adding_start, adding_turn, adding_end}
+use Rattle.server.proofs.Lines.{Adding}
 use Rattle.server.proofs.add_up.Given as goal
 
 abbrev pub invariant-loop-i : goal.invariant-loop-i

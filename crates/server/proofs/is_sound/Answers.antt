@@ -25,16 +25,16 @@ lines_sound-requires c = (few (goal.at.lines_sound-requires c).Then-in_limits, c
 pub returns-then-in_limits : goal.returns-then-in_limits
 returns-then-in_limits c =
     let told =
-        let a = c.args in
-        let z = c.requires in
-        both_told a.k a.words.now z _
-        (sound_yes a.k a.words.now z c.add_up-all.result.inserts c.add_up-all.result.taken c.ranks_sound-right.result c.list_sound.result c.lines_sound.result
-        (inside (goal.at.returns-then-in_limits c).Then-in_limits) c.add_up-all.ensures.inserts c.add_up-all.ensures.taken c.ranks_sound-right.ensures c.list_sound.ensures c.lines_sound.ensures)
+    let a = c.args in
+    let z = c.requires in
+    both_told a.k a.words.now z _
+    (sound_yes a.k a.words.now z c.add_up-all.result.inserts c.add_up-all.result.taken c.ranks_sound-right.result c.list_sound.result c.lines_sound.result
+    (inside (goal.at.returns-then-in_limits c).Then-in_limits) c.add_up-all.ensures.inserts c.add_up-all.ensures.taken c.ranks_sound-right.ensures c.list_sound.ensures c.lines_sound.ensures)
     in record { answer = told.0; facts = told.1 }
 
 pub returns : goal.returns
 returns c =
     let told =
-        both_told c.args.k c.args.words.now c.requires _
-        (sound_no c.args.k c.args.words.now c.requires (sym c.in_limits.ensures ∙ c.if-in_limits.false))
+    both_told c.args.k c.args.words.now c.requires _
+    (sound_no c.args.k c.args.words.now c.requires (sym c.in_limits.ensures ∙ c.if-in_limits.false))
     in record { answer = told.0; facts = told.1 }

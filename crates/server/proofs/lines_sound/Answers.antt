@@ -1,9 +1,6 @@
 use native.Mathlib.Omega.{arith}
-use Prim.Native.Nat.{ℕ, ◌-◌, ◌≤◌}
 use mathlib.Core.Path.{◌≡◌, refl, ◌∙◌}
-use mathlib.Core.Bool.{Bool, ◌&&◌}
 use Rattle.limits.specs.Limits.{max_lines}
-use Rattle.pending.specs.Slots.{all_from}
 use Rattle.line.proofs.All.{all_start, all_turn, all_end}
 use Rattle.server.specs.View.{counts_at}
 use Rattle.server.specs.Totals.{line_sound_at}

@@ -1,14 +1,10 @@
 -- The invariants and measures of the loops.
-use native.Mathlib.Omega.{arith}
-use Prim.Native.Nat.{ℕ, ◌-◌, ◌≤◌}
-use mathlib.Core.Path.{◌≡◌, refl, ◌∙◌}
-use mathlib.Core.Bool.{Bool, ◌&&◌}
+use Prim.Native.Nat.{◌-◌, ◌≤◌}
+use mathlib.Core.Path.{◌≡◌}
+use mathlib.Core.Bool.{◌&&◌}
 use Rattle.limits.specs.Limits.{max_lines}
 use Rattle.pending.specs.Slots.{all_from}
-use Rattle.line.proofs.All.{all_start, all_turn, all_end}
-use Rattle.server.specs.View.{counts_at}
 use Rattle.server.specs.Totals.{line_sound_at}
-use Rattle.server.proofs.Lines.{line_answers}
 use Rattle.server.proofs.lines_sound.Given as goal
 
 -- what the loop has found, with the lines that it has still to look at, is the answer

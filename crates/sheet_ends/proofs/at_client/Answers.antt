@@ -1,7 +1,4 @@
 -- `at_client` meets its contract: each verb is one call (proofs/Turning.antt).
-use mathlib.Core.List.{List}
-use Prim.Native.Nat.{ℕ}
-use Rattle.client.specs.declared.Client.{Client}
 use Rattle.client.specs.View.{client_of}
 use Rattle.sheet_ends.proofs.Turning.{changed_insert, changed_delete, changed_take}
 use Rattle.sheet_ends.proofs.at_client.Goals as goal

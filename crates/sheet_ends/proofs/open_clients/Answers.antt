@@ -1,12 +1,8 @@
 -- `open_clients` meets its contract: each turn opens one client in its part of the words (proofs/Opened.antt).
-use Prim.Native.Nat.{ℕ, ◌-◌}
-use mathlib.Core.Path.{refl, sym, ap, ◌∙◌}
+use mathlib.Core.Path.{refl, ◌∙◌}
 use native.Mathlib.Omega.{arith}
-use lib.ListN.{length, length-replicate}
-use Rattle.limits.specs.Limits.{max_lines}
-use Rattle.sheet_ends.specs.Ends.{all_size}
 use Rattle.sheet_ends.proofs.Places.{lent_is, lent_length, lent_wrote}
-use Rattle.sheet_ends.proofs.Opened.{Opening, opening_start, opening_turn, opening_end}
+use Rattle.sheet_ends.proofs.Opened.{opening_start, opening_turn, opening_end}
 use Rattle.sheet_ends.proofs.open_clients.Goals as goal
 
 pub loop-i-init : goal.loop-i-init

@@ -1,10 +1,6 @@
 -- `sent` meets its contract: each verb is one call, or none (proofs/Turning.antt).
 use mathlib.Core.Path.{refl}
-use mathlib.Core.List.{List}
-use Prim.Native.Nat.{ℕ}
-use Rattle.client.specs.declared.Client.{Client}
 use Rattle.client.specs.View.{client_of}
-use Rattle.server.specs.declared.Server.{Server}
 use Rattle.server.specs.View.{server_of}
 use Rattle.sheet_ends.proofs.Turning.{sent_up, sent_ack_lem, sent_down, sent_told, sent_none}
 use Rattle.sheet_ends.proofs.sent.Goals as goal

@@ -1,9 +1,5 @@
-use Prim.Native.Nat.{◌-◌, ◌≤◌}
-use mathlib.Core.Path.{◌≡◌, refl, ◌∙◌}
+use mathlib.Core.Path.{refl, ◌∙◌}
 use native.Mathlib.Omega.{arith}
-use lib.ListN.{length, drop}
-use Rattle.sheet_print.specs.Sink.{sink, puts}
-use Rattle.sheet_print.specs.Decimal.{listed}
 use Rattle.sheet_print.proofs.Numbers.{listed_turn, listed_end}
 use Rattle.sheet_print.proofs.items.Goals as goal
 

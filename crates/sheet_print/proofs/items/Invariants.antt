@@ -1,11 +1,9 @@
 -- The invariants and measures of the loops.
 use Prim.Native.Nat.{◌-◌, ◌≤◌}
-use mathlib.Core.Path.{◌≡◌, refl, ◌∙◌}
-use native.Mathlib.Omega.{arith}
+use mathlib.Core.Path.{◌≡◌}
 use lib.ListN.{length, drop}
 use Rattle.sheet_print.specs.Sink.{sink, puts}
 use Rattle.sheet_print.specs.Decimal.{listed}
-use Rattle.sheet_print.proofs.Numbers.{listed_turn, listed_end}
 use Rattle.sheet_print.proofs.items.Given as goal
 
 abbrev pub invariant-loop-i : goal.invariant-loop-i

@@ -1,10 +1,6 @@
-use Prim.Native.Nat.{◌-◌, ◌≤◌}
-use mathlib.Core.Path.{◌≡◌, refl, ◌∙◌}
+use mathlib.Core.Path.{refl, ◌∙◌}
 use native.Mathlib.Omega.{arith}
-use lib.ListN.{length}
-use Rattle.sheet_print.specs.Sink.{sink, puts}
-use Rattle.sheet_print.specs.Decimal.{digits}
-use Rattle.sheet_print.proofs.Places.{Coming, coming_turn, coming_less, coming_at}
+use Rattle.sheet_print.proofs.Places.{coming_turn, coming_less, coming_at}
 use Rattle.sheet_print.proofs.put_digits.Goals as goal
 
 pub loop-k-init : goal.loop-k-init

@@ -1,11 +1,10 @@
 -- The invariants and measures of the loops.
-use Prim.Native.Nat.{◌-◌, ◌≤◌}
-use mathlib.Core.Path.{◌≡◌, refl, ◌∙◌}
-use native.Mathlib.Omega.{arith}
+use Prim.Native.Nat.{◌≤◌}
+use mathlib.Core.Path.{◌≡◌}
 use lib.ListN.{length}
 use Rattle.sheet_print.specs.Sink.{sink, puts}
 use Rattle.sheet_print.specs.Decimal.{digits}
-use Rattle.sheet_print.proofs.Places.{Coming, coming_turn, coming_less, coming_at}
+use Rattle.sheet_print.proofs.Places.{Coming}
 use Rattle.sheet_print.proofs.put_digits.Given as goal
 
 abbrev pub invariant-loop-k : goal.invariant-loop-k

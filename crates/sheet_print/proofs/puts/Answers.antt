@@ -1,8 +1,5 @@
-use Prim.Native.Nat.{◌-◌, ◌≤◌}
-use mathlib.Core.Path.{◌≡◌, refl, sym, ◌∙◌}
+use mathlib.Core.Path.{refl, sym, ◌∙◌}
 use native.Mathlib.Omega.{arith}
-use lib.ListN.{length, drop}
-use Rattle.sheet_print.specs.Sink.{sink, puts}
 use Rattle.sheet_print.proofs.Sinks.{turn, puts_end}
 use Rattle.sheet_print.proofs.puts.Goals as goal
 

@@ -1,10 +1,8 @@
 -- The invariants and measures of the loops.
 use Prim.Native.Nat.{◌-◌, ◌≤◌}
-use mathlib.Core.Path.{◌≡◌, refl, sym, ◌∙◌}
-use native.Mathlib.Omega.{arith}
+use mathlib.Core.Path.{◌≡◌}
 use lib.ListN.{length, drop}
 use Rattle.sheet_print.specs.Sink.{sink, puts}
-use Rattle.sheet_print.proofs.Sinks.{turn, puts_end}
 use Rattle.sheet_print.proofs.puts.Given as goal
 
 abbrev pub invariant-loop-i : goal.invariant-loop-i

@@ -51,12 +51,11 @@ pub loop-i-smaller : goal.loop-i-smaller
 loop-i-smaller c = omega (arith, c.loop-i-test.true)
 
 pub loop-i-preserved : goal.loop-i-preserved
-loop-i-preserved c =
-    (
-      omega (arith, c.loop-i-test.true),
-      c.client_list-to.auto.out ∙ c.loop-i.invariant.1,
-      lists_next c.args.clients c.args.own.now c.loop-i.i c.args.n c.loop-i-test.true (short (goal.at.loop-i-preserved c).In-loop-i) (ends (goal.at.loop-i-preserved c).In-loop-i) _ _ refl refl _ _ _ c.client_list-to.ensures c.loop-i.invariant.2,
-    )
+loop-i-preserved c = (
+  omega (arith, c.loop-i-test.true),
+  c.client_list-to.auto.out ∙ c.loop-i.invariant.1,
+  lists_next c.args.clients c.args.own.now c.loop-i.i c.args.n c.loop-i-test.true (short (goal.at.loop-i-preserved c).In-loop-i) (ends (goal.at.loop-i-preserved c).In-loop-i) _ _ refl refl _ _ _ c.client_list-to.ensures c.loop-i.invariant.2,
+)
 
 pub returns : goal.returns
 returns c =

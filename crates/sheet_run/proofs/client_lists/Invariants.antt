@@ -1,13 +1,9 @@
 -- The invariants and measures of the loops.
-use Prim.Native.Nat.{ℕ, ◌+◌, ◌-◌, ◌*◌, ◌<◌, ◌≤◌}
-use mathlib.Core.Path.{◌≡◌, refl, ap, sym, ◌∙◌}
-use native.Mathlib.Omega.{arith}
-use lib.ListN.{length, get_or}
-use Rattle.limits.specs.Limits.{max_items}
-use Rattle.client.specs.View.{size}
+use Prim.Native.Nat.{◌-◌, ◌≤◌}
+use mathlib.Core.Path.{◌≡◌}
+use lib.ListN.{length}
 use Rattle.sheet_print.specs.Sink.{sink, puts}
-use Rattle.sheet_ends.specs.Ends.{no_counts}
-use Rattle.sheet_run.proofs.Showing.{lists_from, lists_next, lists_none}
+use Rattle.sheet_run.proofs.Showing.{lists_from}
 use Rattle.sheet_run.proofs.client_lists.Given as goal
 
 abbrev pub invariant-loop-i : goal.invariant-loop-i

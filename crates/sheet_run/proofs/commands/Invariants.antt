@@ -1,14 +1,12 @@
 -- The invariants and measures of the loops.
 use Prim.Native.Nat.{◌-◌}
-use mathlib.Core.Path.{◌≡◌, refl, sym, ◌∙◌}
-use native.Mathlib.Omega.{arith}
+use mathlib.Core.Path.{◌≡◌}
 use lib.ListN.{length, drop}
 use Rattle.sheet_print.specs.Sink.{sink, puts}
 use Rattle.sheet_text.specs.Text.{lines_of}
 use Rattle.sheet_ends.specs.Ends.{ends_of, view_ends}
-use Rattle.sheet_ends.proofs.Wholes.{server_sizes, held_sizes}
 use Rattle.sheet_run.specs.Output.{ran}
-use Rattle.sheet_run.proofs.Turns.{Running, words_size, order_placed, running_bad, running_turn, running_end}
+use Rattle.sheet_run.proofs.Turns.{Running}
 use Rattle.sheet_run.proofs.commands.Given as goal
 
 abbrev pub invariant-loop-i : goal.invariant-loop-i

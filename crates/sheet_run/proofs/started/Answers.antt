@@ -1,12 +1,11 @@
 -- `started` meets its contract: a first line that fails, an opening that is refused, or the lines after it (proofs/Opened.antt).
 use Prim.Native.Nat.{ℕ, ◌≤◌}
 use mathlib.Core.Path.{◌≡◌, ap, sym, ◌∙◌}
-use mathlib.Core.List.{List}
 use native.Mathlib.Omega.{arith}
 use lib.ListN.{length, take, drop, length-replicate}
 use lib.Seq.{length-take-le}
 use Rattle.limits.specs.Limits.{max_lines}
-use Rattle.sheet_print.specs.Sink.{Sink, sink}
+use Rattle.sheet_print.specs.Sink.{sink}
 use Rattle.sheet_text.specs.Text.{lines_of}
 use Rattle.sheet_ends.specs.Ends.{all_size}
 use Rattle.sheet_run.proofs.Opened.{opened_held, started_on, started_off}

@@ -1,8 +1,4 @@
-use Prim.Native.Nat.{◌+◌, ◌-◌, ◌≤◌}
-use mathlib.Core.Path.{◌≡◌}
 use native.Mathlib.Omega.{arith}
-use lib.ListN.{length, drop}
-use Rattle.sheet_text.specs.Text.{before}
 use Rattle.sheet_text.proofs.Texts.{before_here, before_on, before_end}
 use Rattle.sheet_text.proofs.end.Goals as goal
 

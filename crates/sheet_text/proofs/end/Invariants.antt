@@ -1,10 +1,8 @@
 -- The invariants and measures of the loops.
 use Prim.Native.Nat.{◌+◌, ◌-◌, ◌≤◌}
 use mathlib.Core.Path.{◌≡◌}
-use native.Mathlib.Omega.{arith}
 use lib.ListN.{length, drop}
 use Rattle.sheet_text.specs.Text.{before}
-use Rattle.sheet_text.proofs.Texts.{before_here, before_on, before_end}
 use Rattle.sheet_text.proofs.end.Given as goal
 
 abbrev pub invariant-loop-i : goal.invariant-loop-i

@@ -1,7 +1,5 @@
-use Prim.Native.Nat.{ℕ}
 use mathlib.Core.Path.{◌≡◌, sym, ◌∙◌}
 use mathlib.Core.Bool.{false}
-use mathlib.Core.List.{List}
 use Rattle.sheet_text.specs.Text.{same}
 use Rattle.sheet_text.specs.Command.{ins_word, del_word, up_word}
 use Rattle.sheet_text.specs.Order.{named}

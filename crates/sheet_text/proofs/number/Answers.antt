@@ -1,8 +1,6 @@
-use Prim.Native.Nat.{◌-◌, ◌≤◌}
-use mathlib.Core.Path.{◌≡◌, refl, sym, ◌∙◌}
+use mathlib.Core.Path.{refl, sym, ◌∙◌}
 use native.Mathlib.Omega.{arith}
-use lib.ListN.{length, drop, get_or}
-use Rattle.sheet_print.specs.Decimal.{too_wide, number_from}
+use lib.ListN.{get_or}
 use Rattle.sheet_print.proofs.Numbers.{number_none, number_some, number_on, number_end, with_digit_le}
 use Rattle.sheet_text.proofs.number.Goals as goal
 
@@ -14,8 +12,7 @@ loop-i-init c = (omega arith, omega arith, refl)
 
 pub loop-i-preserved : goal.loop-i-preserved
 loop-i-preserved c =
-    let e = c.with_digit-n.ensures in
-    (
+    let e = c.with_digit-n.ensures in (
       omega arith,
       omega (arith, with_digit_le c.loop-i.n (get_or c.args.w.now c.loop-i.i 0)),
       rw e (number_on _ _ _ c.loop-i-test.true ∙ c.loop-i.invariant.2),

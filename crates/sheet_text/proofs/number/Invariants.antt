@@ -1,10 +1,8 @@
 -- The invariants and measures of the loops.
 use Prim.Native.Nat.{◌-◌, ◌≤◌}
-use mathlib.Core.Path.{◌≡◌, refl, sym, ◌∙◌}
-use native.Mathlib.Omega.{arith}
-use lib.ListN.{length, drop, get_or}
+use mathlib.Core.Path.{◌≡◌}
+use lib.ListN.{length, drop}
 use Rattle.sheet_print.specs.Decimal.{too_wide, number_from}
-use Rattle.sheet_print.proofs.Numbers.{number_none, number_some, number_on, number_end, with_digit_le}
 use Rattle.sheet_text.proofs.number.Given as goal
 
 abbrev pub invariant-loop-i : goal.invariant-loop-i

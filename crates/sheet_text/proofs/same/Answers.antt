@@ -1,8 +1,5 @@
-use Prim.Native.Nat.{◌-◌, ◌≤◌}
-use mathlib.Core.Path.{◌≡◌, refl, sym, ◌∙◌}
+use mathlib.Core.Path.{refl, sym, ◌∙◌}
 use native.Mathlib.Omega.{arith}
-use lib.ListN.{length, drop}
-use Rattle.sheet_text.specs.Text.{same}
 use Rattle.sheet_text.proofs.Texts.{same_longer, same_differ, same_on, same_end}
 use Rattle.sheet_text.proofs.same.Goals as goal
 

@@ -1,10 +1,8 @@
 -- The invariants and measures of the loops.
 use Prim.Native.Nat.{◌-◌, ◌≤◌}
-use mathlib.Core.Path.{◌≡◌, refl, sym, ◌∙◌}
-use native.Mathlib.Omega.{arith}
+use mathlib.Core.Path.{◌≡◌}
 use lib.ListN.{length, drop}
 use Rattle.sheet_text.specs.Text.{same}
-use Rattle.sheet_text.proofs.Texts.{same_longer, same_differ, same_on, same_end}
 use Rattle.sheet_text.proofs.same.Given as goal
 
 abbrev pub invariant-loop-i : goal.invariant-loop-i

@@ -1,5 +1,4 @@
-use mathlib.Core.Path.{ap, sym}
-use lib.Seq.{length-take-le}
+use mathlib.Core.Path.{ap}
 use Rattle.client.specs.declared.Answer.{Answer}
 use Rattle.test_timing.specs.Opened.{client_with}
 use Rattle.test_timing.proofs.client_with.Goals as goal

@@ -1,10 +1,5 @@
 -- The invariants and measures of the loops.
 use Prim.Native.Nat.{◌-◌, ◌≤◌}
-use mathlib.Core.Path.{ap, ◌∙◌}
-use native.Mathlib.Omega.{arith}
-use Rattle.client.specs.declared.Client.{Client}
-use Rattle.client.specs.Answers.{inserted}
-use Rattle.test_timing.specs.Opened.{client_answered}
 use Rattle.test_timing.proofs.lub_time_client_insert.Given as goal
 
 abbrev pub invariant-loop-i : goal.invariant-loop-i

@@ -1,6 +1,4 @@
-use Prim.Native.Nat.{◌-◌, ◌≤◌}
 use mathlib.Core.Path.{ap, ◌∙◌}
-use native.Mathlib.Omega.{arith}
 use Rattle.client.specs.declared.Client.{Client}
 use Rattle.client.specs.Answers.{taken}
 use Rattle.test_timing.specs.Opened.{client_answered}

@@ -1,6 +1,4 @@
-use Prim.Native.Nat.{◌-◌, ◌≤◌}
 use mathlib.Core.Path.{ap, ◌∙◌}
-use native.Mathlib.Omega.{arith}
 use Rattle.server.specs.declared.Server.{Server}
 use Rattle.server.specs.Answers.{taken}
 use Rattle.test_timing.specs.Opened.{server_answered}

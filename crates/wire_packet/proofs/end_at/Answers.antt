@@ -1,8 +1,7 @@
 -- `wire_packet::end_at` meets its contract: each return is a law of proofs/Ends.antt.
-use Prim.Native.Nat.{ℕ, ◌<◌}
+use Prim.Native.Nat.{◌<◌}
 use native.Mathlib.Omega.{arith}
 use mathlib.Core.Path.{◌≡◌, sym, ◌∙◌}
-use mathlib.Core.List.{List}
 use lib.ListN.{length, get_or}
 use Rattle.wire.specs.declared.reading.Size.TheVariants.{Bytes}
 use Rattle.wire.specs.Size.{size_of}

@@ -1,10 +1,8 @@
 -- The invariants and measures of the loops.
 use Prim.Native.Nat.{◌-◌, ◌≤◌}
-use native.Mathlib.Omega.{arith}
-use mathlib.Core.Path.{◌≡◌, refl}
-use lib.ListN.{length, length-set}
+use mathlib.Core.Path.{◌≡◌}
+use lib.ListN.{length}
 use Rattle.list.proofs.Sweep.{swept}
-use Rattle.c_layout.proofs.Ranked.{copy_turn, copy_end}
 use Rattle.c_layout.proofs.ranks.copy.Given as goal
 
 abbrev pub invariant-loop-i : goal.invariant-loop-i

@@ -1,9 +1,7 @@
-use Prim.Native.Nat.{◌-◌}
 use native.Mathlib.Omega.{arith}
 use mathlib.Core.Path.{refl}
-use Rattle.limits.specs.Limits.{max_lines}
 use Rattle.c_server.proofs.Ends.{counts_read}
-use Rattle.c_server.proofs.Loops.{Reading, reading_start, reading_turn, reading_end}
+use Rattle.c_server.proofs.Loops.{reading_start, reading_turn, reading_end}
 use Rattle.c_server.proofs.layout.counts.Goals as goal
 
 pub loop-i-init : goal.loop-i-init

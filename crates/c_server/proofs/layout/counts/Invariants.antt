@@ -1,10 +1,7 @@
 -- The invariants and measures of the loops.
 use Prim.Native.Nat.{◌-◌}
-use native.Mathlib.Omega.{arith}
-use mathlib.Core.Path.{refl}
 use Rattle.limits.specs.Limits.{max_lines}
-use Rattle.c_server.proofs.Ends.{counts_read}
-use Rattle.c_server.proofs.Loops.{Reading, reading_start, reading_turn, reading_end}
+use Rattle.c_server.proofs.Loops.{Reading}
 use Rattle.c_server.proofs.layout.counts.Given as goal
 
 abbrev pub invariant-loop-i : goal.invariant-loop-i

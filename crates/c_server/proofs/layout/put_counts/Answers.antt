@@ -1,9 +1,8 @@
-use mathlib.Core.Path.{◌≡◌, ap, sym, ◌∙◌, subst}
+use mathlib.Core.Path.{◌≡◌, ap, sym, subst}
 use mathlib.Core.List.{List}
-use Prim.Native.Nat.{ℕ, ◌+◌, ◌-◌}
+use Prim.Native.Nat.{ℕ, ◌+◌}
 use native.Mathlib.Omega.{arith}
 use lib.ListN.{length, length-set}
-use Rattle.limits.specs.Limits.{max_lines}
 use Rattle.server.proofs.Counted.{counted}
 use Rattle.c_server.specs.Layout.{numbers}
 use Rattle.c_server.proofs.Loops.{Writing, writing_start, writing_turn, writing_end}

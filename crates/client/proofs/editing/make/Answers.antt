@@ -1,10 +1,7 @@
 -- `make` meets its contract: refused, or kept, applied and counted (proofs/Edits.antt).
 use native.Mathlib.Omega.{arith}
 use mathlib.Core.Path.{ap, sym, ◌∙◌}
-use mathlib.Core.List.{List}
-use Prim.Native.Nat.{ℕ}
 use Rattle.line.specs.declared.taking.Report.{Report}
-use Rattle.client.specs.declared.Client.{Client}
 use Rattle.client.specs.declared.Changed.{Changed}
 use Rattle.client.specs.View.{client_of, Sound}
 use Rattle.client.specs.Answers.{answer_of, done_counts}

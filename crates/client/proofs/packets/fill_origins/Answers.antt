@@ -1,8 +1,8 @@
 -- `fill_origins` meets its contract: the words up to a number are those of its line's edits (proofs/Origins.antt).
-use Prim.Native.Nat.{◌-◌, ◌<◌}
+use Prim.Native.Nat.{◌<◌}
 use native.Mathlib.Omega.{arith}
 use lib.ListN.{length}
-use Rattle.client.proofs.Origins.{OriginsTo, origins_start, origins_turn, origins_end}
+use Rattle.client.proofs.Origins.{origins_start, origins_turn, origins_end}
 use Rattle.client.proofs.packets.fill_origins.Goals as goal
 use Rattle.client.proofs.packets.fill_origins.Goals.{In-loop-number}
 

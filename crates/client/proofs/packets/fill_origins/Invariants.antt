@@ -1,8 +1,6 @@
 -- The invariants and measures of the loops.
-use Prim.Native.Nat.{◌-◌, ◌<◌}
-use native.Mathlib.Omega.{arith}
-use lib.ListN.{length}
-use Rattle.client.proofs.Origins.{OriginsTo, origins_start, origins_turn, origins_end}
+use Prim.Native.Nat.{◌-◌}
+use Rattle.client.proofs.Origins.{OriginsTo}
 use Rattle.client.proofs.packets.fill_origins.Given as goal
 
 abbrev pub invariant-loop-number : goal.invariant-loop-number

@@ -1,9 +1,6 @@
 -- `pack` meets its contract: question 2 or 4 said no, or the pending edits are written with their origins (proofs/Packs.antt).
 use native.Mathlib.Omega.{arith}
 use mathlib.Core.Path.{sym, ◌∙◌}
-use mathlib.Core.List.{List}
-use Prim.Native.Nat.{ℕ}
-use Rattle.client.specs.declared.Client.{Client}
 use Rattle.client.specs.View.{client_of, Sound}
 use Rattle.client.proofs.Packs.{pack_unsound, pack_other, pack_able, pack_done}
 use Rattle.client.proofs.packets.pack.Goals as goal

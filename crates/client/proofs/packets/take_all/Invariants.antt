@@ -1,15 +1,9 @@
 -- The invariants and measures of the loops.
-use Prim.Native.Nat.{ℕ, ◌-◌, ◌≤◌, ◌<◌}
-use native.Mathlib.Omega.{arith}
-use mathlib.Core.Path.{sym, ◌∙◌}
-use mathlib.Core.List.{List}
-use lib.ListN.{length, take, drop}
-use Rattle.wire_packet.proofs.Ends.{end_after, end_within}
-use Rattle.wire_packet.proofs.Handing.{Handing, handing_start}
-use Rattle.client.specs.View.{client_of, Sound, Sizes}
+use Prim.Native.Nat.{◌-◌}
+use lib.ListN.{length}
+use Rattle.wire_packet.proofs.Handing.{Handing}
+use Rattle.client.specs.View.{client_of, Sound}
 use Rattle.client.specs.Packets.{taking}
-use Rattle.client.proofs.Stored.{sound_sizes}
-use Rattle.client.proofs.TakesAll.{sound_taken, all_end, all_stop, all_turn}
 use Rattle.client.proofs.packets.take_all.Given as goal
 
 abbrev pub invariant-loop-at : goal.invariant-loop-at

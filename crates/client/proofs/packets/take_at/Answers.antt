@@ -4,7 +4,6 @@ use Prim.Native.Nat.{◌≤◌}
 use native.Mathlib.Omega.{arith}
 use mathlib.Core.Path.{sym, ◌∙◌}
 use lib.ListN.{length}
-use borrow.Author.Tests.{not-true, not-false}
 use Rattle.wire_packet.proofs.Ends.{end_within, start_before}
 use Rattle.client.specs.View.{client_of, Sound}
 use Rattle.client.proofs.TakesAll.{message_no, message_none, message_one}

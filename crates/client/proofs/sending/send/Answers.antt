@@ -1,12 +1,9 @@
 -- `sending::send` meets its contract: question 2, 4 or 13 said no, or the message is written (proofs/Messages.antt).
 use mathlib.Core.Path.{ap, sym, ◌∙◌}
-use mathlib.Core.List.{List}
-use Prim.Native.Nat.{ℕ}
 use Rattle.line.specs.declared.sending.Sent.{Sent}
 use Rattle.line.specs.Sending.{answered}
 use Rattle.line.proofs.Sends.{number_pending}
 use Rattle.model.specs.Client.{send_client}
-use Rattle.client.specs.declared.Client.{Client}
 use Rattle.client.specs.View.{client_of, view, Sound}
 use Rattle.client.proofs.Messages.{unsound_sending, send_other, send_number, sent_edit_lem}
 use Rattle.client.proofs.sending.send.Goals as goal

@@ -1,11 +1,8 @@
 -- `sending::tell` meets its contract: question 2 or 4 said no, or the acknowledgement is written (proofs/Messages.antt).
 use mathlib.Core.Path.{ap, sym, ◌∙◌}
-use mathlib.Core.List.{List}
-use Prim.Native.Nat.{ℕ}
 use Rattle.line.specs.declared.sending.Sent.{Sent}
 use Rattle.line.specs.Sending.{answered}
 use Rattle.model.specs.Client.{tell_client}
-use Rattle.client.specs.declared.Client.{Client}
 use Rattle.client.specs.View.{client_of, view, Sound}
 use Rattle.client.proofs.Messages.{unsound_sending, tell_other, sent_ack_lem}
 use Rattle.client.proofs.sending.tell.Goals as goal

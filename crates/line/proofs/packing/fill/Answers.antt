@@ -1,8 +1,7 @@
 -- `fill` meets its contract: each turn of the loop is a law of proofs/Filling.antt.
-use Prim.Native.Nat.{◌-◌}
 use native.Mathlib.Omega.{arith}
-use mathlib.Core.Path.{◌≡◌, ◌∙◌}
-use Rattle.line.proofs.Filling.{Upto, upto_start, upto_turn, upto_stop, upto_room, upto_end}
+use mathlib.Core.Path.{◌≡◌}
+use Rattle.line.proofs.Filling.{upto_start, upto_turn, upto_stop, upto_room, upto_end}
 use Rattle.line.proofs.packing.fill.Goals as goal
 use Rattle.line.proofs.packing.fill.Goals.{Else-n-eq0}
 

@@ -1,8 +1,6 @@
 -- The invariants and measures of the loops.
 use Prim.Native.Nat.{◌-◌}
-use native.Mathlib.Omega.{arith}
-use mathlib.Core.Path.{◌≡◌, ◌∙◌}
-use Rattle.line.proofs.Filling.{Upto, upto_start, upto_turn, upto_stop, upto_room, upto_end}
+use Rattle.line.proofs.Filling.{Upto}
 use Rattle.line.proofs.packing.fill.Given as goal
 
 abbrev pub invariant-loop-number : goal.invariant-loop-number

@@ -1,13 +1,11 @@
 use Rattle.line.proofs.All.{all_end}
 use Rattle.line.proofs.Tests.{zero_turn}
 use Rattle.limits.specs.Limits.{max_pending}
-use Rattle.pending.specs.Slots.{all_from}
 use Rattle.line.specs.Slots.{zero_at}
-use mathlib.Core.Bool.{◌&&◌}
-use mathlib.Core.Path.{◌≡◌, refl, ◌∙◌}
+use mathlib.Core.Path.{refl, ◌∙◌}
 use lib.Dec.{eqb}
 use native.Mathlib.Omega.{arith}
-use Prim.Native.Nat.{◌-◌, ◌≤◌, ◌<◌}
+use Prim.Native.Nat.{◌<◌}
 use Rattle.line.proofs.soundness.all_zero.Goals as goal
 
 pub loop-i-init : goal.loop-i-init

@@ -1,14 +1,11 @@
 -- The invariants and measures of the loops.
-use Rattle.line.proofs.All.{all_end}
-use Rattle.line.proofs.Tests.{zero_turn}
 use Rattle.limits.specs.Limits.{max_pending}
 use Rattle.pending.specs.Slots.{all_from}
 use Rattle.line.specs.Slots.{zero_at}
 use mathlib.Core.Bool.{◌&&◌}
-use mathlib.Core.Path.{◌≡◌, refl, ◌∙◌}
+use mathlib.Core.Path.{◌≡◌}
 use lib.Dec.{eqb}
-use native.Mathlib.Omega.{arith}
-use Prim.Native.Nat.{◌-◌, ◌≤◌, ◌<◌}
+use Prim.Native.Nat.{◌-◌, ◌≤◌}
 use Rattle.line.proofs.soundness.all_zero.Given as goal
 
 -- what the loop has found, with what it has still to look at, is the answer

@@ -2,7 +2,7 @@ use Rattle.line.proofs.Right.{allowed_is, allowed_none}
 use Rattle.line.proofs.SoundWords.{sound_answers}
 use Rattle.line.specs.Sound.{right_priority}
 use Rattle.line.specs.Slots.{allowed}
-use mathlib.Core.Bool.{Bool, false}
+use mathlib.Core.Bool.{false}
 use mathlib.Core.Path.{◌≡◌}
 use Prim.Native.Nat.{ℕ, ◌≤◌}
 use borrow.Author.Rules.{rules}
@@ -27,7 +27,7 @@ slots_sound-requires c = (search rules, (search rules, good_none c))
 pub returns : goal.returns
 returns c =
     let told =
-        let s = c.args in
-        sound_answers s.edits ((allowed c.low.result c.high.result c.other.result)) ((let s = c.args in right_priority s.n s.rank s.own)) s.v s.words.now c.pending-count.result c.counts_sound.result
-        c.slots_sound.result c.requires (good_right (goal.at.returns c).After-other) c.pending-count.ensures c.counts_sound.ensures c.slots_sound.ensures
+    let s = c.args in
+    sound_answers s.edits ((allowed c.low.result c.high.result c.other.result)) ((let s = c.args in right_priority s.n s.rank s.own)) s.v s.words.now c.pending-count.result c.counts_sound.result
+    c.slots_sound.result c.requires (good_right (goal.at.returns c).After-other) c.pending-count.ensures c.counts_sound.ensures c.slots_sound.ensures
     in record { answer = told.0; facts = told.1 }

@@ -1,12 +1,10 @@
 use Rattle.line.proofs.All.{all_start, all_turn, all_end}
-use Rattle.pending.specs.Slots.{all_from}
 use Rattle.line.specs.Slots.{kept_maker, kept_maker_at}
-use mathlib.Core.Bool.{Bool, ◌&&◌}
 use mathlib.Core.Path.{◌≡◌, refl, ap, ◌∙◌}
 use lib.Dec.{ltb}
 use lib.ListN.{get_or}
 use native.Mathlib.Omega.{arith}
-use Prim.Native.Nat.{ℕ, ◌-◌, ◌≤◌, ◌<◌}
+use Prim.Native.Nat.{ℕ, ◌<◌}
 use Rattle.line.proofs.soundness.makers_kept.Goals as goal
 
 pub loop-j-init : goal.loop-j-init

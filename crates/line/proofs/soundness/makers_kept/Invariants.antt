@@ -1,13 +1,9 @@
 -- The invariants and measures of the loops.
-use Rattle.line.proofs.All.{all_start, all_turn, all_end}
 use Rattle.pending.specs.Slots.{all_from}
-use Rattle.line.specs.Slots.{kept_maker, kept_maker_at}
-use mathlib.Core.Bool.{Bool, ◌&&◌}
-use mathlib.Core.Path.{◌≡◌, refl, ap, ◌∙◌}
-use lib.Dec.{ltb}
-use lib.ListN.{get_or}
-use native.Mathlib.Omega.{arith}
-use Prim.Native.Nat.{ℕ, ◌-◌, ◌≤◌, ◌<◌}
+use Rattle.line.specs.Slots.{kept_maker_at}
+use mathlib.Core.Bool.{◌&&◌}
+use mathlib.Core.Path.{◌≡◌}
+use Prim.Native.Nat.{◌-◌, ◌≤◌}
 use Rattle.line.proofs.soundness.makers_kept.Given as goal
 
 -- what the loop has found, with what it has still to look at, is the answer; i and j count the same word

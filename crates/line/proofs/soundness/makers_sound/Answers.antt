@@ -1,8 +1,7 @@
 use Rattle.line.proofs.Makers.{makers_many, makers_none, makers_parted}
 use Rattle.line.proofs.Tests.{eights, eights_hold}
-use mathlib.Core.List.{List}
 use native.Mathlib.Omega.{arith}
-use Prim.Native.Nat.{ℕ, ◌≤◌}
+use Prim.Native.Nat.{◌≤◌}
 use Rattle.line.proofs.soundness.makers_sound.Goals as goal
 use Rattle.line.proofs.soundness.makers_sound.Goals.{Else-count-gt-PENDING}
 

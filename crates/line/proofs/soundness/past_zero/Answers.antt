@@ -1,11 +1,9 @@
 use Rattle.line.proofs.All.{all_end}
 use Rattle.line.proofs.Tests.{past_turn}
-use Rattle.pending.specs.Slots.{all_from}
 use Rattle.line.specs.Slots.{past_at}
-use mathlib.Core.Bool.{Bool, ◌&&◌}
-use mathlib.Core.Path.{◌≡◌, refl, ◌∙◌}
+use mathlib.Core.Path.{refl, ◌∙◌}
 use native.Mathlib.Omega.{arith}
-use Prim.Native.Nat.{ℕ, ◌-◌, ◌≤◌, ◌<◌}
+use Prim.Native.Nat.{◌<◌}
 use Rattle.line.proofs.soundness.past_zero.Goals as goal
 
 pub loop-j-init : goal.loop-j-init

@@ -1,12 +1,9 @@
 -- The invariants and measures of the loops.
-use Rattle.line.proofs.All.{all_end}
-use Rattle.line.proofs.Tests.{past_turn}
 use Rattle.pending.specs.Slots.{all_from}
 use Rattle.line.specs.Slots.{past_at}
-use mathlib.Core.Bool.{Bool, ◌&&◌}
-use mathlib.Core.Path.{◌≡◌, refl, ◌∙◌}
-use native.Mathlib.Omega.{arith}
-use Prim.Native.Nat.{ℕ, ◌-◌, ◌≤◌, ◌<◌}
+use mathlib.Core.Bool.{◌&&◌}
+use mathlib.Core.Path.{◌≡◌}
+use Prim.Native.Nat.{◌-◌, ◌≤◌}
 use Rattle.line.proofs.soundness.past_zero.Given as goal
 
 -- what the loop has found, with what it has still to look at, is the answer; i and j count the same slot

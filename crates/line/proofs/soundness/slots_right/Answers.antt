@@ -1,10 +1,8 @@
 use Rattle.line.proofs.All.{all_start, all_turn, all_end}
-use Rattle.pending.specs.Slots.{all_from}
 use Rattle.line.specs.Slots.{allowed, right_at}
-use mathlib.Core.Bool.{Bool, ◌&&◌}
-use mathlib.Core.Path.{◌≡◌, ◌∙◌}
+use mathlib.Core.Path.{◌∙◌}
 use native.Mathlib.Omega.{arith}
-use Prim.Native.Nat.{ℕ, ◌-◌, ◌≤◌, ◌<◌}
+use Prim.Native.Nat.{◌<◌}
 use Rattle.line.proofs.soundness.slots_right.Goals as goal
 
 pub loop-i-init : goal.loop-i-init

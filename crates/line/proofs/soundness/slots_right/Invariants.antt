@@ -1,11 +1,9 @@
 -- The invariants and measures of the loops.
-use Rattle.line.proofs.All.{all_start, all_turn, all_end}
 use Rattle.pending.specs.Slots.{all_from}
 use Rattle.line.specs.Slots.{allowed, right_at}
-use mathlib.Core.Bool.{Bool, ◌&&◌}
-use mathlib.Core.Path.{◌≡◌, ◌∙◌}
-use native.Mathlib.Omega.{arith}
-use Prim.Native.Nat.{ℕ, ◌-◌, ◌≤◌, ◌<◌}
+use mathlib.Core.Bool.{◌&&◌}
+use mathlib.Core.Path.{◌≡◌}
+use Prim.Native.Nat.{◌-◌, ◌≤◌}
 use Rattle.line.proofs.soundness.slots_right.Given as goal
 
 -- what the loop has found, with what it has still to look at, is the answer

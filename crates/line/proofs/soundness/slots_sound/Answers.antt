@@ -1,9 +1,7 @@
 use Rattle.line.proofs.Tests.{slots_many, slots_none, slots_parted, full, eights, eights_hold}
 use Rattle.line.specs.Slots.{allowed}
-use mathlib.Core.Bool.{Bool}
-use mathlib.Core.List.{List}
 use native.Mathlib.Omega.{arith}
-use Prim.Native.Nat.{ℕ, ◌≤◌}
+use Prim.Native.Nat.{◌≤◌}
 use Rattle.line.proofs.soundness.slots_sound.Goals as goal
 use Rattle.line.proofs.soundness.slots_sound.Goals.{Else-count-gt-PENDING}
 

@@ -14,11 +14,10 @@ pub overflow_sub-at : goal.overflow_sub-at
 overflow_sub-at c = (up_line c.args.k c.args.a c.requires.0.1).0
 
 pub inserts_then-inserts-requires : goal.inserts_then-inserts-requires
-inserts_then-inserts-requires c =
-    (
-      below (goal.at.inserts_then-inserts-requires c).Start,
-      ((up_line c.args.k c.args.a c.requires.0.1).0, inserts_fit c.args.k c.args.words.now c.args.a c.requires.1.0 c.requires.0.1),
-    )
+inserts_then-inserts-requires c = (
+  below (goal.at.inserts_then-inserts-requires c).Start,
+  ((up_line c.args.k c.args.a c.requires.0.1).0, inserts_fit c.args.k c.args.words.now c.args.a c.requires.1.0 c.requires.0.1),
+)
 
 pub line_at-requires : goal.line_at-requires
 line_at-requires c = below (goal.at.line_at-requires c).Start

@@ -1,11 +1,10 @@
 use native.Mathlib.Omega.{arith}
-use Prim.Native.Nat.{ℕ, ◌-◌, ◌≤◌}
-use mathlib.Core.Path.{◌≡◌, refl, ap, ◌∙◌}
-use mathlib.Core.Bool.{Bool, ◌&&◌, ◌||◌}
+use Prim.Native.Nat.{◌-◌}
+use mathlib.Core.Path.{refl, ap, ◌∙◌}
+use mathlib.Core.Bool.{Bool, ◌||◌}
 use lib.Dec.{eqb, ltb}
 use Rattle.limits.specs.Limits.{max_pending}
 use Rattle.line.specs.declared.Line.{Line}
-use Rattle.pending.specs.Slots.{all_from}
 use Rattle.line.proofs.All.{all_start, all_turn, all_end}
 use Rattle.server.specs.Decides.{roomy_at}
 use Rattle.server.proofs.deciding.others_roomy.Goals as goal

@@ -1,12 +1,10 @@
 -- `take_all` meets its contract: the messages before a place are taken, and the next is lent from there to its end (proofs/TakesAll.antt).
-use Prim.Native.Nat.{ℕ, ◌-◌, ◌≤◌, ◌<◌}
+use Prim.Native.Nat.{◌-◌, ◌≤◌, ◌<◌}
 use native.Mathlib.Omega.{arith}
-use mathlib.Core.Path.{sym, ◌∙◌}
-use mathlib.Core.List.{List}
 use lib.ListN.{length, take, drop}
 use Rattle.wire_packet.proofs.Ends.{end_after, end_within}
-use Rattle.wire_packet.proofs.Handing.{Handing, handing_start}
-use Rattle.server.specs.View.{server_of, Sound, Sizes}
+use Rattle.wire_packet.proofs.Handing.{handing_start}
+use Rattle.server.specs.View.{server_of}
 use Rattle.server.specs.Packets.{taking}
 use Rattle.server.proofs.TakesAll.{sound_taken, all_end, all_stop, all_turn}
 use Rattle.server.proofs.packets.take_all.Goals as goal

@@ -4,7 +4,6 @@ use native.Mathlib.Omega.{arith}
 use mathlib.Core.Path.{◌≡◌, sym, ◌∙◌}
 use mathlib.Core.Bool.{true}
 use lib.ListN.{length}
-use borrow.Author.Tests.{not-true, not-false}
 use Rattle.limits.specs.Limits.{max_packet}
 use Rattle.model.specs.Questions.{between}
 use Rattle.wire_packet.proofs.Ends.{end_within, start_before}

@@ -2,7 +2,6 @@
 use borrow.Author.Tests.{eqb-false}
 use mathlib.Core.Path.{refl}
 use Rattle.model.proofs.Tests.{between_true}
-use Rattle.server.specs.declared.Server.{Server}
 use Rattle.server.specs.View.{server_of}
 use Rattle.server.proofs.Sends.{line_right, line_off, line_unsound}
 use Rattle.server.proofs.sending.ask_line.Goals as goal

@@ -30,6 +30,6 @@ pub returns : goal.returns
 returns c =
     let a = c.args in record {
       answer = asked_number a.k a.words.now a.line a.number c.ask_line-refusal.result c.ask_number.result c.line_at-v.result c.ask_line-refusal.ensures.answer c.if-refusal-ne0.false
-              c.line_at-v.ensures c.ask_number.ensures;
+          c.line_at-v.ensures c.ask_number.ensures;
       facts = λ z. sendable a.k a.words.now a.line a.number c.ask_number.result c.line_at-v.result (known (goal.at.returns c).Else-refusal-ne0) c.line_at-v.ensures c.ask_number.ensures z;
     }

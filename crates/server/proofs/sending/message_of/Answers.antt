@@ -10,11 +10,10 @@ line_at-v-requires c =
     place_below c.args.k c.args.words.now c.args.line c.args.number c.requires
 
 pub makers_at-makers-requires : goal.makers_at-makers-requires
-makers_at-makers-requires c =
-    (
-      (all_sizes c.args.k c.args.words.now c.args.line c.args.number c.requires).words,
-      place_below c.args.k c.args.words.now c.args.line c.args.number c.requires,
-    )
+makers_at-makers-requires c = (
+  (all_sizes c.args.k c.args.words.now c.args.line c.args.number c.requires).words,
+  place_below c.args.k c.args.words.now c.args.line c.args.number c.requires,
+)
 
 pub overflow_sub-number-2 : goal.overflow_sub-number-2
 overflow_sub-number-2 c =
@@ -29,11 +28,10 @@ origin_at-origin-requires c =
     maker_low c.args.k c.args.words.now c.args.line c.args.number c.requires c.line_at-v.result c.makers_at-makers.result.now c.line_at-v.ensures c.makers_at-makers.ensures
 
 pub slots_at-requires : goal.slots_at-requires
-slots_at-requires c =
-    (
-      (all_sizes c.args.k c.args.words.now c.args.line c.args.number c.requires).words,
-      omega (arith, place_below c.args.k c.args.words.now c.args.line c.args.number c.requires),
-    )
+slots_at-requires c = (
+  (all_sizes c.args.k c.args.words.now c.args.line c.args.number c.requires).words,
+  omega (arith, place_below c.args.k c.args.words.now c.args.line c.args.number c.requires),
+)
 
 pub message-requires : goal.message-requires
 message-requires c =

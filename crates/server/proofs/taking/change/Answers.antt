@@ -1,5 +1,5 @@
 -- `server::taking::change`: the steps one after the other, by proofs/Accepts.antt.
-use Prim.Native.Nat.{ℕ, ◌-◌, ◌≤◌}
+use Prim.Native.Nat.{◌-◌, ◌≤◌}
 use native.Mathlib.Omega.{arith}
 use mathlib.Core.Path.{ap, sym, ◌∙◌, subst}
 use Rattle.limits.specs.Limits.{max_pending}

@@ -1,5 +1,5 @@
 -- `server::taking::keep_others`: a turn for each line in use; the laws are in proofs/Keeping.antt.
-use Prim.Native.Nat.{ℕ, ◌-◌, ◌≤◌, ◌<◌}
+use Prim.Native.Nat.{ℕ, ◌-◌, ◌<◌}
 use native.Mathlib.Omega.{arith}
 use mathlib.Core.Path.{◌≡◌, ap, sym, ◌∙◌, subst}
 use Rattle.limits.specs.Limits.{max_pending}
@@ -33,12 +33,11 @@ loop-i-init c =
     (omega arith, kept_none c.args.at (edit c.args.f c.args.x) c.args.word k words (sizes k words c.requires.0.0).words)
 
 pub loop-i-preserved-then-i-at : goal.loop-i-preserved-then-i-at
-loop-i-preserved-then-i-at c =
-    (
-      omega arith,
-      kept_skip c.args.at (edit c.args.f c.args.x) c.args.word c.args.k c.args.words.now c.loop-i.i c.loop-i.counts c.loop-i.words c.loop-i.invariant.1
-          c.if-i-at.true,
-    )
+loop-i-preserved-then-i-at c = (
+  omega arith,
+  kept_skip c.args.at (edit c.args.f c.args.x) c.args.word c.args.k c.args.words.now c.loop-i.i c.loop-i.counts c.loop-i.words c.loop-i.invariant.1
+      c.if-i-at.true,
+)
 
 pub line_at-v-requires : goal.line_at-v-requires
 line_at-v-requires c = below (goal.at.line_at-v-requires c).In-loop-i

@@ -1,7 +1,6 @@
 -- `take_message` meets its contract: refused by the decision, or accepted and changed (proofs/Takes.antt).
-use Prim.Native.Nat.{ℕ, ◌≤◌}
+use Prim.Native.Nat.{◌≤◌}
 use mathlib.Core.Path.{refl, sym, subst}
-use mathlib.Core.List.{List}
 use Rattle.limits.specs.Limits.{max_items}
 use Rattle.ot.specs.Form.{position_of}
 use Rattle.line.specs.declared.taking.Arrival.{Arrival}
@@ -29,15 +28,14 @@ slice_bounds-change-end c =
     sym (accepts c.args.k c.args.words.now (c.split-a.result) c.decide-d.result (c.decide-d.new.later) c.decide-d.ensures (kept (goal.at.slice_bounds-change-end c).After-decide-d) c.if-d-ne0.false).places
 
 pub change-counts-requires : goal.change-counts-requires
-change-counts-requires c =
-    (
-      (kept (goal.at.change-counts-requires c).After-decide-d, c.decide-d.ensures),
-      (
-        c.if-d-ne0.false,
-        item_right c.args.k c.args.words.now (kept (goal.at.change-counts-requires c).After-decide-d) c.args.m (c.split-a.result) c.split-a.ensures c.decide-d.result (c.decide-d.new.later)
-            c.decide-d.ensures c.if-d-ne0.false,
-      ),
-    )
+change-counts-requires c = (
+  (kept (goal.at.change-counts-requires c).After-decide-d, c.decide-d.ensures),
+  (
+    c.if-d-ne0.false,
+    item_right c.args.k c.args.words.now (kept (goal.at.change-counts-requires c).After-decide-d) c.args.m (c.split-a.result) c.split-a.ensures c.decide-d.result (c.decide-d.new.later)
+        c.decide-d.ensures c.if-d-ne0.false,
+  ),
+)
 
 pub returns : goal.returns
 returns c =

@@ -1,8 +1,5 @@
 -- `take_sound` meets its contract: question 3 said no, or a message was read and is taken (proofs/Takes.antt).
 use mathlib.Core.Path.{◌≡◌, ap, sym, ◌∙◌}
-use mathlib.Core.List.{List}
-use Prim.Native.Nat.{ℕ}
-use Rattle.wire.specs.declared.Message.{Message}
 use Rattle.wire.specs.declared.Read.TheVariants as read
 use Rattle.wire.specs.Bytes.{parsed}
 use Rattle.wire.proofs.Codec.{codec}

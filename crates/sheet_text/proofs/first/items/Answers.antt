@@ -1,11 +1,10 @@
-use Prim.Native.Nat.{ℕ, ◌+◌, ◌-◌, ◌≤◌}
-use mathlib.Core.Path.{◌≡◌, sym, ap, subst}
-use mathlib.Core.List.{List}
+use Prim.Native.Nat.{◌+◌, ◌≤◌}
+use mathlib.Core.Path.{sym, ap, subst}
 use native.Mathlib.Omega.{arith}
 use lib.ListN.{length}
 use Rattle.sheet_text.specs.Text.{words_of}
-use Rattle.sheet_text.specs.Opening.{with_items, begun, Reads}
-use Rattle.sheet_text.proofs.Texts.{words_from, next_within, words_next, words_all, words_none}
+use Rattle.sheet_text.specs.Opening.{with_items, Reads}
+use Rattle.sheet_text.proofs.Texts.{next_within, words_next, words_all, words_none}
 use Rattle.sheet_text.proofs.Openings.{fill, filled, fill_turn, fill_end}
 use Rattle.sheet_text.proofs.first.items.Goals as goal
 use Rattle.sheet_text.proofs.first.items.Goals.{After-end-e}
@@ -33,11 +32,10 @@ pub overflow_add-at : goal.overflow_add-at
 overflow_add-at c = omega (arith, within (goal.at.overflow_add-at c).After-end-e)
 
 pub loop-at-preserved : goal.loop-at-preserved
-loop-at-preserved c =
-    (
-      omega (arith, within (goal.at.loop-at-preserved c).After-end-e),
-      fill_turn _ c.number.result _ _ _ (words_next (c.args.s.now) c.loop-at.at c.end-e.result c.loop-at-test.true c.end-e.ensures) c.with_item-got.ensures c.number.ensures c.loop-at.invariant.1,
-    )
+loop-at-preserved c = (
+  omega (arith, within (goal.at.loop-at-preserved c).After-end-e),
+  fill_turn _ c.number.result _ _ _ (words_next (c.args.s.now) c.loop-at.at c.end-e.result c.loop-at-test.true c.end-e.ensures) c.with_item-got.ensures c.number.ensures c.loop-at.invariant.1,
+)
 
 pub returns : goal.returns
 returns c =

@@ -1,7 +1,5 @@
 -- `reading::in_range` meets its contract: each kind is a law of proofs/Parsing.antt.
 use native.Mathlib.Omega.{arith}
-use Prim.Native.Nat.{ℕ}
-use mathlib.Core.List.{List}
 use Rattle.wire.proofs.Parsing.{insert_range, delete_range, nothing_range, ack_range}
 use Rattle.wire.proofs.reading.in_range.Goals as goal
 

@@ -1,7 +1,6 @@
 -- `writing::write` meets its contract: each turn of the copy is a law of proofs/Buffer.antt.
-use Prim.Native.Nat.{◌-◌}
 use native.Mathlib.Omega.{arith}
-use Rattle.wire.proofs.Buffer.{CopiedBy, copied_start, copied_turn, copied_pass, copied_end, enough, too_long}
+use Rattle.wire.proofs.Buffer.{copied_start, copied_turn, copied_pass, copied_end, enough, too_long}
 use Rattle.wire.proofs.writing.write.Goals as goal
 
 pub returns-then-out-n : goal.returns-then-out-n

@@ -1,7 +1,6 @@
 -- The invariants and measures of the loops.
 use Prim.Native.Nat.{◌-◌}
-use native.Mathlib.Omega.{arith}
-use Rattle.wire.proofs.Buffer.{CopiedBy, copied_start, copied_turn, copied_pass, copied_end, enough, too_long}
+use Rattle.wire.proofs.Buffer.{CopiedBy}
 use Rattle.wire.proofs.writing.write.Given as goal
 
 abbrev pub invariant-loop-i : goal.invariant-loop-i
