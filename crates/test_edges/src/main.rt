@@ -2,59 +2,62 @@
 // printed the expected output.
 #![tactic(auto)]
 
-fn line(text: &[u8]) {
-    io::write_all(1, text);
-    io::write_all(1, b"\n");
+use std::fs::File;
+use std::io;
+use std::io::{Read, Write};
+use std::rt::Files;
+
+fn line(rt: &impl Print, text: &str) -> io::Result<()> {
+    println!(rt; "{text}")
 }
 
-fn show(name: &[u8]) {
-    let mut input = [0u8; 65537];
-    let mut output = [0u8; 262144];
-    line(name);
-    let file = os::open_read(name);
-    let n = io::read_full(file, &mut input);
-    libc::close(file);
-    let m = sheet_run::run(&input[..n], &mut output);
-    io::write_all(1, &output[..m]);
+fn show(rt: &(impl Files + Print + AllocGlobal), name: &str) -> io::Result<()> {
+    line(rt, name)?;
+    // As the run program does: one byte more than a script may have, and the same room for the output.
+    let mut input = Vec::new(rt.alloc());
+    File::open(rt, name)?.take(65_537).read_to_end(&mut input)?;
+    let mut output = vec![in rt.alloc(); 0u8; 262_144]?;
+    let n = sheet_run::run(&input, &mut output);
+    io::writer(rt).write_all(&output[..n])
 }
 
 // Each refusal that a script can reach, each form of a line that is not understood, and the limits.
-fn lines() {
-    show(b"p12");
-    show(b"position");
-    show(b"inserts");
-    show(b"edits");
-    show(b"pending");
-    show(b"buffer");
-    show(b"number");
-    show(b"forms");
-    show(b"one");
-    show(b"alone");
-    show(b"eight");
-    show(b"full");
-    show(b"most");
-    show(b"long");
+fn lines(rt: &(impl Files + Print + AllocGlobal)) -> io::Result<()> {
+    let names = [
+        "p12", "position", "inserts", "edits", "pending", "buffer", "number", "forms", "one",
+        "alone", "eight", "full", "most", "long",
+    ];
+    for name in names {
+        show(rt, name)?;
+    }
+    Ok(())
 }
 
 // First lines.
-fn firsts() {
-    show(b"first_empty");
-    show(b"first_blank");
-    show(b"first_word");
-    show(b"first_items");
-    show(b"first_space");
-    show(b"first_spaces");
-    show(b"first_wide");
-    show(b"first_item_wide");
-    show(b"first_none");
-    show(b"first_nine");
-    show(b"first_129");
-    show(b"first_128");
-    show(b"first_alone");
-    show(b"first_zeros");
+fn firsts(rt: &(impl Files + Print + AllocGlobal)) -> io::Result<()> {
+    let names = [
+        "first_empty",
+        "first_blank",
+        "first_word",
+        "first_items",
+        "first_space",
+        "first_spaces",
+        "first_wide",
+        "first_item_wide",
+        "first_none",
+        "first_nine",
+        "first_129",
+        "first_128",
+        "first_alone",
+        "first_zeros",
+    ];
+    for name in names {
+        show(rt, name)?;
+    }
+    Ok(())
 }
 
-fn main() {
-    lines();
-    firsts();
+fn main(rt: HostRuntime) -> io::Result<()> {
+    lines(&rt)?;
+    firsts(&rt)
 }
