@@ -11,18 +11,20 @@ fn line(rt: &impl Print, text: &str) -> io::Result<()> {
     println!(rt; "{text}")
 }
 
-fn show(rt: &(impl Files + Print + AllocGlobal), name: &str) -> io::Result<()> {
+fn show(rt: &(impl Files + Print), name: &str) -> io::Result<()> {
     line(rt, name)?;
     // As the run program does: one byte more than a script may have, and the same room for the output.
-    let mut input = Vec::new(rt.alloc());
-    File::open(rt, name)?.take(65_537).read_to_end(&mut input)?;
-    let mut output = vec![in rt.alloc(); 0u8; 262_144]?;
-    let n = sheet_run::run(&input, &mut output);
-    io::writer(rt).write_all(&output[..n])
+    let mut input = [0u8; 65_537];
+    let mut output = [0u8; 262_144];
+    let mut script = File::open(rt, name)?.take(65_537);
+    let read = io::copy(&mut script, &mut &mut input[..])? as usize;
+    let n = read.min(input.len());
+    let m = sheet_run::run(&input[..n], &mut output);
+    io::writer(rt).write_all(&output[..m])
 }
 
 // Each refusal that a script can reach, each form of a line that is not understood, and the limits.
-fn lines(rt: &(impl Files + Print + AllocGlobal)) -> io::Result<()> {
+fn lines(rt: &(impl Files + Print)) -> io::Result<()> {
     let names = [
         "p12", "position", "inserts", "edits", "pending", "buffer", "number", "forms", "one",
         "alone", "eight", "full", "most", "long",
@@ -34,7 +36,7 @@ fn lines(rt: &(impl Files + Print + AllocGlobal)) -> io::Result<()> {
 }
 
 // First lines.
-fn firsts(rt: &(impl Files + Print + AllocGlobal)) -> io::Result<()> {
+fn firsts(rt: &(impl Files + Print)) -> io::Result<()> {
     let names = [
         "first_empty",
         "first_blank",
