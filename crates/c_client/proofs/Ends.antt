@@ -12,14 +12,14 @@ use Rattle.client.specs.declared.Counts.{Counts}
 use Rattle.client.specs.declared.Client.{Client}
 use Rattle.client.specs.declared.Inverse.{Inverse}
 use Rattle.client.specs.View as client
-use Rattle.client.specs.View.{client_of, Sizes}
+use Rattle.client.specs.View.{client_of}
 use Rattle.c_layout.specs.Words.{low_first, word_at, words_of, bytes_of, put_at, Bytes}
 use Rattle.c_layout.specs.Numbers.{capped, capped_line, line_at, line_words}
 use Rattle.c_layout.specs.Ranks.{ranks_in}
 use Rattle.c_layout.proofs.Parts.{words_many}
 use Rattle.c_layout.proofs.Ranked.{ranked_words, ranked_ranks, ranked_length, ranked_again, numbers_written, words_behind}
 use Rattle.c_layout.proofs.Counts.{line_front}
-use Rattle.c_client.specs.Layout.{size, numbers, counts_of, counts_in, first_in, rest_in, bytes_in, end_in, RoundTrips}
+use Rattle.c_client.specs.Layout.{size, numbers, counts_of, counts_in, first_in, rest_in, Sizes, bytes_in, end_in, RoundTrips}
 use Rattle.c_client.specs.Reading.{capped_counts, capped_end}
 
 -- ---- round trips

@@ -1,6 +1,7 @@
 -- The calls of a client over its lent bytes: question 18, then the call of the client that the bytes are. A refused call changes no byte.
 use Rattle.std.specs.Prelude.{ℕ, List}
-use Rattle.client.specs.declared.Answer.{Answer}
+use Rattle.model.specs.Questions.{Answer}
+use Rattle.client.specs.declared.Client.{Client}
 use Rattle.client.specs.Answers.{opened, inserted, deleted, taken_back, taken, sent_edit, sent_ack}
 use Rattle.c_layout.specs.Words.{items_of}
 use Rattle.c_layout.specs.Called.{Called, laid_out, changing, opening, sending}
@@ -8,8 +9,8 @@ pub use Rattle.c_layout.specs.Called.{returned}
 use Rattle.c_client.specs.Layout.{size, bytes_in, end_in}
 
 -- the answer of a call that may change its end
-unfoldable pub answered : Answer → List ℕ → Called
-answered a bytes = changing size a.refusal a.report (bytes_in a.client) bytes
+unfoldable pub answered : Answer Client → List ℕ → Called
+answered a bytes = changing size a.refusal a.report (bytes_in a.end) bytes
 
 unfoldable pub opened_in : List ℕ → ℕ → ℕ → List ℕ → List ℕ → Called
 opened_in bytes n line ranks items = opening size bytes items (answered (opened n line ranks (items_of items)) bytes)

@@ -1,10 +1,11 @@
 -- A client (01: bay) as lent bytes: where each part stands, and both round trips.
 use Rattle.std.specs.Prelude.{ℕ, ◌≤◌, ◌≡◌, List, [], ◌∷◌, ◌++◌, length, get_or, drop}
+use Rattle.limits.specs.Limits.{max_lines}
 use Rattle.list.specs.Parts.{part}
 use Rattle.client.specs.declared.Counts.{Counts}
 use Rattle.client.specs.declared.Client.{Client}
 use Rattle.client.specs.View as client
-use Rattle.client.specs.View.{client_of, Sizes}
+use Rattle.client.specs.View.{client_of}
 use Rattle.c_layout.specs.Words.{words_of, Bytes}
 use Rattle.c_layout.specs.Numbers.{line_at, line_words}
 use Rattle.c_layout.specs.Ranks.{ranks_in, ranked}
@@ -46,6 +47,11 @@ bytes_in c = ranked (first_in c.counts) c.counts.ranks (rest_in c)
 
 unfoldable pub end_in : List ℕ → Client
 end_in bytes = client_of (counts_in bytes) (part numbers client.size (words_of bytes))
+
+-- the arrays of a client have the lengths of their types
+pub record Sizes (k : Counts) (ws : List ℕ) : Type 0 where
+  pub words : length ws ≡ client.size
+  pub ranks : length k.ranks ≡ max_lines
 
 -- An end that was written reads back as it was, whatever stands behind it. Bytes that were read are what writing the end gives, so an end
 -- has one byte form.

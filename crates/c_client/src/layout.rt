@@ -1,13 +1,13 @@
 // A client's numbers and words from its bytes, and back.
 ghost use Rattle.std.specs.Prelude.{◌≡◌, ◌++◌, ◌≤◌, length, drop};
-ghost use Rattle.client.specs.View as client;
-ghost use Rattle.client.specs.View.{client_of};
+ghost use Rattle.c_layout.specs.Called.{HasLength};
 ghost use Rattle.c_client.specs.Layout.{size, counts_in, bytes_in, end_in};
 ghost use Rattle.c_client.specs.Reading.{capped_counts, capped_end};
 
 use c_layout::numbers::{LINE, in_8, in_16, line_at, put_line};
 use c_layout::{get, put, ranks};
 use client::{Client, Counts, Inverse};
+use refusal::Refusal;
 
 // Where each number stands, and where the words of the client begin.
 const N: usize = 0;
@@ -54,20 +54,33 @@ fn counts(bytes: &[u8]) -> Counts
     }
 }
 
-// Reads the client's words into lent ones, and gives its numbers.
-pub fn read(bytes: &[u8], words: &mut [u32]) -> Counts
-    requires { (size ≤ length bytes.now) × (length words.old ≡ client.size) }
-    ensures { client_of result words.new ≡ capped_end (end_in bytes.now) }
+// The client that the bytes hold.
+pub fn read(bytes: &[u8]) -> Client
+    requires { size ≤ length bytes.now }
+    ensures { result ≡ capped_end (end_in bytes.now) }
 {
-    get(bytes, WORDS, words);
-    counts(bytes)
+    let mut words = [0u32; Client::WORDS];
+    get(bytes, WORDS, &mut words);
+    let counts = counts(bytes);
+    Client { counts, words }
+}
+
+// Are the lent bytes enough for the client? That is question 18.
+pub fn check_length(end: &[u8]) -> Result<(), Refusal>
+    ensures { HasLength size end.now result }
+{
+    if end.len() < SIZE {
+        return Err(Refusal::TooShort);
+    }
+    Ok(())
 }
 
 // The ranks go over the two words of the numbers that are left zero.
-pub fn write(bytes: &mut [u8], k: Counts, words: &[u32])
-    requires { (size ≤ length bytes.old) × (length words.now ≡ client.size) }
-    ensures { bytes.new ≡ bytes_in (client_of k words.now) ++ drop size bytes.old }
+pub fn write(end: &mut [u8], c: &Client)
+    requires { size ≤ length end.old }
+    ensures { end.new ≡ bytes_in c.now ++ drop size end.old }
 {
+    let k = &c.counts;
     let mut numbers = [0u32; WORDS];
     numbers[N] = k.n as u32;
     numbers[OF] = k.line as u32;
@@ -77,7 +90,7 @@ pub fn write(bytes: &mut [u8], k: Counts, words: &[u32])
     numbers[LOST] = k.inverse.item;
     let own = k.own;
     put_line(&mut numbers, OWN, own);
-    put(bytes, WORDS, words);
-    put(bytes, N, &numbers);
-    ranks::write(bytes, &k.ranks);
+    put(end, WORDS, &c.words);
+    put(end, N, &numbers);
+    ranks::write(end, &k.ranks);
 }

@@ -10,12 +10,15 @@ use borrow.Author.Tests.{le-ltb, lt-ltb, ne_eqb, eq-eqb, eqb-true}
 use Rattle.wire.specs.declared.Message.{Message}
 use Rattle.wire.specs.declared.Message.TheVariants.{Insert, Delete, Nothing, Ack}
 use Rattle.wire.specs.Bytes.{bytes_of}
-use Rattle.model.specs.Questions.{Answer, Sent, sent}
-use Rattle.line.specs.declared.sending.Sent as line
+use Rattle.std.specs.Prelude.{Result, Ok, Err, IsErrAnd}
+use Rattle.refusal.specs.declared.Refusal.{Refusal}
+use Rattle.refusal.specs.declared.Refusal.TheVariants.{TooShort}
+use Rattle.refusal.specs.Number.{number}
+use Rattle.refusal.proofs.Some.{number_some, passed_on}
+use Rattle.model.specs.Questions.{Answer, Report, no_report, Sent, sent}
 use Rattle.line.specs.Sending.{answered}
-use Rattle.line.specs.declared.taking.Report.{Report}
 use Rattle.c_layout.specs.Words.{high_first, items_of}
-use Rattle.c_layout.specs.Called.{Called, packed, packed_report, packed_read, called, returned, laid_out, changing, taking_some, taking_one, opening, sending, refusal_of, count_of, arrived_of, applied_of, read_of, Unpacks, Fits, UnpacksRead}
+use Rattle.c_layout.specs.Called.{Called, packed, packed_report, packed_read, written, called, returned, laid_out, changing, taking_some, taking_one, opening, sending, refusal_of, count_of, arrived_of, applied_of, read_of, Unpacks, Fits, UnpacksRead}
 use Rattle.c_layout.proofs.Words.{words_length}
 
 pub unpacks : Unpacks
@@ -138,8 +141,9 @@ module _ (size : ℕ) (end items : List ℕ) (rest : Called) (long : size ≤ le
 
 -- ---- sending
 
-sending_is : (s : line.Sent) (m : Sent) (r : ℕ) (after : List ℕ) → answered s after ≡ m → r ≡ packed s.refusal s.written → returned r after ≡ sending m
-sending_is s m r after e er = ap (λ (n : ℕ). returned n after) er ∙ ap sending e
+sending_is : (s : Result ℕ Refusal) (m : Sent) (after : List ℕ) → answered s after ≡ m → returned (written s) after ≡ sending m
+sending_is (Ok n) m after e = ap sending e
+sending_is (Err r) m after e = ap sending e
 
 -- a message has at most 17 bytes, so its length fits the answer
 message_few : (m : Message) → length (bytes_of m) ≤ 17
@@ -179,44 +183,76 @@ unsent out = record { refusal = 2; written = 0; buffer = out }
 
 -- An end in lent bytes, whichever of the two ends: its calls ask question 2, and then answer what the model does. It is read with its numbers
 -- capped, and so is the end that the bytes are if question 2 says yes to either.
-pub record Guarded (E A M : Type 0) : Type 0 where
+pub record Guarded (E M : Type 0) : Type 0 where
   pub size : ℕ
   pub sound : E → Bool
   pub view : E → M
-  -- the end that bytes are, and that end as it is read
+  -- the end that bytes are, that end as it is read, and the bytes of an end
   pub end_in : List ℕ → E
   pub as_read : E → E
+  pub bytes_in : E → List ℕ
   pub read_sound : (end : List ℕ) → sound (as_read (end_in end)) ≡ true → as_read (end_in end) ≡ end_in end
   pub sound_read : (end : List ℕ) → sound (end_in end) ≡ true → as_read (end_in end) ≡ end_in end
   -- what a call answers, by the model's answer
-  pub guarded : E → Answer M → A
-  pub answered : A → List ℕ → Called
+  pub guarded : E → Answer M → Answer E
   pub sends : E → Sent → List ℕ → Sent
-  pub unsound : (e : E) (a : Answer M) (end : List ℕ) → sound e ≡ false → answered (guarded e a) end ≡ called 2 0 end
+  pub unsound : (e : E) (a : Answer M) → sound e ≡ false → guarded e a ≡ record { refusal = 2; end = e; report = no_report }
   pub sends_is : (e : E) (m : Sent) (out : List ℕ) → sends e m out ≡ cond (sound e) m (unsent out)
 
-module _ {E A M : Type 0} (k : Guarded E A M) where
+module _ {E M : Type 0} (k : Guarded E M) where
   -- the length of a message fits the answer
-  pub sent_fits : (e : E) (m : Sent) (out : List ℕ) (s : line.Sent) (after : List ℕ) → Few m → answered s after ≡ k.sends e m out → s.written ≤ 17
-  sent_fits e m out s after h is = subst Few (sym (is ∙ k.sends_is e m out)) (few_either (k.sound e) m (unsent out) h (omega arith))
+  pub sent_fits : (e : E) (m : Sent) (out : List ℕ) (n : ℕ) (after : List ℕ) → Few m → answered (Ok n) after ≡ k.sends e m out → n ≤ 17
+  sent_fits e m out n after h is = subst Few (sym (is ∙ k.sends_is e m out)) (few_either (k.sound e) m (unsent out) h (omega arith))
 
-  module _ (end : List ℕ) (long : k.size ≤ length end) (e : E) (is : e ≡ k.as_read (k.end_in end)) where
+  abbrev pub answered_in : Answer E → List ℕ → Called
+  answered_in a end = changing k.size a.refusal a.report (k.bytes_in a.end) end
+
+  module _ (end : List ℕ) (e : E) (h : (k.size ≤ length end) × (e ≡ k.as_read (k.end_in end))) where
     -- the end as it was read gives the same answer
     pub same_answer : (answers : E → Called) (out : List ℕ) → ((c : E) → k.sound c ≡ false → answers c ≡ called 2 0 out)
         → answers e ≡ laid_out k.size end out (answers (k.end_in end))
     same_answer answers out unsound =
-        ap answers is ∙ alike k.sound answers (called 2 0 out) unsound (k.as_read (k.end_in end)) (k.end_in end) (k.read_sound end) (k.sound_read end)
-        ∙ laid k.size end out (answers (k.end_in end)) long
+        ap answers h.1 ∙ alike k.sound answers (called 2 0 out) unsound (k.as_read (k.end_in end)) (k.end_in end) (k.read_sound end) (k.sound_read end)
+        ∙ laid k.size end out (answers (k.end_in end)) h.0
 
-    pub call_answered : (f : M → Answer M) (a : A) (r : ℕ) (after : List ℕ) → a ≡ k.guarded e (f (k.view e)) → returned r after ≡ k.answered a end
-        → returned r after ≡ laid_out k.size end end (k.answered (k.guarded (k.end_in end) (f (k.view (k.end_in end)))) end)
-    call_answered f a r after ea er =
-        er ∙ ap (λ (b : A). k.answered b end) ea
-        ∙ same_answer (λ c. k.answered (k.guarded c (f (k.view c))) end) end (λ c. k.unsound c (f (k.view c)) end)
-
-    pub call_sent : (out : List ℕ) (f : M → Sent) (s : line.Sent) (r : ℕ) (after : List ℕ) → answered s after ≡ k.sends e (f (k.view e)) out
-        → r ≡ packed s.refusal s.written → returned r after ≡ laid_out k.size end out (sending (k.sends (k.end_in end) (f (k.view (k.end_in end))) out))
-    call_sent out f s r after es er =
-        sending_is s (k.sends e (f (k.view e)) out) r after es er
+    pub call_sent : (out : List ℕ) (f : M → Sent) (s : Result ℕ Refusal) (after : List ℕ) → answered s after ≡ k.sends e (f (k.view e)) out
+        → returned (written s) after ≡ laid_out k.size end out (sending (k.sends (k.end_in end) (f (k.view (k.end_in end))) out))
+    call_sent out f s after es =
+        sending_is s (k.sends e (f (k.view e)) out) after es
         ∙ same_answer (λ c. sending (k.sends c (f (k.view c)) out)) out
         (λ c no'. ap sending (k.sends_is c (f (k.view c)) out ∙ ap (λ (b : Bool). cond b (f (k.view c)) (unsent out)) no'))
+
+    module _ (f : M → Answer M) where
+      abbrev pub whole : Called
+      whole = laid_out k.size end end (answered_in (k.guarded (k.end_in end) (f (k.view (k.end_in end)))) end)
+
+      call_answered : (a : Answer E) (n : ℕ) (after : List ℕ) → a ≡ k.guarded e (f (k.view e)) → returned n after ≡ answered_in a end → returned n after ≡ whole
+      call_answered a n after ea er =
+          er ∙ ap (λ (b : Answer E). answered_in b end) ea
+          ∙ same_answer (λ c. answered_in (k.guarded c (f (k.view c))) end) end
+          (λ c no'. ap (λ (b : Answer E). answered_in b end) (k.unsound c (f (k.view c)) no'))
+
+      -- the call was refused: no byte changed
+      pub call_refused : (r : Refusal) (new : E) (n : ℕ) → record { refusal = number r; end = new; report = no_report } ≡ k.guarded e (f (k.view e))
+          → n ≡ packed (number r) 0 → returned n end ≡ whole
+      call_refused r new n ea en =
+          call_answered (record { refusal = number r; end = new; report = no_report }) n end ea
+          (changed_no k.size (number r) no_report (k.bytes_in new) end n (number_some r) (omega (arith, en)))
+
+      -- it was done: the end is written
+      pub call_done : (new : E) (report : Report) (n : ℕ) (after : List ℕ) → record { refusal = 0; end = new; report = report } ≡ k.guarded e (f (k.view e))
+          → n ≡ packed_report 0 report → after ≡ k.bytes_in new ++ drop k.size end → returned n after ≡ whole
+      call_done new report n after ea en eb =
+          call_answered (record { refusal = 0; end = new; report = report }) n after ea
+          (changed_done k.size 0 report (k.bytes_in new) end n after refl en eb)
+
+-- ---- refusals as they are handed on
+
+module _ {A : Type 0} (say : Result A Refusal → ℕ) (no' : (r : Refusal) → say (Err r) ≡ packed (number r) 0) (q : Result A Refusal) (r : Refusal)
+    (e : IsErrAnd q (λ y. y ≡ r)) where
+  pub said : say q ≡ packed (number r) 0
+  said = ap say (passed_on q r e) ∙ no' r
+
+  -- question 18
+  pub short : (size : ℕ) (end out : List ℕ) (rest : Called) → (length end < size) × (r ≡ TooShort) → returned (say q) out ≡ laid_out size end out rest
+  short size end out rest h = too_short size end out rest (say q) h.0 (said ∙ ap (λ (x : Refusal). packed (number x) 0) h.1)

@@ -2,11 +2,10 @@
 use Prim.Native.Nat.{ℕ, zero, suc, ◌+◌, ◌*◌, ◌≤◌, ◌<◌}
 use native.Mathlib.Omega.{arith}
 use mathlib.Core.Path.{◌≡◌, refl, ap, ap₂, ◌∙◌}
-use mathlib.Core.List.{List, [], ◌∷◌, ◌++◌, append_assoc, map}
-use lib.ListN.{length, get_or, set, take, drop}
-use lib.Seq.{sets-eq, get_or-take}
+use mathlib.Core.List.{List, [], ◌∷◌, ◌++◌, map}
+use lib.ListN.{length, get_or, take}
+use lib.Seq.{get_or-take}
 use Rattle.line.specs.declared.Line.{Line}
-use Rattle.c_layout.specs.Words.{put_at}
 use Rattle.c_layout.specs.Numbers.{capped, counted, capped_line, line_at, line_words, lines_at, lines_words}
 
 -- ---- words too wide
@@ -60,16 +59,6 @@ pub line_read : (ws : List ℕ) (at made taken acked inserts : ℕ) → made ≡
     → acked ≡ capped 65535 (get_or ws (at + 2) 0) → inserts ≡ capped 65535 (get_or ws (at + 3) 0)
     → counted made taken acked inserts ≡ capped_line (line_at ws at)
 line_read ws at made taken acked inserts e₀ e₁ e₂ e₃ = λ i. counted (e₀ i) (e₁ i) (e₂ i) (e₃ i)
-
--- its words stored one after the other
-pub line_stored : (v : Line) (ws : List ℕ) (at : ℕ) → at + 4 ≤ length ws
-    → set (set (set (set ws at v.made) (at + 1) v.taken) (at + 2) v.acked) (at + 3) v.inserts ≡ put_at at (line_words v) ws
-line_stored v ws at h =
-    let e₁ : at + 1 ≡ suc at = omega arith in
-    let e₂ : at + 2 ≡ suc (suc at) = omega arith in
-    let e₃ : at + 3 ≡ suc (suc (suc at)) = omega arith in
-    (λ i. set (set (set (set ws at v.made) (e₁ i) v.taken) (e₂ i) v.acked) (e₃ i) v.inserts)
-    ∙ sets-eq (line_words v) ws at h ∙ append_assoc (take at ws) (line_words v) (drop (at + 4) ws)
 
 -- ---- lines one behind the other
 

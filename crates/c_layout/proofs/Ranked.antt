@@ -1,27 +1,15 @@
--- The ranks of an end in its bytes: copied there and back, and the bytes of an end in parts with the ranks between its words.
-use Prim.Native.Nat.{ℕ, ◌+◌, ◌*◌, ◌<◌, ◌≤◌}
-use native.Mathlib.Numerals.{add-one}
+-- The ranks of an end in its bytes, and the bytes of an end in parts with the ranks between its words.
+use Prim.Native.Nat.{ℕ, ◌+◌, ◌*◌, ◌≤◌}
 use native.Mathlib.Omega.{arith}
 use mathlib.Core.Path.{◌≡◌, refl, ap, ap₂, sym, ◌∙◌}
 use mathlib.Core.List.{List, [], ◌∷◌, ◌++◌, append_assoc}
-use lib.ListN.{length, get_or, set, take, drop, length-drop, length-append, take-append-drop, drop_of_length-le}
+use lib.ListN.{length, take, drop, length-drop, length-append, take-append-drop}
 use lib.Seq.{take_at, drop_at, drop-drop, get_or-drop, length-take-le}
 use Rattle.limits.specs.Limits.{max_lines}
-use Rattle.list.proofs.Sweep.{swept, swept_store, swept_to}
 use Rattle.c_layout.specs.Words.{low_first, word_at, words_by, words_of, bytes_of, put_at, Bytes}
 use Rattle.c_layout.specs.Ranks.{ranks_in, ranked}
 use Rattle.c_layout.proofs.Words.{bytes_length}
 use Rattle.c_layout.proofs.Parts.{words_drop, read_front, written_front, bytes_append}
-
--- ---- copying
-
-module _ (from to : List ℕ) (sized : length from ≡ length to) where
-  pub copy_turn : (i : ℕ) (a : List ℕ) → i < length to → a ≡ swept from to i → set a i (get_or from i 0) ≡ swept from to (i + 1)
-  copy_turn i a h e = rw add-one (ap (λ (l : List ℕ). set l i (get_or from i 0)) e ∙ swept_store from to i 0 sized h)
-
-  pub copy_end : (i : ℕ) (a : List ℕ) → length to ≤ i → a ≡ swept from to i → a ≡ from
-  copy_end i a h e =
-      e ∙ swept_to from to i (drop_of_length-le from {i = i} (omega arith) ∙ sym (drop_of_length-le to {i = i} h))
 
 -- ---- an end that was written reads back
 

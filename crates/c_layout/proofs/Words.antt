@@ -3,9 +3,9 @@ use Prim.Native.Nat.{ℕ, zero, suc, ◌+◌, ◌*◌, ◌/◌, ◌%◌, ◌<◌
 use native.Mathlib.Omega.{arith}
 use mathlib.Core.Path.{◌≡◌, refl, ap, ap₂, sym, ◌∙◌}
 use mathlib.Core.List.{List, [], ◌∷◌, ◌++◌}
-use lib.ListN.{length, get_or, get_or-append, take, drop}
+use lib.ListN.{length, get_or, take, drop}
 use lib.Seq.{get_or-take, get_or-drop}
-use Rattle.c_layout.specs.Words.{Order, low_first, high_first, word_at, words_by, words_of, four_of, bytes_of, Bytes, RoundTrips}
+use Rattle.c_layout.specs.Words.{Order, low_first, word_at, words_by, words_of, four_of, bytes_of, Bytes, RoundTrips}
 
 -- ---- round trips
 
@@ -29,12 +29,6 @@ written_one a b c d ha hb hc =
     let e₂ : low_first a b c d / 65536 % 256 ≡ c = ap (λ (n : ℕ). n % 256) u₂ ∙ low c d hc in
     let e₃ : low_first a b c d / 16777216 ≡ d = omega arith in
     simp (e₀, e₁, e₂, e₃)
-
--- a word read low byte first, its bytes turned round
-pub turned : (s : List ℕ) → Bytes s → word_at high_first (four_of (word_at low_first s 0)) 0 ≡ word_at high_first s 0
-turned s h =
-    ap (λ (l : List ℕ). word_at high_first l 0)
-    (written_one (get_or s 0 0) (get_or s 1 0) (get_or s 2 0) (get_or s 3 0) (h 0) (h 1) (h 2))
 
 pub written_back : (s : List ℕ) (n : ℕ) → length s ≡ 4 * n → Bytes s → bytes_of (words_of s) ≡ s
 unfolding bytes_of words_by
@@ -86,14 +80,6 @@ word_at_lem f (suc i) (a ∷ b ∷ c ∷ d ∷ s) h =
     let e : (k : ℕ) → get_or s (4 * i + k) 0 ≡ get_or (a ∷ b ∷ c ∷ d ∷ s) (4 * suc i + k) 0 = λ k. sym (skip s i k a b c d) in
     let e₀ : get_or s (4 * i) 0 ≡ get_or (a ∷ b ∷ c ∷ d ∷ s) (4 * suc i) 0 = sym (ap (λ (j : ℕ). get_or (a ∷ b ∷ c ∷ d ∷ s) j 0) z) in
     word_at_lem f i s (omega arith) ∙ rw (e₀, e 1, e 2, e 3)
-
-pub byte_at : (ws : List ℕ) (i k : ℕ) → i < length ws → k < 4 → get_or (bytes_of ws) (4 * i + k) 0 ≡ get_or (four_of (get_or ws i 0)) k 0
-unfolding bytes_of
-byte_at [] i k h l = absurd (omega arith)
-byte_at (w ∷ ws) zero k h l =
-    let z : 4 * 0 + k ≡ k = omega arith in
-    ap (λ (j : ℕ). get_or (four_of w ++ bytes_of ws) j 0) z ∙ get_or-append (four_of w) (bytes_of ws) 0 k l
-byte_at (w ∷ ws) (suc i) k h l = skip (bytes_of ws) i k _ _ _ _ ∙ byte_at ws i k (omega arith) l
 
 -- four bytes that were lent
 pub word_lent : (f : Order) (s : List ℕ) (i n : ℕ) → 3 < n → word_at f (take n (drop (4 * i) s)) 0 ≡ word_at f s (4 * i)

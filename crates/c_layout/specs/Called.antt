@@ -1,7 +1,11 @@
 -- What an exported call answers: one number, and the lent bytes as it leaves them.
-use Rattle.std.specs.Prelude.{ℕ, ◌+◌, ◌*◌, ◌/◌, ◌%◌, ◌<◌, ◌≡◌, cond, List, ◌++◌, eqb, ltb, length, drop}
-use Rattle.model.specs.Questions.{Sent}
-use Rattle.line.specs.declared.taking.Report.{Report}
+use Rattle.std.specs.Prelude.{ℕ, ◌+◌, ◌*◌, ◌/◌, ◌%◌, ◌<◌, ◌≤◌, ◌≡◌, cond, List, ◌++◌, eqb, ltb, length, drop, Result, Ok, Err, ⊤, MatchResult}
+use Rattle.refusal.specs.declared.Refusal.{Refusal}
+use Rattle.refusal.specs.declared.Refusal.TheVariants.{TooShort}
+use Rattle.refusal.specs.Number.{number, refused_by}
+use Rattle.model.specs.Questions.{Report, Sent}
+use Rattle.line.specs.declared.taking.Report as line
+use Rattle.line.specs.declared.taking.Stopped.{Stopped}
 
 pub record Called : Type 0 where
   pub answer : ℕ
@@ -19,6 +23,34 @@ packed_report refusal k = packed refusal k.passed + 16777216 * k.arrived + 10995
 -- and of one message of a packet how many bytes it has, in bits 56 to 63, 0 at a refusal
 abbrev pub packed_read : ℕ → Report → ℕ → ℕ
 packed_read refusal k read = packed_report refusal k + cond (eqb refusal 0) (72057594037927936 * read) 0
+
+-- ---- what the code answers, as that number
+
+abbrev pub done : Result ⊤ Refusal → ℕ
+done r = packed (refused_by r) 0
+
+-- how many bytes a sending wrote
+abbrev pub written : Result ℕ Refusal → ℕ
+written (Ok n) = packed 0 n
+written (Err r) = packed (number r) 0
+
+abbrev pub report_of : line.Report → Report
+report_of k = record { passed = k.passed; arrived = k.arrived; applied = k.applied }
+
+abbrev pub reported : Result line.Report Refusal → ℕ
+reported (Ok k) = packed_report 0 (report_of k)
+reported (Err r) = packed (number r) 0
+
+-- how many messages of a packet were taken, beside a refusal too
+abbrev pub counted : Result ℕ Stopped → ℕ
+counted (Ok n) = packed 0 n
+counted (Err s) = packed (number s.refusal) s.taken
+
+-- The bytes are as many as an end takes, or they are refused as too few.
+abbrev pub HasLength : ℕ → List ℕ → Result ⊤ Refusal → Type 0
+HasLength size bytes r = MatchResult r (λ _. size ≤ length bytes) (λ n. (length bytes < size) × (n ≡ TooShort))
+
+-- ---- the ways in which a call ends
 
 abbrev pub called : ℕ → ℕ → List ℕ → Called
 called refusal count bytes = record { answer = packed refusal count; bytes = bytes }

@@ -4,40 +4,24 @@
 pub mod numbers;
 pub mod ranks;
 
-ghost use Rattle.std.specs.Prelude.{◌≡◌, ◌+◌, ◌*◌, ◌≤◌, length};
+ghost use Rattle.std.specs.Prelude.{ℕ, ◌≡◌, ◌+◌, ◌*◌, ◌≤◌, List, length};
 ghost use Rattle.list.specs.Parts.{part};
-ghost use Rattle.c_layout.specs.Words.{low_first, high_first, word_at, words_of, items_of, four_of, bytes_of, put_at};
-ghost use Rattle.c_layout.specs.Called.{packed, packed_report};
+ghost use Rattle.c_layout.specs.Words.{Order, high_first, word_at, words_by, words_of, items_of, bytes_of, put_at};
+ghost use Rattle.c_layout.specs.Called.{packed, done, written, reported, counted};
 
-use line::taking::Report;
+use line::taking::{Report, Stopped};
+use refusal::Refusal;
 
-fn low_first(a: u8, b: u8, c: u8, d: u8) -> u32
-    ensures { result ≡ low_first a b c d }
+// The words of bytes, each of the four bytes that a closure makes it of. The order f is what the closure is known to keep to.
+fn decode_by<F: Fn([u8; 4]) -> u32>(bytes: &[u8], words: &mut [u32], word: F)
+    requires sized { length bytes.now ≡ 4 * length words.old }
+    requires calls { F.IsAlwaysCallable word }
+    ensures { (f : Order) → ((b : List ℕ) (x : ℕ) → F.post word b x → x ≡ word_at f b 0) → words.new ≡ words_by f bytes.now }
 {
-    a as u32 + b as u32 * 256 + c as u32 * 65536 + d as u32 * 16777216
-}
-
-// The word of four lent bytes. Read at fixed places of one slice they become one load.
-fn word_in(b: &[u8]) -> u32
-    requires { length b.now ≡ 4 }
-    ensures { result ≡ word_at low_first b.now 0 }
-{
-    low_first(b[0], b[1], b[2], b[3])
-}
-
-// A word with its bytes the other way round.
-fn swapped(x: u32) -> u32
-    ensures { result ≡ word_at high_first (four_of x) 0 }
-{
-    x % 256 * 16777216 + x / 256 % 256 * 65536 + x / 65536 % 256 * 256 + x / 16777216
-}
-
-// The same, high byte first. The load stands alone, so that a loop over items is vectorised.
-fn item_in(b: &[u8]) -> u32
-    requires { length b.now ≡ 4 }
-    ensures { result ≡ word_at high_first b.now 0 }
-{
-    swapped(word_in(b))
+    let (fours, _) = bytes.as_chunks::<4>();
+    for (i, four) in fours.iter().enumerate() {
+        words[i] = word(*four);
+    }
 }
 
 // The words of bytes, low byte first.
@@ -45,11 +29,14 @@ fn decode(bytes: &[u8], words: &mut [u32])
     requires { length bytes.now ≡ 4 * length words.old }
     ensures { words.new ≡ words_of bytes.now }
 {
-    for i in 0..words.len() {
-        let at = 4 * i;
-        let end = at + 4;
-        words[i] = word_in(&bytes[at..end]);
-    }
+    decode_by(bytes, words, u32::from_le_bytes);
+}
+
+// An opening item. Its bytes are turned round once they are one word, so that the load stands alone and a loop over items is vectorised.
+fn item_in(four: [u8; 4]) -> u32
+    ensures { result ≡ word_at high_first four 0 }
+{
+    u32::from_le_bytes(four).swap_bytes()
 }
 
 // Opening items.
@@ -57,11 +44,7 @@ pub fn decode_items(bytes: &[u8], words: &mut [u32])
     requires { length bytes.now ≡ 4 * length words.old }
     ensures { words.new ≡ items_of bytes.now }
 {
-    for i in 0..words.len() {
-        let from = 4 * i;
-        let to = from + 4;
-        words[i] = item_in(&bytes[from..to]);
-    }
+    decode_by(bytes, words, item_in);
 }
 
 // The bytes of words.
@@ -69,13 +52,9 @@ fn encode(words: &[u32], bytes: &mut [u8])
     requires { length bytes.old ≡ 4 * length words.now }
     ensures { bytes.new ≡ bytes_of words.now }
 {
-    for i in 0..words.len() {
-        let first = 4 * i;
-        let x = words[i];
-        bytes[first] = (x % 256) as u8;
-        bytes[first + 1] = (x / 256 % 256) as u8;
-        bytes[first + 2] = (x / 65536 % 256) as u8;
-        bytes[first + 3] = (x / 16777216) as u8;
+    for (i, word) in words.iter().enumerate() {
+        let at = 4 * i;
+        bytes[at..at + 4].copy_from_slice(&word.to_le_bytes());
     }
 }
 
@@ -99,16 +78,51 @@ pub fn put(bytes: &mut [u8], from: usize, words: &[u32])
     encode(words, &mut bytes[at..end]);
 }
 
-// What an exported call returns: the refusal, and the count or length beside it.
+// What an exported call returns: the refusal, and the count or length beside it. Kept as numbers in one: it goes to C.
 pub fn answer(refusal: u8, count: u16) -> u64
     ensures { result ≡ packed refusal count }
 {
     refusal as u64 + 256 * count as u64
 }
 
-// Of a taking, the positions in which the edit arrived and was applied stand above them.
-pub fn report(refusal: u8, k: Report) -> u64
-    ensures { result ≡ packed_report refusal k }
+// Of a call that has nothing to report.
+pub fn done(r: Result<(), Refusal>) -> u64
+    ensures { result ≡ done r }
 {
-    answer(refusal, k.passed) + 16777216 * k.arrived as u64 + 1099511627776 * k.applied as u64
+    match r {
+        Ok(()) => answer(0, 0),
+        Err(refusal) => answer(refusal.number(), 0),
+    }
+}
+
+// Of a sending, how many bytes it wrote.
+pub fn written(r: Result<u16, Refusal>) -> u64
+    ensures { result ≡ written r }
+{
+    match r {
+        Ok(bytes) => answer(0, bytes),
+        Err(refusal) => answer(refusal.number(), 0),
+    }
+}
+
+// Of a taking, the positions in which the edit arrived and was applied stand above the count.
+pub fn reported(r: Result<Report, Refusal>) -> u64
+    ensures { result ≡ reported r }
+{
+    match r {
+        Ok(k) => {
+            answer(0, k.passed) + 16777216 * k.arrived as u64 + 1099511627776 * k.applied as u64
+        }
+        Err(refusal) => answer(refusal.number(), 0),
+    }
+}
+
+// Of a packet, how many of its messages were taken, beside a refusal too.
+pub fn counted(r: Result<u16, Stopped>) -> u64
+    ensures { result ≡ counted r }
+{
+    match r {
+        Ok(messages) => answer(0, messages),
+        Err(stopped) => answer(stopped.refusal.number(), stopped.taken),
+    }
 }

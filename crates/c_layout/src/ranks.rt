@@ -4,28 +4,20 @@ ghost use Rattle.limits.specs.Limits.{max_lines};
 ghost use Rattle.c_layout.specs.Words.{put_at};
 ghost use Rattle.c_layout.specs.Ranks.{ranks_in};
 
-// How many an end has, their first byte, and the words that they take.
+// How many an end has, their first byte, and the words that they take. The crate ranks has the same count, but this module has its name,
+// so that it can't be named here: both are limits' LINES.
 pub const PLACES: usize = limits::LINES as usize;
 
 const FIRST: usize = 12;
 
 pub const WORDS: usize = 2;
 
-fn copy(from: &[u8], to: &mut [u8])
-    requires { length from.now ≡ length to.old }
-    ensures { to.new ≡ from.now }
-{
-    for i in 0..to.len() {
-        to[i] = from[i];
-    }
-}
-
 pub fn read(bytes: &[u8]) -> [u8; PLACES]
     requires { 20 ≤ length bytes.now }
     ensures { result ≡ ranks_in bytes.now }
 {
     let mut ranks = [0u8; PLACES];
-    copy(&bytes[FIRST..FIRST + PLACES], &mut ranks);
+    ranks.copy_from_slice(&bytes[FIRST..FIRST + PLACES]);
     ranks
 }
 
@@ -34,5 +26,5 @@ pub fn write(bytes: &mut [u8], ranks: &[u8])
     requires { (20 ≤ length bytes.old) × (length ranks.now ≡ max_lines) }
     ensures { bytes.new ≡ put_at 12 ranks.now bytes.old }
 {
-    copy(ranks, &mut bytes[FIRST..FIRST + PLACES]);
+    bytes[FIRST..FIRST + PLACES].copy_from_slice(ranks);
 }

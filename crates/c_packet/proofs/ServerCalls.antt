@@ -4,42 +4,25 @@ use native.Mathlib.Omega.{arith}
 use mathlib.Core.Path.{◌≡◌, ap, ◌∙◌}
 use mathlib.Core.List.{List}
 use lib.ListN.{length, drop}
+use Rattle.std.specs.Prelude.{Ok}
 use Rattle.model.specs.Questions as model
 use Rattle.model.specs.Server as server
 use Rattle.model.specs.Packets.{next_size}
-use Rattle.line.specs.declared.sending.Sent.{Sent}
 use Rattle.line.specs.Sending as sent
 use Rattle.server.specs.declared.Server.{Server}
-use Rattle.server.specs.declared.Answer.{Answer}
 use Rattle.server.specs.View.{view, sound}
-use Rattle.server.specs.Answers.{refused_with, given, guarded}
-use Rattle.server.specs.Packets.{packed_edits, taking, packet_taken, taken_at}
+use Rattle.server.specs.Answers.{refused_with, given, guarded, taken}
+use Rattle.server.specs.Packets.{packed_edits}
 use Rattle.server.proofs.Packs.{pack_small}
-use Rattle.c_server.specs.Layout.{size, bytes_in, end_in}
-use Rattle.c_server.specs.Reading.{capped_end}
-use Rattle.c_server.proofs.Calls.{servers}
-use Rattle.c_packet.specs.Calls.{returned, server_some, server_one, server_packet_in, server_taken_at_in}
 use Rattle.c_packet.proofs.Sizes.{unread_refused, long_unread}
-use Rattle.c_packet.proofs.Calls.{packet_called, message_called}
 
 -- the length of a packet fits the answer
-pub pack_fits : (c : Server) (line : ℕ) (out : List ℕ) (offset : ℕ) (s : Sent) (after : List ℕ) → sent.answered s after ≡ packed_edits c line out offset → s.written ≤ 1088
-pack_fits c line out offset s after e = omega (arith, ap (λ (m : model.Sent). m.written) e, pack_small c line out offset)
+pub pack_fits : (c : Server) (line : ℕ) (out : List ℕ) (offset n : ℕ) (after : List ℕ) → sent.answered (Ok n) after ≡ packed_edits c line out offset → n ≤ 1088
+pack_fits c line out offset n after e = omega (arith, ap (λ (m : model.Sent). m.written) e, pack_small c line out offset)
 
 -- a message of more than 17 bytes is refused
-pub long_message : (c : Server) (m : List ℕ) → 17 < length m → (taking c m).refusal ≡ 0 → ⊥
+pub long_message : (c : Server) (m : List ℕ) → 17 < length m → (taken c m).refusal ≡ 0 → ⊥
 unfolding guarded server.take_server
 long_message c =
-    long_unread (λ (a : Answer). a.refusal) (λ r. given c (server.server_reads (view c) r)) (refused_with 2 c) (unread_refused (view c) (server.sound_server (view c)))
+    long_unread (λ (a : model.Answer Server). a.refusal) (λ r. given c (server.server_reads (view c) r)) (refused_with 2 c) (unread_refused (view c) (server.sound_server (view c)))
     (λ z. omega (arith, z)) (sound c)
-
-module _ (end : List ℕ) (enough : size ≤ length end) (e : Server) (is : e ≡ capped_end (end_in end)) (packet : List ℕ) (a : Answer) (r : ℕ) (after : List ℕ) where
-  pub packet_answered : a ≡ packet_taken e packet → returned r after ≡ server_some a end → returned r after ≡ server_packet_in end packet
-  unfolding server_some server_packet_in
-  packet_answered ea er = packet_called servers bytes_in taking end enough e is packet r after (er ∙ ap (λ (b : Answer). server_some b end) ea)
-
-  pub message_answered : (at read : ℕ) → a ≡ taken_at e packet at → read ≡ next_size (drop at packet) % 256 → returned r after ≡ server_one a read end
-      → returned r after ≡ server_taken_at_in end packet at
-  unfolding server_one server_taken_at_in
-  message_answered at read ea es er =
-      message_called servers bytes_in taking end enough e is packet at long_message read r after es (er ∙ ap (λ (b : Answer). server_one b read end) ea)

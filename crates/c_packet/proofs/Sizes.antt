@@ -8,8 +8,8 @@ use lib.Dec.{eqb, leb, ltb}
 use lib.ListN.{length, get_or, take, drop, drop_of_length-le}
 use lib.Seq.{length-take-le}
 use borrow.Author.Tests.{ne_eqb, eqb-false, leb-true, leb-false, ltb-true, ltb-false}
-use Rattle.wire.specs.declared.Read.{Read}
-use Rattle.wire.specs.declared.Read.TheVariants as read
+use Rattle.std.specs.Prelude.{Option, None}
+use Rattle.wire.specs.declared.Message.{Message}
 use Rattle.wire.specs.Bytes.{size_of_kind, parsed}
 use Rattle.model.specs.Limits.{max_packet}
 use Rattle.model.specs.Questions.{ask, asks, between, no_report, Answer, answer}
@@ -50,7 +50,7 @@ size_few k = go (eqb k 5) (eqb k 7) (eqb k 8) (eqb k 4)
     go false false false false = omega arith
 
 -- longer bytes are no message
-long_refused : (s : List ℕ) → 17 < length s → parsed s ≡ read.Refused
+long_refused : (s : List ℕ) → 17 < length s → parsed s ≡ None
 unfolding parsed
 long_refused s h = simp (ne_eqb (length s) (size_of_kind (get_or s 0 0)) (λ e. omega (arith, e, size_few (get_or s 0 0))), and-false)
 
@@ -61,9 +61,9 @@ unread_refused m true e = omega (arith, e)
 unread_refused m false e = omega (arith, e)
 
 -- So an end refuses longer bytes. It answers no' if it is not sound, and else by what it reads.
-pub long_unread : {A : Type 0} (refusal : A → ℕ) (yes' : Read → A) (no' : A) → (refusal (yes' read.Refused) ≡ 0 → ⊥) → (refusal no' ≡ 0 → ⊥)
+pub long_unread : {A : Type 0} (refusal : A → ℕ) (yes' : Option Message → A) (no' : A) → (refusal (yes' None) ≡ 0 → ⊥) → (refusal no' ≡ 0 → ⊥)
     → (b : Bool) (s : List ℕ) → 17 < length s → refusal (cond b (yes' (parsed s)) no') ≡ 0 → ⊥
-long_unread refusal yes' no' p q true s h = subst (λ (r : Read). refusal (yes' r) ≡ 0 → ⊥) (sym (long_refused s h)) p
+long_unread refusal yes' no' p q true s h = subst (λ (r : Option Message). refusal (yes' r) ≡ 0 → ⊥) (sym (long_refused s h)) p
 long_unread refusal yes' no' p q false s h = q
 
 module _ {E : Type 0} (sound : E → Bool) (taking : E → List ℕ → Answer E) (long : (e : E) (m : List ℕ) → 17 < length m → (taking e m).refusal ≡ 0 → ⊥) where

@@ -3,27 +3,29 @@ use Prim.Native.Nat.{ℕ, ◌/◌, ◌%◌, ◌≤◌, ◌<◌}
 use native.Mathlib.Omega.{arith}
 use mathlib.Core.Path.{◌≡◌, refl, ap, sym, ◌∙◌}
 use mathlib.Core.Bool.{Bool, true, false, ◌&&◌, cond}
-use mathlib.Core.List.{List, [], ◌∷◌}
+use mathlib.Core.List.{List, [], ◌∷◌, ◌++◌}
 use lib.Dec.{leb}
-use lib.ListN.{length}
+use lib.ListN.{length, drop}
 use borrow.Author.Tests.{lt-leb}
+use Rattle.std.specs.Prelude.{Result, Ok, Err, ⊤, IsErrAnd}
+use Rattle.refusal.specs.declared.Refusal.{Refusal}
+use Rattle.refusal.specs.Number.{number}
+use Rattle.refusal.proofs.Some.{number_some}
 use Rattle.limits.specs.Limits.{max_lines, max_initial}
 use Rattle.wire.specs.declared.Message.TheVariants.{Ack}
 use Rattle.model.specs.Questions as model
 use Rattle.model.specs.Server as server
 use Rattle.model.proofs.Tests.{never}
-use Rattle.line.specs.declared.sending.Sent.{Sent}
 use Rattle.line.specs.Sending as sent
+use Rattle.line.specs.Taking.{done_of}
 use Rattle.server.specs.declared.Server.{Server}
-use Rattle.server.specs.declared.Answer.{Answer}
-use Rattle.server.specs.declared.Changed.{Changed}
 use Rattle.server.specs.View.{view, sound}
-use Rattle.server.specs.Answers.{answer_of, guarded, guarded_sending, opened, sent_edit, sent_ack}
+use Rattle.server.specs.Answers.{guarded, guarded_sending, opened, sent_edit, sent_ack}
 use Rattle.c_layout.specs.Words.{words_of, items_of}
-use Rattle.c_layout.specs.Called.{Called, packed, called}
-use Rattle.c_layout.proofs.Called.{items_count, open_cut, open_whole, sent_few, Guarded, sent_fits}
+use Rattle.c_layout.specs.Called.{Called, packed, called, done}
+use Rattle.c_layout.proofs.Called.{items_count, open_cut, open_whole, sent_few, Guarded, sent_fits, changed_no, changed_done, said}
 use Rattle.c_layout.proofs.Counts.{lines_length}
-use Rattle.c_server.specs.Layout.{size, end_in}
+use Rattle.c_server.specs.Layout.{size, bytes_in, end_in}
 use Rattle.c_server.specs.Reading.{capped_end}
 use Rattle.c_server.specs.Calls.{returned, answered, opened_in}
 use Rattle.c_server.proofs.Capped.{sound_same, sound_capped}
@@ -32,15 +34,15 @@ pub eight : (end : List ℕ) → length (end_in end).counts.lines ≡ max_lines
 unfolding end_in
 eight end = lines_length (words_of end) _ max_lines
 
-pub unsound : (s : Server) (a : model.Answer server.Server) (end : List ℕ) → sound s ≡ false → answered (guarded s a) end ≡ called 2 0 end
-unfolding guarded answered
-unsound s a end no' = rw no'
+pub unsound : (s : Server) (a : model.Answer server.Server) → sound s ≡ false → guarded s a ≡ record { refusal = 2; end = s; report = model.no_report }
+unfolding guarded
+unsound s a no' = rw no'
 
 pub sends_is : (s : Server) (m : model.Sent) (out : List ℕ) → guarded_sending s m out ≡ cond (sound s) m (record { refusal = 2; written = 0; buffer = out })
 unfolding guarded_sending
 sends_is s m out = refl
 
-abbrev pub servers : Guarded Server Answer server.Server
+abbrev pub servers : Guarded Server server.Server
 servers =
     record {
       size = size;
@@ -48,26 +50,26 @@ servers =
       view = view;
       end_in = end_in;
       as_read = capped_end;
+      bytes_in = bytes_in;
       read_sound = λ end. sound_capped (end_in end) (eight end);
       sound_read = λ end. sound_same (end_in end) (eight end);
       guarded = guarded;
-      answered = answered;
       sends = guarded_sending;
       unsound = unsound;
       sends_is = sends_is;
     }
 
-module _ (c : Server) (line : ℕ) (out : List ℕ) (s : Sent) (after : List ℕ) where
-  pub edit_fits : (number : ℕ) → sent.answered s after ≡ sent_edit c line number out → s.written ≤ 17
+module _ (c : Server) (line : ℕ) (out : List ℕ) (n : ℕ) (after : List ℕ) where
+  pub edit_fits : (number : ℕ) → sent.answered (Ok n) after ≡ sent_edit c line number out → n ≤ 17
   unfolding server.send_server
   edit_fits number =
-      sent_fits servers c (server.send_server (view c) line number out) out s after
+      sent_fits servers c (server.send_server (view c) line number out) out n after
       (sent_few (model.asks (server.send_server_questions (view c) line number out)) (server.server_message (view c) line number) out)
 
-  pub ack_fits : sent.answered s after ≡ sent_ack c line out → s.written ≤ 17
+  pub ack_fits : sent.answered (Ok n) after ≡ sent_ack c line out → n ≤ 17
   unfolding server.tell_server
   ack_fits =
-      sent_fits servers c (server.tell_server (view c) line out) out s after
+      sent_fits servers c (server.tell_server (view c) line out) out n after
       (sent_few (model.asks (server.tell_server_questions (view c) line out)) (Ack line 1 (server.line_of (view c) line).taken) out)
 
 -- ---- opening
@@ -80,9 +82,9 @@ module _ (end : List ℕ) (n : ℕ) (ranks items : List ℕ) (long : size ≤ le
   unfolding opened_in
   opened_cut = open_cut size end items rest long
 
-  pub opened_done : (r : ℕ) (after : List ℕ) → length items % 4 ≡ 0 → returned r after ≡ rest → returned r after ≡ opened_in end n ranks items
+  pub opened_whole : (r : ℕ) (after : List ℕ) → length items % 4 ≡ 0 → returned r after ≡ rest → returned r after ≡ opened_in end n ranks items
   unfolding opened_in
-  opened_done r after even e = e ∙ open_whole size end items rest long even
+  opened_whole r after even e = e ∙ open_whole size end items rest long even
 
   and_no : (a b : Bool) → b ≡ false → (a && (b && true)) ≡ false
   and_no a true e = never (sym e)
@@ -95,11 +97,24 @@ module _ (end : List ℕ) (n : ℕ) (ranks items : List ℕ) (long : size ≤ le
       let its = items_of items in
       let no' : model.every (model.between 1 max_lines n ∷ leb (length its) max_initial ∷ []) ≡ false =
       and_no (model.between 1 max_lines n) (leb (length its) max_initial) (lt-leb (length its) max_initial (omega (arith, items_count items even))) in
-      let said : called 1 0 end ≡ rest = rw no' in
-      opened_done r end even (ap (λ (k : ℕ). returned k end) e ∙ said)
+      let told : called 1 0 end ≡ rest = rw no' in
+      opened_whole r end even (ap (λ (k : ℕ). returned k end) e ∙ told)
 
--- the items as they were decoded
-pub open_answered : (end : List ℕ) (n : ℕ) (ranks items list words : List ℕ) (a : Changed) (r : ℕ) (after : List ℕ) → list ≡ items_of items
-    → answer_of a words ≡ opened n ranks list → returned r after ≡ answered (answer_of a words) end
-    → returned r after ≡ answered (opened n ranks (items_of items)) end
-open_answered end n ranks items list words a r after el ea er = er ∙ ap (λ (b : Answer). answered b end) (ea ∙ ap (opened n ranks) el)
+  -- the items as they were decoded
+  module _ (even : length items % 4 ≡ 0) (list : List ℕ) (el : list ≡ items_of items) where
+    from_items : (a : model.Answer Server) (r : ℕ) (after : List ℕ) → a ≡ opened n ranks list → returned r after ≡ answered a end
+        → returned r after ≡ opened_in end n ranks items
+    from_items a r after ea er = opened_whole r after even (er ∙ ap (λ (b : model.Answer Server). answered b end) (ea ∙ ap (opened n ranks) el))
+
+    pub opened_refused : (r : Refusal) (new : Server) → done_of (Err r) new ≡ opened n ranks list → (q : Result ⊤ Refusal) → IsErrAnd q (λ y. y ≡ r)
+        → returned (done q) end ≡ opened_in end n ranks items
+    unfolding answered
+    opened_refused r new ea q e =
+        from_items (done_of (Err r) new) (done q) end ea
+        (changed_no size (number r) model.no_report (bytes_in new) end (done q) (number_some r) (omega (arith, said done (λ x. refl) q r e)))
+
+    pub opened_done : (new : Server) (after : List ℕ) → done_of (Ok tt) new ≡ opened n ranks list → after ≡ bytes_in new ++ drop size end
+        → returned 0 after ≡ opened_in end n ranks items
+    unfolding answered
+    opened_done new after ea eb =
+        from_items (done_of (Ok tt) new) 0 after ea (changed_done size 0 model.no_report (bytes_in new) end 0 after refl refl eb)

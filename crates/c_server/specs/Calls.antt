@@ -1,6 +1,7 @@
 -- The server's calls over lent bytes: question 18, then the call of the server that the bytes are. A refused call changes no byte.
 use Rattle.std.specs.Prelude.{ℕ, List}
-use Rattle.server.specs.declared.Answer.{Answer}
+use Rattle.model.specs.Questions.{Answer}
+use Rattle.server.specs.declared.Server.{Server}
 use Rattle.server.specs.Answers.{opened, taken, sent_edit, sent_ack}
 use Rattle.c_layout.specs.Words.{items_of}
 use Rattle.c_layout.specs.Called.{Called, laid_out, changing, opening, sending}
@@ -8,8 +9,8 @@ pub use Rattle.c_layout.specs.Called.{returned}
 use Rattle.c_server.specs.Layout.{size, bytes_in, end_in}
 
 -- the answer of a call that may change its end
-unfoldable pub answered : Answer → List ℕ → Called
-answered a bytes = changing size a.refusal a.report (bytes_in a.server) bytes
+unfoldable pub answered : Answer Server → List ℕ → Called
+answered a bytes = changing size a.refusal a.report (bytes_in a.end) bytes
 
 unfoldable pub opened_in : List ℕ → ℕ → List ℕ → List ℕ → Called
 opened_in bytes n ranks items = opening size bytes items (answered (opened n ranks (items_of items)) bytes)

@@ -6,7 +6,11 @@ use mathlib.Core.Bool.{Bool, true, false, not, ◌&&◌}
 use mathlib.Core.List.{List, [], ◌∷◌, ◌++◌}
 use lib.Dec.{eqb, leb, ltb}
 use lib.ListN.{length, length-append}
-use borrow.Author.Tests.{eq-eqb, ne_eqb, eqb-false, ltb-true, leb-true, le-leb, lt-leb, lt-ltb, le-ltb}
+use borrow.Author.Tests.{eq-eqb, ne_eqb, eqb-false, ltb-true, leb-true}
+use Rattle.std.specs.Prelude.{Result, ⊤, IsErrAnd}
+use Rattle.refusal.specs.declared.Refusal.{Refusal}
+use Rattle.refusal.specs.Number.{number}
+use Rattle.refusal.proofs.Some.{number_some, passed_on}
 use Rattle.limits.specs.Limits.{max_inserts, max_edits, max_pending, max_items}
 use Rattle.ot.specs.declared.Form.{Form}
 use Rattle.ot.specs.Edit.{Edit, Insert, edit, item_of, applied, fits}
@@ -17,7 +21,7 @@ use Rattle.list.specs.Seconds.{total_seconds}
 use Rattle.model.specs.Cross.{inserts_of}
 use Rattle.model.specs.Questions.{Question, ask, asks, no_report, Answer, answer}
 use Rattle.model.specs.Inverse.{inverse_of, is_nothing}
-use Rattle.line.specs.Taking as lines
+use Rattle.line.specs.Taking.{done_of}
 use Rattle.model.specs.Ranks.{rank_of}
 use Rattle.model.specs.Line as line
 use Rattle.model.specs.Client.{edit_client}
@@ -28,45 +32,16 @@ use Rattle.line.specs.declared.Line.{Line}
 use Rattle.line.specs.Line.{Kept}
 use Rattle.line.specs.Keeping.{fits_list, with_kept}
 use Rattle.line.proofs.Room.{fits_model, fits_room}
-use Rattle.client.specs.declared.Counts.{Counts}
 use Rattle.client.specs.declared.Client.{Client}
 use Rattle.client.specs.declared.Inverse.{Inverse}
 use Rattle.client.specs.View.{size, slots_in, inverse_stored, view, sound, Sound, Applied}
 use Rattle.client.specs.Undo.{inverse_made}
-use Rattle.client.specs.Answers.{refused_with, answer_of, done_counts, guarded, edited, inserted, taken_back, edit_asked}
+use Rattle.client.specs.Answers.{refused_with, guarded, edited, inserted, taken_back, edit_asked}
 use Rattle.client.proofs.Words.{with_slots}
 use Rattle.client.proofs.Answers.{unsound, refused, done}
 use Rattle.client.proofs.Inverses.{tidy_item, tidy_none, made_is, fits_form}
 use Rattle.client.proofs.Sound.{sound_rank, sound_tidy}
-use Rattle.client.proofs.Written.{Summed, listed, listed_is, facts, len_few, summed, kept_long, becomes}
-
--- ---- questions 9 to 12 as the code asks them
-
-module _ (k : Counts) (e : Edit) (b : Bool) (eb : b ≡ fits_list e k.len) where
-  abbrev room : Bool
-  room = ltb (k.own.made - k.own.acked) max_pending
-
-  tested : (f i m r : Bool) → fits_list e k.len ≡ f → leb (k.own.inserts + inserts_of e) max_inserts ≡ i → ltb k.own.made max_edits ≡ m
-      → room ≡ r → asks (ask 9 f ∷ ask 10 i ∷ ask 11 m ∷ ask 12 r ∷ []) ≡ asks (edit_asked k e)
-  tested f i m r ef ei em er = λ j. asks (ask 9 (sym ef j) ∷ ask 10 (sym ei j) ∷ ask 11 (sym em j) ∷ ask 12 (sym er j) ∷ [])
-
-  pub asked_9 : b ≡ false → 9 ≡ asks (edit_asked k e)
-  asked_9 f = tested false (leb (k.own.inserts + inserts_of e) max_inserts) (ltb k.own.made max_edits) room (sym eb ∙ f) refl refl refl
-
-  module _ (t : b ≡ true) (i : ℕ) (ei : i ≡ inserts_of e) where
-    pub asked_10 : max_inserts < k.own.inserts + i → 10 ≡ asks (edit_asked k e)
-    asked_10 h =
-        tested true false (ltb k.own.made max_edits) room (sym eb ∙ t) (lt-leb (k.own.inserts + inserts_of e) max_inserts (omega arith)) refl refl
-
-    module _ (few : k.own.inserts + i ≤ max_inserts) where
-      inserts_few : leb (k.own.inserts + inserts_of e) max_inserts ≡ true
-      inserts_few = le-leb (k.own.inserts + inserts_of e) max_inserts (omega arith)
-
-      pub asked_11 : max_edits ≤ k.own.made → 11 ≡ asks (edit_asked k e)
-      asked_11 h = tested true true false room (sym eb ∙ t) inserts_few (le-ltb k.own.made max_edits h) refl
-
-      pub asked_12 : k.own.made < max_edits → (r : Bool) → r ≡ room → asks (ask 12 r ∷ []) ≡ asks (edit_asked k e)
-      asked_12 h r er = tested true true true r (sym eb ∙ t) inserts_few (lt-ltb k.own.made max_edits h) (sym er)
+use Rattle.client.proofs.Written.{Summed, changed, listed, listed_is, facts, len_few, summed, kept_long, becomes}
 
 -- ---- at a sound client they are the model's
 
@@ -84,7 +59,7 @@ pub record Allowed (c : Client) (f : Form) (x : ℕ) : Type 0 where
       → i ≡ inserts_of (edit f x) → own ≡ with_kept c.counts.own (c.counts.own.inserts + i) → total ≡ total_seconds (applied (edit f x) (listed c))
       → rank ≡ rank_of c.counts.ranks c.counts.line → inverse ≡ inverse_made rank (listed c) f
       → Applied f x (client.origin_here (view c) (c.counts.own.made + 1)) c.counts.len (with_slots c.words slots) after len
-      → answer_of (done_counts c.counts lines.no_report own len total inverse) after ≡ edited c (edit f x)
+      → record { refusal = 0; end = changed c own len total inverse after; report = no_report } ≡ edited c (edit f x)
 
 module _ (c : Client) (s : Sound c) (f : Form) (x : ℕ) where
   abbrev e : Edit
@@ -110,10 +85,12 @@ module _ (c : Client) (s : Sound c) (f : Form) (x : ℕ) where
       ∙ ap (λ (b : Bool). asks (ask 9 b ∷ later))
       (sym (fits_model here e (view c).items (facts c s).items) ∙ ap (fits_list e) s.listed)
 
-  pub edit_refused : (r : ℕ) → r ≡ asks (edit_asked c.counts e) → (r ≡ 0 → ⊥) → refused_with r c ≡ edited c e
+  pub edit_refused : (q : Result ⊤ Refusal) (r : Refusal) → IsErrAnd q (λ y. y ≡ r) → number r ≡ asks (edit_asked c.counts e)
+      → done_of q c ≡ edited c e
   unfolding edit_client
-  edit_refused r er n =
-      refused c r no_report (client.edited (view c) e) s.yes n
+  edit_refused q r h er =
+      ap (λ (x : Result ⊤ Refusal). done_of x c) (passed_on q r h)
+      ∙ refused c (number r) no_report (client.edited (view c) e) s.yes (number_some r)
       ∙ ap (λ (k : ℕ). guarded c (answer k (view c) (client.edited (view c) e) no_report)) (er ∙ sym same_questions)
 
   module _ (z : asks (edit_asked c.counts e) ≡ 0) where
@@ -147,11 +124,11 @@ module _ (c : Client) (s : Sound c) (f : Form) (x : ℕ) where
         → i ≡ inserts_of e → own ≡ with_kept c.counts.own (c.counts.own.inserts + i) → total ≡ total_seconds (applied e (listed c))
         → rank ≡ rank_of c.counts.ranks c.counts.line → inverse' ≡ inverse_made rank (listed c) f
         → Applied f x here c.counts.len (with_slots c.words slots) after len
-        → answer_of (done_counts c.counts lines.no_report own len total inverse') after ≡ edited c e
+        → record { refusal = 0; end = changed c own len total inverse' after; report = no_report } ≡ edited c e
     unfolding edit_client
     edit_done long own i len total rank inverse' slots after es ei eo et er eb a =
-        ap (λ (d : Client). record { refusal = 0; report = lines.no_report; client = d })
-        (becomes c s long kept kept_few slots es f x here edit_room own len total inverse' lines.no_report after inverse
+        ap (λ (d : Client). record { refusal = 0; end = d; report = no_report })
+        (becomes c s long kept kept_few slots es f x here edit_room own len total inverse' after inverse
         (eo ∙ ap (λ (j : ℕ). with_kept c.counts.own (c.counts.own.inserts + j)) ei) et (eb ∙ edit_inverse rank er) a)
         ∙ done c (asks (client.edit_questions (view c) e)) no_report (client.edited (view c) e) s.yes (same_questions ∙ z)
 

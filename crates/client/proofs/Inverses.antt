@@ -2,7 +2,7 @@
 use Prim.Native.Nat.{ℕ, ◌+◌, ◌-◌, ◌≤◌, ◌<◌}
 use native.Mathlib.Omega.{arith}
 use mathlib.Core.Path.{◌≡◌, refl, ap, ◌∙◌, sym}
-use mathlib.Core.Bool.{Bool, true, false, not, ◌&&◌, ◌||◌, and-true}
+use mathlib.Core.Bool.{Bool, true, false, not, ◌&&◌, ◌||◌}
 use mathlib.Core.List.{List}
 use lib.Dec.{eqb}
 use lib.ListN.{get_or}
@@ -70,27 +70,6 @@ module _ (b : Inverse) (t : inverse_tidy b ≡ true) where
       bool_ext (eqb b.place 0) (is_nothing (inverse_in b))
       (λ z. ap (λ (n : ℕ). is_nothing (edit (form_at n) b.item)) (eqb-true b.place 0 z))
       (λ n. eq-eqb b.place 0 (tidy_place ∙ no_place_lem (form_at b.place) b.item n))
-
--- as the code tests it: only an insert brings an item
-module _ (b : Inverse) (f : Form) (p : ℕ) (ef : f ≡ form_at b.place) (ep : p ≡ place_of f) where
-  tested : (x : ℕ) → x ≡ item_of (edit f b.item) → (eqb b.place p && eqb b.item x) ≡ inverse_tidy b
-  tested x ex =
-      (λ i. eqb b.place (ep i) && eqb b.item (ex i))
-      ∙ ap (λ (g : Form). eqb b.place (place_of g) && eqb b.item (item_of (edit g b.item))) ef
-
-  brings : (g : Form) → f ≡ g → item_of (edit g b.item) ≡ item_of (edit f b.item)
-  brings g e = ap (λ (h : Form). item_of (edit h b.item)) (sym e)
-
-  pub tidy_nothing : f ≡ form.Nothing → (eqb b.place p && eqb b.item 0) ≡ inverse_tidy b
-  tidy_nothing e = tested 0 (brings form.Nothing e)
-
-  pub tidy_delete : (q : ℕ) → f ≡ form.Delete q → (eqb b.place p && eqb b.item 0) ≡ inverse_tidy b
-  tidy_delete q e = tested 0 (brings (form.Delete q) e)
-
-  pub tidy_insert : (q r : ℕ) → f ≡ form.Insert q r → eqb b.place p ≡ inverse_tidy b
-  tidy_insert q r e =
-      sym (and-true (eqb b.place p)) ∙ ap (λ (t : Bool). eqb b.place p && t) (sym (eq-eqb b.item b.item refl))
-      ∙ tested b.item (brings (form.Insert q r) e)
 
 -- ---- question 2 of it, as the code tests it
 

@@ -1,11 +1,16 @@
 -- Sending: what is refused and what is written is what the model refuses and writes.
 use Prim.Native.Nat.{ℕ}
-use mathlib.Core.Path.{◌≡◌, refl, ap, ◌∙◌, sym}
+use mathlib.Core.Path.{◌≡◌, ap, ◌∙◌, sym}
 use mathlib.Core.Bool.{Bool, true, false, cond}
 use mathlib.Core.List.{List, [], ◌∷◌}
 use lib.Dec.{leb, eqb}
 use lib.ListN.{length}
-use borrow.Author.Tests.{eqb-false, eq-eqb, ne_eqb}
+use borrow.Author.Tests.{eq-eqb, ne_eqb}
+use Rattle.std.specs.Prelude.{Result, Err, IsErrAnd}
+use Rattle.refusal.specs.declared.Refusal.{Refusal}
+use Rattle.refusal.specs.declared.Refusal.TheVariants as refusal
+use Rattle.refusal.specs.Number.{number as code}
+use Rattle.refusal.proofs.Some.{number_some, passed_on}
 use Rattle.wire.specs.declared.Message.{Message}
 use Rattle.wire.specs.declared.Message.TheVariants as message
 use Rattle.wire.specs.Bytes.{bytes_of}
@@ -14,10 +19,10 @@ use Rattle.model.specs.Line.{line_message, send_questions}
 use Rattle.model.specs.Client.{sound_client, client_message, send_client_questions, send_client, tell_client}
 use Rattle.line.specs.Keeping.{then_asked}
 use Rattle.line.proofs.Parts.{then_yes, then_no}
-use Rattle.line.specs.Sending.{answered, unwritten, number_asked, finished}
+use Rattle.line.specs.Sending.{answered, number_asked, finished}
 use Rattle.line.proofs.Sends.{send_asked_lem, refused_sent}
 use Rattle.client.specs.declared.Client.{Client}
-use Rattle.client.specs.View.{slots_in, view, sound, Sound}
+use Rattle.client.specs.View.{slots_in, view, sound, Sound, SaysUnsound}
 use Rattle.client.specs.Answers.{guarded_sending, sent_edit, sent_ack}
 
 pub unsound_sending : (c : Client) (a : model.Sent) (lent : List ℕ) → sound c ≡ false
@@ -28,6 +33,12 @@ unsound_sending c a lent h = rw h
 pub sound_sending : (c : Client) (a : model.Sent) (lent : List ℕ) → sound c ≡ true → a ≡ guarded_sending c a lent
 unfolding guarded_sending
 sound_sending c a lent h = rw h
+
+-- the refusal of question 2 is handed on
+pub unsound_sent : (c : Client) (a : model.Sent) (lent : List ℕ) (r : Refusal) → SaysUnsound c r → (q : Result ℕ Refusal) → IsErrAnd q (λ y. y ≡ r)
+    → answered q lent ≡ guarded_sending c a lent
+unsound_sent c a lent r u q h =
+    ap (λ (x : Result ℕ Refusal). answered x lent) (passed_on q r h ∙ ap Err u.0) ∙ unsound_sending c a lent u.1
 
 -- questions 2 and 4 at a sound client, and those that follow
 module _ (c : Client) (s : Sound c) (line : ℕ) (rest : List model.Question) where
@@ -58,29 +69,30 @@ module _ (c : Client) (s : Sound c) (line number : ℕ) (lent : List ℕ) where
   in_parts : model.asks line_questions ≡ then_asked (model.asks (number_asked c.counts.own number)) (model.asks fit)
   in_parts = send_asked_lem c.counts.own (slots_in c.words) number (client_message (view c) number) lent
 
-  send_refused : (r : ℕ) → (r ≡ 0 → ⊥) → r ≡ model.asks (send_client_questions (view c) line number lent)
-      → answered (unwritten r) lent ≡ sent_edit c line number lent
+  send_refused : (r : Refusal) → code r ≡ model.asks (send_client_questions (view c) line number lent) → answered (Err r) lent ≡ sent_edit c line number lent
   unfolding send_client
-  send_refused r n e =
-      refused_sent r bytes lent n ∙ ap (λ (q : ℕ). model.sent q bytes lent) e
+  send_refused r e =
+      refused_sent r bytes lent ∙ ap (λ (q : ℕ). model.sent q bytes lent) e
       ∙ sound_sending c (send_client (view c) line number lent) lent s.yes
 
-  pub send_other : (line ≡ c.counts.line → ⊥) → answered (unwritten 4) lent ≡ sent_edit c line number lent
-  send_other n = send_refused 4 (eqb-false 4 0 refl) (other_line c s line line_questions n)
+  pub send_other : (line ≡ c.counts.line → ⊥) → answered (Err refusal.WrongLine) lent ≡ sent_edit c line number lent
+  send_other n = send_refused refusal.WrongLine (other_line c s line line_questions n)
 
-  module _ (e : line ≡ c.counts.line) (r : ℕ) (er : r ≡ model.asks (number_asked c.counts.own number)) where
-    pub send_number : (r ≡ 0 → ⊥) → answered (unwritten r) lent ≡ sent_edit c line number lent
-    send_number n =
-        send_refused r n
-        (er ∙ sym (then_no (model.asks (number_asked c.counts.own number)) (model.asks fit) (λ z. n (er ∙ z)))
+  module _ (e : line ≡ c.counts.line) where
+    pub send_number : (r : Refusal) → code r ≡ model.asks (number_asked c.counts.own number) → (q : Result ℕ Refusal) → IsErrAnd q (λ y. y ≡ r)
+        → answered q lent ≡ sent_edit c line number lent
+    send_number r er q h =
+        ap (λ (x : Result ℕ Refusal). answered x lent) (passed_on q r h)
+        ∙ send_refused r
+        (er ∙ sym (then_no (model.asks (number_asked c.counts.own number)) (model.asks fit) (λ z. number_some r (er ∙ z)))
         ∙ sym in_parts ∙ own_line c s line line_questions e)
 
-    pub sent_edit_lem : r ≡ 0 → (m : Message) → m ≡ line_message line 0 (record { line = line; number = number }) (view c).own number → finished m lent ≡ sent_edit c line number lent
+    pub sent_edit_lem : 0 ≡ model.asks (number_asked c.counts.own number) → (m : Message) → m ≡ line_message line 0 (record { line = line; number = number }) (view c).own number → finished m lent ≡ sent_edit c line number lent
     unfolding send_client
     sent_edit_lem z m em =
         ap (λ (x : Message). finished x lent) (em ∙ ap (λ (l : ℕ). line_message l 0 (record { line = l; number = number }) (view c).own number) e)
         ∙ ap (λ (q : ℕ). model.sent q bytes lent)
-        (sym (then_yes (model.asks (number_asked c.counts.own number)) (model.asks fit) (sym er ∙ z)) ∙ sym in_parts ∙ own_line c s line line_questions e)
+        (sym (then_yes (model.asks (number_asked c.counts.own number)) (model.asks fit) (sym z)) ∙ sym in_parts ∙ own_line c s line line_questions e)
         ∙ sound_sending c (send_client (view c) line number lent) lent s.yes
 
 -- ---- an acknowledgement
@@ -92,10 +104,10 @@ module _ (c : Client) (s : Sound c) (line : ℕ) (lent : List ℕ) where
   abbrev room : List model.Question
   room = model.ask 14 (leb 5 (length lent)) ∷ []
 
-  pub tell_other : (line ≡ c.counts.line → ⊥) → answered (unwritten 4) lent ≡ sent_ack c line lent
+  pub tell_other : (line ≡ c.counts.line → ⊥) → answered (Err refusal.WrongLine) lent ≡ sent_ack c line lent
   unfolding tell_client
   tell_other n =
-      refused_sent 4 (bytes_of (ack c.counts.line)) lent (eqb-false 4 0 refl)
+      refused_sent refusal.WrongLine (bytes_of (ack c.counts.line)) lent
       ∙ ap (λ (q : ℕ). model.sent q (bytes_of (ack c.counts.line)) lent) (other_line c s line room n)
       ∙ sound_sending c (tell_client (view c) line lent) lent s.yes
 

@@ -6,6 +6,9 @@ use mathlib.Core.Bool.{Bool, true, false, cond}
 use mathlib.Core.List.{List, [], ◌∷◌, map}
 use lib.Dec.{eqb}
 use lib.ListN.{length, get_or}
+use Rattle.std.specs.Prelude.{Result, Err, IsErrAnd}
+use Rattle.refusal.specs.declared.Refusal.{Refusal}
+use Rattle.refusal.specs.declared.Refusal.TheVariants as refusal
 use Rattle.limits.specs.Limits.{max_pending}
 use Rattle.list.specs.Places.{word_of, origin_at}
 use Rattle.list.proofs.Places.{origin_at_of}
@@ -18,14 +21,13 @@ use Rattle.model.proofs.Tests.{Numbered, yes_all}
 use Rattle.model.proofs.SoundClient.{ClientFacts, client_facts}
 use Rattle.line.specs.declared.Line.{Line}
 use Rattle.line.specs.Line.{line_of}
-use Rattle.line.specs.declared.sending.Sent.{Sent}
-use Rattle.line.specs.Sending.{answered, unwritten, IsPending}
+use Rattle.line.specs.Sending.{answered, IsPending}
 use Rattle.line.specs.Packet.{Packable, origin_of, messages}
 use Rattle.line.proofs.Packets.{messages_are, packed_yes, packed_no, written_small}
 use Rattle.client.specs.declared.Client.{Client}
-use Rattle.client.specs.View.{slots_in, view, sound, Sound}
+use Rattle.client.specs.View.{slots_in, view, sound, Sound, SaysUnsound}
 use Rattle.client.specs.Answers.{guarded_sending}
-use Rattle.client.proofs.Messages.{unsound_sending, sound_sending, other_line, own_line}
+use Rattle.client.proofs.Messages.{unsound_sent, sound_sending, other_line, own_line}
 use Rattle.client.specs.Packets.{packed_edits, OwnOrigins}
 
 -- questions 2 and 4
@@ -40,17 +42,14 @@ abbrev written : Client → List (List ℕ)
 written c = map (λ k. bytes_of (client_message (view c) k)) (pending_numbers (view c).own)
 
 module _ (c : Client) (line : ℕ) (lent : List ℕ) (offset : ℕ) where
-  pub pack_unsound : sound c ≡ false → (s : Sent) → s ≡ unwritten 2 → answered s lent ≡ packed_edits c line lent offset
-  pack_unsound h s es = ap (λ (q : Sent). answered q lent) es ∙ unsound_sending c (pack_client (view c) line lent offset) lent h
+  pub pack_unsound : (r : Refusal) → SaysUnsound c r → (q : Result ℕ Refusal) → IsErrAnd q (λ y. y ≡ r) → answered q lent ≡ packed_edits c line lent offset
+  pack_unsound r u q h = unsound_sent c (pack_client (view c) line lent offset) lent r u q h
 
   module _ (s : Sound c) where
-    pub pack_other : (line ≡ c.counts.line → ⊥) → (r : Sent) → r ≡ unwritten 4 → answered r lent ≡ packed_edits c line lent offset
+    pub pack_other : (line ≡ c.counts.line → ⊥) → answered (Err refusal.WrongLine) lent ≡ packed_edits c line lent offset
     unfolding pack_client
-    pack_other n r er =
-        let four : 4 ≡ model.asks (questions c line) = other_line c s line [] n in
-        ap (λ (q : Sent). answered q lent) er
-        ∙ ap (λ (q : ℕ). answered (unwritten q) lent) four
-        ∙ packed_no (questions c line) (written c) offset lent (numbered c line) (λ z. omega (arith, four, z))
+    pack_other n =
+        packed_no (questions c line) (written c) offset lent (numbered c line) refusal.WrongLine (other_line c s line [] n)
         ∙ sound_sending c (pack_client (view c) line lent offset) lent s.yes
 
     -- its own line, and a word for the origin of each pending edit
@@ -77,7 +76,7 @@ module _ (c : Client) (line : ℕ) (lent : List ℕ) (offset : ℕ) where
           ap origin_at word ∙ origin_at_of (record { line = c.counts.line; number = k }) (omega (arith, p.1, f.own.edits)) in
           λ i. line_message (own i) 0 (origin i) (view c).own k
 
-      pub pack_done : (r : Sent) (out : List ℕ) → answered r out ≡ packed [] (messages line 0 c.counts.own (slots_in c.words) origins) offset lent
+      pub pack_done : (r : Result ℕ Refusal) (out : List ℕ) → answered r out ≡ packed [] (messages line 0 c.counts.own (slots_in c.words) origins) offset lent
           → answered r out ≡ packed_edits c line lent offset
       unfolding pack_client
       pack_done r out er =

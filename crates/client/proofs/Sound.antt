@@ -28,7 +28,7 @@ use Rattle.line.specs.Sound.{tidy, sound_line}
 use Rattle.line.proofs.SoundWords.{sound_kept}
 use Rattle.client.specs.declared.Counts.{Counts}
 use Rattle.client.specs.declared.Client.{Client}
-use Rattle.client.specs.View.{items_in, slots_in, origins_in, client_of, inverse_stored, inverse_tidy, view, unused_zero, list_right, store, sound_tests, sound, Sound, Sizes}
+use Rattle.client.specs.View.{size, items_in, slots_in, origins_in, client_of, inverse_stored, inverse_tidy, view, unused_zero, list_right, store, sound_tests, sound, Sound}
 use Rattle.client.proofs.Words.{items_long, slots_long, origins_long, parts_are}
 use Rattle.client.proofs.Inverses.{tidy_stored}
 
@@ -46,7 +46,12 @@ pub sound_tidy : (c : Client) → sound c ≡ true → inverse_tidy c.counts.inv
 unfolding sound
 sound_tidy c h = (hold (sound_tests c) h).1.1.1.1.1.0
 
-module _ (c : Client) (z : Sizes c.counts c.words) where
+-- the lengths that the type of a client gives
+pub record Sizes (c : Client) : Type 0 where
+  pub words : length c.words ≡ size
+  pub ranks : length c.counts.ranks ≡ max_lines
+
+module _ (c : Client) (z : Sizes c) where
   abbrev k : Counts
   k = c.counts
 

@@ -1,7 +1,7 @@
 -- A sound client of the model: the struct for it is sound, and means that client.
 use Prim.Native.Nat.{ℕ, zero, suc, ◌+◌, ◌-◌, ◌≤◌}
 use native.Mathlib.Omega.{arith}
-use mathlib.Core.Path.{◌≡◌, refl, ap, ◌∙◌, sym, subst}
+use mathlib.Core.Path.{◌≡◌, refl, ap, ◌∙◌, sym}
 use mathlib.Core.Bool.{true}
 use mathlib.Core.List.{List}
 use lib.Dec.{eqb}
@@ -26,10 +26,10 @@ use Rattle.line.specs.Line.{line_of, counts_of}
 use Rattle.line.specs.Sound.{sound_line, tidy}
 use Rattle.line.proofs.Stored as lines
 use Rattle.client.specs.declared.Client.{Client}
-use Rattle.client.specs.View.{size, items_in, slots_in, origins_in, list_in, inverse_in, inverse_stored, view, store, unused_zero, sound_tests, sound, Sound, Sizes}
+use Rattle.client.specs.View.{size, items_in, slots_in, origins_in, list_in, inverse_in, inverse_stored, view, store, unused_zero, sound_tests, sound, Sound}
 use Rattle.client.proofs.Words.{stored_items, stored_slots, stored_origins, stored_long}
 use Rattle.client.proofs.Inverses.{ranks_fit, inverse_read, inverse_tidy_lem}
-use Rattle.client.proofs.Sound.{sound_facts}
+use Rattle.client.proofs.Sound.{Sizes, sound_facts}
 
 -- ---- unused places
 
@@ -71,7 +71,7 @@ module _ (m : model.Client) (s : model.sound_client m ≡ true) where
   pub words_long : length words ≡ size
   words_long = stored_long m f.items few
 
-  pub stored_sizes : Sizes (store m).counts words
+  pub stored_sizes : Sizes (store m)
   stored_sizes = record { words = words_long; ranks = stored_length m.ranks }
 
   ranks_read : take m.n (ranks.stored m.ranks) ≡ m.ranks
@@ -133,12 +133,8 @@ module _ (m : model.Client) (s : model.sound_client m ≡ true) where
   pub store_sound : Sound (store m)
   store_sound = sound_facts (store m) stored_sizes client_stored
 
--- A sound client has the lengths of the struct for it.
-pub sound_sizes : (c : Client) → Sound c → Sizes c.counts c.words
-sound_sizes c s = subst (λ (d : Client). Sizes d.counts d.words) (sym s.whole) (stored_sizes (view c) s.model)
-
 -- A client that question 2 finds sound is the struct for what it stands for, and that is sound.
-module _ (c : Client) (z : Sizes c.counts c.words) (s : sound c ≡ true) where
+module _ (c : Client) (z : Sizes c) (s : sound c ≡ true) where
   pub stored_view : c ≡ store (view c)
   stored_view = (sound_facts c z s).whole
 

@@ -7,6 +7,10 @@ use mathlib.Core.List.{List, [], ◌∷◌}
 use lib.Dec.{eqb}
 use lib.ListN.{length, length-map, length-drop}
 use borrow.Author.Tests.{eqb-false}
+use Rattle.std.specs.Prelude.{Option, Some, None, Result, Ok, Err, IsErrAnd}
+use Rattle.refusal.specs.declared.Refusal.{Refusal}
+use Rattle.refusal.specs.Number.{number}
+use Rattle.refusal.proofs.Some.{number_some, passed_on}
 use Rattle.limits.specs.Limits.{max_items, max_pending}
 use Rattle.ot.specs.declared.Form.{Form}
 use Rattle.ot.specs.declared.Form.TheVariants as form
@@ -19,11 +23,10 @@ use Rattle.list.specs.Seconds.{total_seconds}
 use Rattle.wire.specs.declared.Header.{Header}
 use Rattle.wire.specs.declared.Message.{Message}
 use Rattle.wire.specs.declared.Message.TheVariants as message
-use Rattle.wire.specs.declared.Read.{Read}
-use Rattle.wire.specs.declared.Read.TheVariants as read
 use Rattle.wire.specs.Bytes.{parsed}
 use Rattle.model.specs.Cross.{priority}
-use Rattle.model.specs.Questions.{Question, ask, asks, Report, no_report, Answer, answer}
+use Rattle.model.specs.Questions.{Question, ask, asks, no_report, Answer, answer}
+use Rattle.model.specs.Questions as questions
 use Rattle.model.specs.Ranks.{rank_of}
 use Rattle.model.specs.Inverse.{inverse_stands}
 use Rattle.model.specs.Line as line
@@ -36,20 +39,21 @@ use Rattle.line.specs.Keeping.{then_asked}
 use Rattle.line.proofs.Parts.{then_none, then_yes, then_no}
 use Rattle.line.specs.declared.taking.Arrival.{Arrival}
 use Rattle.line.specs.declared.taking.Decision.{Decision}
-use Rattle.line.specs.Taking.{carrying, arrival_of, refusal_of, line_then, edit_then, report_of, report_in, done, Later, Decided, Between, accepted}
+use Rattle.line.specs.declared.taking.Report.{Report}
+use Rattle.line.specs.Taking.{carrying, arrival_of, refusal_of, line_then, edit_then, report_of, report_in, answer_of, done, Later, Decided, Between, accepted}
 use Rattle.line.proofs.Asked.{refusal_seen, edit_asked_lem, ack_asked}
 use Rattle.line.proofs.Accepting.{accepted_slots}
-use Rattle.line.proofs.Decisions.{priority_form, then_edit, decided_refusal, decided_done, refusal_room, later_length}
+use Rattle.line.proofs.Decisions.{priority_form, then_edit, refusal_room, later_length}
 use Rattle.client.specs.declared.Client.{Client}
 use Rattle.client.specs.declared.Inverse.{Inverse}
 use Rattle.client.specs.View.{size, slots_in, inverse_stored, inverse_tidy, view, store, Sound, Applied}
-use Rattle.client.specs.Answers.{refused_with, answer_of, done_counts, guarded, taken}
+use Rattle.client.specs.Answers.{refused_with, guarded, taken}
 use Rattle.client.specs.Taking.{down_to, inverse_then, client_then, refusal_at, arrived}
 use Rattle.client.proofs.Words.{with_slots}
 use Rattle.client.proofs.Answers as ends
 use Rattle.client.proofs.Inverses.{past_none, ranks_fit, stands_read}
 use Rattle.client.proofs.Sound.{sound_rank, sound_tidy}
-use Rattle.client.proofs.Written.{Summed, listed, facts, len_few, summed, kept_long, becomes}
+use Rattle.client.proofs.Written.{Summed, changed, listed, facts, len_few, summed, kept_long, becomes}
 
 -- what the code finds of the inverse: it is carried past the form that is applied, and its own form is looked at
 abbrev pub Past : Client → Decision → Inverse → Type 0
@@ -72,7 +76,7 @@ pub record Accepted (c : Client) (a : Arrival) (d : Decision) (later : List ℕ)
   pub done : (len total : ℕ) (inverse : Inverse) (slots after : List ℕ) → slots ≡ accepted c.counts.own a.seen later (slots_in c.words)
       → total ≡ total_seconds (applied (edit d.form a.item) (listed c)) → Past c d inverse → (b : Bool) → Standing inverse b → not b ≡ false
       → Applied d.form a.item a.origin c.counts.len (with_slots c.words slots) after len
-      → answer_of (done_counts c.counts d.report d.line len total inverse) after ≡ arrived c a
+      → answer_of (Ok d.report) (changed c d.line len total inverse after) ≡ arrived c a
 
 module _ (c : Client) (s : Sound c) where
   abbrev v : line.Line
@@ -103,7 +107,7 @@ module _ (c : Client) (s : Sound c) where
   unfolding client.client_takes_edit
   takes_edit h f x =
       let then : client.Client = client.client_taken (view c) h.origin h.seen (edit f x) in
-      let report : Report = line.line_report v h.seen (edit f x) in
+      let report : questions.Report = line.line_report v h.seen (edit f x) in
       let made : Bool = line.other c.counts.n c.counts.line h.origin.line in
       let here : Bool → Bool = λ b. eqb h.direction 1 && eqb h.line c.counts.line && b && made in
       let down : ℕ → Bool = λ r. here (priority (line.other c.counts.n r) (edit f x)) in
@@ -146,30 +150,31 @@ module _ (c : Client) (s : Sound c) where
     pub not_down : b ≡ false → refused_with 4 c ≡ arrived c a
     not_down f = refused_at 4 (eqb-false 4 0 refl) (by_four false f)
 
-    module _ (t : b ≡ true) (d : Decision) (later : List ℕ)
-        (r : Decided c.counts.own (slots_in c.words) c.counts.len c.counts.own.inserts a d later) where
-      refusal_is : d.refusal ≡ asked
-      refusal_is = decided_refusal c.counts.own (slots_in c.words) c.counts.len c.counts.own.inserts a d later r
+    module _ (t : b ≡ true) (later : List ℕ) where
+      abbrev Decides : Result Decision Refusal → Type 0
+      Decides = λ q. Decided c.counts.own (slots_in c.words) c.counts.len c.counts.own.inserts a q later
 
-      pub refuses : (d.refusal ≡ 0 → ⊥) → refused_with d.refusal c ≡ arrived c a
-      refuses n =
-          refused_at d.refusal n
-          (refusal_is ∙ sym (then_no asked (last (inverse_stands (inverse_then c a))) (λ z. n (refusal_is ∙ z))) ∙ by_four true t)
+      pub refuses : (r : Refusal) → Decides (Err r) → (q : Result Report Refusal) → IsErrAnd q (λ y. y ≡ r) → answer_of q c ≡ arrived c a
+      refuses r w q h =
+          let n : number r ≡ 0 → ⊥ = number_some r in
+          ap (λ (x : Result Report Refusal). answer_of x c) (passed_on q r h)
+          ∙ refused_at (number r) n
+          (w.refusal ∙ sym (then_no asked (last (inverse_stands (inverse_then c a))) (λ z. n (w.refusal ∙ z))) ∙ by_four true t)
 
       -- ---- what is written
 
-      module _ (z : d.refusal ≡ 0) where
+      module _ (d : Decision) (w : Decides (Ok d)) where
         asked_none : asked ≡ 0
-        asked_none = sym refusal_is ∙ z
+        asked_none = sym w.refusal
 
         is_done : d ≡ done v c.counts.own.inserts a
-        is_done = decided_done c.counts.own (slots_in c.words) c.counts.len c.counts.own.inserts a d later r z
+        is_done = w.done d refl
 
         abbrev then : line.Line
         then = line_then v c.counts.own.inserts a
 
         stay : Later c.counts.own a.seen (slots_in c.words) later then.pending
-        stay = r.stay z
+        stay = w.stay d refl
 
         seen : Between c.counts.own a.seen
         seen = refusal_seen c.counts.own v c.counts.len a asked_none
@@ -224,13 +229,13 @@ module _ (c : Client) (s : Sound c) where
           take_done : (len total : ℕ) (inverse : Inverse) (slots after : List ℕ) → slots ≡ accepted c.counts.own a.seen later (slots_in c.words)
               → total ≡ total_seconds (applied (edit d.form a.item) (listed c)) → Past c d inverse → (b : Bool) → Standing inverse b → not b ≡ false
               → Applied d.form a.item a.origin c.counts.len (with_slots c.words slots) after len
-              → answer_of (done_counts c.counts d.report d.line len total inverse) after ≡ arrived c a
-          take_done len total inverse slots after es et p b eb y w =
+              → answer_of (Ok d.report) (changed c d.line len total inverse after) ≡ arrived c a
+          take_done len total inverse slots after es et p b eb y w' =
               let own : d.line ≡ counts_of then = ap (λ (x : Decision). x.line) is_done in
               let report : d.report ≡ report_in (report_of v a) = ap (λ (x : Decision). x.report) is_done in
-              let written = becomes c s long then then_few slots (slots_then_lem slots es) d.form a.item a.origin room d.line len total inverse d.report after (inverse_then c a) own et (back_then inverse p) w in
+              let written = becomes c s long then then_few slots (slots_then_lem slots es) d.form a.item a.origin room d.line len total inverse after (inverse_then c a) own et (back_then inverse p) w' in
               let end = written ∙ ap (λ (x : Edit). store (client.with (view c) (applied_by a.origin x (view c).items) then (inverse_then c a))) applied_is in
-              (λ i. record { refusal = 0; report = report i; client = end i })
+              (λ i. answer_of (Ok (report i)) (end i))
               ∙ ends.done c (refusal_at c a) (report_of v a) (client_then c a) s.yes (sym (asked_last inverse p b eb true (flip b false y)))
 
           pub accepts : Accepted c a d later
@@ -246,15 +251,15 @@ module _ (c : Client) (s : Sound c) where
 
   -- ---- bytes
 
-  pub read_refused : (bytes : List ℕ) → parsed bytes ≡ read.Refused → refused_with 3 c ≡ taken c bytes
+  pub read_refused : (bytes : List ℕ) → parsed bytes ≡ None → refused_with 3 c ≡ taken c bytes
   unfolding client.take_client
   read_refused bytes p =
       ends.refused c 3 no_report (view c) s.yes (eqb-false 3 0 refl)
       ∙ ap (λ (b : Bool). guarded c (answer (asks (ask 2 b ∷ ask 3 false ∷ [])) (view c) (view c) no_report)) (sym s.model)
-      ∙ ap (λ (r : Read). guarded c (client.client_reads (view c) r)) (sym p)
+      ∙ ap (λ (r : Option Message). guarded c (client.client_reads (view c) r)) (sym p)
 
-  pub read_taken : (bytes : List ℕ) (m : Message) (a : Arrival) → parsed bytes ≡ read.Message m → a ≡ arrival_of m → arrived c a ≡ taken c bytes
+  pub read_taken : (bytes : List ℕ) (m : Message) (a : Arrival) → parsed bytes ≡ Some m → a ≡ arrival_of m → arrived c a ≡ taken c bytes
   unfolding client.take_client
   read_taken bytes m a p ea =
       ap (λ (q : Arrival). guarded c (answered q)) ea ∙ ap (guarded c) (sym (takes m))
-      ∙ ap (λ (r : Read). guarded c (client.client_reads (view c) r)) (sym p)
+      ∙ ap (λ (r : Option Message). guarded c (client.client_reads (view c) r)) (sym p)

@@ -29,11 +29,9 @@ use Rattle.pending.proofs.Slots.{slots_length}
 use Rattle.line.specs.declared.Line.{Line}
 use Rattle.line.specs.Line.{counts_of}
 use Rattle.line.proofs.Room.{room_items, room_origins, room_length}
-use Rattle.line.specs.declared.taking.Report.{Report}
 use Rattle.client.specs.declared.Client.{Client}
 use Rattle.client.specs.declared.Inverse.{Inverse}
 use Rattle.client.specs.View.{size, items_in, origins_in, origins as from, inverse_stored, client_of, view, store, Sound, Applied}
-use Rattle.client.specs.Answers.{done_counts}
 use Rattle.client.proofs.Words.{items_long, origins_long, parts_are, stored_items, stored_origins, with_slots, with_origins, with_places, slots_wrote, origins_wrote, places_long, places_items, places_slots, places_origins}
 
 -- The two parts of the places, one after the other: the origins change as items would whose edit brings the origin.
@@ -54,6 +52,11 @@ module _ (words : List ℕ) (long : length words ≡ size) (f : Form) (x n : ℕ
         words = places_long words long origins items long_origins long_items;
         len = ei.length;
       }
+
+-- the client with another line, another length, another total, another inverse and other words
+abbrev pub changed : Client → Line → ℕ → ℕ → Inverse → List ℕ → Client
+changed c own len total inverse words =
+    client_of (record { own = own; len = len; total = total; inverse = inverse; n = c.counts.n; line = c.counts.line; ranks = c.counts.ranks }) words
 
 -- the list as a call lends it, from place 0 to len: its items, and nothing behind them
 abbrev pub listed : Client → List ℕ
@@ -112,10 +115,10 @@ module _ (c : Client) (s : Sound c) (long : length c.words ≡ size) (v : line.L
     abbrev list : List Place
     list = applied_by o (edit f x) (view c).items
 
-    pub becomes : (own : Line) (len total : ℕ) (inverse : Inverse) (report : Report) (after : List ℕ) (e : Edit) → own ≡ counts_of v
+    pub becomes : (own : Line) (len total : ℕ) (inverse : Inverse) (after : List ℕ) (e : Edit) → own ≡ counts_of v
         → total ≡ total_seconds (applied (edit f x) (listed c)) → inverse ≡ inverse_stored e → Applied f x o c.counts.len kept after len
-        → client_of (done_counts c.counts report own len total inverse).counts after ≡ store (client.with (view c) list v e)
-    becomes own len total inverse report after e eo et ei a =
+        → changed c own len total inverse after ≡ store (client.with (view c) list v e)
+    becomes own len total inverse after e eo et ei a =
         let n : ℕ = c.counts.len in
         let items : items_in after ≡ stored (items_of list) =
         a.items ∙ room_items o f x n (view c).items s.listed room (items_in kept) (wrote.before 0 max_items (omega arith) ∙ items_stored c s) in

@@ -15,7 +15,6 @@ use Rattle.line.specs.declared.taking.Arrival.{Arrival}
 use Rattle.line.specs.Taking.{refusal_of, line_then, edit_then, report_of}
 use Rattle.client.specs.declared.Counts.{Counts}
 use Rattle.client.specs.declared.Client.{Client}
-use Rattle.client.specs.declared.Answer.{Answer}
 use Rattle.client.specs.View.{view}
 use Rattle.client.specs.Answers.{guarded}
 
@@ -49,5 +48,5 @@ refusal_at c a =
     (then_asked (refusal_of c.counts.own (view c).own c.counts.len a) (asks (ask 9 (inverse_stands (inverse_then c a)) ∷ []))) 4
 
 -- the answer at a client that question 2 finds sound
-abbrev pub arrived : Client → Arrival → Answer
+abbrev pub arrived : Client → Arrival → model.Answer Client
 arrived c a = guarded c (model.answer (refusal_at c a) (view c) (client_then c a) (report_of (view c).own a))

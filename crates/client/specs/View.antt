@@ -1,6 +1,8 @@
 -- The client's end in numbers and words: the model's client that these are, and back; question 2 of them.
-use Rattle.std.specs.Prelude.{ℕ, ◌-◌, ◌≡◌, Bool, true, ◌&&◌, List, [], ◌∷◌, ◌++◌, leb, eqb, length, take, drop}
-use Rattle.limits.specs.Limits.{max_lines, max_items}
+use Rattle.std.specs.Prelude.{ℕ, ◌-◌, ◌≡◌, Bool, true, false, ◌&&◌, List, [], ◌∷◌, ◌++◌, leb, eqb, length, take, drop}
+use Rattle.refusal.specs.declared.Refusal.{Refusal}
+use Rattle.refusal.specs.declared.Refusal.TheVariants as refusal
+use Rattle.limits.specs.Limits.{max_items}
 use Rattle.ot.specs.declared.Form.{Form}
 use Rattle.ot.specs.Edit.{Edit, edit, form_of, item_of, size_after}
 use Rattle.list.specs.declared.Origin.{Origin}
@@ -114,10 +116,9 @@ pub record Sound (c : Client) : Type 0 where
   pub listed : length (view c).items ≡ c.counts.len
   pub kept : Kept c.counts.own (slots_in c.words)
 
--- the lengths of the words and of the ranks
-pub record Sizes (k : Counts) (ws : List ℕ) : Type 0 where
-  pub words : length ws ≡ size
-  pub ranks : length k.ranks ≡ max_lines
+-- what a call answers at a client that is not sound
+abbrev pub SaysUnsound : Client → Refusal → Type 0
+SaysUnsound c r = (r ≡ refusal.Unsound) × (sound c ≡ false)
 
 -- An edit of form f, item x and that origin was applied to the list of n places: items and origins changed, and nothing else.
 pub record Applied (f : Form) (x : ℕ) (o : Origin) (n : ℕ) (before after : List ℕ) (r : ℕ) : Type 0 where

@@ -2,22 +2,22 @@
 ghost use Rattle.std.specs.Prelude.{◌≡◌, ◌≤◌};
 ghost use Rattle.limits.specs.Limits.{max_items};
 ghost use Rattle.ot.specs.Form.{position_of};
-ghost use Rattle.client.specs.View.{client_of, Sound, Sizes};
-ghost use Rattle.client.specs.Answers.{taken, answer_of};
+ghost use Rattle.line.specs.Taking.{answer_of};
+ghost use Rattle.client.specs.View.{Sound};
+ghost use Rattle.client.specs.Answers.{taken};
 ghost use Rattle.client.specs.Taking.{from_other, made_elsewhere, down_to, arrived};
 
-use crate::{Answer, Changed, Client, Counts, joined, undo};
-use line::taking::{Arrival, accept, decide, split};
+use crate::{Client, apply, undo};
+use line::taking::{Arrival, Report, accept, decide, split};
 use ot::Form;
-use wire::Read;
+use refusal::Refusal;
 
 // Is an insert's priority another rank of 1 to n?
 fn from_other(n: u8, rank: u8, f: Form) -> bool
     ensures { result ≡ from_other n rank f }
 {
     match f {
-        Form::Nothing => true,
-        Form::Delete(_) => true,
+        Form::Nothing | Form::Delete(_) => true,
         Form::Insert(_, r) => (1 <= r) & (r <= n) & !(r == rank),
     }
 }
@@ -29,76 +29,65 @@ fn made_elsewhere(n: u8, line: u8, carries: bool, maker: u8) -> bool
     !carries | ((1 <= maker) & (maker <= n) & !(maker == line))
 }
 
-// Question 4.
-fn comes_down(k: Counts, a: Arrival) -> bool
-    ensures { result ≡ down_to k a }
-{
-    let f = a.form;
-    let right = (a.direction == 1) & (a.line == k.line);
-    let ranked = from_other(k.n, crate::rank(k), f);
-    let made = made_elsewhere(k.n, k.line, a.carries, a.origin.line);
-    right & ranked & made
-}
+impl Client {
+    // Takes one message.
+    pub fn take(&mut self, bytes: &[u8]) -> Result<Report, Refusal>
+        ensures { answer_of result self.new ≡ taken self.old bytes.now }
+    {
+        self.check_sound()?;
+        self.take_sound(bytes)
+    }
 
-// Questions 4 to 9 at a client that question 2 found sound: the decision, then what it changes.
-fn take_arrival(k: Counts, words: &mut [u32], a: Arrival) -> Changed
-    requires { (position_of a.form ≤ max_items) × (Sizes k words.old × Sound (client_of k words.old)) }
-    ensures { answer_of result words.new ≡ arrived (client_of k words.old) a }
-{
-    if comes_down(k, a) {
+    // Questions 3 to 9 at a client that question 2 found sound.
+    pub(crate) fn take_sound(&mut self, bytes: &[u8]) -> Result<Report, Refusal>
+        requires { Sound self.old }
+        ensures { answer_of result self.new ≡ taken self.old bytes.now }
+    {
+        let Some(m) = wire::reading::parse(bytes) else {
+            return Err(Refusal::NoMessage);
+        };
+        self.take_arrival(split(m))
+    }
+
+    // Question 4.
+    fn comes_down(&self, a: Arrival) -> bool
+        ensures { result ≡ down_to self.now.counts a }
+    {
+        let k = &self.counts;
+        let right = (a.direction == 1) & (a.line == k.line);
+        let ranked = from_other(k.n, self.rank(), a.form);
+        let made = made_elsewhere(k.n, k.line, a.carries, a.origin.line);
+        right & ranked & made
+    }
+
+    // Questions 4 to 9 at a client that question 2 found sound: the decision, then what it changes.
+    fn take_arrival(&mut self, a: Arrival) -> Result<Report, Refusal>
+        requires { (position_of a.form ≤ max_items) × Sound self.old }
+        ensures { answer_of result self.new ≡ arrived self.old a }
+    {
+        if !self.comes_down(a) {
+            return Err(Refusal::WrongLine);
+        }
+        let own = self.counts.own;
+        let len = self.counts.len;
         let mut later = [0u32; Client::PENDING];
-        let slots = &words[Client::ITEMS..Client::ORIGINS];
-        let d = decide(k.own, slots, k.len, k.own.inserts, a, &mut later);
-        if d.refusal != 0 {
-            return crate::refused(d.refusal, k);
-        }
+        let d = decide(own, self.slots(), len, own.inserts, a, &mut later)?;
         let f = d.form;
-        let inverse = undo::past(k.inverse, f);
+        let inverse = undo::past(self.counts.inverse, f);
         if !undo::stands(pending::form_at(inverse.place)) {
-            return crate::refused(9, k);
+            return Err(Refusal::Misfit);
         }
-        let total = list::total_after(&words[0..k.len as usize], k.total, f, a.item);
+        let total = list::total_after(&self.words[0..len as usize], self.counts.total, f, a.item);
         accept(
-            &mut words[Client::ITEMS..Client::ORIGINS],
-            k.own,
+            &mut self.words[Client::ITEMS..Client::ORIGINS],
+            own,
             a.seen,
             &later,
         );
-        let len = crate::apply(words, k.len, f, a.item, a.origin);
-        return crate::done(k, d.report, d.line, len, total, inverse);
-    }
-    crate::refused(4, k)
-}
-
-// Questions 3 to 9 at a client that question 2 found sound.
-pub(crate) fn take_sound(k: Counts, words: &mut [u32], bytes: &[u8]) -> Changed
-    requires { Sizes k words.old × Sound (client_of k words.old) }
-    ensures { answer_of result words.new ≡ taken (client_of k words.old) bytes.now }
-{
-    let Read::Message(m) = wire::reading::parse(bytes) else {
-        return crate::refused(3, k);
-    };
-    take_arrival(k, words, split(m))
-}
-
-// Takes one message, in place.
-pub fn take(k: Counts, words: &mut [u32], bytes: &[u8]) -> Changed
-    requires { Sizes k words.old }
-    ensures { answer_of result words.new ≡ taken (client_of k words.old) bytes.now }
-{
-    if crate::is_sound(k, words) {
-        return take_sound(k, words, bytes);
-    }
-    crate::refused(2, k)
-}
-
-impl Client {
-    // Takes one message.
-    pub fn take(self, bytes: &[u8]) -> Answer
-        ensures { result ≡ taken self bytes.now }
-    {
-        let mut words = self.words;
-        let a = take(self.counts, &mut words, bytes);
-        joined(a, words)
+        self.counts.len = apply(&mut self.words, len, f, a.item, a.origin);
+        self.counts.own = d.line;
+        self.counts.total = total;
+        self.counts.inverse = inverse;
+        Ok(d.report)
     }
 }

@@ -16,8 +16,7 @@ pub fn stands(f: Form) -> bool
 {
     match f {
         Form::Nothing => true,
-        Form::Delete(p) => (1 <= p) & (p as usize <= Client::ITEMS + 1),
-        Form::Insert(p, _) => (1 <= p) & (p as usize <= Client::ITEMS + 1),
+        Form::Delete(p) | Form::Insert(p, _) => (1 <= p) & (p as usize <= Client::ITEMS + 1),
     }
 }
 
@@ -26,8 +25,7 @@ fn is_ranked(f: Form, rank: u8) -> bool
     ensures { result ≡ priority (eqb rank) (edit f 0) }
 {
     match f {
-        Form::Nothing => true,
-        Form::Delete(_) => true,
+        Form::Nothing | Form::Delete(_) => true,
         Form::Insert(_, r) => rank == r,
     }
 }
@@ -40,8 +38,7 @@ fn is_tidy(b: Inverse, f: Form) -> bool
     let place = pending::place_of(f);
     let right = b.place == place;
     match f {
-        Form::Nothing => right & (b.item == 0),
-        Form::Delete(_) => right & (b.item == 0),
+        Form::Nothing | Form::Delete(_) => right & (b.item == 0),
         Form::Insert(_, _) => right,
     }
 }

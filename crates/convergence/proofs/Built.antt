@@ -1,11 +1,10 @@
 -- The structs follow the model call by call, so that the claim holds of them.
 use mathlib.Core.Path.{◌≡◌, refl, ap, ◌∙◌}
-use mathlib.Core.Bool.{true, cond}
+use mathlib.Core.Bool.{true}
 use Prim.Native.Nat.{ℕ, ◌-◌}
 use lib.ListN.{get_or-map}
 use Rattle.list.specs.Seconds.{running_time}
 use Rattle.list.proofs.Pad.{pad_get_or}
-use Rattle.model.specs.Questions.{Answer}
 use Rattle.model.specs.Line.{no_line}
 use Rattle.model.specs.Client as model
 use Rattle.model.specs.Server as models
@@ -23,14 +22,12 @@ use Rattle.server.specs.declared.Server.{Server}
 use Rattle.server.specs.View as server_view
 use Rattle.server.specs.Answers as server
 use Rattle.server.proofs.Stored as server_stored
-use Rattle.c_client.proofs.Calls as client_lent
-use Rattle.c_server.proofs.Calls as server_lent
-use Rattle.convergence.specs.Built.{client_answer, server_answer, client_calls, server_calls, built, Claimed, BuiltCarried}
+use Rattle.convergence.specs.Built.{client_calls, server_calls, built, Claimed, BuiltCarried}
 use Rattle.convergence.proofs.Carry.{carries, carried_by}
 use Rattle.convergence.proofs.Pairs.{on_line, line_alone, edits_alone, ClientFollows, Both, follows}
 use Rattle.convergence.proofs.Small.{client_open_small, client_take_small, client_pack_little, client_send_little, client_tell_little}
 use Rattle.convergence.proofs.Small.{server_open_small, server_take_small, server_pack_little, server_send_little, server_tell_little}
-use Rattle.convergence.proofs.Stored.{Stored, Stands, Modelled, given, unsound, answer_cond, alike, answer_back, stored_alone, stored_follows}
+use Rattle.convergence.proofs.Stored.{Stored, Stands, Modelled, alike, answer_back, stored_alone, stored_follows}
 
 -- ---- the client's calls
 
@@ -38,21 +35,17 @@ pub client_sound : (c : Client) → client_view.sound c ≡ true → model.sound
 unfolding client_view.sound
 client_sound c e = (hold (client_view.sound_tests c) e).0
 
-pub client_answer_lem : (c : Client) (a : Answer model.Client) → client_answer (client.guarded c a) ≡ cond (client_view.sound c) (given client_view.store c a) (unsound c)
-unfolding client.guarded
-client_answer_lem c a = answer_cond client_answer (client_view.sound c) (client.given c a) (client.refused_with 2 c)
-
-abbrev pub clients : Stored client_lent.clients
+abbrev pub clients : Stored Client model.Client
 clients =
     record {
+      view = client_view.view;
       store = client_view.store;
+      sound = client_view.sound;
       sound_end = model.sound_client;
       nothing = client_view.store model.no_client;
-      answer = client_answer;
       view_store = client_stored.client_view;
       store_sound = client_stored.client_stored;
       sound_view = client_sound;
-      answer_is = client_answer_lem;
     }
 
 pub client_modelled : (l : ℕ) → Modelled (on_line l client_calls) (on_line l ours.client_calls) clients
@@ -75,6 +68,7 @@ client_modelled l =
     }
 
 client_follows : ClientFollows client_calls ours.client_calls (Stands clients)
+unfolding client.guarded client.guarded_sending
 client_follows =
     record {
       end = λ l. stored_follows (on_line l client_calls) (on_line l ours.client_calls) clients (client_modelled l);
@@ -91,21 +85,17 @@ pub server_sound : (s : Server) → server_view.sound s ≡ true → models.soun
 unfolding server_view.sound
 server_sound s e = (hold (server_view.sound_tests s) e).0
 
-pub server_answer_lem : (s : Server) (a : Answer models.Server) → server_answer (server.guarded s a) ≡ cond (server_view.sound s) (given server_view.store s a) (unsound s)
-unfolding server.guarded
-server_answer_lem s a = answer_cond server_answer (server_view.sound s) (server.given s a) (server.refused_with 2 s)
-
-abbrev pub servers : Stored server_lent.servers
+abbrev pub servers : Stored Server models.Server
 servers =
     record {
+      view = server_view.view;
       store = server_view.store;
+      sound = server_view.sound;
       sound_end = models.sound_server;
       nothing = server_view.store models.no_server;
-      answer = server_answer;
       view_store = server_stored.view_store;
       store_sound = server_stored.store_sound;
       sound_view = server_sound;
-      answer_is = server_answer_lem;
     }
 
 -- the numbers of a line stand at its place
@@ -139,6 +129,7 @@ server_modelled =
 -- ---- the claim
 
 pub claimed : Claimed
+unfolding server.guarded server.guarded_sending
 claimed =
     carries built ours.ours (Both client_calls ours.client_calls server_calls ours.server_calls (Stands clients) (Stands servers))
     (follows client_calls ours.client_calls server_calls ours.server_calls (Stands clients) (Stands servers) client_follows

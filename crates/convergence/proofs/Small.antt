@@ -8,14 +8,13 @@ use mathlib.Core.List.{List, [], ◌∷◌, ◌++◌, map}
 use lib.Dec.{eqb, leb}
 use lib.ListN.{length}
 use borrow.Author.Tests.{leb-true}
+use Rattle.std.specs.Prelude.{Option, Some, None}
 use Rattle.ot.specs.Form.{position_of}
 use Rattle.ot.specs.Edit.{Edit, Nothing, Delete, Insert, fits}
 use Rattle.list.specs.Places.{initial_places}
 use Rattle.wire.specs.declared.Header.{Header}
 use Rattle.wire.specs.declared.Message.{Message}
 use Rattle.wire.specs.declared.Message.TheVariants as message
-use Rattle.wire.specs.declared.Read.{Read}
-use Rattle.wire.specs.declared.Read.TheVariants as read
 use Rattle.wire.specs.Message.{in_range}
 use Rattle.wire.specs.Bytes.{bytes_of, parsed}
 use Rattle.wire.proofs.Codec.{codec}
@@ -125,12 +124,12 @@ client_takes_ack_lem : (m : model.Client) (l d s : ℕ) → Small (model.client_
 unfolding model.client_takes_ack
 client_takes_ack_lem m l d s = answer_small (model.client_ack_questions m l d s) m (model.client_acked m s) no_report (omega arith) (λ z. nothing_narrow)
 
-client_reads_lem : (m : model.Client) (r : Read) → ((x : Message) → r ≡ read.Message x → in_range x ≡ true) → Small (model.client_reads m r)
-client_reads_lem m read.Refused t = answer_small (ask 2 (model.sound_client m) ∷ ask 3 false ∷ []) m m no_report (omega arith) (λ z. nothing_narrow)
-client_reads_lem m (read.Message (message.Insert h p x q)) t = client_takes_edit_lem m h (Insert p x q) (arrived_low (message.Insert h p x q) (t (message.Insert h p x q) refl))
-client_reads_lem m (read.Message (message.Delete h p)) t = client_takes_edit_lem m h (Delete p) (arrived_low (message.Delete h p) (t (message.Delete h p) refl))
-client_reads_lem m (read.Message (message.Nothing h)) t = client_takes_edit_lem m h Nothing (arrived_low (message.Nothing h) (t (message.Nothing h) refl))
-client_reads_lem m (read.Message (message.Ack l d s)) t = client_takes_ack_lem m l d s
+client_reads_lem : (m : model.Client) (r : Option Message) → ((x : Message) → r ≡ Some x → in_range x ≡ true) → Small (model.client_reads m r)
+client_reads_lem m None t = answer_small (ask 2 (model.sound_client m) ∷ ask 3 false ∷ []) m m no_report (omega arith) (λ z. nothing_narrow)
+client_reads_lem m (Some (message.Insert h p x q)) t = client_takes_edit_lem m h (Insert p x q) (arrived_low (message.Insert h p x q) (t (message.Insert h p x q) refl))
+client_reads_lem m (Some (message.Delete h p)) t = client_takes_edit_lem m h (Delete p) (arrived_low (message.Delete h p) (t (message.Delete h p) refl))
+client_reads_lem m (Some (message.Nothing h)) t = client_takes_edit_lem m h Nothing (arrived_low (message.Nothing h) (t (message.Nothing h) refl))
+client_reads_lem m (Some (message.Ack l d s)) t = client_takes_ack_lem m l d s
 
 pub client_take_small : (m : model.Client) (bytes : List ℕ) → Small (model.take_client m bytes)
 unfolding model.take_client
@@ -194,12 +193,12 @@ server_takes_ack_lem : (m : models.Server) (l d s : ℕ) → Small (models.serve
 unfolding models.server_takes_ack
 server_takes_ack_lem m l d s = answer_small (models.server_ack_questions m l d s) m (models.server_acked m l s) no_report (omega arith) (λ z. nothing_narrow)
 
-server_reads_lem : (m : models.Server) (r : Read) → ((x : Message) → r ≡ read.Message x → in_range x ≡ true) → Small (models.server_reads m r)
-server_reads_lem m read.Refused t = answer_small (ask 2 (models.sound_server m) ∷ ask 3 false ∷ []) m m no_report (omega arith) (λ z. nothing_narrow)
-server_reads_lem m (read.Message (message.Insert h p x q)) t = server_takes_edit_lem m h (Insert p x q) (arrived_low (message.Insert h p x q) (t (message.Insert h p x q) refl))
-server_reads_lem m (read.Message (message.Delete h p)) t = server_takes_edit_lem m h (Delete p) (arrived_low (message.Delete h p) (t (message.Delete h p) refl))
-server_reads_lem m (read.Message (message.Nothing h)) t = server_takes_edit_lem m h Nothing (arrived_low (message.Nothing h) (t (message.Nothing h) refl))
-server_reads_lem m (read.Message (message.Ack l d s)) t = server_takes_ack_lem m l d s
+server_reads_lem : (m : models.Server) (r : Option Message) → ((x : Message) → r ≡ Some x → in_range x ≡ true) → Small (models.server_reads m r)
+server_reads_lem m None t = answer_small (ask 2 (models.sound_server m) ∷ ask 3 false ∷ []) m m no_report (omega arith) (λ z. nothing_narrow)
+server_reads_lem m (Some (message.Insert h p x q)) t = server_takes_edit_lem m h (Insert p x q) (arrived_low (message.Insert h p x q) (t (message.Insert h p x q) refl))
+server_reads_lem m (Some (message.Delete h p)) t = server_takes_edit_lem m h (Delete p) (arrived_low (message.Delete h p) (t (message.Delete h p) refl))
+server_reads_lem m (Some (message.Nothing h)) t = server_takes_edit_lem m h Nothing (arrived_low (message.Nothing h) (t (message.Nothing h) refl))
+server_reads_lem m (Some (message.Ack l d s)) t = server_takes_ack_lem m l d s
 
 pub server_take_small : (m : models.Server) (bytes : List ℕ) → Small (models.take_server m bytes)
 unfolding models.take_server

@@ -15,7 +15,6 @@ use Rattle.model.specs.SheetOf.{ServerCalls}
 use Rattle.model.specs.Claim.{Back, Unwritten, PastStays, StretchAlone}
 use Rattle.model.proofs.Packets.{unpacked_sound, packet_law, packet_none}
 use Rattle.model.proofs.Alone.{ServerAlone}
-use Rattle.c_layout.proofs.Called.{Guarded}
 use Rattle.convergence.proofs.Carry.{Alike, EndFollows}
 use Rattle.convergence.proofs.Small.{Small, Little}
 
@@ -30,19 +29,18 @@ unsound e = record { refusal = 2; end = e; report = no_report }
 abbrev pub unsent : List ℕ → Sent
 unsent lent = record { refusal = 2; written = 0; buffer = lent }
 
--- the calls of the end ask question 2 by g
-pub record Stored {E A M : Type 0} (g : Guarded E A M) : Type 0 where
+-- one of the two ends, in structs E and in the model M
+pub record Stored (E M : Type 0) : Type 0 where
+  pub view : E → M
   pub store : M → E
-  -- question 2 of the model's end
+  -- question 2 of the struct, and of the model's end
+  pub sound : E → Bool
   pub sound_end : M → Bool
-  -- what a refused opening hands back
+  -- what a refused opening leaves
   pub nothing : E
-  -- what a method answers, as an answer about a struct
-  pub answer : A → Answer E
-  pub view_store : (m : M) → sound_end m ≡ true → g.view (store m) ≡ m
-  pub store_sound : (m : M) → sound_end m ≡ true → g.sound (store m) ≡ true
-  pub sound_view : (e : E) → g.sound e ≡ true → sound_end (g.view e) ≡ true
-  pub answer_is : (e : E) (a : Answer M) → answer (g.guarded e a) ≡ cond (g.sound e) (given store e a) (unsound e)
+  pub view_store : (m : M) → sound_end m ≡ true → view (store m) ≡ m
+  pub store_sound : (m : M) → sound_end m ≡ true → sound (store m) ≡ true
+  pub sound_view : (e : E) → sound e ≡ true → sound_end (view e) ≡ true
 
 -- what a sending leaves alone
 abbrev pub Alone : List ℕ → Sent → Type 0
@@ -58,26 +56,28 @@ unsent_alone lent r = (λ n. (refl, refl), refl)
 pub unsent_stretch : (offset : ℕ) (lent : List ℕ) (r : ℕ) → Stretch offset lent (record { refusal = r; written = 0; buffer = lent })
 unsent_stretch offset lent r = (λ n. (refl, refl), (refl, refl))
 
--- what is read off either of two answers is read off the one that is given
-pub answer_cond : {A B : Type 0} (f : A → B) (b : Bool) (x y : A) → f (cond b x y) ≡ cond b (f x) (f y)
-answer_cond f true x y = refl
-answer_cond f false x y = refl
+module _ {E M : Type 0} (k : Stored E M) where
+  -- what a method answers, by the model's answer
+  abbrev pub guarded : E → Answer M → Answer E
+  guarded e a = cond (k.sound e) (given k.store e a) (unsound e)
 
-module _ {E A M : Type 0} {g : Guarded E A M} (k : Stored g) where
+  abbrev pub sends : E → Sent → List ℕ → Sent
+  sends e a lent = cond (k.sound e) a (unsent lent)
+
   -- the struct is the one for a sound end of the model
   abbrev pub Stands : E → M → Type 0
   Stands e m = (e ≡ k.store m) × (k.sound_end m ≡ true)
 
   -- what holds of the answer whether question 2 says yes or no
-  pub answer_either : (P : Answer E → Type 0) (e : E) (a : Answer M) → (g.sound e ≡ true → P (given k.store e a)) → P (unsound e) → P (k.answer (g.guarded e a))
-  answer_either P e a p q = subst P (sym (k.answer_is e a)) (go (g.sound e) refl)
+  pub answer_either : (P : Answer E → Type 0) (e : E) (a : Answer M) → (k.sound e ≡ true → P (given k.store e a)) → P (unsound e) → P (guarded e a)
+  answer_either P e a p q = go (k.sound e) refl
     where
-      go : (b : Bool) → g.sound e ≡ b → P (cond b (given k.store e a) (unsound e))
+      go : (b : Bool) → k.sound e ≡ b → P (cond b (given k.store e a) (unsound e))
       go true s = p s
       go false s = q
 
-  pub sending_either : (P : Sent → Type 0) (e : E) (a : Sent) (lent : List ℕ) → P a → P (unsent lent) → P (g.sends e a lent)
-  sending_either P e a lent p q = subst P (sym (g.sends_is e a lent)) (go (g.sound e))
+  pub sending_either : (P : Sent → Type 0) (e : E) (a : Sent) (lent : List ℕ) → P a → P (unsent lent) → P (sends e a lent)
+  sending_either P e a lent p q = go (k.sound e)
     where
       go : (b : Bool) → P (cond b a (unsent lent))
       go true = p
@@ -92,22 +92,21 @@ module _ {E A M : Type 0} {g : Guarded E A M} (k : Stored g) where
       go true e = refl
       go false e = ap k.store (sym (h (eqb-false a.refusal 0 e)).0)
 
-  at_stored : (m : M) → k.sound_end m ≡ true → (call : M → Answer M) → k.answer (g.guarded (k.store m) (call (g.view (k.store m)))) ≡ given k.store (k.store m) (call m)
+  at_stored : (m : M) → k.sound_end m ≡ true → (call : M → Answer M) → guarded (k.store m) (call (k.view (k.store m))) ≡ given k.store (k.store m) (call m)
   at_stored m s call =
       let e = k.store m in
-      k.answer_is e (call (g.view e)) ∙ ap (λ (b : Bool). cond b (given k.store e (call (g.view e))) (unsound e)) (k.store_sound m s)
+      ap (λ (b : Bool). cond b (given k.store e (call (k.view e))) (unsound e)) (k.store_sound m s)
       ∙ ap (λ (v : M). given k.store e (call v)) (k.view_store m s)
 
   pub alike : (e : E) (m : M) → Stands e m → (call : M → Answer M) → Back m (call m) → k.sound_end (call m).end ≡ true
-      → Alike Stands (k.answer (g.guarded e (call (g.view e)))) (call m)
+      → Alike Stands (guarded e (call (k.view e))) (call m)
   alike e m r call h t =
-      subst (λ (a : Answer E). Alike Stands a (call m)) (sym (ap (λ (y : E). k.answer (g.guarded y (call (g.view y)))) r.0 ∙ at_stored m r.1 call))
+      subst (λ (a : Answer E). Alike Stands a (call m)) (sym (ap (λ (y : E). guarded y (call (k.view y))) r.0 ∙ at_stored m r.1 call))
       (record { refusal = refl; report = refl; ends = (stored_end m (call m) h, t) })
 
-  sending_alike : (e : E) (m : M) → Stands e m → (call : M → Sent) (lent : List ℕ) → g.sends e (call (g.view e)) lent ≡ call m
+  sending_alike : (e : E) (m : M) → Stands e m → (call : M → Sent) (lent : List ℕ) → sends e (call (k.view e)) lent ≡ call m
   sending_alike e m r call lent =
-      ap (λ (y : E). g.sends y (call (g.view y)) lent) r.0 ∙ g.sends_is (k.store m) (call (g.view (k.store m))) lent
-      ∙ ap (λ (b : Bool). cond b (call (g.view (k.store m))) (unsent lent)) (k.store_sound m r.1) ∙ ap call (k.view_store m r.1)
+      ap (λ (y : E). sends y (call (k.view y)) lent) r.0 ∙ ap (λ (b : Bool). cond b (call (k.view (k.store m))) (unsent lent)) (k.store_sound m r.1) ∙ ap call (k.view_store m r.1)
 
   -- an opening that was not refused
   opened_stands : (a : Answer M) → a.refusal ≡ 0 → k.sound_end a.end ≡ true → Stands (given k.store k.nothing a).end a.end
@@ -115,29 +114,29 @@ module _ {E A M : Type 0} {g : Guarded E A M} (k : Stored g) where
 
   -- ---- what the calls leave alone, whatever struct they are handed
 
-  pub answer_back : (e : E) (a : Answer M) → Back (g.view e) a → Back e (k.answer (g.guarded e a))
+  pub answer_back : (e : E) (a : Answer M) → Back (k.view e) a → Back e (guarded e a)
   answer_back e a h =
       answer_either (Back e) e a (λ s n. (ap (λ (b : Bool). cond b (k.store a.end) e) (ne_eqb a.refusal 0 n), (h n).1)) (λ n. (refl, refl))
 
   -- ---- packets
 
   -- one message at a struct that is not sound
-  unsound_refuses : (call : M → List ℕ → Answer M) (e : E) → g.sound e ≡ false → (b : List ℕ)
-      → ((k.answer (g.guarded e (call (g.view e) b))).refusal ≡ 2) × ((k.answer (g.guarded e (call (g.view e) b))).end ≡ e)
+  unsound_refuses : (call : M → List ℕ → Answer M) (e : E) → k.sound e ≡ false → (b : List ℕ)
+      → ((guarded e (call (k.view e) b)).refusal ≡ 2) × ((guarded e (call (k.view e) b)).end ≡ e)
   unsound_refuses call e s b =
-      let is = k.answer_is e (call (g.view e) b) ∙ ap (λ (t : Bool). cond t (given k.store e (call (g.view e) b)) (unsound e)) s in
+      let is = ap (λ (t : Bool). cond t (given k.store e (call (k.view e) b)) (unsound e)) s in
       (ap (λ (a : Answer E). a.refusal) is, ap (λ (a : Answer E). a.end) is)
 
   -- a packet that is too short or too long
   module _ (taking : E → List ℕ → Answer E) (bytes : List ℕ) (out : between 1 max_packet (length bytes) ≡ false) where
-    odd_refused : (e : E) → g.sound e ≡ true → (unpacked g.sound taking e bytes).refusal ≡ 15
+    odd_refused : (e : E) → k.sound e ≡ true → (unpacked k.sound taking e bytes).refusal ≡ 15
     odd_refused e s =
-        ap (λ (a : Answer E). a.refusal) (unpacked_sound g.sound taking e bytes s)
+        ap (λ (a : Answer E). a.refusal) (unpacked_sound k.sound taking e bytes s)
         ∙ ap (λ (t : Bool). (cond {A = Answer E} t (handed_over taking (length bytes) 0 e bytes) (record { refusal = 15; end = e; report = no_report })).refusal) out
 
-    pub odd_small : (e : E) → (unpacked g.sound taking e bytes).refusal < 256
+    pub odd_small : (e : E) → (unpacked k.sound taking e bytes).refusal < 256
     unfolding unpacked
-    odd_small e = subst (λ (t : Bool). (told (cond (g.sound e) (cond t 0 15) 2)).refusal < 256) (sym out) (go (g.sound e))
+    odd_small e = subst (λ (t : Bool). (told (cond (k.sound e) (cond t 0 15) 2)).refusal < 256) (sym out) (go (k.sound e))
       where
         told : ℕ → Answer E
         told r = cond (eqb r 0) (handed_over taking (length bytes) 0 e bytes) (record { refusal = r; end = e; report = no_report })
@@ -147,27 +146,27 @@ module _ {E A M : Type 0} {g : Guarded E A M} (k : Stored g) where
         go false = omega arith
 
   odd_alike : (taking : E → List ℕ → Answer E) (call : M → List ℕ → Answer M) (e : E) (m : M) → Stands e m → (bytes : List ℕ) → between 1 max_packet (length bytes) ≡ false
-      → (unpacked g.sound taking e bytes).refusal ≡ (unpacked k.sound_end call m bytes).refusal
+      → (unpacked k.sound taking e bytes).refusal ≡ (unpacked k.sound_end call m bytes).refusal
   odd_alike taking call e m r bytes out =
-      odd_refused taking bytes out e (ap g.sound r.0 ∙ k.store_sound m r.1)
+      odd_refused taking bytes out e (ap k.sound r.0 ∙ k.store_sound m r.1)
       ∙ sym (ap (λ (a : Answer M). a.refusal) (unpacked_sound k.sound_end call m bytes r.1)
       ∙ ap (λ (t : Bool). (cond {A = Answer M} t (handed_over call (length bytes) 0 m bytes) (record { refusal = 15; end = m; report = no_report })).refusal) out)
 
 -- ---- the calls that both ends have
 
 -- m has the model's calls, and v says what is read off a struct.
-module _ (v m : ServerCalls) {A : Type 0} {g : Guarded v.Server A m.Server} (k : Stored g) where
+module _ (v m : ServerCalls) (k : Stored v.Server m.Server) where
   -- the calls of a struct: question 2, then the model's answer
   abbrev pub stored_calls : ServerCalls
   stored_calls =
       record {
         Server = v.Server;
         opens = λ n ranks xs. given k.store k.nothing (m.opens n ranks xs);
-        send = λ e l number lent. g.sends e (m.send (g.view e) l number lent) lent;
-        tell = λ e l lent. g.sends e (m.tell (g.view e) l lent) lent;
-        take = λ e bytes. k.answer (g.guarded e (m.take (g.view e) bytes));
-        pack = λ e l lent offset. g.sends e (m.pack (g.view e) l lent offset) lent;
-        take_packet = unpacked g.sound (λ e bytes. k.answer (g.guarded e (m.take (g.view e) bytes)));
+        send = λ e l number lent. sends k e (m.send (k.view e) l number lent) lent;
+        tell = λ e l lent. sends k e (m.tell (k.view e) l lent) lent;
+        take = λ e bytes. guarded k e (m.take (k.view e) bytes);
+        pack = λ e l lent offset. sends k e (m.pack (k.view e) l lent offset) lent;
+        take_packet = unpacked k.sound (λ e bytes. guarded k e (m.take (k.view e) bytes));
         items = v.items;
         total = v.total;
         made = v.made;
@@ -194,12 +193,12 @@ module _ (v m : ServerCalls) {A : Type 0} {g : Guarded v.Server A m.Server} (k :
     pub stored_alone : ServerAlone stored_calls
     stored_alone =
         record {
-          takes = λ e bytes. answer_back k e (m.take (g.view e) bytes) (f.alone.takes (g.view e) bytes);
-          packets = packet_law g.sound stored_calls.take (unsound_refuses k m.take);
-          no_packets = packet_none g.sound stored_calls.take (unsound_refuses k m.take);
-          packs = λ e l lent offset. sending_either k (Stretch offset lent) e (m.pack (g.view e) l lent offset) lent (f.alone.packs (g.view e) l lent offset) (unsent_stretch offset lent 2);
-          sends = λ e l number lent. sending_either k (Alone lent) e (m.send (g.view e) l number lent) lent (f.alone.sends (g.view e) l number lent) (unsent_alone lent 2);
-          tells = λ e l lent. sending_either k (Alone lent) e (m.tell (g.view e) l lent) lent (f.alone.tells (g.view e) l lent) (unsent_alone lent 2);
+          takes = λ e bytes. answer_back k e (m.take (k.view e) bytes) (f.alone.takes (k.view e) bytes);
+          packets = packet_law k.sound stored_calls.take (unsound_refuses k m.take);
+          no_packets = packet_none k.sound stored_calls.take (unsound_refuses k m.take);
+          packs = λ e l lent offset. sending_either k (Stretch offset lent) e (m.pack (k.view e) l lent offset) lent (f.alone.packs (k.view e) l lent offset) (unsent_stretch offset lent 2);
+          sends = λ e l number lent. sending_either k (Alone lent) e (m.send (k.view e) l number lent) lent (f.alone.sends (k.view e) l number lent) (unsent_alone lent 2);
+          tells = λ e l lent. sending_either k (Alone lent) e (m.tell (k.view e) l lent) lent (f.alone.tells (k.view e) l lent) (unsent_alone lent 2);
         }
 
     -- the struct follows the model

@@ -17,7 +17,6 @@ use Rattle.model.specs.SheetOf.{ServerCalls}
 use Rattle.model.proofs.Tests.{between_true}
 use Rattle.model.proofs.Packets.{refused_first}
 use Rattle.model.proofs.Alone.{ServerAlone}
-use Rattle.line.specs.Taking.{report_in}
 use Rattle.c_layout.specs.Called.{Called, called, laid_out, changing, taking_some, opening, sending}
 use Rattle.c_layout.specs.Words.{items_of}
 use Rattle.c_layout.specs.ItemBytes.{item_bytes}
@@ -57,7 +56,7 @@ module _ {E : Type 0} (form : Form E) where
   -- ---- calls that may change their end
 
   abbrev packed_answer : Answer E → List ℕ → Called
-  packed_answer a b = changing form.size a.refusal (report_in a.report) (form.write a.end) b
+  packed_answer a b = changing form.size a.refusal a.report (form.write a.end) b
 
   -- its bytes, accepted or not
   abbrev after : Bool → E → List ℕ → List ℕ
@@ -65,11 +64,11 @@ module _ {E : Type 0} (form : Form E) where
 
   module _ (a : Answer E) (b : List ℕ) (f : Fits form.Whole a) where
     same_refusal : (answer_of (packed_answer a b)).refusal ≡ a.refusal
-    same_refusal = unpacks.refusal a.refusal (report_in a.report) f.refusal
+    same_refusal = unpacks.refusal a.refusal a.report f.refusal
 
     same_report : (answer_of (packed_answer a b)).report ≡ a.report
     same_report =
-        let k = report_in a.report in
+        let k = a.report in
         let n = f.report in
         let passed = unpacks.count a.refusal k f.refusal n.passed in
         let arrived = unpacks.arrived a.refusal k f.refusal n.passed n.arrived in
@@ -175,7 +174,7 @@ module _ (v : ServerCalls) (form : Form v.Server) where
   abbrev pub lent_packet : List ℕ → List ℕ → Answer (List ℕ)
   lent_packet b bytes =
       let a = v.take_packet (form.read b) bytes in
-      answer_of (laid_out form.size b b (taking_some form.size a.refusal (report_in a.report) (form.write a.end) b))
+      answer_of (laid_out form.size b b (taking_some form.size a.refusal a.report (form.write a.end) b))
 
   -- the calls in lent bytes: question 18, then the call of the end that the bytes are. An opening is lent b.
   abbrev pub lent_calls : List ℕ → ServerCalls
@@ -303,11 +302,11 @@ module _ (v : ServerCalls) (form : Form v.Server) where
 
     module _ (b bytes : List ℕ) where
       abbrev packed : Answer v.Server → Called
-      packed a = taking_some form.size a.refusal (report_in a.report) (form.write a.end) b
+      packed a = taking_some form.size a.refusal a.report (form.write a.end) b
 
       same_packed : (a : Answer v.Server) → a.refusal < 256 → Narrow a.report → answer_of (packed a) ≡ lent_answer 0 b a
       same_packed a small n =
-          let k = report_in a.report in
+          let k = a.report in
           let refusal = unpacks.refusal a.refusal k small in
           let passed = unpacks.count a.refusal k small n.passed in
           let arrived = unpacks.arrived a.refusal k small n.passed n.arrived in

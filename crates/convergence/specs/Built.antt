@@ -9,17 +9,13 @@ use Rattle.model.specs.Claim.{Opened, Converges}
 use Rattle.model.specs.Consequences.{Consistent, OneOrder, TakingRefusals, TakesBack, Agree}
 use Rattle.model.specs.Ours.{ours}
 use Rattle.client.specs.declared.Client.{Client}
-use Rattle.client.specs.declared.Answer as clients
 use Rattle.client.specs.View as client_view
 use Rattle.client.specs.Answers as client
 use Rattle.client.specs.Packets as client_packets
-pub use Rattle.client.specs.Packets.{client_answer}
 use Rattle.server.specs.declared.Server.{Server}
-use Rattle.server.specs.declared.Answer as servers
 use Rattle.server.specs.View as server_view
 use Rattle.server.specs.Answers as server
 use Rattle.server.specs.Packets as server_packets
-pub use Rattle.server.specs.Packets.{server_answer}
 
 -- Lists and counts are read off the structs.
 abbrev pub client_calls : ClientCalls
@@ -30,15 +26,15 @@ client_calls =
       total = λ c. c.counts.total;
       made = λ c. c.counts.own.made;
       taken = λ c. c.counts.own.taken;
-      opens = λ n l ranks items. client_answer (client.opened n l ranks items);
-      insert = λ c p x. client_answer (client.inserted c p x);
-      delete = λ c p. client_answer (client.deleted c p);
-      take_back = λ c. client_answer (client.taken_back c);
+      opens = client.opened;
+      insert = client.inserted;
+      delete = client.deleted;
+      take_back = client.taken_back;
       send = client.sent_edit;
       tell = client.sent_ack;
-      take = λ c bytes. client_answer (client.taken c bytes);
+      take = client.taken;
       pack = client_packets.packed_edits;
-      take_packet = λ c bytes. client_answer (client_packets.packet_taken c bytes);
+      take_packet = client_packets.packet_taken;
     }
 
 abbrev pub server_calls : ServerCalls
@@ -49,12 +45,12 @@ server_calls =
       total = λ s. s.counts.total;
       made = λ s l. (server_view.counts_at s.counts (l - 1)).made;
       taken = λ s l. (server_view.counts_at s.counts (l - 1)).taken;
-      opens = λ n ranks items. server_answer (server.opened n ranks items);
+      opens = server.opened;
       send = server.sent_edit;
       tell = server.sent_ack;
-      take = λ s bytes. server_answer (server.taken s bytes);
+      take = server.taken;
       pack = server_packets.packed_edits;
-      take_packet = λ s bytes. server_answer (server_packets.packet_taken s bytes);
+      take_packet = server_packets.packet_taken;
     }
 
 abbrev pub built : Sheet
@@ -67,11 +63,11 @@ of_client c = sheets.client c
 abbrev pub of_server : Server → End Client Server
 of_server s = sheets.server s
 
-abbrev pub from_client : clients.Answer → Answer (End Client Server)
-from_client a = answer_as sheets.client (client_answer a)
+abbrev pub from_client : Answer Client → Answer (End Client Server)
+from_client a = answer_as sheets.client a
 
-abbrev pub from_server : servers.Answer → Answer (End Client Server)
-from_server a = answer_as sheets.server (server_answer a)
+abbrev pub from_server : Answer Server → Answer (End Client Server)
+from_server a = answer_as sheets.server a
 
 -- demands 2 and 3 of the structs that run
 abbrev pub Claimed : Type 0

@@ -5,6 +5,11 @@ use native.Mathlib.Numerals.{add-one}
 use native.Mathlib.Omega.{arith}
 use mathlib.Core.Path.{◌≡◌, refl, ap, ap₂, ◌∙◌, sym}
 use mathlib.Core.Bool.{Bool, true, false, ◌&&◌, and-true, and_assoc}
+use mathlib.Core.List.{List}
+use lib.Dec.{eqb}
+use lib.ListN.{length, get_or, drop, drop_of_length-le}
+use lib.Seq.{drop-cons}
+use Rattle.list.specs.Items.{all_zero}
 use Rattle.model.proofs.Tests.{both, and_left, and_right}
 use Rattle.pending.specs.Slots.{all_from}
 
@@ -91,6 +96,24 @@ all_both s t from (suc count) =
     cross true false false d = refl
     cross true false true d = refl
     cross true true c d = refl
+
+-- the same numbers counted from k on
+pub all_shifted : (test : ℕ → Bool) (k from count : ℕ) → all_from (λ i. test (k + i)) from count ≡ all_from test (k + from) count
+unfolding all_from
+all_shifted test k from zero = refl
+all_shifted test k from (suc count) =
+    let e : k + suc from ≡ suc (k + from) = omega arith in
+    ap (λ (b : Bool). test (k + from) && b) (all_shifted test k (suc from) count ∙ ap (λ (j : ℕ). all_from test j count) e)
+
+-- words that are zero, by their indices
+abbrev pub is_zero : List ℕ → ℕ → Bool
+is_zero words i = eqb (get_or words i 0) 0
+
+pub all_zeros : (words : List ℕ) (from count : ℕ) → from + count ≡ length words → all_zero (drop from words) ≡ all_from (is_zero words) from count
+unfolding all_zero all_from
+all_zeros words from zero e = ap all_zero (drop_of_length-le words {i = from} (omega arith))
+all_zeros words from (suc count) e =
+    ap all_zero (drop-cons words from 0 (omega arith)) ∙ ap (λ (b : Bool). is_zero words from && b) (all_zeros words (suc from) count (omega arith))
 
 -- a test of all numbers below n, as one of the first so many and another of those behind them
 pub all_parted : (test first rest : ℕ → Bool) (few n : ℕ) → few ≤ n → ((i : ℕ) → i < few → test i ≡ first i)

@@ -4,7 +4,11 @@ use mathlib.Core.Path.{◌≡◌, refl, ap, ap₂, ◌∙◌, sym, subst}
 use mathlib.Core.Bool.{Bool, true, false, ◌&&◌, cond}
 use mathlib.Core.List.{List, [], ◌∷◌, map, map-map}
 use lib.ListN.{length, take, drop, length-map}
-use borrow.Author.Tests.{eqb-false, ne_eqb, eq-eqb}
+use Rattle.std.specs.Prelude.{Ok, Err}
+use Rattle.refusal.specs.declared.Refusal.{Refusal}
+use Rattle.refusal.specs.declared.Refusal.TheVariants as refusal
+use Rattle.refusal.specs.Number.{number}
+use Rattle.refusal.proofs.Some.{number_some, ok_same, ok_err}
 use Rattle.limits.specs.Limits.{max_pending}
 use Rattle.ot.specs.declared.Form.{Form}
 use Rattle.ot.specs.declared.Form.TheVariants as form
@@ -25,17 +29,9 @@ use Rattle.line.proofs.Parts.{then_yes, then_no}
 use Rattle.line.specs.declared.taking.Arrival.{Arrival}
 use Rattle.line.specs.declared.taking.Report.{Report}
 use Rattle.line.specs.declared.taking.Decision.{Decision}
-use Rattle.line.specs.Taking.{edit_of, arrival_asked, nine, refusal_of, no_report, refusing, done, taken_as, deciding, Decided, Later, Between}
+use Rattle.line.specs.Taking.{edit_of, arrival_asked, nine, refusal_of, no_report, line_then, done, taken_as, Decided, Later, Between}
 use Rattle.line.proofs.Asked.{asked_seen}
 use Rattle.line.proofs.Staying.{left_forms, left_length, left_ready, left_places}
-
-pub deciding_no : (r : ℕ) (v : Line) (d : Decision) → (r ≡ 0 → ⊥) → refusing r v ≡ deciding r v d
-unfolding deciding
-deciding_no r v d n = rw (ne_eqb r 0 n)
-
-pub deciding_yes : (r : ℕ) (v : Line) (d : Decision) → r ≡ 0 → d ≡ deciding r v d
-unfolding deciding
-deciding_yes r v d e = rw (eq-eqb r 0 e)
 
 -- an arrival that does or does not carry an edit
 abbrev as_carrying : Bool → Arrival → Arrival
@@ -81,41 +77,39 @@ module _ (v : Line) (words : List ℕ) (k : Kept v words) (len inserts : ℕ) (a
   abbrev last : Bool → ℕ
   last b = cond b (asks (ask 9 (nine m len a.seen (edit_of a)) ∷ [])) 0
 
-  refused : (r : ℕ) (d : Decision) → (r ≡ 0 → ⊥) → d ≡ refusing r v → r ≡ refusal_of v m len a → Decided v words len inserts a d later
-  refused r d n ed er =
-      record {
-        answer = ed ∙ deciding_no r v (done m inserts a) n ∙ ap (λ (q : ℕ). deciding q v (done m inserts a)) er;
-        stay = λ z. absurd (n (sym (ap (λ (y : Decision). y.refusal) ed) ∙ z));
-      }
+  refused : (r : Refusal) → number r ≡ refusal_of v m len a → Decided v words len inserts a (Err r) later
+  refused r er = record { refusal = er; done = λ d e. absurd (ok_err e); stay = λ d e. absurd (ok_err e) }
+
+  -- what is taken, where no question says no
+  accepted : (d : Decision) → refusal_of v m len a ≡ 0 → d ≡ done m inserts a → Later v a.seen words later (line_then m inserts a).pending
+      → Decided v words len inserts a (Ok d) later
+  accepted d z e l =
+      record { refusal = sym z; done = λ q eq. sym (ok_same eq) ∙ e; stay = λ q eq. l }
 
   -- one of questions 5 to 8
-  pub early : (r : ℕ) (d : Decision) → r ≡ first → (r ≡ 0 → ⊥) → d ≡ refusing r v → Decided v words len inserts a d later
-  early r d er n ed = refused r d n ed (er ∙ sym (then_no first (last a.carries) (λ z. n (er ∙ z))))
+  pub early : (r : Refusal) → number r ≡ first → Decided v words len inserts a (Err r) later
+  early r er = refused r (er ∙ sym (then_no first (last a.carries) (λ z. number_some r (er ∙ z))))
 
-  module _ (r : ℕ) (er : r ≡ first) (z : r ≡ 0) where
+  module _ (z : 0 ≡ first) where
     pub seen_between : Between v a.seen
-    seen_between = asked_seen v a.number a.seen a.carries (sym er ∙ z)
+    seen_between = asked_seen v a.number a.seen a.carries (sym z)
 
     -- what is left to ask
     last_asks : (b : Bool) → a.carries ≡ b → refusal_of v m len a ≡ last b
-    last_asks b e = then_yes first (last a.carries) (sym er ∙ z) ∙ ap last e
+    last_asks b e = then_yes first (last a.carries) (sym z) ∙ ap last e
 
     pub ready : Ready (a.seen - v.acked) (v.made - a.seen) words
     ready = left_ready v words k a.seen seen_between
 
     pub acked_done : a.carries ≡ false → (report : Report) → report ≡ no_report
         → later ≡ padded 0 max_pending (take (v.made - a.seen) (drop (a.seen - v.acked) words))
-        → Decided v words len inserts a (record { refusal = 0; report = report; line = counts_of (model.line_acked a.seen m); form = form.Nothing }) later
+        → Decided v words len inserts a (Ok (record { report = report; line = counts_of (model.line_acked a.seen m); form = form.Nothing })) later
     acked_done f report er el =
-        record {
-          answer =
-              ap (λ (k : Report). record { refusal = 0; report = k; line = counts_of (model.line_acked a.seen m); form = form.Nothing }) er
-              ∙ ap (λ (b : Bool). done m inserts (as_carrying b a)) (sym f)
-              ∙ deciding_yes (refusal_of v m len a) v (done m inserts a) (last_asks false f);
-          stay =
-              λ _. subst (λ (b : Bool). Later v a.seen words later (cond b (model.line_taken inserts a.seen (edit_of a) m) (model.line_acked a.seen m)).pending)
-              (sym f) (record { places = el ∙ left_places v words k a.seen seen_between; items = refl });
-        }
+        accepted (record { report = report; line = counts_of (model.line_acked a.seen m); form = form.Nothing }) (last_asks false f)
+        (ap (λ (k : Report). record { report = k; line = counts_of (model.line_acked a.seen m); form = form.Nothing }) er
+        ∙ ap (λ (b : Bool). done m inserts (as_carrying b a)) (sym f))
+        (subst (λ (b : Bool). Later v a.seen words later (cond b (model.line_taken inserts a.seen (edit_of a) m) (model.line_acked a.seen m)).pending)
+        (sym f) (record { places = el ∙ left_places v words k a.seen seen_between; items = refl }))
 
     module _ (t : a.carries ≡ true) (x : Crossed) (ex : x ≡ crossed a.form (forms_from words (a.seen - v.acked) (v.made - a.seen)))
         (b : Bool) (eb : (i : ℕ) → b ≡ fits_list (edit x.form i) len) where
@@ -131,8 +125,8 @@ module _ (v : Line) (words : List ℕ) (k : Kept v words) (len inserts : ℕ) (a
       nine_is : (y : Bool) → (x.placed && b) ≡ y → refusal_of v m len a ≡ asks (ask 9 y ∷ [])
       nine_is y e = last_asks true t ∙ ap (λ (s : Bool). asks (ask 9 s ∷ [])) (sym (fits_is a staying x crossing len b eb) ∙ e)
 
-      pub nine_no : (d : Decision) → (x.placed && b) ≡ false → d ≡ refusing 9 v → Decided v words len inserts a d later
-      nine_no d f ed = refused 9 d (eqb-false 9 0 refl) ed (sym (nine_is false f))
+      pub nine_no : (x.placed && b) ≡ false → Decided v words len inserts a (Err refusal.Misfit) later
+      nine_no f = refused refusal.Misfit (sym (nine_is false f))
 
       -- the edit came as f, was applied as g and transformed past so many
       abbrev taken : ℕ → Form → Form → Decision
@@ -140,16 +134,12 @@ module _ (v : Line) (words : List ℕ) (k : Kept v words) (len inserts : ℕ) (a
 
       pub taken_done : (d : Decision) → (x.placed && b) ≡ true → d ≡ taken_as v inserts a.seen a.form x
           → later ≡ filled (over_forms a.form (forms_from words (a.seen - v.acked) (v.made - a.seen)))
-          → Decided v words len inserts a d later
+          → Decided v words len inserts a (Ok d) later
       taken_done d y ed el =
-          record {
-            answer =
-                ed
-                ∙ ap (λ (n : ℕ). taken n a.form x.form) (passed_is a staying x crossing ∙ left_length v words k a.seen seen_between)
-                ∙ ap₂ (taken (v.made - a.seen)) (sym (laws.form_of_lem a.form a.item)) (form_is a staying x crossing)
-                ∙ ap (λ (c : Bool). done m inserts (as_carrying c a)) (sym t)
-                ∙ deciding_yes (refusal_of v m len a) v (done m inserts a) (nine_is true y);
-            stay =
-                λ _. subst (λ (c : Bool). Later v a.seen words later (cond c (model.line_taken inserts a.seen (edit_of a) m) (model.line_acked a.seen m)).pending)
-                (sym t) (record { places = el ∙ ap (λ (fs : List Form). filled (over_forms a.form fs)) forms ∙ places_over a staying; items = over_items (edit_of a) staying });
-          }
+          accepted d (nine_is true y)
+          (ed
+          ∙ ap (λ (n : ℕ). taken n a.form x.form) (passed_is a staying x crossing ∙ left_length v words k a.seen seen_between)
+          ∙ ap₂ (taken (v.made - a.seen)) (sym (laws.form_of_lem a.form a.item)) (form_is a staying x crossing)
+          ∙ ap (λ (c : Bool). done m inserts (as_carrying c a)) (sym t))
+          (subst (λ (c : Bool). Later v a.seen words later (cond c (model.line_taken inserts a.seen (edit_of a) m) (model.line_acked a.seen m)).pending)
+          (sym t) (record { places = el ∙ ap (λ (fs : List Form). filled (over_forms a.form fs)) forms ∙ places_over a staying; items = over_items (edit_of a) staying }))

@@ -4,9 +4,8 @@ use native.Mathlib.Omega.{arith}
 use mathlib.Core.Path.{◌≡◌, refl, ap, ◌∙◌, sym}
 use mathlib.Core.Bool.{Bool, true, false, cond}
 use mathlib.Core.List.{List, [], ◌∷◌, map}
-use lib.Dec.{eqb}
 use lib.ListN.{length, length-map}
-use borrow.Author.Tests.{le-leb, eqb-true, eqb-false}
+use borrow.Author.Tests.{le-leb, eqb-false}
 use Rattle.limits.specs.Limits.{max_items, max_pending}
 use Rattle.ot.specs.declared.Form.{Form}
 use Rattle.ot.specs.declared.Form.TheVariants as form
@@ -33,10 +32,8 @@ use Rattle.line.specs.Keeping.{fits_list}
 use Rattle.line.proofs.Room.{fits_room}
 use Rattle.line.proofs.Parts.{then_right}
 use Rattle.line.specs.declared.taking.Arrival.{Arrival}
-use Rattle.line.specs.declared.taking.Decision.{Decision}
-use Rattle.line.specs.Taking.{arrival_of, edit_of, arrival_asked, nine, refusal_of, edit_then, refusing, done, deciding, Decided, Later, Between}
+use Rattle.line.specs.Taking.{arrival_of, edit_of, arrival_asked, nine, refusal_of, edit_then, Later, Between}
 use Rattle.line.proofs.Staying.{left_length}
-use Rattle.line.proofs.Deciding.{deciding_yes}
 
 -- ---- a message
 
@@ -97,24 +94,6 @@ then_item m (message.Insert h p x r) = past_item (form.Insert p r) x (model.unac
 then_item m (message.Delete h p) = past_item (form.Delete p) 0 (model.unacked m h.seen) refl
 then_item m (message.Nothing h) = past_item form.Nothing 0 (model.unacked m h.seen) refl
 then_item m (message.Ack l d s) = refl
-
--- ---- refused or not
-
-pub deciding_refusal : (r : ℕ) (v : Line) (d : Decision) → d.refusal ≡ 0 → (deciding r v d).refusal ≡ r
-unfolding deciding
-deciding_refusal r v d z = go (eqb r 0) refl
-  where
-    go : (b : Bool) → eqb r 0 ≡ b → (cond b d (refusing r v)).refusal ≡ r
-    go true t = z ∙ sym (eqb-true r 0 t)
-    go false f = refl
-
-module _ (v : Line) (words : List ℕ) (len inserts : ℕ) (a : Arrival) (d : Decision) (later : List ℕ) (r : Decided v words len inserts a d later) where
-  pub decided_refusal : d.refusal ≡ refusal_of v (line_of v words) len a
-  decided_refusal =
-      ap (λ (e : Decision). e.refusal) r.answer ∙ deciding_refusal (refusal_of v (line_of v words) len a) v (done (line_of v words) inserts a) refl
-
-  pub decided_done : d.refusal ≡ 0 → d ≡ done (line_of v words) inserts a
-  decided_done z = r.answer ∙ sym (deciding_yes (refusal_of v (line_of v words) len a) v (done (line_of v words) inserts a) (sym decided_refusal ∙ z))
 
 -- ---- nothing was refused
 

@@ -1,14 +1,13 @@
 -- The origins that the server keeps beside a line's pending edits: what the loops compute, and what question 2 says of them.
-use Prim.Native.Nat.{ℕ, zero, suc, ◌+◌, ◌-◌, ◌≤◌, ◌<◌}
+use Prim.Native.Nat.{ℕ, zero, suc, ◌+◌, ◌≤◌, ◌<◌}
 use native.Mathlib.Nat.{zero-add, div-add-mod', mod-lt}
 use native.Mathlib.Omega.{arith}
 use mathlib.Core.Path.{◌≡◌, refl, ap, ap₂, ◌∙◌, sym}
-use mathlib.Core.Bool.{Bool, true, false, not, ◌&&◌, ◌||◌, or-false, and_assoc}
+use mathlib.Core.Bool.{Bool, true, false, not, ◌&&◌}
 use mathlib.Core.List.{List, [], ◌∷◌, map}
 use lib.Dec.{eqb, lit<}
-use lib.ListN.{length, get_or, take, drop, length-map, drop_of_length-le, get_or-eq_default}
-use lib.Seq.{drop-cons}
-use borrow.Author.Tests.{lt-ltb, le-ltb}
+use lib.ListN.{length, get_or, take, drop, length-map, get_or-eq_default}
+use lib.Seq.{drop-cons, get_or-take}
 use Rattle.limits.specs.Limits.{max_pending, max_edits}
 use Rattle.list.specs.declared.Origin.{Origin}
 use Rattle.list.specs.Items.{padded, all_zero}
@@ -22,25 +21,9 @@ use Rattle.model.specs.Server.{other_maker, other_makers}
 use Rattle.model.proofs.Tests.{both, and_left, and_right, between_true}
 use Rattle.pending.specs.Slots.{all_from}
 use Rattle.line.specs.Sound.{maker_at, makers_sound}
-use Rattle.line.specs.Slots.{kept_maker, kept_maker_at}
-use Rattle.line.proofs.All.{all_split, all_each, all_parted}
+use Rattle.line.proofs.All.{all_each, all_same}
 
 -- ---- what the code computes
-
-pub kept_maker_lem : (n line word : ℕ) (used : Bool)
-    → ((used && other_maker n line (origin_at word)) || (not used && eqb word 0)) ≡ kept_maker n line used word
-kept_maker_lem n line word true = or-false (other_maker n line (origin_at word))
-kept_maker_lem n line word false = refl
-
--- words that are zero, by their indices
-abbrev is_zero : List ℕ → ℕ → Bool
-is_zero words i = eqb (get_or words i 0) 0
-
-zero_words : (words : List ℕ) (from count : ℕ) → from + count ≡ length words → all_zero (drop from words) ≡ all_from (is_zero words) from count
-unfolding all_zero all_from
-zero_words words from zero e = ap all_zero (drop_of_length-le words {i = from} (omega arith))
-zero_words words from (suc count) e =
-    ap all_zero (drop-cons words from 0 (omega arith)) ∙ ap (λ (b : Bool). is_zero words from && b) (zero_words words (suc from) count (omega arith))
 
 module _ (n line : ℕ) (words : List ℕ) (count : ℕ) (long : length words ≡ max_pending) where
   -- a word past the last would be the origin of an edit
@@ -57,29 +40,16 @@ module _ (n line : ℕ) (words : List ℕ) (count : ℕ) (long : length words �
           sym (ap (λ (w : ℕ). other_maker n line (origin_at w)) past) ∙ all_each (maker_at n line words) 0 count e max_pending h
           ∙ zero_end words count true (omega arith)
 
-  pub makers_none : (unused : Bool) → count ≡ 0 → unused ≡ all_zero (drop 0 words) → unused ≡ makers_sound n line count words
-  unfolding makers_sound all_from
-  makers_none unused z e = e ∙ ap (λ (k : ℕ). makers_sound n line k words) (sym z)
-
-  -- the loop over the eights in use, and the words behind them
-  pub makers_parted : (slots : ℕ) (kept unused : Bool) → count ≤ slots → slots ≤ max_pending
-      → kept ≡ all_from (kept_maker_at n line count words) 0 slots → unused ≡ all_zero (drop slots words) → (kept && unused) ≡ makers_sound n line count words
+  -- the loop over the words in use, and the words behind them
+  pub makers_parted : (used unused : Bool) → count ≤ max_pending → used ≡ all_from (maker_at n line (take count words)) 0 count
+      → unused ≡ all_zero (drop count words) → (used && unused) ≡ makers_sound n line count words
   unfolding makers_sound
-  makers_parted slots kept unused few most ek eu =
-      let used : Bool = all_from (maker_at n line words) 0 count in
-      let rest : Bool = all_from (is_zero words) count (slots - count) in
-      let at : count + (slots - count) ≡ slots = omega arith in
-      let all : max_pending - count ≡ (slots - count) + (max_pending - slots) = omega arith in
+  makers_parted used unused few eu ez =
       ap₂ (λ (a b : Bool). a && b)
-      (ek ∙ all_parted (kept_maker_at n line count words) (maker_at n line words) (is_zero words) count slots few
-      (λ i h. ap (λ (u : Bool). kept_maker n line u (get_or words i 0)) (lt-ltb i count h))
-      (λ i h k. ap (λ (u : Bool). kept_maker n line u (get_or words i 0)) (le-ltb i count h)))
-      (eu ∙ zero_words words slots (max_pending - slots) (omega arith))
-      ∙ and_assoc used rest (all_from (is_zero words) slots (max_pending - slots))
-      ∙ ap (λ (k : ℕ). used && (rest && all_from (is_zero words) k (max_pending - slots))) (sym at)
-      ∙ ap (λ (b : Bool). used && b) (sym (all_split (is_zero words) count (slots - count) (max_pending - slots)))
-      ∙ ap (λ (k : ℕ). used && all_from (is_zero words) count k) (sym all)
-      ∙ ap (λ (b : Bool). used && b) (sym (zero_words words count (max_pending - count) (omega arith)))
+      (eu
+      ∙ all_same (maker_at n line (take count words)) (maker_at n line words) 0 count
+      (λ i h. ap (λ (w : ℕ). other_maker n line (origin_at w)) (get_or-take count words (0 + i) 0 (omega arith))))
+      ez
 
 -- ---- as the model has them
 

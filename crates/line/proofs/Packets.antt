@@ -7,6 +7,11 @@ use mathlib.Core.List.{List, [], ◌∷◌, ◌++◌, map}
 use lib.Dec.{leb, eqb}
 use lib.ListN.{length, get_or, length-append}
 use borrow.Author.Tests.{ne_eqb, eqb-true}
+use Rattle.std.specs.Prelude.{Ok, Err}
+use Rattle.refusal.specs.declared.Refusal.{Refusal}
+use Rattle.refusal.specs.declared.Refusal.TheVariants as refusal
+use Rattle.refusal.specs.Number.{number}
+use Rattle.refusal.proofs.Some.{number_some}
 use Rattle.limits.specs.Limits.{max_pending}
 use Rattle.list.specs.declared.Origin.{Origin}
 use Rattle.list.specs.Places.{origin_at}
@@ -20,8 +25,7 @@ use Rattle.model.proofs.Tests.{Numbered}
 use Rattle.line.specs.declared.Line.{Line}
 use Rattle.line.specs.Line.{line_of}
 use Rattle.line.proofs.Parts.{asks_append, then_left, then_yes, then_no}
-use Rattle.line.specs.declared.sending.Sent as code
-use Rattle.line.specs.Sending.{answered, unwritten, IsPending}
+use Rattle.line.specs.Sending.{answered, IsPending}
 use Rattle.line.specs.Packet.{origin_of, message_at, messages, Filled}
 use Rattle.line.proofs.Putting.{some_bytes, few_bytes, fitting_first, fitting_stops, fitting_none}
 use Rattle.line.proofs.Filling.{behind, behind_next, behind_last}
@@ -39,7 +43,7 @@ message_is line direction v words origins number o m eo em =
 -- ---- the answer
 
 module _ (offset : ℕ) (lent : List ℕ) where
-  none_packed : answered (record { refusal = 0; written = 0 }) lent ≡ packed [] [] offset lent
+  none_packed : answered (Ok 0) lent ≡ packed [] [] offset lent
   unfolding packed joined fitting
   none_packed = refl
 
@@ -57,21 +61,21 @@ module _ (offset : ℕ) (lent : List ℕ) where
     unfolding packed
     packed_is b e = sym (ap (λ (c : Bool). answer c (joined (fitting room (m ∷ ms)))) e)
 
-    first_short : n ≡ 0 → answered (unwritten 14) after ≡ packed [] (m ∷ ms) offset lent
+    first_short : n ≡ 0 → answered (Err refusal.Room) after ≡ packed [] (m ∷ ms) offset lent
     first_short z = go (leb (length m) room) refl
       where
-        go : (b : Bool) → leb (length m) room ≡ b → answered (unwritten 14) after ≡ packed [] (m ∷ ms) offset lent
+        go : (b : Bool) → leb (length m) room ≡ b → answered (Err refusal.Room) after ≡ packed [] (m ∷ ms) offset lent
         go true t =
             let e = w.size ∙ ap length (fitting_first room m ms t) ∙ length-append m (joined (fitting (room - length m) ms)) in
             absurd (omega (arith, e))
         go false f =
-            ap (answered (unwritten 14)) (w.bytes ∙ ap (λ (x : List ℕ). put_from offset x lent) (fitting_stops room m ms f)) ∙ packed_is false f
+            ap (answered (Err refusal.Room)) (w.bytes ∙ ap (λ (x : List ℕ). put_from offset x lent) (fitting_stops room m ms f)) ∙ packed_is false f
 
-    first_fits_lem : (n ≡ 0 → ⊥) → answered (record { refusal = 0; written = n }) after ≡ packed [] (m ∷ ms) offset lent
+    first_fits_lem : (n ≡ 0 → ⊥) → answered (Ok n) after ≡ packed [] (m ∷ ms) offset lent
     first_fits_lem h = go (leb (length m) room) refl
       where
-        go : (b : Bool) → leb (length m) room ≡ b → answered (record { refusal = 0; written = n }) after ≡ packed [] (m ∷ ms) offset lent
-        go true t = ap₂ (λ (k : ℕ) (l : List ℕ). answered (record { refusal = 0; written = k }) l) w.size w.bytes ∙ packed_is true t
+        go : (b : Bool) → leb (length m) room ≡ b → answered (Ok n) after ≡ packed [] (m ∷ ms) offset lent
+        go true t = ap₂ (λ (k : ℕ) (l : List ℕ). answered (Ok k) l) w.size w.bytes ∙ packed_is true t
         go false f = absurd (h (w.size ∙ ap length (fitting_stops room m ms f)))
 
 module _ (line direction : ℕ) (v : Line) (words origins : List ℕ) (offset : ℕ) (lent : List ℕ) where
@@ -82,7 +86,7 @@ module _ (line direction : ℕ) (v : Line) (words origins : List ℕ) (offset : 
   first = message_at line direction v words origins (v.acked + 1)
 
   pub nothing_pending : v.made ≤ v.acked
-      → answered (record { refusal = 0; written = 0 }) lent ≡ packed [] (messages line direction v words origins) offset lent
+      → answered (Ok 0) lent ≡ packed [] (messages line direction v words origins) offset lent
   unfolding messages
   nothing_pending h =
       none_packed offset lent ∙ sym (ap (λ (ms : List (List ℕ)). packed [] ms offset lent) (behind_last line direction v words origins v.acked h))
@@ -101,14 +105,13 @@ module _ (line direction : ℕ) (v : Line) (words origins : List ℕ) (offset : 
     back : packed [] (bytes_of first ∷ others) offset lent ≡ packed [] all offset lent
     back = sym (ap (λ (ms : List (List ℕ)). packed [] ms offset lent) split)
 
-    pub first_too_long : (s : code.Sent) → s ≡ unwritten 14 → n ≡ 0 → answered s after ≡ packed [] (messages line direction v words origins) offset lent
-    first_too_long s es z =
-        ap (λ (t : code.Sent). answered t after) es
-        ∙ first_short offset lent (bytes_of first) others (some_bytes first) n after filled z
+    pub first_too_long : n ≡ 0 → answered (Err refusal.Room) after ≡ packed [] (messages line direction v words origins) offset lent
+    first_too_long z =
+        first_short offset lent (bytes_of first) others (some_bytes first) n after filled z
         ∙ back
 
     pub some_written : (n ≡ 0 → ⊥)
-        → answered (record { refusal = 0; written = n }) after ≡ packed [] (messages line direction v words origins) offset lent
+        → answered (Ok n) after ≡ packed [] (messages line direction v words origins) offset lent
     some_written h = first_fits_lem offset lent (bytes_of first) others (some_bytes first) n after filled h ∙ back
 
 -- ---- for the two ends
@@ -147,10 +150,12 @@ module _ (qs : List Question) (ms : List (List ℕ)) (offset : ℕ) (lent : List
   packed_yes numbered z = sym (ap (λ (r : ℕ). answer_if (eqb r 0) r) (asks_append qs last numbered ∙ then_yes (asks qs) (asks last) z))
 
   -- a refusal writes nothing
-  pub packed_no : Numbered qs → (asks qs ≡ 0 → ⊥) → answered (unwritten (asks qs)) lent ≡ packed qs ms offset lent
+  pub packed_no : Numbered qs → (r : Refusal) → number r ≡ asks qs → answered (Err r) lent ≡ packed qs ms offset lent
   unfolding packed
-  packed_no numbered n =
-      sym
+  packed_no numbered r er =
+      let n : asks qs ≡ 0 → ⊥ = λ z. number_some r (er ∙ z) in
+      ap (λ (k : ℕ). answer_if false k) er
+      ∙ sym
       (ap (λ (r : ℕ). answer_if (eqb r 0) r) (asks_append qs last numbered ∙ then_no (asks qs) (asks last) n)
       ∙ ap (λ (b : Bool). answer_if b (asks qs)) (ne_eqb (asks qs) 0 n))
 

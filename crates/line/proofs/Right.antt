@@ -2,8 +2,8 @@
 use Prim.Native.Nat.{ℕ, ◌+◌, ◌*◌, ◌/◌, ◌%◌, ◌≤◌, ◌<◌}
 use native.Mathlib.Nat.{mod-lt, div-add-mod'}
 use native.Mathlib.Omega.{arith}
-use mathlib.Core.Path.{◌≡◌, refl, ap, ap₂, ◌∙◌, sym}
-use mathlib.Core.Bool.{Bool, true, false, not, ◌&&◌, ◌||◌, cond, and-true, and-false, and_assoc, and_comm, or-false}
+use mathlib.Core.Path.{◌≡◌, refl, ap, ◌∙◌, sym}
+use mathlib.Core.Bool.{Bool, true, false, ◌&&◌, ◌||◌, cond, and-true, and-false, and_assoc, and_comm, or-false}
 use lib.Dec.{leb, ltb, eqb, lit<}
 use borrow.Author.Tests.{leb-true, le-leb, lt-ltb, le-ltb, ltb-true, eqb-true, eq-eqb, ne_eqb, eqb-false}
 use Rattle.limits.specs.Limits.{max_items}
@@ -14,42 +14,7 @@ use Rattle.ot.specs.Laws.{within}
 use Rattle.model.specs.Cross.{placed, priority}
 use Rattle.model.proofs.Tests.{both, and_left, and_right, between_true, true_between, bool_ext}
 use Rattle.pending.specs.Slots.{place_of, form_at}
-use Rattle.line.specs.Sound.{right_priority}
-use Rattle.line.specs.Slots.{lowest, highest, left_out, allowed, right_slot, kept_slot}
-
--- ---- the priorities
-
--- low, high and other were chosen for question 4
-module _ (n rank : ℕ) (own : Bool) (low high other : ℕ) (el : low ≡ lowest rank own) (eh : high ≡ highest n rank own) (eo : other ≡ left_out rank own) where
-  abbrev chosen : Bool → ℕ → Bool
-  chosen o = allowed (lowest rank o) (highest n rank o) (left_out rank o)
-
-  as_chosen : (r : ℕ) → allowed low high other r ≡ chosen own r
-  as_chosen r =
-      ap₂ (λ (l h : ℕ). allowed l h other r) el eh ∙ ap (λ (o : ℕ). allowed (lowest rank own) (highest n rank own) o r) eo
-
-  -- they let through what it does, of the priorities that there are
-  pub allowed_is : (r : ℕ) → 1 ≤ r → allowed low high other r ≡ right_priority n rank own r
-  allowed_is r h = as_chosen r ∙ go own
-    where
-      go : (o : Bool) → chosen o r ≡ right_priority n rank o r
-      go true =
-          bool_ext (chosen true r) (eqb rank r)
-          (λ t.
-          let b = between_true rank rank r (and_left (leb rank r && leb r rank) (not (eqb r 0)) t) in
-          eq-eqb rank r (omega (arith, b)))
-          (λ t.
-          let e : rank ≡ r = eqb-true rank r t in
-          both (leb rank r && leb r rank) (not (eqb r 0)) (true_between rank rank r (omega arith) (omega arith))
-          (ap not (ne_eqb r 0 (λ z. absurd (omega arith)))))
-      go false = refl
-
-  pub allowed_none : allowed low high other 0 ≡ false
-  allowed_none = as_chosen 0 ∙ go own
-    where
-      go : (o : Bool) → chosen o 0 ≡ false
-      go true = and-false (leb rank 0 && leb 0 rank)
-      go false = refl
+use Rattle.line.specs.Slots.{right_slot}
 
 -- A place by its two parts.
 module _ (place : ℕ) where
@@ -159,20 +124,11 @@ right_same f g same place item = go (eqb (position place) 0) (eqb (rank place) 0
         && (t && (eqb place (position place * 256 + rank place) && eqb item item)))
         (same (rank place) (omega (arith, eqb-false (rank place) 0 e)))
 
--- ---- a slot in use or not
+-- ---- a slot that is not in use
 
 -- an empty slot is a right one
-empty_right : (good : ℕ → Bool) (place item : ℕ) → (eqb place 0 && eqb item 0) ≡ true → right_slot good place item ≡ true
+pub empty_right : (good : ℕ → Bool) (place item : ℕ) → (eqb place 0 && eqb item 0) ≡ true → right_slot good place item ≡ true
 unfolding form_at within
 empty_right good place item h =
     ap (λ (p : ℕ). right_slot good p item) (eqb-true place 0 (and_left (eqb place 0) (eqb item 0) h))
     ∙ ap (right_slot good 0) (eqb-true item 0 (and_right (eqb place 0) (eqb item 0) h))
-
-pub kept_is : (good : ℕ → Bool) (used : Bool) (place item : ℕ)
-    → (right_slot good place item && (used || (eqb place 0 && eqb item 0))) ≡ kept_slot good used place item
-kept_is good true place item = and-true (right_slot good place item)
-kept_is good false place item = go (eqb place 0 && eqb item 0) refl
-  where
-    go : (b : Bool) → (eqb place 0 && eqb item 0) ≡ b → (right_slot good place item && b) ≡ b
-    go true h = and-true (right_slot good place item) ∙ empty_right good place item h
-    go false h = and-false (right_slot good place item)

@@ -7,6 +7,11 @@ use mathlib.Core.List.{List, [], ◌∷◌, ◌++◌}
 use lib.Dec.{leb}
 use lib.ListN.{length, get_or, drop}
 use borrow.Author.Tests.{lt-leb, le-leb, eqb-false, ne_eqb}
+use Rattle.std.specs.Prelude.{Ok, Err}
+use Rattle.refusal.specs.declared.Refusal.{Refusal}
+use Rattle.refusal.specs.declared.Refusal.TheVariants as refusal
+use Rattle.refusal.specs.Number.{number}
+use Rattle.refusal.proofs.Some.{number_some}
 use Rattle.limits.specs.Limits.{max_pending}
 use Rattle.ot.specs.declared.Form.{Form}
 use Rattle.ot.specs.Edit.{edit}
@@ -26,8 +31,7 @@ use Rattle.line.specs.declared.Line.{Line}
 use Rattle.line.specs.Line.{line_of}
 use Rattle.line.specs.Keeping.{then_asked}
 use Rattle.line.proofs.Parts.{asks_append}
-use Rattle.line.specs.declared.sending.Sent.{Sent}
-use Rattle.line.specs.Sending.{answered, unwritten, number_asked, finished, IsPending}
+use Rattle.line.specs.Sending.{answered, number_asked, finished, IsPending}
 
 -- ---- question 13
 
@@ -81,9 +85,9 @@ some_bytes (Nothing h) = omega arith
 some_bytes (Ack l d s) = omega arith
 
 -- a refusal leaves the buffer
-pub refused_sent : (r : ℕ) (bytes lent : List ℕ) → (r ≡ 0 → ⊥) → answered (unwritten r) lent ≡ sent r bytes lent
+pub refused_sent : (r : Refusal) (bytes lent : List ℕ) → answered (Err r) lent ≡ sent (number r) bytes lent
 unfolding sent
-refused_sent r bytes lent h = simp (ne_eqb r 0 h)
+refused_sent r bytes lent = simp (ne_eqb (number r) 0 (number_some r))
 
 module _ (m : Message) (lent : List ℕ) where
   -- what the writer says, by whether the message fits
@@ -91,18 +95,18 @@ module _ (m : Message) (lent : List ℕ) where
   Fitting b n after =
       (n ≡ cond b (length (bytes_of m)) 0) × (after ≡ cond b (bytes_of m ++ drop (length (bytes_of m)) lent) lent)
 
-  pub too_short : (s : Sent) (n : ℕ) (after : List ℕ) → s ≡ unwritten 14 → Written m lent n after → n ≡ 0 → answered s after ≡ finished m lent
+  pub too_short : (n : ℕ) (after : List ℕ) → Written m lent n after → n ≡ 0 → answered (Err refusal.Room) after ≡ finished m lent
   unfolding sent
-  too_short s n after es w e = ap (λ (t : Sent). answered t after) es ∙ go (leb (length (bytes_of m)) (length lent)) refl (w.size, w.bytes)
+  too_short n after w e = go (leb (length (bytes_of m)) (length lent)) refl (w.size, w.bytes)
     where
-      go : (b : Bool) → leb (length (bytes_of m)) (length lent) ≡ b → Fitting b n after → answered (unwritten 14) after ≡ finished m lent
+      go : (b : Bool) → leb (length (bytes_of m)) (length lent) ≡ b → Fitting b n after → answered (Err refusal.Room) after ≡ finished m lent
       go true t f = absurd (omega (arith, some_bytes m, f.0))
       go false t f = rw (t, f.1)
 
-  pub written : (n : ℕ) (after : List ℕ) → Written m lent n after → (n ≡ 0 → ⊥) → answered (record { refusal = 0; written = n }) after ≡ finished m lent
+  pub written : (n : ℕ) (after : List ℕ) → Written m lent n after → (n ≡ 0 → ⊥) → answered (Ok n) after ≡ finished m lent
   unfolding sent
   written n after w e = go (leb (length (bytes_of m)) (length lent)) refl (w.size, w.bytes)
     where
-      go : (b : Bool) → leb (length (bytes_of m)) (length lent) ≡ b → Fitting b n after → answered (record { refusal = 0; written = n }) after ≡ finished m lent
+      go : (b : Bool) → leb (length (bytes_of m)) (length lent) ≡ b → Fitting b n after → answered (Ok n) after ≡ finished m lent
       go true t f = rw (t, f.0, f.1)
       go false t f = absurd (e f.0)

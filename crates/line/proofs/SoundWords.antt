@@ -6,10 +6,11 @@ use mathlib.Core.Path.{◌≡◌, refl, ap, ap₂, ◌∙◌, sym}
 use mathlib.Core.Bool.{Bool, true, false, ◌&&◌}
 use mathlib.Core.List.{List, [], ◌∷◌}
 use lib.Dec.{ltb, eqb}
-use lib.ListN.{length, get_or, get_or-eq_default}
+use lib.ListN.{length, get_or, drop, get_or-eq_default}
 use lib.Seq.{ext_get_or}
 use borrow.Author.Tests.{eqb-true, leb-true, ltb-true, ltb-false}
 use Rattle.limits.specs.Limits.{max_pending}
+use Rattle.list.specs.Items.{all_zero}
 use Rattle.ot.specs.Edit.{Edit, Nothing, form_of, item_of}
 use Rattle.ot.proofs.Laws.{laws}
 use Rattle.model.specs.Cross.{all_placed}
@@ -21,7 +22,7 @@ use Rattle.pending.proofs.Slots.{edits_length, edits_at, slots_length, slots_pla
 use Rattle.line.specs.declared.Line.{Line}
 use Rattle.line.specs.Line.{line_of, Kept}
 use Rattle.line.specs.Sound.{tidy_at, empty_at, tidy, sound_line, empty_line}
-use Rattle.line.specs.Slots.{zero_at, sound_slots, counts_sound}
+use Rattle.line.specs.Slots.{sound_slots, counts_sound}
 use Rattle.line.proofs.All.{all_each}
 use Rattle.line.proofs.Tests.{slots_same, places_in, items_in, zero_words, four, line_is}
 
@@ -128,10 +129,10 @@ sound_answers edits good right v words count c s long same n ec es' =
 
 -- the counts and the slots of a line that is not in use
 pub empty_answers : (v : Line) (words : List ℕ) (s : Bool) → length words ≡ size
-    → s ≡ all_from (zero_at (places_in words) (items_in words)) 0 max_pending
+    → s ≡ all_zero (drop 0 words)
     → (((((eqb v.made 0 && eqb v.taken 0) && eqb v.acked 0) && eqb v.inserts 0) && s) ≡ empty_line v words)
     × ((((((eqb v.made 0 && eqb v.taken 0) && eqb v.acked 0) && eqb v.inserts 0) && s) ≡ true) → Kept v words)
 unfolding empty_line
 empty_answers v words s long e =
-    let asked = ap₂ (λ (a b : Bool). a && b) (four (eqb v.made 0) (eqb v.taken 0) (eqb v.acked 0) (eqb v.inserts 0)) (e ∙ zero_words words) in
+    let asked = ap₂ (λ (a b : Bool). a && b) (four (eqb v.made 0) (eqb v.taken 0) (eqb v.acked 0) (eqb v.inserts 0)) (e ∙ zero_words words long) in
     (asked, λ t. empty_kept v words long (sym asked ∙ t))

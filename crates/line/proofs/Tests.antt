@@ -3,55 +3,32 @@ use Prim.Native.Nat.{ℕ, zero, suc, ◌+◌, ◌-◌, ◌*◌, ◌/◌, ◌≤�
 use native.Mathlib.Nat.{zero-add}
 use native.Mathlib.Omega.{arith}
 use mathlib.Core.Path.{◌≡◌, refl, ap, ap₂, ◌∙◌, sym}
-use mathlib.Core.Bool.{Bool, true, false, ◌&&◌, ◌||◌, cond, and-true, and-false, and_assoc}
+use mathlib.Core.Bool.{Bool, true, false, ◌&&◌, cond, and-true, and-false, and_assoc}
 use mathlib.Core.List.{List, [], ◌∷◌}
 use lib.Dec.{leb, ltb, eqb}
 use lib.ListN.{length, get_or, take, drop}
 use lib.Seq.{get_or-take, get_or-drop}
-use lib.Bits.{bit_or}
 use borrow.Author.Tests.{lt-leb, le-leb, lt-ltb, le-ltb, eq-eqb, leb-true}
 use Rattle.limits.specs.Limits.{max_pending, max_edits, max_inserts}
 use Rattle.ot.specs.Edit.{Edit}
-use Rattle.list.proofs.Zero.{or_zero}
+use Rattle.list.specs.Items.{all_zero}
 use Rattle.model.specs.Cross.{placed, all_placed, priority, priorities}
 use Rattle.model.specs.Questions.{every}
-use Rattle.pending.specs.Slots.{edit_in, edits_from, all_from}
+use Rattle.pending.specs.Slots.{size, edit_in, edits_from, all_from}
 use Rattle.pending.proofs.Slots.{edits_length}
 use Rattle.line.specs.declared.Line.{Line}
 use Rattle.line.specs.Line.{pending_in}
 use Rattle.line.specs.Sound.{tidy_at, empty_at, sound_line}
-use Rattle.line.specs.Slots.{right_slot, kept_slot, kept_at, right_at, zero_at, past_at, sound_slots, counts_sound}
-use Rattle.line.proofs.All.{all_turn, all_split, each_all, all_same, all_both, all_parted}
-use Rattle.line.proofs.Right.{right_same, kept_is}
+use Rattle.line.specs.Slots.{right_slot, kept_slot, kept_at, right_at, zero_at, sound_slots, counts_sound}
+use Rattle.line.proofs.All.{all_split, all_each, each_all, all_same, all_both, all_shifted, is_zero, all_zeros, all_parted}
+use Rattle.line.proofs.Right.{right_same, empty_right}
 
--- A turn of a loop that ORs all words together.
-pub zero_turn : (places items : List ℕ) (i to all : ℕ) → i < to
-    → (eqb (bit_or all (bit_or (get_or places i 0) (get_or items i 0))) 0 && all_from (zero_at places items) (i + 1) (to - (i + 1)))
-    ≡ (eqb all 0 && all_from (zero_at places items) i (to - i))
-zero_turn places items i to all h =
-    ap (λ (b : Bool). b && all_from (zero_at places items) (i + 1) (to - (i + 1)))
-    (or_zero all (bit_or (get_or places i 0) (get_or items i 0)) ∙ ap (λ (b : Bool). eqb all 0 && b) (or_zero (get_or places i 0) (get_or items i 0)))
-    ∙ all_turn (zero_at places items) i to (eqb all 0) (zero_at places items i) h refl
-
--- A turn of the loop that tests the slots past the first count; the words of slot j are at index i.
-pub past_turn : (places items : List ℕ) (count i j to : ℕ) (zero' : Bool) → i ≡ j → j < to
-    → ((zero' && (ltb j count || eqb (bit_or (get_or places i 0) (get_or items i 0)) 0)) && all_from (past_at count places items) (j + 1) (to - (j + 1)))
-    ≡ (zero' && all_from (past_at count places items) j (to - j))
-past_turn places items count i j to zero' e h =
-    all_turn (past_at count places items) j to zero' (ltb j count || eqb (bit_or (get_or places i 0) (get_or items i 0)) 0) h
-    (ap (λ (b : Bool). ltb j count || b) (or_zero (get_or places i 0) (get_or items i 0) ∙ ap (zero_at places items) e))
-
--- ---- by eights
-
--- the eights that are all in use, and those that are looked at
-abbrev pub full : ℕ → ℕ
-full count = count / 8 * 8
-
+-- the slots in use, by eights
 abbrev pub eights : ℕ → ℕ
 eights count = (count + 7) / 8 * 8
 
-pub eights_hold : (count : ℕ) → count ≤ max_pending → (full count ≤ count) × ((count ≤ eights count) × (eights count ≤ max_pending))
-eights_hold count h = (omega arith, (omega arith, omega arith))
+pub eights_hold : (count : ℕ) → count ≤ max_pending → (count ≤ eights count) × (eights count ≤ max_pending)
+eights_hold count h = (omega arith, omega arith)
 
 -- ---- the slots, lent as places and items
 
@@ -63,39 +40,42 @@ module _ (good : ℕ → Bool) (ps xs : List ℕ) (count : ℕ) where
   unfolding sound_slots
   slots_many h = rw (lt-leb count max_pending h)
 
-  -- those past the first count are all that the second loop tests, and the first ones are in use
-  past_all : (full slots : ℕ) → full ≤ count → full ≤ slots → all_from (past_at count ps xs) 0 slots ≡ all_from (past_at count ps xs) full (slots - full)
-  past_all full slots few most =
-      let all : slots ≡ full + (slots - full) = omega arith in
-      let first : all_from (past_at count ps xs) 0 full ≡ true =
-      each_all (past_at count ps xs) 0 full (λ i h. ap (λ (b : Bool). b || zero_at ps xs (0 + i)) (lt-ltb (0 + i) count (omega arith))) in
-      ap (all_from (past_at count ps xs) 0) all ∙ all_split (past_at count ps xs) 0 full (slots - full)
-      ∙ ap (λ (b : Bool). b && all_from (past_at count ps xs) (0 + full) (slots - full)) first
-      ∙ ap (λ (k : ℕ). all_from (past_at count ps xs) k (slots - full)) (zero-add full)
+  -- an empty slot is a right one: so a test of more slots says nothing more where the others are zero
+  few_right : (slots : ℕ) → count ≤ slots → slots ≤ max_pending → all_from (zero_at ps xs) count (max_pending - count) ≡ true
+      → all_from (right_at good ps xs) count (slots - count) ≡ true
+  few_right slots few most z =
+      each_all (right_at good ps xs) count (slots - count)
+      (λ i h. empty_right good (get_or ps (count + i) 0) (get_or xs (count + i) 0) (all_each (zero_at ps xs) count (max_pending - count) z i (omega arith)))
 
-  kept_parted : (full slots : ℕ) → full ≤ count → full ≤ slots
-      → (all_from (right_at good ps xs) 0 slots && all_from (past_at count ps xs) full (slots - full)) ≡ all_from (kept_at good count ps xs) 0 slots
-  kept_parted full slots few most =
-      ap (λ (b : Bool). all_from (right_at good ps xs) 0 slots && b) (sym (past_all full slots few most))
-      ∙ sym (all_both (right_at good ps xs) (past_at count ps xs) 0 slots)
-      ∙ all_same (λ i. right_at good ps xs i && past_at count ps xs i) (kept_at good count ps xs) 0 slots
-      (λ i h. kept_is good (ltb (0 + i) count) (get_or ps (0 + i) 0) (get_or xs (0 + i) 0))
+  absorbed : (r x z : Bool) → (z ≡ true → x ≡ true) → ((r && x) && z) ≡ (r && z)
+  absorbed r x false f = and-false (r && x) ∙ sym (and-false r)
+  absorbed r x true f = and-true (r && x) ∙ ap (λ (b : Bool). r && b) (f refl)
 
-  -- the three loops together
-  pub slots_parted : (full slots : ℕ) (right past unused : Bool) → full ≤ count → count ≤ slots → slots ≤ max_pending
-      → right ≡ all_from (right_at good ps xs) 0 slots → past ≡ all_from (past_at count ps xs) full (slots - full)
-      → unused ≡ all_from (zero_at ps xs) slots (max_pending - slots) → ((right && past) && unused) ≡ sound_slots good count ps xs
+  -- the loop over the places and items that were cut off, and the words past the first count
+  pub slots_parted : (slots : ℕ) (right places items : Bool) → count ≤ slots → slots ≤ max_pending → length ps ≡ max_pending → length xs ≡ max_pending
+      → right ≡ all_from (right_at good (take slots ps) (take slots xs)) 0 slots → places ≡ all_zero (drop count ps) → items ≡ all_zero (drop count xs)
+      → ((right && places) && items) ≡ sound_slots good count ps xs
   unfolding sound_slots
-  slots_parted full slots right past unused low few most er ep eu =
-      ap₂ (λ (a b : Bool). a && b) (ap₂ (λ (a b : Bool). a && b) er ep ∙ kept_parted full slots low (omega arith)) eu
-      ∙ sym (all_parted (kept_at good count ps xs) (kept_at good count ps xs) (zero_at ps xs) slots max_pending most (λ i h. refl)
-      (λ i h k. ap (slot_is i) (le-ltb i count (omega arith))))
+  slots_parted slots right places items few most lp lx er ep ex =
+      let rest : ℕ = max_pending - count in
+      let first : Bool = all_from (right_at good ps xs) 0 count in
+      let more : Bool = all_from (right_at good ps xs) count (slots - count) in
+      let zeros : Bool = all_from (zero_at ps xs) count rest in
+      let all : slots ≡ count + (slots - count) = omega arith in
+      let looked : right ≡ (first && more) =
+      er
+      ∙ all_same (right_at good (take slots ps) (take slots xs)) (right_at good ps xs) 0 slots
+      (λ i h. ap₂ (right_slot good) (get_or-take slots ps (0 + i) 0 (omega arith)) (get_or-take slots xs (0 + i) 0 (omega arith)))
+      ∙ ap (all_from (right_at good ps xs) 0) all ∙ all_split (right_at good ps xs) 0 count (slots - count)
+      ∙ ap (λ (k : ℕ). first && all_from (right_at good ps xs) k (slots - count)) (zero-add count) in
+      let empty : (places && items) ≡ zeros =
+      ap₂ (λ (a b : Bool). a && b) (ep ∙ all_zeros ps count rest (omega arith)) (ex ∙ all_zeros xs count rest (omega arith))
+      ∙ sym (all_both (is_zero ps) (is_zero xs) count rest) in
+      and_assoc right places items ∙ ap₂ (λ (a b : Bool). a && b) looked empty
+      ∙ absorbed first more zeros (few_right slots few most)
+      ∙ sym (all_parted (kept_at good count ps xs) (right_at good ps xs) (zero_at ps xs) count max_pending (omega arith)
+      (λ i h. ap (slot_is i) (lt-ltb i count h)) (λ i h k. ap (slot_is i) (le-ltb i count h)))
       ∙ ap (λ (b : Bool). b && all_from (kept_at good count ps xs) 0 max_pending) (sym (le-leb count max_pending (omega arith)))
-
-  -- the one loop of a line without pending edits
-  pub slots_none : (unused : Bool) → count ≡ 0 → unused ≡ all_from (zero_at ps xs) 0 max_pending → unused ≡ sound_slots good count ps xs
-  unfolding all_from
-  slots_none unused z e = slots_parted 0 0 true true unused (omega arith) (omega arith) (omega arith) refl refl e
 
 -- two tests of the priorities that there are
 pub slots_same : (f g : ℕ → Bool) → ((r : ℕ) → 1 ≤ r → f r ≡ g r) → (count : ℕ) (ps xs : List ℕ) → sound_slots f count ps xs ≡ sound_slots g count ps xs
@@ -125,9 +105,12 @@ module _ (words : List ℕ) (i : ℕ) (h : i < max_pending) where
   zero_lent : zero_at (places_in words) (items_in words) i ≡ empty_at words i
   zero_lent = ap₂ (λ (p x : ℕ). eqb p 0 && eqb x 0) place_lent item_lent
 
-pub zero_words : (words : List ℕ) → all_from (zero_at (places_in words) (items_in words)) 0 max_pending ≡ all_from (empty_at words) 0 max_pending
-zero_words words =
-    all_same (zero_at (places_in words) (items_in words)) (empty_at words) 0 max_pending (λ i h. zero_lent words (0 + i) (omega arith))
+-- words that are all zero, slot by slot
+pub zero_words : (words : List ℕ) → length words ≡ size → all_zero (drop 0 words) ≡ all_from (empty_at words) 0 max_pending
+zero_words words long =
+    all_zeros words 0 (max_pending + max_pending) (sym long) ∙ all_split (is_zero words) 0 max_pending max_pending
+    ∙ ap (λ (b : Bool). all_from (is_zero words) 0 max_pending && b) (sym (all_shifted (is_zero words) max_pending 0 max_pending))
+    ∙ sym (all_both (is_zero words) (λ i. is_zero words (max_pending + i)) 0 max_pending)
 
 swap : (a b c p q r : Bool) → ((a && (b && c)) && (p && (q && r))) ≡ ((a && p) && ((b && q) && (c && r)))
 swap false b c p q r = refl

@@ -1,17 +1,16 @@
 -- Sending: question 13, and the end of every sending, question 14 and the bytes.
-use Rattle.std.specs.Prelude.{ℕ, ◌+◌, ◌≤◌, ◌<◌, List, [], ◌∷◌, leb, length}
+use Rattle.std.specs.Prelude.{Result, Ok, Err, ℕ, ◌+◌, ◌≤◌, ◌<◌, List, [], ◌∷◌, leb, length}
+use Rattle.refusal.specs.declared.Refusal.{Refusal}
+use Rattle.refusal.specs.Number.{number}
 use Rattle.wire.specs.declared.Message.{Message}
 use Rattle.wire.specs.Bytes.{bytes_of}
 use Rattle.model.specs.Questions as model
 use Rattle.line.specs.declared.Line.{Line}
-use Rattle.line.specs.declared.sending.Sent.{Sent}
 
 -- what the code answers, with the lent buffer beside it, as the model's answer
-abbrev pub answered : Sent → List ℕ → model.Sent
-answered s lent = record { refusal = s.refusal; written = s.written; buffer = lent }
-
-abbrev pub unwritten : ℕ → Sent
-unwritten r = record { refusal = r; written = 0 }
+abbrev pub answered : Result ℕ Refusal → List ℕ → model.Sent
+answered (Ok n) lent = record { refusal = 0; written = n; buffer = lent }
+answered (Err r) lent = record { refusal = number r; written = 0; buffer = lent }
 
 -- the number is among the pending ones
 abbrev pub number_asked : Line → ℕ → List model.Question

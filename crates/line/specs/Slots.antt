@@ -1,30 +1,15 @@
 -- What the functions within say, of the places and the items of a line's slots lent side by side. No call's promise mentions these.
-use Rattle.std.specs.Prelude.{ℕ, Bool, true, false, not, ◌&&◌, ◌||◌, cond, List, [], ◌∷◌, eqb, leb, ltb, get_or}
+use Rattle.std.specs.Prelude.{ℕ, Bool, not, ◌&&◌, cond, List, [], ◌∷◌, eqb, leb, ltb, get_or}
 use Rattle.limits.specs.Limits.{max_pending, max_edits, max_inserts}
 use Rattle.ot.specs.Edit.{edit, item_of}
-use Rattle.list.specs.Places.{origin_at}
 use Rattle.model.specs.Questions.{every}
 use Rattle.model.specs.Cross.{placed, priority}
-use Rattle.model.specs.Server.{other_maker}
 use Rattle.pending.specs.Slots.{place_of, form_at, all_from}
 use Rattle.line.specs.declared.Line.{Line}
 
 -- the priorities from low to high but one
 abbrev pub allowed : ℕ → ℕ → ℕ → ℕ → Bool
 allowed low high other r = leb low r && leb r high && not (eqb r other)
-
--- low, high and other for the priorities that question 4 lets through
-abbrev pub lowest : ℕ → Bool → ℕ
-lowest rank true = rank
-lowest rank false = 1
-
-abbrev pub highest : ℕ → ℕ → Bool → ℕ
-highest n rank true = rank
-highest n rank false = n
-
-abbrev pub left_out : ℕ → Bool → ℕ
-left_out rank true = 0
-left_out rank false = rank
 
 -- a slot in use: position, priority, and no bits that mean nothing
 abbrev pub right_slot : (ℕ → Bool) → ℕ → ℕ → Bool
@@ -46,10 +31,6 @@ right_at good places items i = right_slot good (get_or places i 0) (get_or items
 abbrev pub zero_at : List ℕ → List ℕ → ℕ → Bool
 zero_at places items i = eqb (get_or places i 0) 0 && eqb (get_or items i 0) 0
 
--- slot j is zero unless it is one of the first count
-abbrev pub past_at : ℕ → List ℕ → List ℕ → ℕ → Bool
-past_at count places items j = ltb j count || zero_at places items j
-
 -- at most 64 edits, each slot as it should be
 unfoldable pub sound_slots : (ℕ → Bool) → ℕ → List ℕ → List ℕ → Bool
 sound_slots good count places items = leb count max_pending && all_from (kept_at good count places items) 0 max_pending
@@ -57,11 +38,3 @@ sound_slots good count places items = leb count max_pending && all_from (kept_at
 abbrev pub counts_sound : ℕ → Line → Bool
 counts_sound edits v =
     every (leb edits max_edits ∷ leb v.acked v.made ∷ leb v.inserts max_inserts ∷ leb v.inserts edits ∷ [])
-
--- the word of an origin: in use or zero
-abbrev pub kept_maker : ℕ → ℕ → Bool → ℕ → Bool
-kept_maker n line used word = cond used (other_maker n line (origin_at word)) (eqb word 0)
-
--- word j, where the first count are in use
-abbrev pub kept_maker_at : ℕ → ℕ → ℕ → List ℕ → ℕ → Bool
-kept_maker_at n line count words j = kept_maker n line (ltb j count) (get_or words j 0)

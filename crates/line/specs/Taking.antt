@@ -1,5 +1,7 @@
 -- What a message makes of a line, before anything is written: questions 5 to 9 and the decision.
-use Rattle.std.specs.Prelude.{ℕ, ◌+◌, ◌-◌, ◌≤◌, ◌≡◌, Bool, true, false, ◌&&◌, cond, List, [], ◌∷◌, ◌++◌, map, leb, ltb, eqb, take, drop, replicate}
+use Rattle.std.specs.Prelude.{Result, Ok, Err, ⊤, ℕ, ◌+◌, ◌-◌, ◌≤◌, ◌≡◌, Bool, true, false, ◌&&◌, cond, List, [], ◌∷◌, ◌++◌, map, leb, ltb, eqb, take, drop, replicate}
+use Rattle.refusal.specs.declared.Refusal.{Refusal}
+use Rattle.refusal.specs.Number.{number, refused_by}
 use Rattle.limits.specs.Limits.{max_pending}
 use Rattle.ot.specs.declared.Form.{Form}
 use Rattle.ot.specs.declared.Form.TheVariants as form
@@ -12,6 +14,7 @@ use Rattle.wire.specs.declared.Message.TheVariants as message
 use Rattle.model.specs.Cross.{over, all_placed}
 use Rattle.model.specs.Questions as questions
 use Rattle.model.specs.Questions.{Question, ask, asks}
+use Rattle.model.specs.Packets.{counted}
 use Rattle.model.specs.Edits.{no_origin}
 use Rattle.model.specs.Line as model
 use Rattle.pending.specs.declared.Crossed.{Crossed}
@@ -22,6 +25,7 @@ use Rattle.line.specs.Keeping.{fits_list, then_asked}
 use Rattle.line.specs.declared.taking.Arrival.{Arrival}
 use Rattle.line.specs.declared.taking.Report.{Report}
 use Rattle.line.specs.declared.taking.Decision.{Decision}
+use Rattle.line.specs.declared.taking.Stopped.{Stopped}
 
 -- ---- a message
 
@@ -77,45 +81,50 @@ report_in k = record { passed = k.passed; arrived = k.arrived; applied = k.appli
 abbrev pub no_report : Report
 no_report = report_in questions.no_report
 
+-- what a taking answers, with the end that it leaves, as the model's answer
+abbrev pub answer_of : {E : Type 0} → Result Report Refusal → E → questions.Answer E
+answer_of (Ok k) e = record { refusal = 0; end = e; report = record { passed = k.passed; arrived = k.arrived; applied = k.applied } }
+answer_of (Err r) e = record { refusal = number r; end = e; report = questions.no_report }
+
+-- the same of a packet: how many of its messages were taken, beside a refusal too
+abbrev pub packet_of : {E : Type 0} → Result ℕ Stopped → E → questions.Answer E
+packet_of (Ok n) e = record { refusal = 0; end = e; report = counted n }
+packet_of (Err s) e = record { refusal = number s.refusal; end = e; report = counted s.taken }
+
+-- the same of a call that has nothing to report
+abbrev pub done_of : {E : Type 0} → Result ⊤ Refusal → E → questions.Answer E
+done_of (Ok x) e = record { refusal = 0; end = e; report = questions.no_report }
+done_of (Err r) e = record { refusal = number r; end = e; report = questions.no_report }
+
 abbrev pub report_of : model.Line → Arrival → questions.Report
 report_of m a = cond a.carries (model.line_report m a.seen (edit_of a)) questions.no_report
 
 abbrev pub report_by : model.Line → Arrival → Report
 report_by m a = report_in (report_of m a)
 
-abbrev pub refusing : ℕ → Line → Decision
-refusing r v = record { refusal = r; report = no_report; line = v; form = form.Nothing }
-
 abbrev pub done : model.Line → ℕ → Arrival → Decision
 done m inserts a =
-    record { refusal = 0; report = report_by m a; line = counts_of (line_then m inserts a); form = form_of (edit_then m a) }
+    record { report = report_by m a; line = counts_of (line_then m inserts a); form = form_of (edit_then m a) }
 
 -- an edit that came as f is taken: x is what crossing made of it
 abbrev pub taken_as : Line → ℕ → ℕ → Form → Crossed → Decision
 taken_as v inserts seen f x =
     record {
-      refusal = 0;
       report = record { passed = x.passed; arrived = position_of f; applied = position_of x.form };
       line = record { made = v.made; taken = v.taken + 1; acked = seen; inserts = inserts };
       form = x.form;
     }
-
-unfoldable pub deciding : ℕ → Line → Decision → Decision
-deciding r v d = cond (eqb r 0) d (refusing r v)
-
-abbrev pub decided : Line → List ℕ → ℕ → ℕ → Arrival → Decision
-decided v words len inserts a =
-    deciding (refusal_of v (line_of v words) len a) v (done (line_of v words) inserts a)
 
 -- The places are those of the edits es, which bring the items of the pending edits after seen.
 pub record Later (v : Line) (seen : ℕ) (words later : List ℕ) (es : List Edit) : Type 0 where
   pub places : later ≡ places_of es
   pub items : map item_of es ≡ map item_of (model.unacked (line_of v words) seen)
 
--- What deciding gives: the decision, and where it refuses nothing the places of the pending edits that stay.
-pub record Decided (v : Line) (words : List ℕ) (len inserts : ℕ) (a : Arrival) (r : Decision) (later : List ℕ) : Type 0 where
-  pub answer : r ≡ decided v words len inserts a
-  pub stay : r.refusal ≡ 0 → Later v a.seen words later (line_then (line_of v words) inserts a).pending
+-- What deciding gives: the first refusal that fits, or the decision and the places of the pending edits that stay.
+pub record Decided (v : Line) (words : List ℕ) (len inserts : ℕ) (a : Arrival) (r : Result Decision Refusal) (later : List ℕ) : Type 0 where
+  pub refusal : refused_by r ≡ refusal_of v (line_of v words) len a
+  pub done : (d : Decision) → r ≡ Ok d → d ≡ done (line_of v words) inserts a
+  pub stay : (d : Decision) → r ≡ Ok d → Later v a.seen words later (line_then (line_of v words) inserts a).pending
 
 abbrev pub zeros : List ℕ
 zeros = replicate max_pending 0

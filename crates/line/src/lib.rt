@@ -18,7 +18,7 @@ use limits::{ITEMS, PENDING};
 use ot::Form;
 
 // The counts of a line.
-#[derive(Clone, Copy)]
+#[derive(Clone, Copy, Default)]
 pub struct Line {
     // edits made for it: at the client its own, at the server those taken on all other lines
     pub made: u16,

@@ -6,7 +6,8 @@ ghost use Rattle.line.specs.Sending.{answered, IsPending};
 ghost use Rattle.line.specs.Packet.{Packable, message_at, messages, Filled};
 
 use crate::Line;
-use crate::sending::{Sent, message, refused};
+use crate::sending::message;
+use refusal::Refusal;
 use wire::Message;
 
 // The message of a pending edit, with its origin from the words of origins: the first of them is that of the first pending edit.
@@ -75,22 +76,16 @@ pub fn pack<'a>(
     origins: &'a [u32],
     out: &mut [u8],
     offset: usize,
-) -> Sent
+) -> Result<usize, Refusal>
     requires { Packable v words.now origins.now }
     ensures { answered result out.new ≡ packed [] (messages line direction v words.now origins.now) offset out.old }
 {
     if v.made <= v.acked {
-        return Sent {
-            refusal: 0,
-            written: 0,
-        };
+        return Ok(0);
     }
     let written = fill(line, direction, v, words, origins, out, offset);
     if written == 0 {
-        return refused(14);
+        return Err(Refusal::Room);
     }
-    Sent {
-        refusal: 0,
-        written,
-    }
+    Ok(written)
 }

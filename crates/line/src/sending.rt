@@ -1,32 +1,27 @@
 // Sending, which changes no end: the message of a pending edit, and its bytes.
 ghost use Rattle.std.specs.Prelude.{◌≡◌};
+ghost use Rattle.refusal.specs.Number.{refused_by};
 ghost use Rattle.model.specs.Questions.{asks};
 ghost use Rattle.model.specs.Line as model;
 ghost use Rattle.line.specs.Line.{line_of, Kept};
-ghost use Rattle.line.specs.Sending.{answered, unwritten, number_asked, finished, IsPending};
+ghost use Rattle.line.specs.Sending.{answered, number_asked, finished, IsPending};
 
 use crate::Line;
 use list::Origin;
+use refusal::Refusal;
 use wire::{Header, Message};
 
-// What a sending answers: 0 or the number of the question that said no, and how many bytes were written.
-#[derive(Drop)]
-pub struct Sent {
-    pub refusal: u8,
-    pub written: usize,
-}
-
 // Question 13.
-pub fn ask_number(v: Line, number: u16) -> u8
-    ensures { result ≡ asks (number_asked v number) }
+pub fn ask_number(v: Line, number: u16) -> Result<(), Refusal>
+    ensures { refused_by result ≡ asks (number_asked v number) }
 {
     if number <= v.acked {
-        return 13;
+        return Err(Refusal::NotPending);
     }
     if v.made < number {
-        return 13;
+        return Err(Refusal::NotPending);
     }
-    0
+    Ok(())
 }
 
 // The message of a pending edit, whose origin the end knows.
@@ -52,26 +47,14 @@ pub fn message(
     wire::of_edit(h, pending::form_in(words, i), pending::item_in(words, i))
 }
 
-// A refused sending writes nothing.
-pub fn refused(refusal: u8) -> Sent
-    ensures { result ≡ unwritten refusal }
-{
-    Sent {
-        refusal,
-        written: 0,
-    }
-}
-
-// The message goes into the buffer if it fits there: question 14. No byte past it changes, and of a refusal none at all.
-pub fn finish(m: Message, out: &mut [u8]) -> Sent
+// The message goes into the buffer if it fits there: question 14. No byte past it changes, and of a refusal none at all. Answers how many
+// bytes were written.
+pub fn finish(m: Message, out: &mut [u8]) -> Result<usize, Refusal>
     ensures { answered result out.new ≡ finished m out.old }
 {
     let written = wire::writing::write(m, out);
     if written == 0 {
-        return refused(14);
+        return Err(Refusal::Room);
     }
-    Sent {
-        refusal: 0,
-        written,
-    }
+    Ok(written)
 }

@@ -2,15 +2,17 @@
 ghost use Rattle.std.specs.Prelude.{◌≡◌, ◌≤◌, ◌<◌, length};
 ghost use Rattle.limits.specs.Limits.{max_items, max_pending};
 ghost use Rattle.ot.specs.Form.{position_of};
+ghost use Rattle.refusal.specs.Number.{refused_by};
 ghost use Rattle.model.specs.Questions.{asks};
 ghost use Rattle.line.specs.Line.{Kept};
-ghost use Rattle.line.specs.Taking.{carrying, arrival_of, seen_asked, arrival_asked, no_report, refusing, taken_as, Decided, zeros, Between, accepted};
+ghost use Rattle.line.specs.Taking.{carrying, arrival_of, seen_asked, arrival_asked, no_report, taken_as, Decided, zeros, Between, accepted};
 
 use crate::Line;
 use limits::PENDING;
 use list::Origin;
 use ot::Form;
 use pending::Crossed;
+use refusal::Refusal;
 use wire::{Header, Message};
 
 // A message, edit or acknowledgement alike: an acknowledgement carries no edit and has no number and no origin.
@@ -36,11 +38,26 @@ pub struct Report {
     pub applied: u16,
 }
 
-// What a message makes of a line: 0 or the number of the question that says no, the report, the counts then, and the form of the edit to
-// apply. The places of the pending edits that stay go into a lent array beside it.
+// Why a packet was not taken to its end, and how many of its messages were taken before.
+#[derive(Clone, Copy, PartialEq, Eq, Debug)]
+pub struct Stopped {
+    pub refusal: Refusal,
+    pub taken: u16,
+}
+
+// Refused before its first message.
+impl From<Refusal> for Stopped {
+    ghost from_gives = { λ r s. (s.refusal ≡ r) × (s.taken ≡ 0) };
+
+    fn from(refusal: Refusal) -> Stopped {
+        Stopped { refusal, taken: 0 }
+    }
+}
+
+// What a message that is taken makes of a line: the report, the counts then, and the form of the edit to apply. The places of the pending
+// edits that stay go into a lent array beside it.
 #[derive(Drop)]
 pub struct Decision {
-    pub refusal: u8,
     pub report: Report,
     pub line: Line,
     pub form: Form,
@@ -83,28 +100,28 @@ pub fn split(m: Message) -> Arrival
 }
 
 // Questions 7 and 8.
-fn ask_seen(v: Line, seen: u16) -> u8
-    ensures { result ≡ asks (seen_asked v seen) }
+fn ask_seen(v: Line, seen: u16) -> Result<(), Refusal>
+    ensures { refused_by result ≡ asks (seen_asked v seen) }
 {
     if seen < v.acked {
-        return 7;
+        return Err(Refusal::SeenTooFew);
     }
     if v.made < seen {
-        return 8;
+        return Err(Refusal::SeenTooMany);
     }
-    0
+    Ok(())
 }
 
 // Questions 5 to 8, of an acknowledgement 7 and 8.
-fn ask(v: Line, number: u16, seen: u16, carries: bool) -> u8
-    ensures { result ≡ asks (arrival_asked v number seen carries) }
+fn ask(v: Line, number: u16, seen: u16, carries: bool) -> Result<(), Refusal>
+    ensures { refused_by result ≡ asks (arrival_asked v number seen carries) }
 {
     if carries {
         if number <= v.taken {
-            return 5;
+            return Err(Refusal::Repeated);
         }
         if 1 < number - v.taken {
-            return 6;
+            return Err(Refusal::Early);
         }
     }
     ask_seen(v, seen)
@@ -118,17 +135,6 @@ pub fn no_report() -> Report
         passed: 0,
         arrived: 0,
         applied: 0,
-    }
-}
-
-pub fn refusing(refusal: u8, line: Line) -> Decision
-    ensures { result ≡ refusing refusal line }
-{
-    Decision {
-        refusal,
-        report: no_report(),
-        line,
-        form: Form::Nothing,
     }
 }
 
@@ -149,12 +155,7 @@ fn take_edit(v: Line, inserts: u16, seen: u16, f: Form, x: Crossed) -> Decision
         arrived: ot::position(f),
         applied: ot::position(form),
     };
-    Decision {
-        refusal: 0,
-        report,
-        line,
-        form,
-    }
+    Decision { report, line, form }
 }
 
 // What a message makes of a line whose client then has so many inserts, at an end whose list has len items: questions 5 to 9.
@@ -165,14 +166,11 @@ pub fn decide(
     inserts: u16,
     a: Arrival,
     later: &mut [u32; PENDING],
-) -> Decision
+) -> Result<Decision, Refusal>
     requires { ((position_of a.form ≤ max_items) × (v.taken < 65535)) × (Kept v words.now × (later.old ≡ zeros)) }
     ensures { Decided v words.now len inserts a result later.new }
 {
-    let no = ask(v, a.number, a.seen, a.carries);
-    if no != 0 {
-        return refusing(no, v);
-    }
+    ask(v, a.number, a.seen, a.carries)?;
     let gone = (a.seen - v.acked) as usize;
     let count = (v.made - a.seen) as usize;
     if a.carries {
@@ -180,9 +178,9 @@ pub fn decide(
         let x = pending::cross(words, gone, count, f, later);
         let form = x.form;
         if x.placed & crate::fits_list(form, len) {
-            return take_edit(v, inserts, a.seen, f, x);
+            return Ok(take_edit(v, inserts, a.seen, f, x));
         }
-        return refusing(9, v);
+        return Err(Refusal::Misfit);
     }
     *later = pending::moved_down(words, gone, count);
     let line = Line {
@@ -191,12 +189,11 @@ pub fn decide(
         acked: a.seen,
         inserts: v.inserts,
     };
-    Decision {
-        refusal: 0,
+    Ok(Decision {
         report: no_report(),
         line,
         form: Form::Nothing,
-    }
+    })
 }
 
 // What an accepted message leaves in the line's words.

@@ -1,7 +1,7 @@
 -- Laws of a list in an array, for any kind of element.
 use Prim.Native.Nat.{ℕ, zero, suc, ◌+◌, ◌-◌, ◌≤◌, ◌<◌}
 use native.Mathlib.Omega.{arith}
-use mathlib.Core.Path.{◌≡◌, refl, ap, ◌∙◌, sym}
+use mathlib.Core.Path.{◌≡◌, refl, ap, ap₂, ◌∙◌, sym}
 use mathlib.Core.List.{List, [], ◌∷◌, ◌++◌}
 use lib.ListN.{length, get_or, take, drop, set, replicate, length-append, length-replicate, take-append-drop}
 use native.Mathlib.Numerals.{add-one}
@@ -70,6 +70,20 @@ module _ {A : Type 0} where
       let rest : List A = replicate (n - (length l + 1)) z in
       ap (λ (j : ℕ). set (l ++ replicate j z) (length l) x) one ∙ set-append_seam l z rest x ∙ sym (append_snoc l x rest)
       ∙ ap (λ (j : ℕ). (l ++ (x ∷ [])) ++ replicate (n - j) z) (sym more)
+
+-- ---- the first m elements of a list, copied to the front of an array of z
+
+module _ {A : Type 0} where
+  take_taken : (m : ℕ) (l : List A) → take (length (take m l)) l ≡ take m l
+  take_taken zero l = refl
+  take_taken (suc m) [] = refl
+  take_taken (suc m) (x ∷ l) = ap (λ (r : List A). x ∷ r) (take_taken m l)
+
+  pub pad_front : (n m : ℕ) (z : A) (l array part : List A) {k : ℕ} → length (take m l) ≡ k → part ≡ take k l → array ≡ replicate n z
+      → part ++ drop k array ≡ padded z n (take m l)
+  pad_front n m z l array part {k} size copied empty =
+      ap₂ (λ (a b : List A). a ++ b) (copied ∙ ap (λ (j : ℕ). take j l) (sym size) ∙ take_taken m l)
+      (ap (drop k) empty ∙ drop_zeros n k z ∙ ap (λ (j : ℕ). replicate (n - j) z) (sym size))
 
 -- ---- a loop that puts a list into an array of z
 

@@ -4,9 +4,9 @@ use native.Mathlib.Nat.{div-add-mod', mod-lt, mul-add-div_right, mul-add-mod_sel
 use native.Mathlib.Omega.{arith}
 use mathlib.Core.Path.{◌≡◌, refl, ap, ap₂, sym, ◌∙◌, subst}
 use mathlib.Core.Bool.{true}
-use mathlib.Core.List.{List, [], ◌∷◌, map}
+use mathlib.Core.List.{List, [], ◌∷◌, ◌++◌, map}
 use lib.Dec.{ltb, lit<}
-use lib.ListN.{length, get_or, take, set, replicate, length-map, length-replicate}
+use lib.ListN.{length, get_or, take, drop, set, replicate, length-map, length-replicate, drop_of_length-le}
 use lib.Seq.{take_all}
 use borrow.Author.Tests.{ltb-true, lt-ltb}
 use Rattle.ot.specs.Edit.{Edit, Nothing, Delete, Insert, form_of, edit, applied, fits, size_after}
@@ -15,7 +15,9 @@ use Rattle.list.specs.declared.Origin.{Origin}
 use Rattle.list.specs.Items.{capacity, padded, stored, edited, Room}
 use Rattle.list.specs.Places.{Place, place_of, initial_from, initial_places, applied_by, word_of, origin_at, items_of, origins_of, places_of, numbered}
 use Rattle.list.proofs.Array.{array}
-use Rattle.list.proofs.Items.{Filling, filling_start, filling_turn, filling_end}
+use native.Mathlib.Numerals.{add-one}
+use Rattle.list.proofs.Pad.{pad_front}
+use Rattle.list.proofs.Sweep.{swept, swept_store, swept_to}
 
 -- ---- an origin as a word
 
@@ -168,26 +170,33 @@ from_origin k (x ∷ xs) (suc i) h =
     let next : suc k + i ≡ k + suc i = omega arith in
     from_origin (suc k) xs i (le_of_suc-le-suc h) ∙ next
 
--- ---- the loop that puts the origins of an initial list of m items into an array of n zeros, after i turns
+-- ---- the loop that puts the origins of an initial list of m items into m places that hold `first`, after i turns
 
 abbrev words : ℕ → List ℕ
 words m = origins_of (initial_places (replicate m 0))
 
-abbrev pub Numbering : ℕ → ℕ → List ℕ → ℕ → Type 0
-Numbering n m a i = Filling n m (words m) a i
+abbrev pub Numbering : ℕ → List ℕ → List ℕ → ℕ → Type 0
+Numbering m first a i = a ≡ swept (words m) first i
 
-module _ (n m : ℕ) (room : m ≤ n) where
-  pub numbering_start : (a : List ℕ) → a ≡ replicate n 0 → Numbering n m a 0
-  numbering_start a e = filling_start n m (words m) room a e
+module _ (m : ℕ) (first : List ℕ) (room : length first ≡ m) where
+  words_length : length (words m) ≡ m
+  words_length = origins_length (initial_places (replicate m 0)) ∙ initial_length (replicate m 0) ∙ length-replicate m 0
 
-  pub numbering_turn : (i : ℕ) (a : List ℕ) → i < m → Numbering n m a i → Numbering n m (set a i (i + 1)) (i + 1)
-  numbering_turn i a h f =
+  pub numbering_turn : (i : ℕ) (a : List ℕ) → i < m → Numbering m first a i → Numbering m first (set a i (i + 1)) (i + 1)
+  numbering_turn i a h e =
       let long : length (replicate {A = ℕ} m 0) ≡ m = length-replicate m 0 in
       let number : i + 1 ≡ get_or (words m) i 0 = omega (arith, from_origin 1 (replicate m 0) i (omega arith)) in
-      filling_turn n m (words m) room i (i + 1) a h number f
+      ap (λ (b : List ℕ). set b i (i + 1)) e ∙ ap (set (swept (words m) first i) i) number
+      ∙ swept_store (words m) first i 0 (words_length ∙ sym room) (omega arith) ∙ ap (swept (words m) first) (sym (add-one i))
 
-  pub numbering_end : (i : ℕ) (a : List ℕ) → m ≤ i → Numbering n m a i → (xs : List ℕ) → length xs ≡ m → a ≡ padded 0 n (origins_of (initial_places xs))
-  numbering_end i a h f xs e =
-      let long : length (words m) ≡ m = origins_length (initial_places (replicate m 0)) ∙ initial_length (replicate m 0) ∙ length-replicate m 0 in
-      filling_end n m (words m) room i a h f
-      ∙ ap (padded 0 n) (take_all m (words m) (omega arith) ∙ from_origins 1 (replicate m 0) xs (length-replicate m 0 ∙ sym e))
+  -- the places behind them stay as they were: zero
+  pub numbering_end : (n i : ℕ) (a list xs : List ℕ) → m ≤ i → Numbering m first a i → list ≡ replicate n 0 → length xs ≡ m
+      → a ++ drop m list ≡ padded 0 n (origins_of (initial_places xs))
+  numbering_end n i a list xs h e empty size =
+      let ws = origins_of (initial_places xs) in
+      let long : length ws ≡ m = origins_length (initial_places xs) ∙ initial_length xs ∙ size in
+      let all : take m ws ≡ ws = take_all m ws (omega arith) in
+      let numbers : a ≡ take m ws =
+      e ∙ swept_to (words m) first i (drop_of_length-le (words m) {i = i} (omega (arith, words_length)) ∙ sym (drop_of_length-le first {i = i} (omega arith)))
+      ∙ from_origins 1 (replicate m 0) xs (length-replicate m 0 ∙ sym size) ∙ sym all in
+      pad_front n m 0 ws list a (ap (λ (l : List ℕ). length l) all ∙ long) numbers empty ∙ ap (padded 0 n) all

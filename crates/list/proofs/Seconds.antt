@@ -1,12 +1,12 @@
 -- Laws of the running time: the sum over parts of a list, over the places of an array, and over a list after an edit.
 use Prim.Native.Nat.{ℕ, zero, suc, ◌+◌, ◌-◌, ◌*◌, ◌≤◌, ◌<◌}
-use native.Mathlib.Numerals.{add-one}
 use native.Mathlib.Omega.{arith}
 use mathlib.Core.Path.{◌≡◌, refl, ap, sym, ◌∙◌, subst}
 use mathlib.Core.Bool.{true}
 use mathlib.Core.List.{List, [], ◌∷◌, ◌++◌}
-use lib.ListN.{length, get_or, take, drop, replicate, length-take, drop_of_length-le}
-use lib.Seq.{drop-cons, get_or-take}
+use lib.ListN.{length, get_or, take, replicate, length-take}
+use Rattle.std.specs.List.{sum_by}
+use Rattle.std.proofs.lemmas.List.Sums.{sum_by-cons}
 use Rattle.ot.specs.declared.Form.{Form}
 use Rattle.ot.specs.declared.Form.TheVariants as form
 use Rattle.ot.specs.Edit.{Edit, Nothing, Delete, Insert, edit, inserted_at, deleted_at, applied_as, applied, fits}
@@ -38,25 +38,14 @@ unfolding total_seconds
 total_few [] = omega arith
 total_few (x ∷ l) = omega (arith, total_few l)
 
--- what a loop that adds up from the front has still to add, before a turn and after it
-pub total_turn : (l : List ℕ) (i : ℕ) → i < length l → total_seconds (drop i l) ≡ seconds_of (get_or l i 0) + total_seconds (drop (i + 1) l)
+-- the total is the sum that an iterator gives
+pub total_sum : (l : List ℕ) → total_seconds l ≡ sum_by seconds_of l
 unfolding total_seconds
-total_turn l i h =
-    ap total_seconds (drop-cons l i 0 h) ∙ ap (λ (j : ℕ). seconds_of (get_or l i 0) + total_seconds (drop j l)) (sym (add-one i))
-
--- the same where it adds up the first n alone
-pub total_part_turn : (n : ℕ) (l : List ℕ) (i : ℕ) → i < n → i < length l
-    → total_seconds (drop i (take n l)) ≡ seconds_of (get_or l i 0) + total_seconds (drop (i + 1) (take n l))
-total_part_turn n l i a b =
-    total_turn (take n l) i (omega (arith, length-take n l))
-    ∙ ap (λ (x : ℕ). seconds_of x + total_seconds (drop (i + 1) (take n l))) (get_or-take n l i 0 a)
+total_sum [] = refl
+total_sum (x ∷ l) = ap (λ (n : ℕ). seconds_of x + n) (total_sum l) ∙ sym (sum_by-cons seconds_of x l)
 
 pub total_part_few : (n : ℕ) (l : List ℕ) → total_seconds (take n l) ≤ 4095 * length l
 total_part_few n l = omega (arith, total_few (take n l), length-take n l)
-
-pub total_end : (l : List ℕ) (i : ℕ) → length l ≤ i → total_seconds (drop i l) ≡ 0
-unfolding total_seconds
-total_end l i h = ap total_seconds (drop_of_length-le l {i = i} h)
 
 -- ---- an edit
 

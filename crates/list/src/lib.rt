@@ -22,7 +22,7 @@ pub struct Origin {
     pub number: u16,
 }
 
-// An origin as a word.
+// An origin as a word. Kept as functions, not From and TryFrom: a u32 is also an item, the name says which, and `origin_at` cannot fail.
 pub fn word_of(o: Origin) -> u32
     ensures { result ≡ word_of o }
 {
@@ -40,17 +40,13 @@ pub fn origin_at(word: u32) -> Origin
     }
 }
 
-// Puts x in front of a part of a list whose last place is not in use; what stands there moves up by one. The part begins where x goes,
-// so that the compiler makes the loop one move of memory.
+// Puts x in front of a part of a list whose last place is not in use; what stands there moves up by one.
 fn insert_front(part: &mut [u32], x: u32)
     requires { 0 < length part.old }
     ensures { part.new ≡ x ∷ take (length part.old - 1) part.old }
 {
-    let mut i = part.len() - 1;
-    while 0 < i {
-        part[i] = part[i - 1];
-        i -= 1;
-    }
+    let last = part.len() - 1;
+    part.copy_within(..last, 1);
     part[0] = x;
 }
 
@@ -60,11 +56,7 @@ fn delete_front(part: &mut [u32])
     ensures { part.new ≡ drop 1 part.old ++ 0 ∷ [] }
 {
     let last = part.len() - 1;
-    let mut i = 0;
-    while i < last {
-        part[i] = part[i + 1];
-        i += 1;
-    }
+    part.copy_within(1.., 0);
     part[last] = 0;
 }
 
@@ -94,7 +86,7 @@ pub fn apply(items: &mut [u32], len: u16, f: Form, x: u32) -> u16
 pub fn item_at(items: &[u32], i: usize) -> u32
     ensures { result ≡ get_or items.now i 0 }
 {
-    if i < items.len() { items[i] } else { 0 }
+    items.get(i).copied().unwrap_or(0)
 }
 
 // The seconds of the first len items together, the low 12 bits of each.
@@ -102,13 +94,7 @@ pub fn total(items: &[u32], len: usize) -> u32
     requires { length items.now ≤ capacity }
     ensures { result ≡ total_seconds (take len items.now) }
 {
-    let mut sum = 0u32;
-    let mut i = 0;
-    while (i < len) & (i < items.len()) {
-        sum += items[i] % SECONDS;
-        i += 1;
-    }
-    sum
+    items.iter().take(len).map(|item| item % SECONDS).sum()
 }
 
 // The total once the edit of form f and item x is applied to the list: an insert adds its seconds, a delete subtracts those of its item.
@@ -123,16 +109,13 @@ pub fn total_after(items: &[u32], total: u32, f: Form, x: u32) -> u32
     }
 }
 
-// Puts the first 128 items into the array of an end, whose places are zero. The loop ends where the items do, so that it is vectorised.
+// Puts the first 128 items into the array of an end, whose places are zero.
 pub fn initial(items: &[u32], list: &mut [u32])
     requires { list.old ≡ replicate capacity 0 }
     ensures { list.new ≡ initial_items items.now }
 {
-    let mut i = 0;
-    while (i < INITIAL) & (i < items.len()) {
-        list[i] = item_at(items, i);
-        i += 1;
-    }
+    let count = items.len().min(INITIAL);
+    list[..count].copy_from_slice(&items[..count]);
 }
 
 // Puts the origins of an initial list of len items into an array that is zero.
@@ -140,8 +123,8 @@ pub fn initial_origins(len: usize, list: &mut [u32])
     requires { (len ≤ max_initial) × (list.old ≡ replicate capacity 0) }
     ensures { (xs : List ℕ) → length xs ≡ len → list.new ≡ stored (origins_of (initial_places xs)) }
 {
-    for i in 0..len {
-        list[i] = i as u32 + 1;
+    for (i, word) in list[..len].iter_mut().enumerate() {
+        *word = i as u32 + 1;
     }
 }
 
@@ -149,11 +132,6 @@ pub fn initial_origins(len: usize, list: &mut [u32])
 pub fn zero_from(items: &[u32], len: usize) -> bool
     ensures { result ≡ all_zero (drop len items.now) }
 {
-    let mut all = 0u32;
-    let mut i = len;
-    while i < items.len() {
-        all = all | items[i];
-        i += 1;
-    }
-    all == 0
+    let unused = &items[len.min(items.len())..];
+    unused.iter().fold(0, |all, word| all | word) == 0
 }

@@ -1,5 +1,5 @@
 // What other languages link (include/lubdranit.h): the calls of both ends over lent bytes, and the run program in memory. A slice goes over as
-// a pointer and a length. Each function hands on to the crate that has the call, and has its contract.
+// a pointer and a length. Each function hands on to the crate that has the call, and turns what it answers into one number.
 #![tactic(auto)]
 
 ghost use Rattle.std.specs.Prelude.{◌≡◌};
@@ -24,70 +24,70 @@ pub extern "C" fn lub_client_open(
 ) -> u64
     ensures { returned result end.new ≡ client.opened_in end.old n line ranks.now items.now }
 {
-    c_client::open(end, n, line, ranks, items)
+    c_layout::done(c_client::open(end, n, line, ranks, items))
 }
 
 #[unsafe(no_mangle)]
 pub extern "C" fn lub_client_insert(end: &mut [u8], position: u16, item: u32) -> u64
     ensures { returned result end.new ≡ client.inserted_in end.old position item }
 {
-    c_client::insert(end, position, item)
+    c_layout::done(c_client::insert(end, position, item))
 }
 
 #[unsafe(no_mangle)]
 pub extern "C" fn lub_client_delete(end: &mut [u8], position: u16) -> u64
     ensures { returned result end.new ≡ client.deleted_in end.old position }
 {
-    c_client::delete(end, position)
+    c_layout::done(c_client::delete(end, position))
 }
 
 #[unsafe(no_mangle)]
 pub extern "C" fn lub_client_take_back(end: &mut [u8]) -> u64
     ensures { returned result end.new ≡ client.taken_back_in end.old }
 {
-    c_client::take_back(end)
+    c_layout::done(c_client::take_back(end))
 }
 
 #[unsafe(no_mangle)]
 pub extern "C" fn lub_client_send(end: &[u8], line: u8, number: u16, out: &mut [u8]) -> u64
     ensures { returned result out.new ≡ client.sent_in end.now line number out.old }
 {
-    c_client::send(end, line, number, out)
+    c_layout::written(c_client::send(end, line, number, out))
 }
 
 #[unsafe(no_mangle)]
 pub extern "C" fn lub_client_acknowledge(end: &[u8], line: u8, out: &mut [u8]) -> u64
     ensures { returned result out.new ≡ client.acknowledged_in end.now line out.old }
 {
-    c_client::acknowledge(end, line, out)
+    c_layout::written(c_client::acknowledge(end, line, out))
 }
 
 #[unsafe(no_mangle)]
 pub extern "C" fn lub_client_take(end: &mut [u8], message: &[u8]) -> u64
     ensures { returned result end.new ≡ client.taken_in end.old message.now }
 {
-    c_client::take(end, message)
+    c_layout::reported(c_client::take(end, message))
 }
 
 #[unsafe(no_mangle)]
 pub extern "C" fn lub_client_pack(end: &[u8], line: u8, out: &mut [u8], offset: usize) -> u64
     ensures { returned result out.new ≡ packets.client_packed_in end.now line out.old offset }
 {
-    c_packet::client_end::pack(end, line, out, offset)
+    c_layout::written(c_packet::client_end::pack(end, line, out, offset))
 }
 
 #[unsafe(no_mangle)]
 pub extern "C" fn lub_client_take_packet(end: &mut [u8], packet: &[u8]) -> u64
     ensures { returned result end.new ≡ packets.client_packet_in end.old packet.now }
 {
-    c_packet::client_end::take_packet(end, packet)
+    c_layout::counted(c_packet::client_end::take_packet(end, packet))
 }
 
 #[unsafe(no_mangle)]
 pub extern "C" fn lub_client_take_at(end: &mut [u8], packet: &[u8], offset: usize) -> u64
     ensures { returned result end.new ≡ packets.client_taken_at_in end.old packet.now offset }
 {
-    c_packet::client_end::take_at(end, packet, offset)
+    c_packet::reported(c_packet::client_end::take_at(end, packet, offset))
 }
 
 // ---- the server
@@ -96,49 +96,49 @@ pub extern "C" fn lub_client_take_at(end: &mut [u8], packet: &[u8], offset: usiz
 pub extern "C" fn lub_server_open(end: &mut [u8], n: u8, ranks: &[u8], items: &[u8]) -> u64
     ensures { returned result end.new ≡ server.opened_in end.old n ranks.now items.now }
 {
-    c_server::open(end, n, ranks, items)
+    c_layout::done(c_server::open(end, n, ranks, items))
 }
 
 #[unsafe(no_mangle)]
 pub extern "C" fn lub_server_send(end: &[u8], line: u8, number: u16, out: &mut [u8]) -> u64
     ensures { returned result out.new ≡ server.sent_in end.now line number out.old }
 {
-    c_server::send(end, line, number, out)
+    c_layout::written(c_server::send(end, line, number, out))
 }
 
 #[unsafe(no_mangle)]
 pub extern "C" fn lub_server_acknowledge(end: &[u8], line: u8, out: &mut [u8]) -> u64
     ensures { returned result out.new ≡ server.acknowledged_in end.now line out.old }
 {
-    c_server::acknowledge(end, line, out)
+    c_layout::written(c_server::acknowledge(end, line, out))
 }
 
 #[unsafe(no_mangle)]
 pub extern "C" fn lub_server_take(end: &mut [u8], message: &[u8]) -> u64
     ensures { returned result end.new ≡ server.taken_in end.old message.now }
 {
-    c_server::take(end, message)
+    c_layout::reported(c_server::take(end, message))
 }
 
 #[unsafe(no_mangle)]
 pub extern "C" fn lub_server_pack(end: &[u8], line: u8, out: &mut [u8], offset: usize) -> u64
     ensures { returned result out.new ≡ packets.server_packed_in end.now line out.old offset }
 {
-    c_packet::server_end::pack(end, line, out, offset)
+    c_layout::written(c_packet::server_end::pack(end, line, out, offset))
 }
 
 #[unsafe(no_mangle)]
 pub extern "C" fn lub_server_take_packet(end: &mut [u8], packet: &[u8]) -> u64
     ensures { returned result end.new ≡ packets.server_packet_in end.old packet.now }
 {
-    c_packet::server_end::take_packet(end, packet)
+    c_layout::counted(c_packet::server_end::take_packet(end, packet))
 }
 
 #[unsafe(no_mangle)]
 pub extern "C" fn lub_server_take_at(end: &mut [u8], packet: &[u8], offset: usize) -> u64
     ensures { returned result end.new ≡ packets.server_taken_at_in end.old packet.now offset }
 {
-    c_packet::server_end::take_at(end, packet, offset)
+    c_packet::reported(c_packet::server_end::take_at(end, packet, offset))
 }
 
 // ---- the lengths of the layouts, and the run program

@@ -11,13 +11,13 @@ use lib.Dec.{eqb, leb}
 use lib.ListN.{length, take, drop, get_or, get_elem?, get_or-map}
 use lib.Seq.{take-append_seam}
 use borrow.Author.Tests.{eqb-true, ne_eqb, eq-eqb, leb-true, le-leb}
+use Rattle.std.specs.Prelude.{Option, Some, None}
 use Rattle.ot.specs.Edit.{Edit, Nothing, Delete, Insert, fits}
 use Rattle.list.specs.declared.Origin.{Origin}
 use Rattle.list.specs.Places.{Place}
 use Rattle.wire.specs.declared.Header.{Header}
+use Rattle.wire.specs.declared.Message as wire
 use Rattle.wire.specs.declared.Message.TheVariants as message
-use Rattle.wire.specs.declared.Read.{Read}
-use Rattle.wire.specs.declared.Read.TheVariants as read
 use Rattle.wire.specs.Message.{message_of, origin_in_range, header_in_range, in_range, between}
 use Rattle.wire.specs.Bytes.{bytes_of, parsed}
 use Rattle.wire.proofs.Codec.{codec}
@@ -443,9 +443,9 @@ written_as [] i b e P a = absurd (let z : ◌≡◌ {A = ℕ} 0 1 = cc in omega 
 written_as (x ∷ xs) zero b e P a = (x, refl, some_eq b (message_bytes x) (sym e), a.0)
 written_as (x ∷ xs) (suc i) b e P a = written_as xs i b e P a.1
 
-pub unread : (r : Read) → unreadable r ≡ true → r ≡ read.Refused
-unread read.Refused e = refl
-unread (read.Message m) e = never e
+pub unread : (r : Option wire.Message) → unreadable r ≡ true → r ≡ None
+unread None e = refl
+unread (Some m) e = never e
 
 module _ (n : ℕ) (items : List Place) {ranks : List ℕ} {from : Moment ranks} (s : State ours ranks) (sim : Sim n items from s) where
   -- a message taken at end a
@@ -460,25 +460,25 @@ module _ (n : ℕ) (items : List Place) {ranks : List ℕ} {from : Moment ranks}
       go zero hi x is same ok =
           let S = server_from n (length items) ranks sim.E.doc sim.E.lines sim.si in
           subst (λ (e : End). Sim n items from (answered ours s 0 (receive 0 i) (ours.take e b))) (sym sim.server_is)
-          (subst (λ (r : Read). Sim n items from (answered ours s 0 (receive 0 i) (answer_as server (server_reads S r)))) (sym (ap parsed same ∙ codec.written_read (wire_message x) ok.1))
+          (subst (λ (r : Option wire.Message). Sim n items from (answered ours s 0 (receive 0 i) (answer_as server (server_reads S r)))) (sym (ap parsed same ∙ codec.written_read (wire_message x) ok.1))
           (serve_message n items s sim (receive 0 i) x ok (ap (took s.recorded 0) is) refl))
       go (suc a) hi x is same ok =
           let C = client_from n (suc a) ranks (sim.E.clients (suc a)) (sim.E.docs (suc a)) (sim.ci (suc a)) (sim.bk (suc a)) in
           subst (λ (e : End). Sim n items from (answered ours s (suc a) (receive (suc a) i) (ours.take e b))) (sym (sim.client_is (suc a) (omega arith) hi))
-          (subst (λ (r : Read). Sim n items from (answered ours s (suc a) (receive (suc a) i) (answer_as client (client_reads C r)))) (sym (ap parsed same ∙ codec.written_read (wire_message x) ok.1))
+          (subst (λ (r : Option wire.Message). Sim n items from (answered ours s (suc a) (receive (suc a) i) (answer_as client (client_reads C r)))) (sym (ap parsed same ∙ codec.written_read (wire_message x) ok.1))
           (take_message n items s sim (suc a) (omega arith) hi (receive (suc a) i) x ok (ap (took s.recorded (suc a)) is) refl))
 
-  pub junks_at : (a : ℕ) (bytes : List ℕ) → a ≤ n → parsed bytes ≡ read.Refused → Sim n items from (answered ours s a (junk a bytes) (ours.take (s.ends a) bytes))
+  pub junks_at : (a : ℕ) (bytes : List ℕ) → a ≤ n → parsed bytes ≡ None → Sim n items from (answered ours s a (junk a bytes) (ours.take (s.ends a) bytes))
   unfolding take_client take_server refused_log
   junks_at zero bytes hi e =
       let S = server_from n (length items) ranks sim.E.doc sim.E.lines sim.si in
       subst (λ (d : End). Sim n items from (answered ours s 0 (junk 0 bytes) (ours.take d bytes))) (sym sim.server_is)
-      (subst (λ (r : Read). Sim n items from (answered ours s 0 (junk 0 bytes) (answer_as server (server_reads S r)))) (sym e)
+      (subst (λ (r : Option wire.Message). Sim n items from (answered ours s 0 (junk 0 bytes) (answer_as server (server_reads S r)))) (sym e)
       (serve_junk n items s sim (junk 0 bytes) (answer (asks (ask 2 (sound_server S) ∷ ask 3 false ∷ [])) S S no_report) (outcome (asks (ask 2 (sound_server S) ∷ ask 3 false ∷ [])) S S no_report) refl))
   junks_at (suc a) bytes hi e =
       let C = client_from n (suc a) ranks (sim.E.clients (suc a)) (sim.E.docs (suc a)) (sim.ci (suc a)) (sim.bk (suc a)) in
       subst (λ (d : End). Sim n items from (answered ours s (suc a) (junk (suc a) bytes) (ours.take d bytes))) (sym (sim.client_is (suc a) (omega arith) hi))
-      (subst (λ (r : Read). Sim n items from (answered ours s (suc a) (junk (suc a) bytes) (answer_as client (client_reads C r)))) (sym e)
+      (subst (λ (r : Option wire.Message). Sim n items from (answered ours s (suc a) (junk (suc a) bytes) (answer_as client (client_reads C r)))) (sym e)
       (take_junk n items s sim (suc a) (omega arith) hi (junk (suc a) bytes) (answer (asks (ask 2 (sound_client C) ∷ ask 3 false ∷ [])) C C no_report)
       (outcome (asks (ask 2 (sound_client C) ∷ ask 3 false ∷ [])) C C no_report) refl))
 

@@ -8,13 +8,13 @@ use native.Mathlib.Omega.{arith}
 use lib.Dec.{eqb, leb, ltb}
 use lib.ListN.{length, drop, get_elem?}
 use borrow.Author.Tests.{eqb-true, leb-true, le-leb}
+use Rattle.std.specs.Prelude.{Option, Some, None}
 use Rattle.ot.specs.Edit.{Edit, fits}
 use Rattle.list.specs.declared.Origin.{Origin}
 use Rattle.list.specs.Places.{Place, applied_by}
 use Rattle.wire.specs.declared.Header.{Header}
+use Rattle.wire.specs.declared.Message as wire
 use Rattle.wire.specs.declared.Message.TheVariants as message
-use Rattle.wire.specs.declared.Read.{Read}
-use Rattle.wire.specs.declared.Read.TheVariants as read
 use Rattle.wire.specs.Message.{between}
 use Rattle.wire.specs.Bytes.{bytes_of, parsed}
 use Rattle.wire.proofs.Codec.{codec}
@@ -279,18 +279,18 @@ module _ (n : ℕ) (items : List Place) {ranks : List ℕ} {from : Moment ranks}
   pub takes_at : (a : ℕ) → a ≤ n → (x : Message (edits ranks)) → MessageOk n ranks items E h x → (ours.take (s.ends a) (message_bytes x)).refusal ≡ asks (taking n w a x)
   unfolding take_client take_server
   takes_at zero hi x ok =
-      ap (λ (e : End). (ours.take e (message_bytes x)).refusal) sim.server_is ∙ ap (λ (r : Read). (server_reads S r).refusal) (codec.written_read (wire_message x) ok.1) ∙ server_takes_lem x ok
+      ap (λ (e : End). (ours.take e (message_bytes x)).refusal) sim.server_is ∙ ap (λ (r : Option wire.Message). (server_reads S r).refusal) (codec.written_read (wire_message x) ok.1) ∙ server_takes_lem x ok
   takes_at (suc a) hi x ok =
       ap (λ (e : End). (ours.take e (message_bytes x)).refusal) (sim.client_is (suc a) (omega arith) hi)
-      ∙ ap (λ (r : Read). (client_reads (C a hi) r).refusal) (codec.written_read (wire_message x) ok.1) ∙ client_takes_lem a hi x ok
+      ∙ ap (λ (r : Option wire.Message). (client_reads (C a hi) r).refusal) (codec.written_read (wire_message x) ok.1) ∙ client_takes_lem a hi x ok
 
-  pub junk_at : (a : ℕ) (bytes : List ℕ) → a ≤ n → parsed bytes ≡ read.Refused → (ours.take (s.ends a) bytes).refusal ≡ 3
+  pub junk_at : (a : ℕ) (bytes : List ℕ) → a ≤ n → parsed bytes ≡ None → (ours.take (s.ends a) bytes).refusal ≡ 3
   unfolding take_client take_server
   junk_at zero bytes hi e =
-      ap (λ (d : End). (ours.take d bytes).refusal) sim.server_is ∙ ap (λ (r : Read). (server_reads S r).refusal) e
+      ap (λ (d : End). (ours.take d bytes).refusal) sim.server_is ∙ ap (λ (r : Option wire.Message). (server_reads S r).refusal) e
       ∙ refusal_is (asks (ask 2 (sound_server S) ∷ ask 3 false ∷ [])) S S no_report ∙ rw sim.server_sound
   junk_at (suc a) bytes hi e =
-      ap (λ (d : End). (ours.take d bytes).refusal) (sim.client_is (suc a) (omega arith) hi) ∙ ap (λ (r : Read). (client_reads (C a hi) r).refusal) e
+      ap (λ (d : End). (ours.take d bytes).refusal) (sim.client_is (suc a) (omega arith) hi) ∙ ap (λ (r : Option wire.Message). (client_reads (C a hi) r).refusal) e
       ∙ refusal_is (asks (ask 2 (sound_client (C a hi)) ∷ ask 3 false ∷ [])) (C a hi) (C a hi) no_report ∙ rw (sim.client_sound (suc a) (omega arith) hi)
 
   -- a message of the list, and the message that it is of
@@ -303,9 +303,9 @@ module _ (n : ℕ) (items : List Place) {ranks : List ℕ} {from : Moment ranks}
       go (x ∷ xs) zero ok = takes_at a hi x ok.0
       go (x ∷ xs) (suc i) ok = go xs i ok.1
 
-  pub reads_back : map parsed s.messages ≡ map (λ x. read.Message (wire_message x)) w.messages
+  pub reads_back : map parsed s.messages ≡ map (λ x. Some (wire_message x)) w.messages
   reads_back = ap (map parsed) sim.messages ∙ go w.messages sim.written
     where
-      go : (xs : List (Message (edits ranks))) → All (MessageOk n ranks items E h) xs → map parsed (map message_bytes xs) ≡ map (λ x. read.Message (wire_message x)) xs
+      go : (xs : List (Message (edits ranks))) → All (MessageOk n ranks items E h) xs → map parsed (map message_bytes xs) ≡ map (λ x. Some (wire_message x)) xs
       go [] ok = refl
       go (x ∷ xs) ok = ap₂ ◌∷◌ (codec.written_read (wire_message x) ok.0.1) (go xs ok.1)

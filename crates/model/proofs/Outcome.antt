@@ -6,12 +6,11 @@ use Prim.Native.Nat.{ℕ}
 use lib.Dec.{eqb}
 use lib.ListN.{length, drop}
 use borrow.Author.Tests.{eqb-true, eqb-false}
+use Rattle.std.specs.Prelude.{Option, Some, None}
 use Rattle.ot.specs.Edit.{Edit, Nothing, Delete, Insert}
 use Rattle.wire.specs.declared.Header.{Header}
 use Rattle.wire.specs.declared.Message.{Message}
 use Rattle.wire.specs.declared.Message.TheVariants as message
-use Rattle.wire.specs.declared.Read.{Read}
-use Rattle.wire.specs.declared.Read.TheVariants as read
 use Rattle.wire.specs.Message.{in_range, header_in_range}
 use Rattle.wire.specs.Bytes.{parsed}
 use Rattle.wire.proofs.Ranges.{insert_bounds, delete_bounds}
@@ -61,9 +60,9 @@ pub by_bytes : {E : Type 0} (P : Answer E → Type 0) (sound : E → Bool) (c : 
 unfolding in_range
 by_bytes P sound c edit ack no_message edits acks bytes = go (parsed bytes) (codec.read_in_range bytes)
   where
-    go : (r : Read) → ((m : Message) → r ≡ read.Message m → in_range m ≡ true) → P (reads_by sound c (takes_by edit ack) r)
-    go read.Refused range = no_message
-    go (read.Message (message.Insert h p x q)) range = edits h (Insert p x q) (insert_bounds h p x q (range (message.Insert h p x q) refl)).header_in_range_lem
-    go (read.Message (message.Delete h p)) range = edits h (Delete p) (delete_bounds h p (range (message.Delete h p) refl)).header_in_range_lem
-    go (read.Message (message.Nothing h)) range = edits h Nothing (range (message.Nothing h) refl)
-    go (read.Message (message.Ack l d s)) range = acks l d s
+    go : (r : Option Message) → ((m : Message) → r ≡ Some m → in_range m ≡ true) → P (reads_by sound c (takes_by edit ack) r)
+    go None range = no_message
+    go (Some (message.Insert h p x q)) range = edits h (Insert p x q) (insert_bounds h p x q (range (message.Insert h p x q) refl)).header_in_range_lem
+    go (Some (message.Delete h p)) range = edits h (Delete p) (delete_bounds h p (range (message.Delete h p) refl)).header_in_range_lem
+    go (Some (message.Nothing h)) range = edits h Nothing (range (message.Nothing h) refl)
+    go (Some (message.Ack l d s)) range = acks l d s

@@ -9,8 +9,8 @@ use native.Mathlib.Omega.{arith}
 use lib.Dec.{eqb, ltb}
 use lib.ListN.{length, get_or, get_elem?, take, drop, length-append}
 use borrow.Author.Tests.{eqb-true, eqb-false, ltb-true}
+use Rattle.std.specs.Prelude.{None}
 use Rattle.list.specs.Places.{Place}
-use Rattle.wire.specs.declared.Read.TheVariants as read
 use Rattle.wire.specs.Bytes.{parsed}
 use Rattle.jupiter.specs.History.{at}
 use Rattle.jupiter.proofs.Lists.{All}
@@ -92,7 +92,7 @@ module _ (n : ℕ) (items : List Place) (ranks : List ℕ) (from : Moment ranks)
     handed_back e b r z = (alone.takes e b (λ y. omega (arith, z, y))).0
 
     -- no message is left: nothing is, or a tail with which no message begins
-    ends_here : (tail : List ℕ) → parsed (take (next_size tail) tail) ≡ read.Refused → (s : State ours ranks) → Sim n items from s → (most count : ℕ) → length tail ≤ most → (e : End) → s.ends a ≡ e
+    ends_here : (tail : List ℕ) → parsed (take (next_size tail) tail) ≡ None → (s : State ours ranks) → Sim n items from s → (most count : ℕ) → length tail ≤ most → (e : End) → s.ends a ≡ e
         → Walked tail s [] count (handed_over ours.take most count e tail)
     unfolding handed_over handing_over
     ends_here [] cut s sim zero count enough e same = stops [] s sim [] count 0 e (sym same) refl
@@ -141,7 +141,7 @@ module _ (n : ℕ) (items : List Place) (ranks : List ℕ) (from : Moment ranks)
           report_is = w.report_is ∙ ap counted one;
         }
 
-    pub walk : (tail : List ℕ) → parsed (take (next_size tail) tail) ≡ read.Refused → (is : List ℕ) (s : State ours ranks) → Sim n items from s → All (λ i. i < length s.messages) is → (most count : ℕ)
+    pub walk : (tail : List ℕ) → parsed (take (next_size tail) tail) ≡ None → (is : List ℕ) (s : State ours ranks) → Sim n items from s → All (λ i. i < length s.messages) is → (most count : ℕ)
         → length (bytes_from s is tail) ≤ most → (e : End) → s.ends a ≡ e → Walked tail s is count (handed_over ours.take most count e (bytes_from s is tail))
     unfolding joined handing_over
     walk tail cut [] s sim there most count enough e same = ends_here tail cut s sim most count enough e same
@@ -210,7 +210,7 @@ module _ (n : ℕ) (items : List Place) (ranks : List ℕ) (from : Moment ranks)
             ∙ either client (between 1 max_packet (length bytes)) (handed_over take_client (length bytes) 0 C bytes) (handed_over ours.take (length bytes) 0 (client C) bytes) C
             (handed_as client take_client ours.take (λ d b. refl) (length bytes) 0 C bytes))
 
-    module _ (is tail : List ℕ) (cut : parsed (take (next_size tail) tail) ≡ read.Refused) where
+    module _ (is tail : List ℕ) (cut : parsed (take (next_size tail) tail) ≡ None) where
       abbrev js : List ℕ
       js = known (length s.messages) is
 

@@ -1,7 +1,6 @@
 -- Demands 2 and 3 as one claim over all lists of calls. Each field is a sentence of 01.
-use Rattle.std.specs.Prelude.{ℕ, suc, ◌+◌, ◌≤◌, ◌≡◌, true, false, List, [], map, length, take, drop}
+use Rattle.std.specs.Prelude.{ℕ, suc, ◌+◌, ◌≤◌, ◌≡◌, true, false, List, [], map, length, take, drop, Some}
 use Rattle.list.specs.Seconds.{running_time}
-use Rattle.wire.specs.declared.Read.TheVariants as read
 use Rattle.wire.specs.Bytes.{parsed}
 use Rattle.jupiter.specs.Form.{replay}
 use Rattle.jupiter.specs.History.{History, order, missing}
@@ -83,7 +82,7 @@ module _ (S : Sheet) where
       -- each message written is the one that the definitions give, byte for byte
       pub messages : s.messages ≡ map message_bytes s.recorded.messages
       -- and is read back as what was written
-      pub read_back : map parsed s.messages ≡ map (λ x. read.Message (wire_message x)) s.recorded.messages
+      pub read_back : map parsed s.messages ≡ map (λ x. Some (wire_message x)) s.recorded.messages
       -- Whatever is called next is answered with the number of the first question that says no. So bytes that no message has give 3, and a
       -- message that is not refused goes to that end and is the next one there.
       pub numbers : (c : Call) → callable n c ≡ true → number_of S s c ≡ number n s.recorded c

@@ -1,12 +1,11 @@
 -- The client's end (01: the bay end) as a record over lists, question 2, and its calls.
-use Rattle.std.specs.Prelude.{ℕ, ◌+◌, Bool, not, ◌&&◌, List, [], ◌∷◌, map, leb, ltb, eqb, length}
+use Rattle.std.specs.Prelude.{ℕ, ◌+◌, Bool, not, ◌&&◌, List, [], ◌∷◌, map, leb, ltb, eqb, length, Option}
 use Rattle.ot.specs.Edit.{Edit, Nothing, Delete, Insert, fits, transformed}
 use Rattle.list.specs.declared.Origin.{Origin}
 use Rattle.list.specs.Places.{Place, initial_places, applied_by, numbered}
 use Rattle.wire.specs.declared.Header.{Header}
 use Rattle.wire.specs.declared.Message.{Message}
 use Rattle.wire.specs.declared.Message.TheVariants as message
-use Rattle.wire.specs.declared.Read.{Read}
 use Rattle.wire.specs.Bytes.{bytes_of, parsed}
 use Rattle.model.specs.Limits.{max_lines, max_inserts, max_edits, max_others, max_items, max_initial}
 use Rattle.model.specs.Questions.{Question, ask, asks, every, between, no_report, Answer, answer, Sent, sent}
@@ -184,7 +183,7 @@ client_takes_ack c line direction seen =
 abbrev pub client_takes : Client → Message → Answer Client
 client_takes c = takes_by (client_takes_edit c) (client_takes_ack c)
 
-abbrev pub client_reads : Client → Read → Answer Client
+abbrev pub client_reads : Client → Option Message → Answer Client
 client_reads c = reads_by sound_client c (client_takes c)
 
 unfoldable pub take_client : Client → List ℕ → Answer Client

@@ -1,5 +1,5 @@
 -- One line as either end keeps it (01: "The server keeps the same per line"): its counts and its pending edits.
-use Rattle.std.specs.Prelude.{ℕ, zero, suc, ◌+◌, ◌-◌, Bool, false, ◌&&◌, not, List, [], ◌∷◌, ◌++◌, leb, ltb, eqb, length, get_or, drop}
+use Rattle.std.specs.Prelude.{ℕ, zero, suc, ◌+◌, ◌-◌, Bool, false, ◌&&◌, not, List, [], ◌∷◌, ◌++◌, leb, ltb, eqb, length, get_or, drop, Option, Some, None}
 use Rattle.ot.specs.Form.{position_of}
 use Rattle.ot.specs.Edit.{Edit, Nothing, Delete, Insert, form_of, fits}
 use Rattle.list.specs.declared.Origin.{Origin}
@@ -7,8 +7,6 @@ use Rattle.list.specs.Places.{Place, applied_by}
 use Rattle.wire.specs.declared.Header.{Header}
 use Rattle.wire.specs.declared.Message.{Message}
 use Rattle.wire.specs.declared.Message.TheVariants as message
-use Rattle.wire.specs.declared.Read.{Read}
-use Rattle.wire.specs.declared.Read.TheVariants as read
 use Rattle.wire.specs.Message.{message_of}
 use Rattle.wire.specs.Bytes.{bytes_of}
 use Rattle.model.specs.Limits.{max_inserts, max_edits, max_pending, max_items}
@@ -131,6 +129,6 @@ takes_by edit ack (message.Nothing h) = edit h Nothing
 takes_by edit ack (message.Ack l d seen) = ack l d seen
 
 -- What it answers to what it read. Bytes that are no message: questions 2 and 3.
-abbrev pub reads_by : {E : Type 0} → (E → Bool) → E → (Message → Answer E) → Read → Answer E
-reads_by sound c takes read.Refused = answer (asks (ask 2 (sound c) ∷ ask 3 false ∷ [])) c c no_report
-reads_by sound c takes (read.Message m) = takes m
+abbrev pub reads_by : {E : Type 0} → (E → Bool) → E → (Message → Answer E) → Option Message → Answer E
+reads_by sound c takes None = answer (asks (ask 2 (sound c) ∷ ask 3 false ∷ [])) c c no_report
+reads_by sound c takes (Some m) = takes m

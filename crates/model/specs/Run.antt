@@ -1,9 +1,9 @@
 -- Lists of calls on the ends of a sheet (01: "Meeting").
-use Rattle.std.specs.Prelude.{ℕ, zero, suc, Bool, true, false, ◌&&◌, cond, List, [], ◌∷◌, ◌++◌, leb, ltb, eqb, length, take, drop}
+use Rattle.std.specs.Prelude.{ℕ, zero, suc, Bool, true, false, ◌&&◌, cond, List, [], ◌∷◌, ◌++◌, leb, ltb, eqb, length, take, drop, Some, None}
+use Rattle.std.specs.declared.option.Option as option
 use Rattle.std.proofs.Math.Option.{Option, none, some}
 use Rattle.std.proofs.Math.ListN.{get_elem?}
-use Rattle.wire.specs.declared.Read.{Read}
-use Rattle.wire.specs.declared.Read.TheVariants as read
+use Rattle.wire.specs.declared.Message.{Message}
 use Rattle.wire.specs.Bytes.{parsed}
 use Rattle.jupiter.specs.History.{at}
 use Rattle.model.specs.Questions.{Answer, Report, Sent, between}
@@ -21,9 +21,9 @@ unfoldable pub are_items : List ℕ → Bool
 are_items [] = true
 are_items (x ∷ xs) = ltb x 4294967296 && are_items xs
 
-abbrev pub unreadable : Read → Bool
-unreadable read.Refused = true
-unreadable (read.Message m) = false
+abbrev pub unreadable : option.Option Message → Bool
+unreadable None = true
+unreadable (Some m) = false
 
 -- What can be called at all: ends that there are, numbers that fit the widths of a call's parameters, bytes; and junk is bytes that no
 -- message has.

@@ -1,12 +1,11 @@
 -- The server's end as a record over lists, question 2, and its calls.
-use Rattle.std.specs.Prelude.{ℕ, zero, suc, ◌+◌, ◌-◌, Bool, true, false, ◌&&◌, List, [], ◌∷◌, ◌++◌, map, leb, eqb, length, get_or, drop, replicate}
+use Rattle.std.specs.Prelude.{ℕ, zero, suc, ◌+◌, ◌-◌, Bool, true, false, ◌&&◌, List, [], ◌∷◌, ◌++◌, map, leb, eqb, length, get_or, drop, replicate, Option}
 use Rattle.ot.specs.Edit.{Edit}
 use Rattle.list.specs.declared.Origin.{Origin}
 use Rattle.list.specs.Places.{Place, initial_places, applied_by, numbered}
 use Rattle.wire.specs.declared.Header.{Header}
 use Rattle.wire.specs.declared.Message.{Message}
 use Rattle.wire.specs.declared.Message.TheVariants as message
-use Rattle.wire.specs.declared.Read.{Read}
 use Rattle.wire.specs.Bytes.{bytes_of, parsed}
 use Rattle.model.specs.Limits.{max_lines, max_inserts, max_edits, max_items, max_initial}
 use Rattle.model.specs.Questions.{Question, ask, asks, every, between, no_report, Answer, answer, Sent, sent}
@@ -209,7 +208,7 @@ server_takes_ack s line direction seen =
 abbrev pub server_takes : Server → Message → Answer Server
 server_takes s = takes_by (server_takes_edit s) (server_takes_ack s)
 
-abbrev pub server_reads : Server → Read → Answer Server
+abbrev pub server_reads : Server → Option Message → Answer Server
 server_reads s = reads_by sound_server s (server_takes s)
 
 unfoldable pub take_server : Server → List ℕ → Answer Server

@@ -1,11 +1,10 @@
 -- Sheets that must not pass (01: promise c, and the slips at the bench). Each is ours with one fault.
-use Rattle.std.specs.Prelude.{ℕ, zero, suc, ◌+◌, ◌-◌, not, ◌&&◌, cond, List, [], ◌∷◌, reverse, ltb, eqb, length, take, drop}
+use Rattle.std.specs.Prelude.{ℕ, zero, suc, ◌+◌, ◌-◌, not, ◌&&◌, cond, List, [], ◌∷◌, reverse, ltb, eqb, length, take, drop, Option, Some, None}
 use Rattle.ot.specs.Edit.{Edit, transformed}
 use Rattle.list.specs.declared.Origin.{Origin}
 use Rattle.list.specs.Places.{Place, applied_by}
 use Rattle.wire.specs.declared.Header.{Header}
-use Rattle.wire.specs.declared.Read.{Read}
-use Rattle.wire.specs.declared.Read.TheVariants as read
+use Rattle.wire.specs.declared.Message.{Message}
 use Rattle.wire.specs.Bytes.{parsed}
 use Rattle.model.specs.Questions.{asks, Report, no_report, Answer, answer}
 use Rattle.model.specs.Packets.{next_size, counted, handed_over, unpacked}
@@ -156,9 +155,9 @@ takes_first c h e =
     (inverse_then c h.seen e))
     (line_report c.own h.seen e)
 
-abbrev pub reads_first : Client → Read → Answer Client
-reads_first c read.Refused = answer 3 c c no_report
-reads_first c (read.Message m) = takes_by (takes_first c) (client_takes_ack c) m
+abbrev pub reads_first : Client → Option Message → Answer Client
+reads_first c None = answer 3 c c no_report
+reads_first c (Some m) = takes_by (takes_first c) (client_takes_ack c) m
 
 abbrev pub first_only : Sheet
 first_only = taking_as (λ c bytes. reads_first c (parsed bytes)) take_server
@@ -201,9 +200,9 @@ forgiving r = taking_as (λ c bytes. forgive (take_client c bytes)) (λ s bytes.
     forgive a = record { refusal = cond (eqb a.refusal r) 0 a.refusal; end = a.end; report = a.report }
 
 -- The seen of a repeated message is used to drop pending edits.
-abbrev pub uses_seen : Client → Answer Client → Read → Answer Client
-uses_seen c a (read.Message m) = takes_by (λ h e. cond (eqb a.refusal 5) (record { refusal = 5; end = client_acked c h.seen; report = no_report }) a) (λ l d s. a) m
-uses_seen c a read.Refused = a
+abbrev pub uses_seen : Client → Answer Client → Option Message → Answer Client
+uses_seen c a (Some m) = takes_by (λ h e. cond (eqb a.refusal 5) (record { refusal = 5; end = client_acked c h.seen; report = no_report }) a) (λ l d s. a) m
+uses_seen c a None = a
 
 abbrev pub listening : Sheet
 listening = taking_as (λ c bytes. uses_seen c (take_client c bytes) (parsed bytes)) take_server
@@ -216,7 +215,7 @@ room_below room s line a =
     cond (eqb a.refusal 0 && not (all_but (λ j. ltb ((line_of s j).made - (line_of s j).acked) room) line s.n))
     (record { refusal = 12; end = s; report = no_report }) a
 
-abbrev pub takes_below : ℕ → Server → Read → Answer Server
+abbrev pub takes_below : ℕ → Server → Option Message → Answer Server
 takes_below room s = reads_by sound_server s (takes_by (λ h e. room_below room s h.line (server_takes_edit s h e)) (server_takes_ack s))
 
 abbrev pub early : ℕ → Sheet
@@ -257,7 +256,7 @@ other_ranks = ranking_as (λ c. c.ranks) (λ s. reverse s.ranks)
 abbrev pub takes_as : (Header → Origin) → Client → Header → Edit → Answer Client
 takes_as origin c h e = answer (asks (client_edit_questions c h e)) c (client_taken c (origin h) h.seen e) (line_report c.own h.seen e)
 
-abbrev pub reads_as : (Header → Origin) → Client → Read → Answer Client
+abbrev pub reads_as : (Header → Origin) → Client → Option Message → Answer Client
 reads_as origin c = reads_by sound_client c (takes_by (takes_as origin c) (client_takes_ack c))
 
 abbrev pub origin_as : (Header → Origin) → Sheet

@@ -1,19 +1,15 @@
 -- How an edit moves past another, by the tests that the code makes, and the form that the move leads to.
 use mathlib.Core.Path.{◌≡◌, refl}
-use mathlib.Core.Bool.{Bool, true, false, ◌||◌, cond}
-use Prim.Native.Nat.{ℕ, ◌+◌, ◌-◌, ◌≤◌, ◌<◌}
-use lib.Dec.{ltb, leb}
-use borrow.Author.Tests.{lt-ltb, le-ltb, le-leb, lt-leb}
+use native.Mathlib.Omega.{arith}
+use mathlib.Core.Bool.{Bool, true, false, ◌||◌, ◌&&◌, cond}
+use Prim.Native.Nat.{ℕ, ◌+◌, ◌-◌}
+use lib.Dec.{ltb, leb, eqb}
+use borrow.Author.Tests.{ltb-true, ltb-false, eq-eqb, ne_eqb}
 use Rattle.ot.specs.declared.Form.{Form}
 use Rattle.ot.specs.declared.Form.TheVariants.{Nothing, Delete, Insert}
 use Rattle.ot.specs.declared.Move.{Move}
 use Rattle.ot.specs.declared.Move.TheVariants.{Still, Down, Up, Gone}
 use Rattle.ot.specs.Form.{position_of, moved, how, shifted, delete_after}
-
--- a choice by two tests in turn
-or_cond : {A : Type 0} (t u : Bool) (a b : A) → cond t a (cond u a b) ≡ cond (t || u) a b
-or_cond true u a b = refl
-or_cond false u a b = refl
 
 -- The form is the one that the move leads to: the same tests choose both.
 choose : {A B : Type 0} (f : A → B) (t : Bool) (a b : A) → cond t (f a) (f b) ≡ f (cond t a b)
@@ -57,29 +53,24 @@ shifts Nothing b = refl
 shifts (Delete p) b = rw (delete_after_lem p b) (delete_at p (how (Delete p) b))
 shifts (Insert p r) b = rw (insert_after p r b) refl
 
--- The move of an insert, for each way through the table; the code knows b by an equation.
+-- a delete that is not gone stands where the move leads
+pub delete_shifted : (p : ℕ) (m : Move) → (m ≡ Gone → ⊥) → Delete (shifted m p) ≡ delete_after p m
+unfolding shifted
+delete_shifted p Still n = refl
+delete_shifted p Down n = refl
+delete_shifted p Up n = refl
+delete_shifted p Gone n = absurd (n refl)
 
-module _ (p r : ℕ) {b : Form} where
-  pub past_nothing : b ≡ Nothing → Still ≡ how (Insert p r) b
-  unfolding how
-  past_nothing e = rw e refl
-
-  pub before_delete : {q : ℕ} → b ≡ Delete q → p ≤ q → Still ≡ how (Insert p r) b
-  unfolding how
-  before_delete {q} e h = rw e (rw (le-leb p q h) refl)
-
-  pub behind_delete : {q : ℕ} → b ≡ Delete q → q < p → Down ≡ how (Insert p r) b
-  unfolding how
-  behind_delete {q} e h = rw e (rw (lt-leb p q h) refl)
-
-  pub before_insert : {q s : ℕ} → b ≡ Insert q s → p < q → Still ≡ how (Insert p r) b
-  unfolding how
-  before_insert {q} e h = rw e (rw (lt-ltb p q h) refl)
-
-  pub behind_insert : {q s : ℕ} → b ≡ Insert q s → q ≤ p → ltb q p || ltb s r ≡ true → Up ≡ how (Insert p r) b
-  unfolding how
-  behind_insert {q} e h t = rw e (simp (le-ltb p q h, or_cond, t))
-
-  pub stays_at_insert : {q s : ℕ} → b ≡ Insert q s → q ≤ p → ltb q p || ltb s r ≡ false → Still ≡ how (Insert p r) b
-  unfolding how
-  stays_at_insert {q} e h t = rw e (simp (le-ltb p q h, or_cond, t))
+-- an insert past another: the tests that the code makes at once, and those of the table in turn
+pub insert_insert : (p r q s : ℕ) → how (Insert p r) (Insert q s) ≡ cond (ltb q p || eqb q p && ltb s r) Up Still
+unfolding how
+insert_insert p r q s = go (ltb p q) refl (ltb q p) refl
+  where
+    go : (t : Bool) → ltb p q ≡ t → (u : Bool) → ltb q p ≡ u
+        → cond t Still (cond u Up (cond (ltb s r) Up Still)) ≡ cond (u || eqb q p && ltb s r) Up Still
+    go true e true f = absurd (omega (arith, ltb-true p q e, ltb-true q p f))
+    go true e false f = rw (ne_eqb q p (λ same. omega (arith, ltb-true p q e, same))) refl
+    go false e true f = refl
+    go false e false f =
+        let same : q ≡ p = omega (arith, ltb-false p q e, ltb-false q p f) in
+        rw (eq-eqb q p same) refl

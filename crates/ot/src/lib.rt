@@ -50,22 +50,10 @@ fn delete_moves(p: u16, b: Form) -> Move
     ensures { result ≡ how (Form.Delete p) b }
 {
     match b {
-        Form::Nothing => Move::Still,
-        Form::Delete(q) => {
-            if p < q {
-                return Move::Still;
-            }
-            if q < p {
-                return Move::Down;
-            }
-            Move::Gone
-        }
-        Form::Insert(q, _) => {
-            if p < q {
-                return Move::Still;
-            }
-            Move::Up
-        }
+        Form::Delete(q) if p == q => Move::Gone,
+        Form::Delete(q) if p > q => Move::Down,
+        Form::Insert(q, _) if p >= q => Move::Up,
+        _ => Move::Still,
     }
 }
 
@@ -74,22 +62,9 @@ fn insert_moves(p: u16, r: u8, b: Form) -> Move
     ensures { result ≡ how (Form.Insert p r) b }
 {
     match b {
-        Form::Nothing => Move::Still,
-        Form::Delete(q) => {
-            if p <= q {
-                return Move::Still;
-            }
-            Move::Down
-        }
-        Form::Insert(q, s) => {
-            if p < q {
-                return Move::Still;
-            }
-            if (q < p) | (s < r) {
-                return Move::Up;
-            }
-            Move::Still
-        }
+        Form::Delete(q) if q < p => Move::Down,
+        Form::Insert(q, s) if (q < p) | ((q == p) & (s < r)) => Move::Up,
+        _ => Move::Still,
     }
 }
 
@@ -100,12 +75,7 @@ fn shift(p: u16, how: Move) -> u16
 {
     match how {
         Move::Still => p,
-        Move::Down => {
-            if p == 0 {
-                return 0;
-            }
-            p - 1
-        }
+        Move::Down => p.saturating_sub(1),
         Move::Up => p + 1,
         Move::Gone => 0,
     }
@@ -116,12 +86,9 @@ fn delete_after(p: u16, how: Move) -> Form
     requires { p < 65535 }
     ensures { result ≡ delete_after p how }
 {
-    let at = shift(p, how);
     match how {
-        Move::Still => Form::Delete(at),
-        Move::Down => Form::Delete(at),
-        Move::Up => Form::Delete(at),
         Move::Gone => Form::Nothing,
+        _ => Form::Delete(shift(p, how)),
     }
 }
 

@@ -1,13 +1,13 @@
 -- The loop that takes an arriving form past the pending ones: its invariant, one turn, and the end.
-use Prim.Native.Nat.{ℕ, zero, suc, ◌+◌, ◌≤◌, ◌<◌}
+use Prim.Native.Nat.{ℕ, zero, suc, ◌+◌, ◌-◌, ◌≤◌, ◌<◌}
 use native.Mathlib.Nat.{le_of_suc-le-suc, not-suc-le-zero}
 use native.Mathlib.Numerals.{add-one}
 use native.Mathlib.Omega.{arith}
 use mathlib.Core.Path.{◌≡◌, refl, ap, ◌∙◌, sym}
 use mathlib.Core.Bool.{Bool, true, ◌&&◌, and-true, and_assoc}
 use mathlib.Core.List.{List, [], ◌∷◌, map}
-use lib.ListN.{length, get_or, take, set, replicate, length-take, length-map, get_or-map}
-use lib.Seq.{take_all}
+use lib.ListN.{length, get_or, take, drop, set, replicate, length-take, length-map, get_or-map}
+use lib.Seq.{take_all, get_or-take, get_or-drop}
 use Rattle.limits.specs.Limits.{max_pending, max_items}
 use Rattle.ot.specs.declared.Form.{Form}
 use Rattle.ot.specs.declared.Form.TheVariants.{Nothing, Delete, Insert}
@@ -92,6 +92,10 @@ forms_at words from (suc count) (suc i) h =
 
 -- ---- the loop
 
+-- a word of the slots that the loop goes through
+pub slot_read : (words : List ℕ) (from count i : ℕ) → i < count → get_or (take (from + count - from) (drop from words)) i 0 ≡ get_or words (from + i) 0
+slot_read words from count i h = get_or-take (from + count - from) (drop from words) i 0 (omega arith) ∙ get_or-drop from words i 0
+
 -- the lent array after i turns
 abbrev sofar : Form → List Form → ℕ → List ℕ
 sofar f fs i = swept (filled (over_forms f fs)) (replicate max_pending 0) i
@@ -157,11 +161,11 @@ module _ {words : List ℕ} {from count : ℕ} {f : Form} {i : ℕ} {later : Lis
             ∙ sym (placed_more (over_forms f fs) i (omega (arith, over_all))) ∙ ap (λ (k : ℕ). placed_forms (take k (over_forms f fs))) (sym (add-one i));
       }
 
-  pub crossing_answer : count ≤ i → ◌≡◌ {A = Crossed} (record { form = current; placed = good; passed = i }) (crossed f fs)
-  crossing_answer h =
+  pub crossing_answer : (passed : ℕ) → passed ≡ i → count ≤ i → ◌≡◌ {A = Crossed} (record { form = current; placed = good; passed = passed }) (crossed f fs)
+  crossing_answer passed turns h =
       let c' : current ≡ past_forms f fs = now.form ∙ ap (past_forms f) (take_all i fs (omega (arith, all))) in
       let g' : good ≡ placed_forms (over_forms f fs) = now.fits ∙ ap placed_forms (take_all i (over_forms f fs) (omega (arith, over_all))) in
-      let p' : i ≡ steps f fs = omega (arith, now.turns, all, steps_length f fs) in
+      let p' : passed ≡ steps f fs = omega (arith, turns, now.turns, all, steps_length f fs) in
       cc
 
   pub crossing_places : count ≤ i → later ≡ filled (over_forms f fs)

@@ -2,4 +2,3 @@ pub mod Forms
 pub mod Slot
 pub mod Slots
 pub mod Crossing
-pub mod Writing

@@ -18,7 +18,7 @@ use ot::Form;
 pub const WORDS: usize = 2 * PENDING;
 
 // What an arriving edit leaves: its own form after the pending edits, whether the forms of these after it have positions that a message
-// can carry, and how many pending edits it was transformed past.
+// can carry, and how many pending edits it was transformed past. Kept as a flag beside the form: `crossed` says the form in both cases.
 #[derive(Drop)]
 pub struct Crossed {
     pub form: Form,
@@ -28,7 +28,8 @@ pub struct Crossed {
 
 // ---- one slot
 
-// Where an edit stands: 0 for nothing; a delete has priority 0.
+// Where an edit stands: 0 for nothing; a delete has priority 0. Kept as numbers: the ends store these words, and C lends them. Kept as
+// functions, not From: a u32 is also an item or an origin, and the name says which.
 pub fn place_of(f: Form) -> u32
     ensures { result ≡ place_of f }
 {
@@ -45,13 +46,11 @@ pub fn form_at(place: u32) -> Form
 {
     let p = (place / 256 % 65536) as u16;
     let r = (place % 256) as u8;
-    if p == 0 {
-        return Form::Nothing;
+    match (p, r) {
+        (0, _) => Form::Nothing,
+        (_, 0) => Form::Delete(p),
+        _ => Form::Insert(p, r),
     }
-    if r == 0 {
-        return Form::Delete(p);
-    }
-    Form::Insert(p, r)
 }
 
 // The form of the edit in slot i, counted from 0, and its item.
@@ -76,8 +75,7 @@ fn is_placed(f: Form) -> bool
 {
     match f {
         Form::Nothing => true,
-        Form::Delete(p) => (1 <= p) & (p as usize <= ITEMS),
-        Form::Insert(p, _) => (1 <= p) & (p as usize <= ITEMS),
+        Form::Delete(p) | Form::Insert(p, _) => (1 <= p) & (p as usize <= ITEMS),
     }
 }
 
@@ -95,20 +93,21 @@ pub fn cross(
     ensures places { later.new ≡ filled (over_forms f (forms_from words.now from count)) }
 {
     let mut current = f;
-    let mut good = true;
-    let mut passed = 0;
-    while passed < count {
-        let p = form_at(words[from + passed]);
+    let mut placed = true;
+    // The turns are counted: how many edits it went past is part of the answer.
+    let mut passed = 0u16;
+    for (i, &word) in words[from..from + count].iter().enumerate() {
+        let p = form_at(word);
         let form = ot::transform(p, current).form;
-        later[passed] = place_of(form);
-        good = good & is_placed(form);
+        later[i] = place_of(form);
+        placed &= is_placed(form);
         current = ot::transform(current, p).form;
         passed += 1;
     }
     Crossed {
         form: current,
-        placed: good,
-        passed: passed as u16,
+        placed,
+        passed,
     }
 }
 
@@ -119,22 +118,9 @@ pub fn moved_down(words: &[u32], from: usize, count: usize) -> [u32; PENDING]
     requires { (count ≤ max_pending) × (from + count ≤ length words.now) }
     ensures { result ≡ padded 0 max_pending (take count (drop from words.now)) }
 {
-    let mut a = [0u32; PENDING];
-    for i in 0..count {
-        let j = from + i;
-        a[i] = words[j];
-    }
+    let mut a = [0; PENDING];
+    a[..count].copy_from_slice(&words[from..from + count]);
     a
-}
-
-// Puts one number after the other.
-fn put(words: &mut [u32], part: &[u32])
-    requires { length words.old ≡ length part.now }
-    ensures { words.new ≡ part.now }
-{
-    for i in 0..words.len() {
-        words[i] = part[i];
-    }
 }
 
 // The first gone of gone + count words go; the others move down, and what is left of the 64 is zero.
@@ -142,8 +128,8 @@ pub fn drop_front(words: &mut [u32], gone: usize, count: usize)
     requires { (length words.old ≡ max_pending) × (gone + count ≤ max_pending) }
     ensures { words.new ≡ padded 0 max_pending (take count (drop gone words.old)) }
 {
-    let left = moved_down(words, gone, count);
-    put(words, &left);
+    words.copy_within(gone..gone + count, 0);
+    words[count..].fill(0);
 }
 
 // The first gone of gone + count edits go. The places of the others are later's, and their items, which no transformation changes, move
@@ -152,9 +138,9 @@ pub fn replace(words: &mut [u32], gone: usize, count: usize, later: &[u32])
     requires { (length words.old ≡ size) × ((gone + count ≤ max_pending) × (length later.now ≡ max_pending)) }
     ensures { words.new ≡ later.now ++ padded 0 max_pending (take count (drop (max_pending + gone) words.old)) }
 {
-    let items = moved_down(words, PENDING + gone, count);
-    put(&mut words[0..PENDING], later);
-    put(&mut words[PENDING..WORDS], &items);
+    let (places, items) = words.split_at_mut(PENDING);
+    places.copy_from_slice(later);
+    drop_front(items, gone, count);
 }
 
 // One more edit, of form f and item x, behind count others.

@@ -2,33 +2,19 @@
 -- says of each line is model's `Ranking`.
 use Prim.Native.Nat.{ℕ, zero, suc, ◌+◌, ◌-◌, ◌≤◌, ◌<◌}
 use native.Mathlib.Omega.{arith}
-use mathlib.Core.Path.{◌≡◌, refl, ap, sym, ◌∙◌}
+use mathlib.Core.Path.{◌≡◌, ap, sym, ◌∙◌}
 use mathlib.Core.Bool.{true}
-use mathlib.Core.List.{List, [], ◌∷◌}
-use lib.Dec.{eqb}
+use mathlib.Core.List.{List}
 use lib.ListN.{length, get_or, take, drop, replicate, length-take, length-drop}
 use lib.Seq.{take_all, get_or-take}
-use borrow.Author.Tests.{eqb-true}
 use Rattle.limits.specs.Limits.{max_lines}
 use Rattle.list.specs.Items.{padded, all_zero}
+use Rattle.list.proofs.Items.{zeros, all_zero_lem}
 use Rattle.list.proofs.Pad.{pad_get_or, pad_length, pad_take, pad_drop, pad_of}
 use Rattle.model.specs.Ranks.{rank_of, ranking, count_from, line_ranks}
 use Rattle.model.proofs.Tests.{both, and_left, and_right}
 pub use Rattle.model.proofs.Ranks.{Ranking, ranking_facts, line_ranking}
 use Rattle.ranks.specs.Stored.{stored, sound_ranks}
-
--- ---- zeros
-
-zeros : (l : List ℕ) → all_zero l ≡ true → l ≡ replicate (length l) 0
-unfolding all_zero
-zeros [] h = refl
-zeros (x ∷ l) h =
-    ap (λ (y : ℕ). y ∷ l) (eqb-true x 0 (and_left (eqb x 0) (all_zero l) h)) ∙ ap (λ (r : List ℕ). 0 ∷ r) (zeros l (and_right (eqb x 0) (all_zero l) h))
-
-zero_all : (k : ℕ) → all_zero (replicate k 0) ≡ true
-unfolding all_zero
-zero_all zero = refl
-zero_all (suc k) = zero_all k
 
 -- ---- line numbers as ranks
 
@@ -77,7 +63,7 @@ module _ (n : ℕ) (ranks : List ℕ) (room : n ≤ max_lines) (ok : ranking n r
   unfolding sound_ranks
   stored_sound =
       both (ranking n (take n (stored ranks))) (all_zero (drop n (stored ranks))) (ap (ranking n) stored_take ∙ ok)
-      (ap all_zero stored_drop ∙ zero_all (max_lines - n))
+      (ap all_zero stored_drop ∙ all_zero_lem (max_lines - n))
 
 -- ---- places that passed question 2
 

@@ -1,77 +1,102 @@
--- The loop that looks at the ranks from the last to the first and notes those that it has seen.
-use Prim.Native.Nat.{ℕ, suc, ◌-◌, ◌≤◌, ◌<◌}
+-- The loop that looks at the ranks from the first on and notes those that it has seen.
+use Prim.Native.Nat.{ℕ, ◌+◌, ◌≤◌, ◌<◌}
+use native.Mathlib.Numerals.{add-one}
 use native.Mathlib.Omega.{arith}
-use mathlib.Core.Path.{◌≡◌, refl, ap, sym, ◌∙◌}
-use mathlib.Core.Bool.{Bool, true, false, not, ◌&&◌, ◌||◌}
-use mathlib.Core.List.{List, ◌∷◌}
+use mathlib.Core.Path.{◌≡◌, refl, ap, ap₂, sym, ◌∙◌}
+use mathlib.Core.Bool.{Bool, true, false, not, ◌&&◌, ◌||◌, or_assoc, or-false, and_assoc}
+use mathlib.Core.List.{List, [], ◌∷◌, ◌++◌}
 use lib.Dec.{eqb}
 use lib.ListN.{length, get_or, take, drop, set, replicate, length-set, length-replicate, get_or-replicate}
-use lib.Seq.{length-take-le, drop-cons, drop-length, get_or-set_same, get_or-set_other}
-use borrow.Author.Tests.{eqb-true, eqb-false, eq-eqb}
+use lib.Seq.{take_all, take-suc, length-take-le, get_or-set_same, get_or-set_other}
+use borrow.Author.Tests.{eqb-true, eqb-false, eq-eqb, ne_eqb}
 use Rattle.list.specs.Items.{all_zero}
-use Rattle.list.proofs.Items.{zero_end}
 use Rattle.model.specs.Questions.{between}
 use Rattle.model.specs.Ranks.{among, each_once, ranking}
 use Rattle.ranks.specs.Stored.{sound_ranks}
 
--- with the ranks from place i on looked at: which of the numbers below m were seen, and what was found
+-- ---- one rank more behind others
+
+among_more : (rs : List ℕ) (r k : ℕ) → among (rs ++ (r ∷ [])) k ≡ (among rs k || eqb k r)
+unfolding among
+among_more [] r k = or-false (eqb k r)
+among_more (x ∷ rs) r k = ap (λ (b : Bool). eqb k x || b) (among_more rs r k) ∙ sym (or_assoc (eqb k x) (among rs k) (eqb k r))
+
+turned : (x r : ℕ) → eqb x r ≡ eqb r x
+turned x r = go (eqb r x) refl
+  where
+    go : (b : Bool) → eqb r x ≡ b → eqb x r ≡ b
+    go true e = eq-eqb x r (sym (eqb-true r x e))
+    go false e = ne_eqb x r (λ same. eqb-false r x e (sym same))
+
+-- the tests of x, in front of the others, and those of r, behind them, in the other order
+tests_turned : (bx ax q e br ar : Bool) → (bx && not (ax || q) && (e && br && not ar)) ≡ (bx && not ax && e && br && not (q || ar))
+tests_turned false ax q e br ar = refl
+tests_turned true true q e br ar = refl
+tests_turned true false true false br ar = refl
+tests_turned true false true true false ar = refl
+tests_turned true false true true true ar = refl
+tests_turned true false false e br ar = refl
+
+once_more : (n : ℕ) (rs : List ℕ) (r : ℕ) → each_once n (rs ++ (r ∷ [])) ≡ (each_once n rs && between 1 n r && not (among rs r))
+unfolding each_once among
+once_more n [] r = go (between 1 n r)
+  where
+    go : (b : Bool) → (b && true && true) ≡ (true && b && true)
+    go true = refl
+    go false = refl
+once_more n (x ∷ rs) r =
+    ap₂ (λ (a e : Bool). between 1 n x && not a && e) (among_more rs r x) (once_more n rs r)
+    ∙ tests_turned (between 1 n x) (among rs x) (eqb x r) (each_once n rs) (between 1 n r) (among rs r)
+    ∙ ap (λ (q : Bool). between 1 n x && not (among rs x) && each_once n rs && between 1 n r && not (q || among rs r)) (turned x r)
+
+-- ---- the loop
+
+-- with the first i ranks looked at: which of the numbers below m were seen, and what was found
 pub record Scan (n m : ℕ) (ranks : List ℕ) (seen : List Bool) (well : Bool) (i : ℕ) : Type 0 where
-  pub to : i ≤ length ranks
   pub size : length seen ≡ m
-  pub noted : (k : ℕ) → k < m → get_or seen k false ≡ among (drop i ranks) k
-  pub found : well ≡ each_once n (drop i ranks)
+  pub noted : (k : ℕ) → k < m → get_or seen k false ≡ among (take i ranks) k
+  pub found : well ≡ each_once n (take i ranks)
 
 module _ (n m : ℕ) (ranks : List ℕ) where
-  pub scan_start : Scan n m ranks (replicate m false) true (length ranks)
+  pub scan_start : Scan n m ranks (replicate m false) true 0
   unfolding among each_once
-  scan_start =
-      record {
-        to = omega arith;
-        size = length-replicate m false;
-        noted = λ k h. get_or-replicate m k false false h ∙ ap (λ (l : List ℕ). among l k) (sym (drop-length ranks));
-        found = ap (each_once n) (sym (drop-length ranks));
-      }
+  scan_start = record { size = length-replicate m false; noted = λ k h. get_or-replicate m k false false h; found = refl }
 
-  -- the places seen after a turn
+  -- the numbers seen after a turn
   noting : (seen : List Bool) (rs : List ℕ) (r k : ℕ) → r < length seen → get_or seen k false ≡ among rs k
-      → get_or (set seen r true) k false ≡ among (r ∷ rs) k
-  unfolding among
-  noting seen rs r k h e = go (eqb k r) refl
+      → get_or (set seen r true) k false ≡ among (rs ++ (r ∷ [])) k
+  noting seen rs r k h e = go (eqb k r) refl ∙ sym (among_more rs r k)
     where
-      go : (b : Bool) → eqb k r ≡ b → get_or (set seen r true) k false ≡ (b || among rs k)
-      go true q = ap (λ (j : ℕ). get_or (set seen r true) j false) (eqb-true k r q) ∙ get_or-set_same seen r true false h
-      go false q = get_or-set_other seen r k true false (eqb-false k r q) ∙ e
+      last : (a : Bool) → true ≡ (a || true)
+      last true = refl
+      last false = refl
 
-  pub scan_turn : (seen : List Bool) (well : Bool) (i : ℕ) → 0 < i → get_or ranks (i - 1) 0 < m → Scan n m ranks seen well i
-      → Scan n m ranks (set seen (get_or ranks (i - 1) 0) true)
-      (between 1 n (get_or ranks (i - 1) 0) && not (get_or seen (get_or ranks (i - 1) 0) false) && well) (i - 1)
-  unfolding each_once
+      go : (b : Bool) → eqb k r ≡ b → get_or (set seen r true) k false ≡ (among rs k || b)
+      go true q = ap (λ (j : ℕ). get_or (set seen r true) j false) (eqb-true k r q) ∙ get_or-set_same seen r true false h ∙ last (among rs k)
+      go false q = get_or-set_other seen r k true false (eqb-false k r q) ∙ e ∙ sym (or-false (among rs k))
+
+  pub scan_turn : (seen : List Bool) (well : Bool) (i : ℕ) → i < length ranks → get_or ranks i 0 < m → Scan n m ranks seen well i
+      → Scan n m ranks (set seen (get_or ranks i 0) true) (well && (between 1 n (get_or ranks i 0) && not (get_or seen (get_or ranks i 0) false))) (i + 1)
   scan_turn seen well i some low s =
-      let r = get_or ranks (i - 1) 0 in
-      let next : suc (i - 1) ≡ i = omega arith in
-      let split : drop (i - 1) ranks ≡ r ∷ drop i ranks =
-      drop-cons ranks (i - 1) 0 (omega (arith, s.to)) ∙ ap (λ (j : ℕ). r ∷ drop j ranks) next in
+      let r = get_or ranks i 0 in
+      let split : take i ranks ++ (r ∷ []) ≡ take (i + 1) ranks = sym (take-suc ranks i 0 some) ∙ ap (λ (j : ℕ). take j ranks) (sym (add-one i)) in
       record {
-        to = omega (arith, s.to);
         size = length-set seen r true ∙ s.size;
-        noted = λ k h. noting seen (drop i ranks) r k (omega (arith, s.size)) (s.noted k h) ∙ ap (λ (l : List ℕ). among l k) (sym split);
+        noted = λ k h. noting seen (take i ranks) r k (omega (arith, s.size)) (s.noted k h) ∙ ap (λ (l : List ℕ). among l k) split;
         found =
-            ap (λ (b : Bool). between 1 n r && not b && well) (s.noted r low)
-            ∙ ap (λ (b : Bool). between 1 n r && not (among (drop i ranks) r) && b) s.found
-            ∙ ap (each_once n) (sym split);
+            ap₂ (λ (w b : Bool). w && (between 1 n r && not b)) s.found (s.noted r low)
+            ∙ sym (and_assoc (each_once n (take i ranks)) (between 1 n r) (not (among (take i ranks) r)))
+            ∙ sym (once_more n (take i ranks) r) ∙ ap (each_once n) split;
       }
 
-  pub scan_end : (seen : List Bool) (well : Bool) (i : ℕ) → i ≤ 0 → Scan n m ranks seen well i → well ≡ each_once n ranks
-  scan_end seen well i h s =
-      let none_left : i ≡ 0 = omega arith in
-      s.found ∙ ap (λ (j : ℕ). each_once n (drop j ranks)) none_left
+  pub scan_end : (seen : List Bool) (well : Bool) (i : ℕ) → length ranks ≤ i → Scan n m ranks seen well i → well ≡ each_once n ranks
+  scan_end seen well i h s = s.found ∙ ap (each_once n) (take_all i ranks h)
 
 -- ---- question 2: the ranks of n lines in the first places, and nothing behind them
 
-pub sound_end_lem : (n : ℕ) (ranks : List ℕ) (well : Bool) (all i : ℕ) → n ≤ length ranks → length ranks ≤ i → well ≡ each_once n (take n ranks)
-    → (eqb all 0 && all_zero (drop i ranks)) ≡ all_zero (drop n ranks) → (well && eqb all 0) ≡ sound_ranks n ranks
+pub sound_parts : (n : ℕ) (ranks : List ℕ) (well none : Bool) → n ≤ length ranks → well ≡ each_once n (take n ranks) → none ≡ all_zero (drop n ranks)
+    → (well && none) ≡ sound_ranks n ranks
 unfolding ranking sound_ranks
-sound_end_lem n ranks well all i h past e inv =
+sound_parts n ranks well none h e z =
     let count : eqb (length (take n ranks)) n ≡ true = eq-eqb (length (take n ranks)) n (length-take-le n ranks h) in
-    ap (λ (b : Bool). b && eqb all 0) e ∙ ap (λ (b : Bool). each_once n (take n ranks) && b) (zero_end ranks i (eqb all 0) past ∙ inv)
-    ∙ ap (λ (b : Bool). b && each_once n (take n ranks) && all_zero (drop n ranks)) (sym count)
+    ap₂ (λ (a b : Bool). a && b) e z ∙ ap (λ (b : Bool). b && each_once n (take n ranks) && all_zero (drop n ranks)) (sym count)

@@ -8,6 +8,7 @@ use lib.Dec.{ltb, eqb}
 use lib.ListN.{length, get_or, set, take, drop, length-map, length-set, get_or-eq_default}
 use lib.Seq.{get_or-set_same, get_or-set_other}
 use borrow.Author.Tests.{eqb-true, eqb-false, eq-eqb, ne_eqb, ltb-true, ltb-false, le-ltb}
+use Rattle.std.specs.Prelude.{Ok}
 use Rattle.limits.specs.Limits.{max_items, max_lines, max_pending}
 use Rattle.ot.specs.Edit.{Edit, edit, applied, fits}
 use Rattle.list.specs.declared.Origin.{Origin}
@@ -33,7 +34,7 @@ use Rattle.line.proofs.Decisions.{then_edit}
 use Rattle.server.specs.declared.Counts.{Counts}
 use Rattle.server.specs.View.{slots_at, makers_at, counts_at, line_at, makers_of, server_of, view, store, Sound, SlotsWrote, MakersWrote, Applied}
 use Rattle.server.specs.Decides.{place_of, inserts_then, Decided}
-use Rattle.server.specs.Taking.{KeptBy, makers_left, with_line, takes_it, keeps_it, server_then}
+use Rattle.server.specs.Taking.{KeptBy, makers_left, takes_it, keeps_it, server_then}
 use Rattle.server.proofs.Rows.{Row, makers_for, store_is}
 use Rattle.server.proofs.Facts.{sizes, own_holds, len_few, first_words, first_count, first_sum, lines_few, lines_count, makers_many, at_view, makers_view, at_makers}
 use Rattle.server.proofs.Asked.{roomy_each}
@@ -101,12 +102,16 @@ more_words c o ws = go (take c ws)
     go [] = refl
     go (w ∷ l) = λ i. words_of_at (w ∷ []) i ++ go l i
 
+-- the counts with those of one line, and the length and the total of the list
+abbrev pub with_line : Counts → ℕ → Line → ℕ → ℕ → Counts
+with_line k at v len total = record { n = k.n; initial = k.initial; len = len; total = total; ranks = k.ranks; lines = set k.lines at v }
+
 -- ---- a decision that refuses nothing
 
-module _ (k : Counts) (words : List ℕ) (h : Sound (server_of k words)) (a : Arrival) (d : Decision) (later : List ℕ) (r : Decided k words a d later)
-    (z : d.refusal ≡ 0) where
+module _ (k : Counts) (words : List ℕ) (h : Sound (server_of k words)) (a : Arrival) (d : Decision) (later : List ℕ)
+    (r : Decided k words a (Ok d) later) where
   pub taken : Accepted k words a d later
-  taken = accepts k words a d later r h z
+  taken = accepts k words a d later r h
 
   abbrev m : model.Server
   m = view (server_of k words)

@@ -3,25 +3,24 @@ use Prim.Native.Nat.{ℕ, zero, suc, ◌+◌, ◌-◌, ◌≤◌, ◌<◌}
 use native.Mathlib.Nat.{zero-add}
 use native.Mathlib.Omega.{arith}
 use mathlib.Core.Path.{◌≡◌, refl, ap, sym, ◌∙◌}
-use mathlib.Core.Bool.{Bool, true, false, ◌&&◌, ◌||◌, not, cond}
-use mathlib.Core.List.{List, [], ◌∷◌, map}
+use mathlib.Core.Bool.{Bool, true, ◌&&◌, ◌||◌}
+use mathlib.Core.List.{List, map}
 use lib.Dec.{ltb, eqb}
 use lib.ListN.{take}
-use borrow.Author.Tests.{le-leb, lt-leb, ltb-true, eqb-true, eq-eqb, ne_eqb}
-use Rattle.limits.specs.Limits.{max_inserts, max_pending}
-use Rattle.model.specs.Questions.{ask, asks, every, between}
+use borrow.Author.Tests.{ltb-true, eq-eqb, ne_eqb}
+use Rattle.limits.specs.Limits.{max_pending}
+use Rattle.model.specs.Questions.{every, between}
 use Rattle.model.specs.Ranks.{rank_of}
 use Rattle.model.specs.Line as line
 use Rattle.model.specs.Server as model
-use Rattle.model.proofs.Tests.{and_left, and_right, between_true, never}
+use Rattle.model.proofs.Tests.{and_left, and_right, between_true}
 use Rattle.ranks.proofs.Laws.{take_rank}
 use Rattle.pending.specs.Slots.{all_from}
 use Rattle.line.proofs.All.{all_each}
-use Rattle.line.specs.Keeping.{then_asked}
 use Rattle.line.specs.declared.taking.Arrival.{Arrival}
 use Rattle.server.specs.declared.Counts.{Counts}
 use Rattle.server.specs.View.{counts_at, lines_from}
-use Rattle.server.specs.Decides.{is_own, made_here, up_to, roomy_at, last_asked, place_of, inserts_then, last_refusal}
+use Rattle.server.specs.Decides.{is_own, made_here, up_to, roomy_at}
 
 -- ---- question 4
 
@@ -35,45 +34,6 @@ up_line k a u =
 -- a line in use has the rank that is stored for it
 pub own_rank_lem : (k : Counts) (l : ℕ) → between 1 k.n l ≡ true → rank_of (take k.n k.ranks) l ≡ rank_of k.ranks l
 own_rank_lem k l t = let b = between_true 1 k.n l t in take_rank k.n k.ranks l b.0 b.1
-
--- ---- questions 10 and 12, by the ways that they end
-
-module _ (k : Counts) (a : Arrival) (first : ℕ) where
-  -- there is a refusal, or no edit
-  abbrev stands : Bool → Bool → Bool
-  stands z carries = not z || not carries
-
-  pub last_stands : (not (eqb first 0) || not a.carries) ≡ true → first ≡ then_asked first (last_refusal k a)
-  last_stands t = go (eqb first 0) a.carries refl t
-    where
-      go : (z b : Bool) → eqb first 0 ≡ z → stands z b ≡ true → first ≡ cond z (cond b (asks (last_asked k (place_of a) (inserts_then k a))) 0) first
-      go true true e t = never t
-      go true false e t = eqb-true first 0 e
-      go false b e t = refl
-
-  module _ (f : (not (eqb first 0) || not a.carries) ≡ false) (n : ℕ) (en : n ≡ inserts_then k a) where
-    asked_last : (r : ℕ) → r ≡ asks (last_asked k (place_of a) n) → r ≡ then_asked first (last_refusal k a)
-    asked_last r e = e ∙ ap (λ (j : ℕ). asks (last_asked k (place_of a) j)) en ∙ go (eqb first 0) a.carries f
-      where
-        go : (z b : Bool) → stands z b ≡ false
-            → asks (last_asked k (place_of a) (inserts_then k a)) ≡ cond z (cond b (asks (last_asked k (place_of a) (inserts_then k a))) 0) first
-        go true true g = refl
-        go true false g = never (sym g)
-        go false true g = never (sym g)
-        go false false g = never (sym g)
-
-    pub last_10 : max_inserts < n → 10 ≡ then_asked first (last_refusal k a)
-    last_10 h = asked_last 10 (sym (ap (λ (b : Bool). asks (ask 10 b ∷ ask 12 (all_from (roomy_at k (place_of a)) 0 k.n) ∷ [])) (lt-leb n max_inserts h)))
-
-    module _ (h : n ≤ max_inserts) where
-      by_room : (b : Bool) → all_from (roomy_at k (place_of a)) 0 k.n ≡ b → asks (ask 10 true ∷ ask 12 b ∷ []) ≡ asks (last_asked k (place_of a) n)
-      by_room b e = λ i. asks (ask 10 (sym (le-leb n max_inserts h) i) ∷ ask 12 (sym e i) ∷ [])
-
-      pub last_12 : all_from (roomy_at k (place_of a)) 0 k.n ≡ false → 12 ≡ then_asked first (last_refusal k a)
-      last_12 e = asked_last 12 (by_room false e)
-
-      pub last_none : all_from (roomy_at k (place_of a)) 0 k.n ≡ true → 0 ≡ then_asked first (last_refusal k a)
-      last_none e = asked_last 0 (by_room true e)
 
 -- ---- question 12: every line but one
 

@@ -1,4 +1,4 @@
--- What is decided of a line by its words is what is decided of the server's line: one law for each return of decide; and what a decision tells.
+-- What deciding asks of its parts, and what a decision tells.
 use Prim.Native.Nat.{ℕ, ◌≤◌, ◌<◌}
 use native.Mathlib.Omega.{arith}
 use mathlib.Core.Path.{◌≡◌, refl, ap, sym, ◌∙◌, subst}
@@ -6,6 +6,7 @@ use mathlib.Core.Bool.{Bool, true, false, cond}
 use mathlib.Core.List.{List}
 use lib.ListN.{length, length-map}
 use borrow.Author.Tests.{eqb-false}
+use Rattle.std.specs.Prelude.{Ok}
 use Rattle.limits.specs.Limits.{max_items, max_lines, max_pending}
 use Rattle.ot.specs.Form.{position_of}
 use Rattle.ot.specs.Edit.{Edit, edit, item_of}
@@ -16,20 +17,17 @@ use Rattle.model.proofs.Tests.{yes_all}
 use Rattle.model.proofs.SoundServer.{inserts_one}
 use Rattle.pending.specs.Slots.{all_from}
 use Rattle.line.specs.declared.Line.{Line}
-use Rattle.line.specs.Line.{counts_of, Kept}
-use Rattle.line.specs.Keeping.{then_asked}
+use Rattle.line.specs.Line.{Kept}
 use Rattle.line.proofs.Parts.{then_left, then_right}
 use Rattle.line.specs.declared.taking.Arrival.{Arrival}
 use Rattle.line.specs.declared.taking.Decision.{Decision}
-use Rattle.line.specs.Taking.{edit_of, refusal_of, line_then, refusing, done, deciding, Later, Between, zeros}
-use Rattle.line.specs.Taking as line_taking
+use Rattle.line.specs.Taking.{edit_of, refusal_of, line_then, done, Later, Between, zeros}
 use Rattle.line.proofs.Asked.{refusal_seen}
 use Rattle.line.proofs.Staying.{left_length}
-use Rattle.line.proofs.Deciding.{deciding_no, deciding_yes}
-use Rattle.line.proofs.Decisions.{deciding_refusal, decided_refusal, decided_done, refusal_room, later_length}
+use Rattle.line.proofs.Decisions.{refusal_room, later_length}
 use Rattle.server.specs.declared.Counts.{Counts}
 use Rattle.server.specs.View.{slots_at, counts_at, line_at, server_of, Sound}
-use Rattle.server.specs.Decides.{up_to, roomy_at, last_asked, place_of, inserts_then, last_refusal, refusal_at, decided, LineDecided, Decided}
+use Rattle.server.specs.Decides.{up_to, roomy_at, last_asked, place_of, inserts_then, last_refusal, refusal_at, Decided}
 use Rattle.server.proofs.Facts.{lines_few, len_few, at_facts}
 use Rattle.server.proofs.Asked.{up_line}
 
@@ -57,65 +55,6 @@ module _ (k : Counts) (words : List ℕ) (a : Arrival) (h : Sound (server_of k w
     (subst (λ (w : Line). Kept w slots) (sym ev) (subst (Kept (counts_at k (place_of a))) (sym es) (h.kept (place_of a) place_below)), z),
   )
 
--- ---- the decision of the line, over what was read of it
-
-pub line_decided : (k : Counts) (words : List ℕ) (a : Arrival) (v : Line) (slots : List ℕ) (inserts : ℕ) (d : Decision) (later : List ℕ)
-    → v ≡ counts_at k (place_of a) → slots ≡ slots_at (place_of a) words → inserts ≡ inserts_then k a
-    → line_taking.Decided v slots k.len inserts a d later → LineDecided k words a d later
-line_decided k words a v slots inserts d later ev es en l =
-    subst (λ (w : Line). line_taking.Decided w (slots_at (place_of a) words) k.len (inserts_then k a) a d later) ev
-    (subst (λ (ws : List ℕ). line_taking.Decided v ws k.len (inserts_then k a) a d later) es
-    (subst (λ (n : ℕ). line_taking.Decided v slots k.len n a d later) en l))
-
--- ---- the returns
-
-module _ (k : Counts) (words : List ℕ) (a : Arrival) (later : List ℕ) where
-  abbrev i : ℕ
-  i = place_of a
-
-  abbrev then : Decision
-  then = done (line_at k words i) (inserts_then k a) a
-
-  -- the counts of a decision that refuses
-  abbrev zero_counts : Line
-  zero_counts = counts_of line.no_line
-
-  abbrev decides : Bool → Decision
-  decides b = cond b (deciding (refusal_at k words a) zero_counts then) (refusing 4 zero_counts)
-
-  pub refused_4 : (d : Decision) → up_to k a ≡ false → d ≡ refusing 4 (counts_of line.no_line) → Decided k words a d later
-  refused_4 d f e =
-      record {
-        answer = e ∙ ap decides (sym f);
-        stay = λ z. absurd (eqb-false 4 0 refl (sym (ap (λ (y : Decision). y.refusal) e) ∙ z));
-      }
-
-  -- the line decided, and r is the refusal once 10 and 12 were asked
-  module _ (u : up_to k a ≡ true) (d : Decision) (l : LineDecided k words a d later) (r : ℕ) (er : r ≡ then_asked d.refusal (last_refusal k a)) where
-    refusal_is : r ≡ refusal_at k words a
-    refusal_is =
-        er
-        ∙ ap (λ (n : ℕ). then_asked n (last_refusal k a)) (decided_refusal (counts_at k i) (slots_at i words) k.len (inserts_then k a) a d later l)
-
-    by : (x : Decision) → x ≡ deciding r zero_counts then → x ≡ decided k words a
-    by x e = e ∙ ap (λ (n : ℕ). deciding n zero_counts then) refusal_is ∙ ap decides (sym u)
-
-    pub refused_last : (x : Decision) → (r ≡ 0 → ⊥) → x ≡ refusing r (counts_of line.no_line) → Decided k words a x later
-    refused_last x nz e =
-        record {
-          answer = by x (e ∙ deciding_no r zero_counts then nz);
-          stay = λ z. absurd (nz (sym (ap (λ (y : Decision). y.refusal) e) ∙ z));
-        }
-
-    pub accepted : r ≡ 0 → Decided k words a d later
-    accepted z =
-        let first : d.refusal ≡ 0 = then_left d.refusal (last_refusal k a) (sym er ∙ z) in
-        record {
-          answer =
-              by d (decided_done (counts_at k i) (slots_at i words) k.len (inserts_then k a) a d later l first ∙ deciding_yes r zero_counts then z);
-          stay = l.stay;
-        }
-
 -- ---- what the decision tells
 
 -- it refuses nothing: what the steps that write ask, and what they write
@@ -131,43 +70,29 @@ pub record Accepted (k : Counts) (words : List ℕ) (a : Arrival) (d : Decision)
   pub places : length later ≡ max_pending
   pub few : length (line_then (line_at k words (place_of a)) (inserts_then k a) a).pending ≤ max_pending
 
-module _ (k : Counts) (words : List ℕ) (a : Arrival) (d : Decision) (later : List ℕ) (r : Decided k words a d later) where
+module _ (k : Counts) (words : List ℕ) (a : Arrival) (d : Decision) (later : List ℕ) (r : Decided k words a (Ok d) later) where
   abbrev v : Line
   v = counts_at k (place_of a)
 
   abbrev w : line.Line
   w = line_at k words (place_of a)
 
-  abbrev by_four : Bool → Decision
-  by_four b = cond b (deciding (refusal_at k words a) (counts_of line.no_line) (done w (inserts_then k a) a)) (refusing 4 (counts_of line.no_line))
-
-  pub told_refusal : d.refusal ≡ cond (up_to k a) (refusal_at k words a) 4
-  told_refusal = ap (λ (x : Decision). x.refusal) r.answer ∙ go (up_to k a)
-    where
-      go : (b : Bool) → (by_four b).refusal ≡ cond b (refusal_at k words a) 4
-      go true = deciding_refusal (refusal_at k words a) (counts_of line.no_line) (done w (inserts_then k a) a) refl
-      go false = refl
-
-  module _ (h : Sound (server_of k words)) (z : d.refusal ≡ 0) where
+  module _ (h : Sound (server_of k words)) where
     comes : up_to k a ≡ true
-    comes = go (up_to k a) refl (sym told_refusal ∙ z)
+    comes = go (up_to k a) refl r.refusal
       where
-        go : (b : Bool) → up_to k a ≡ b → cond b (refusal_at k words a) 4 ≡ 0 → up_to k a ≡ true
+        go : (b : Bool) → up_to k a ≡ b → 0 ≡ cond b (refusal_at k words a) 4 → up_to k a ≡ true
         go true u y = u
-        go false u y = absurd (eqb-false 4 0 refl y)
+        go false u y = absurd (omega (arith, y))
 
     asked : refusal_at k words a ≡ 0
-    asked = ap (λ (b : Bool). cond b (refusal_at k words a) 4) (sym comes) ∙ sym told_refusal ∙ z
+    asked = ap (λ (b : Bool). cond b (refusal_at k words a) 4) (sym comes) ∙ sym r.refusal
 
     first_asked : refusal_of v w k.len a ≡ 0
     first_asked = then_left (refusal_of v w k.len a) (last_refusal k a) asked
 
     seen : Between (counts_at k (place_of a)) a.seen
     seen = refusal_seen v w k.len a first_asked
-
-    is_done : d ≡ done (line_at k words (place_of a)) (inserts_then k a) a
-    is_done =
-        r.answer ∙ ap by_four comes ∙ sym (deciding_yes (refusal_at k words a) (counts_of line.no_line) (done w (inserts_then k a) a) asked)
 
     -- question 12
     others_roomy_lem : a.carries ≡ true → all_from (roomy_at k (place_of a)) 0 k.n ≡ true
@@ -182,7 +107,7 @@ module _ (k : Counts) (words : List ℕ) (a : Arrival) (d : Decision) (later : L
         let then_pending : List Edit = (line_then w (inserts_then k a) a).pending in
         let kept = h.kept (place_of a) (place_below k words a h comes) in
         let same : length then_pending ≡ length (line.unacked w a.seen) =
-        sym (length-map then_pending item_of) ∙ ap length (r.stay z).items ∙ length-map (line.unacked w a.seen) item_of in
+        sym (length-map then_pending item_of) ∙ ap length (r.stay d refl).items ∙ length-map (line.unacked w a.seen) item_of in
         omega (arith, same, left_length v (slots_at (place_of a) words) kept a.seen seen, kept.few, seen)
 
     pub accepts : Accepted k words a d later
@@ -193,13 +118,13 @@ module _ (k : Counts) (words : List ℕ) (a : Arrival) (d : Decision) (later : L
           below = place_below k words a h comes;
           seen = seen;
           room =
-              subst (λ (x : Decision). Room (edit x.form a.item) k.len max_items) (sym is_done)
+              subst (λ (x : Decision). Room (edit x.form a.item) k.len max_items) (sym (r.done d refl))
               (refusal_room v w k.len a first_asked (len_few k words h));
           roomy = others_roomy_lem;
-          answer = is_done;
-          stay = r.stay z;
+          answer = r.done d refl;
+          stay = r.stay d refl;
           places =
               later_length v (slots_at (place_of a) words) a.seen later (line_then w (inserts_then k a) a).pending
-              (h.kept (place_of a) (place_below k words a h comes)) seen (r.stay z);
+              (h.kept (place_of a) (place_below k words a h comes)) seen (r.stay d refl);
           few = few_left;
         }

@@ -2,7 +2,6 @@
 use Prim.Native.Nat.{ℕ, ◌+◌, ◌-◌, ◌≤◌, ◌<◌}
 use native.Mathlib.Omega.{arith}
 use mathlib.Core.Path.{◌≡◌, ap, sym, ◌∙◌, subst}
-use mathlib.Core.Bool.{true}
 use mathlib.Core.List.{List, []}
 use lib.ListN.{length, get_or, take}
 use lib.Seq.{take-take}
@@ -12,10 +11,8 @@ use Rattle.list.specs.Places.{items_of}
 use Rattle.list.specs.Seconds.{total_seconds}
 use Rattle.list.proofs.Pad.{pad_take}
 use Rattle.list.proofs.Places.{items_length}
-use Rattle.model.specs.Questions.{between}
 use Rattle.model.specs.Line as line
 use Rattle.model.specs.Server as model
-use Rattle.model.proofs.Tests.{between_true}
 use Rattle.model.proofs.SoundServer.{ServerLine, LineMakers, ServerFacts, server_facts, taken_sum, line_fact, makers_fact, makers_count, made_most}
 use Rattle.server.specs.declared.Counts.{Counts}
 use Rattle.server.specs.declared.Server.{Server}
@@ -98,16 +95,3 @@ module _ (k : Counts) (words : List ℕ) (h : Sound (server_of k words)) where
 
     pub made_few : (counts_at k i).made ≤ 2800
     made_few = omega (arith, made_most m facts (i + 1) (omega arith) (omega (arith, own_holds.n)), ap (λ (v : line.Line). v.made) line_is)
-
-  module _ (l : ℕ) (t : between 1 k.n l ≡ true) where
-    pub line_low : 1 ≤ l
-    line_low = (between_true 1 k.n l t).0
-
-    pub place_used : l - 1 < k.n
-    place_used = let b = between_true 1 k.n l t in omega arith
-
-    pub line_of_lem : model.line_of (view (server_of k words)) l ≡ line_at k words (l - 1)
-    line_of_lem = at_view (l - 1) place_used
-
-    pub makers_of_lem : model.makers_of (view (server_of k words)) l ≡ makers_of k words (l - 1)
-    makers_of_lem = makers_view (l - 1) place_used

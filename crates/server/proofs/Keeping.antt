@@ -16,7 +16,7 @@ use Rattle.line.specs.declared.Line.{Line}
 use Rattle.line.specs.Line.{counts_of, Kept}
 use Rattle.line.specs.Keeping.{with_kept}
 use Rattle.server.specs.declared.Counts.{Counts}
-use Rattle.server.specs.View.{size, slots_at, makers_at, counts_at, SlotsWrote, MakersWrote}
+use Rattle.server.specs.View.{slots_at, makers_at, counts_at, SlotsWrote, MakersWrote}
 use Rattle.server.specs.Taking.{keeps, slots_kept, makers_kept, KeptBy}
 
 -- ---- which lines keep it
@@ -63,26 +63,6 @@ abbrev pub makers_then : Bool → ℕ → Line → List ℕ → List ℕ
 makers_then b word v words = cond b (makers_kept word v words) words
 
 module _ (at : ℕ) (e : Edit) (word : ℕ) (k : Counts) (before : List ℕ) where
-  pub kept_none : length before ≡ size → KeptBy 0 at e word k before k before
-  kept_none long =
-      record {
-        n = refl;
-        initial = refl;
-        len = refl;
-        total = refl;
-        ranks = refl;
-        lines = refl;
-        counts = λ i h. ap (λ (b : Bool). counts_then b (counts_at k i)) (sym (keeps_past 0 at i (omega arith)));
-        words =
-            record {
-              items = refl;
-              origins = refl;
-              slots = λ i h. ap (λ (b : Bool). slots_then b e (counts_at k i) (slots_at i before)) (sym (keeps_past 0 at i (omega arith)));
-              makers = λ i h. ap (λ (b : Bool). makers_then b word (counts_at k i) (makers_at i before)) (sym (keeps_past 0 at i (omega arith)));
-              long = long;
-            };
-      }
-
   module _ (i : ℕ) (r : Counts) (after : List ℕ) (s : KeptBy i at e word k before r after) where
     same_keeps : (j : ℕ) → i ≡ at → keeps i at j ≡ keeps (i + 1) at j
     same_keeps j o = go (eqb j i) refl
@@ -118,7 +98,10 @@ module _ (at : ℕ) (e : Edit) (word : ℕ) (k : Counts) (before : List ℕ) whe
       abbrev v : Line
       v = counts_at k i
 
-      -- its words and origins are still as they came
+      -- its counts, words and origins are still as they came
+      pub uncounted : counts_at r i ≡ counts_at k i
+      uncounted = s.counts i lt ∙ ap (λ (b : Bool). counts_then b v) (keeps_past i at i (omega arith))
+
       untouched : slots_at i after ≡ slots_at i before
       untouched = s.words.slots i lt ∙ ap (λ (b : Bool). slots_then b e v (slots_at i before)) (keeps_past i at i (omega arith))
 
@@ -186,12 +169,3 @@ module _ (at : ℕ) (e : Edit) (word : ℕ) (k : Counts) (before : List ℕ) whe
                     long = named.long;
                   };
             }
-
--- ---- an edit is kept by the n lines in use, an acknowledgement by none
-
-module _ (n at : ℕ) (e : Edit) (word : ℕ) (k r : Counts) (before after : List ℕ) (b : Bool) where
-  pub edit_kept : b ≡ true → KeptBy n at e word k before r after → KeptBy (cond b n 0) at e word k before r after
-  edit_kept t s = subst (λ (c : Bool). KeptBy (cond c n 0) at e word k before r after) (sym t) s
-
-  pub none_kept : b ≡ false → KeptBy 0 at e word k before r after → KeptBy (cond b n 0) at e word k before r after
-  none_kept f s = subst (λ (c : Bool). KeptBy (cond c n 0) at e word k before r after) (sym f) s

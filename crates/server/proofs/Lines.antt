@@ -3,18 +3,15 @@ use Prim.Native.Nat.{ℕ, zero, suc, ◌+◌, ◌-◌, ◌*◌, ◌≤◌, ◌<�
 use native.Mathlib.Numerals.{add-one}
 use native.Mathlib.Nat.{zero-add}
 use native.Mathlib.Omega.{arith}
-use mathlib.Core.Path.{◌≡◌, refl, ap, ap₂, sym, ◌∙◌}
-use mathlib.Core.Bool.{Bool}
+use mathlib.Core.Path.{◌≡◌, refl, ap, sym, ◌∙◌}
 use mathlib.Core.List.{List, [], ◌∷◌}
 use lib.ListN.{length, get_or, get_or-eq_default}
-use Rattle.model.specs.Ranks.{rank_of}
 use Rattle.model.specs.Line as line
 use Rattle.model.specs.Server as model
 use Rattle.line.specs.declared.Line.{Line}
-use Rattle.server.specs.Right.{sound_either}
 use Rattle.server.specs.declared.Counts.{Counts}
 use Rattle.server.specs.View.{counts_at, line_at, lines_from, makers_of, makers_from}
-use Rattle.server.specs.Totals.{total_of, line_sound_at}
+use Rattle.server.specs.Totals.{total_of}
 
 module _ (k : Counts) (words : List ℕ) where
   pub lines_length : (i count : ℕ) → length (lines_from k words i count) ≡ count
@@ -85,11 +82,6 @@ rest_turn f k n i h =
     ap (λ (c : ℕ). model.total f (lines_from k [] i c)) more
     ∙ ap (λ (j : ℕ). f (line_at k [] i) + model.total f (lines_from k [] j (n - (i + 1)))) (sym (add-one i))
 
-rest_start : (f : line.Line → ℕ) (k : Counts) → rest f k k.n 0 ≡ total_of f k
-rest_start f k =
-    let all : k.n - 0 ≡ k.n = omega arith in
-    ap (λ (c : ℕ). model.total f (lines_from k [] 0 c)) all
-
 rest_end : (f : line.Line → ℕ) (k : Counts) (n i : ℕ) → n ≤ i → rest f k n i ≡ 0
 unfolding lines_from
 rest_end f k n i h =
@@ -103,16 +95,6 @@ pub record Adding (k : Counts) (n i t s : ℕ) : Type 0 where
   pub taken : t + model.total (λ v. v.taken) (lines_from k [] i (n - i)) ≡ total_of (λ v. v.taken) k
   pub inserts : s + model.total (λ v. v.inserts) (lines_from k [] i (n - i)) ≡ total_of (λ v. v.inserts) k
   pub few : (t ≤ 65535 * i) × (s ≤ 65535 * i)
-
-pub adding_start : (k : Counts) → Adding k k.n 0 0 0
-adding_start k =
-    record {
-      to = omega arith;
-      all = refl;
-      taken = zero-add (rest (λ v. v.taken) k k.n 0) ∙ rest_start (λ v. v.taken) k;
-      inserts = zero-add (rest (λ v. v.inserts) k k.n 0) ∙ rest_start (λ v. v.inserts) k;
-      few = (omega arith, omega arith);
-    }
 
 pub adding_turn : (k : Counts) (n i t s : ℕ) (v : Line) → i < n → v ≡ counts_at k i → v.taken ≤ 65535 → v.inserts ≤ 65535 → Adding k n i t s
     → Adding k n (i + 1) (t + v.taken) (s + v.inserts)
@@ -128,8 +110,3 @@ adding_turn k n i t s v h e ft fs a =
 pub adding_end : (k : Counts) (n i t s : ℕ) → n ≤ i → Adding k n i t s → (t ≡ total_of (λ v. v.taken) k) × (s ≡ total_of (λ v. v.inserts) k)
 adding_end k n i t s h a =
     (omega (arith, a.taken, rest_end (λ v. v.taken) k n i h), omega (arith, a.inserts, rest_end (λ v. v.inserts) k n i h))
-
--- the line at place i, by what was read of the server's numbers
-pub line_answers : (k : Counts) (words : List ℕ) (i taken rank : ℕ) (v : Line) (r : Bool) → rank ≡ rank_of k.ranks (i + 1) → v ≡ counts_at k i
-    → r ≡ sound_either k.n rank v taken words i → r ≡ line_sound_at k taken words i
-line_answers k words i taken rank v r er ev e = e ∙ ap₂ (λ (a : ℕ) (w : Line). sound_either k.n a w taken words i) er ev

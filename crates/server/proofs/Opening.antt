@@ -9,6 +9,10 @@ use lib.ListN.{length, get_or, take, replicate, length-replicate}
 use lib.Seq.{take_all}
 use borrow.Author.Tests.{leb-true, eqb-false, ne_eqb}
 use borrow.Rule.Slice.PartMut.{put_mid}
+use Rattle.std.specs.Prelude.{Ok, Err}
+use Rattle.refusal.specs.declared.Refusal.{Refusal}
+use Rattle.refusal.specs.Number.{number}
+use Rattle.refusal.proofs.Some.{number_some}
 use Rattle.limits.specs.Limits.{max_lines, max_items, max_initial, max_pending}
 use Rattle.list.specs.declared.Origin.{Origin}
 use Rattle.list.specs.Items.{stored, initial_items}
@@ -20,7 +24,7 @@ use Rattle.list.proofs.Parts.{Wrote, wrote_part}
 use Rattle.list.proofs.Places.{initial_items_lem, initial_length, origins_length}
 use Rattle.model.specs.Questions as questions
 use Rattle.model.specs.Questions.{asks, every, between, answer}
-use Rattle.line.specs.Taking.{no_report}
+use Rattle.line.specs.Taking.{done_of}
 use Rattle.model.specs.Ranks.{ranking}
 use Rattle.model.specs.Line as line
 use Rattle.model.specs.Server as model
@@ -28,15 +32,14 @@ use Rattle.model.proofs.Tests.{and_left, and_right}
 use Rattle.ranks.specs.Stored as ranks
 use Rattle.ranks.proofs.Laws.{stored_length}
 use Rattle.pending.specs.Slots as pending
+use Rattle.line.specs.declared.Line.{Line}
 use Rattle.line.specs.Line.{counts_of}
 use Rattle.line.proofs.Stored.{no_words}
 use Rattle.server.specs.declared.Counts.{Counts}
 use Rattle.server.specs.declared.Server.{Server}
-use Rattle.server.specs.declared.Answer.{Answer}
-use Rattle.server.specs.declared.Changed.{Changed}
 use Rattle.server.specs.View.{size, origins, server_of, store}
-use Rattle.server.specs.Answers.{given, opened, refused_counts, answer_of}
-use Rattle.server.specs.Opening.{open_asked, fresh_counts, OpenWords}
+use Rattle.server.specs.Answers.{given, opened}
+use Rattle.server.specs.Opening.{open_asked, OpenWords}
 use Rattle.server.proofs.Loops.{base, makers_base}
 use Rattle.server.proofs.Rows.{Row, store_is}
 
@@ -100,6 +103,10 @@ module _ (items words : List ℕ) (short : length items ≤ max_initial) (blank 
 
 -- ---- a server over whose lines nothing has come
 
+abbrev pub fresh : ℕ → List ℕ → ℕ → ℕ → Counts
+fresh n ranks len total =
+    record { n = n; initial = len; len = len; total = total; ranks = ranks; lines = replicate max_lines (counts_of line.no_line) }
+
 module _ (n : ℕ) (few : n ≤ max_lines) (rs places : List ℕ) (kept : places ≡ ranks.stored rs) (items words : List ℕ) (w : OpenWords items words)
     (total : ℕ) (summed : total ≡ total_seconds items) where
   abbrev new : model.Server
@@ -114,12 +121,12 @@ module _ (n : ℕ) (few : n ≤ max_lines) (rs places : List ℕ) (kept : places
       }
 
   abbrev k : Counts
-  k = fresh_counts n places (length items) total
+  k = fresh n places (length items) total
 
   row : (i : ℕ) → i < max_lines → Row k words i line.no_line []
   row i h = record { counts = same_at max_lines i (counts_of line.no_line); slots = w.slots i h ∙ sym no_words; makers = w.makers i h }
 
-  fresh_is : server_of (fresh_counts n places (length items) total) words ≡ store new
+  fresh_is : server_of (fresh n places (length items) total) words ≡ store new
   fresh_is =
       store_is new (omega (arith, length-replicate n line.no_line)) (omega (arith, length-replicate {A = List Origin} n [])) k words
       (record { words = w.long; lines = refl; ranks = ap length kept ∙ stored_length rs })
@@ -140,16 +147,6 @@ module _ (n : ℕ) (few : n ≤ max_lines) (rs places : List ℕ) (kept : places
 module _ (n : ℕ) (rs : List ℕ) (items : ℕ) where
   abbrev open_test : Bool
   open_test = (leb 1 n && leb n 8) && leb items 128
-
-  -- each way that the code ends
-  pub ask_right : (r : Bool) → ((leb 1 n && leb n 8) && leb items 128) ≡ true → r ≡ ranking n rs → r ≡ true → 0 ≡ open_asked n rs items
-  ask_right r t e y = sym (ap (λ (b : Bool). cond b (cond (ranking n rs) 0 16) 1) t ∙ ap (λ (b : Bool). cond {A = ℕ} b 0 16) (sym e ∙ y))
-
-  pub ask_unranked : (r : Bool) → ((leb 1 n && leb n 8) && leb items 128) ≡ true → r ≡ ranking n rs → r ≡ false → 16 ≡ open_asked n rs items
-  ask_unranked r t e y = sym (ap (λ (b : Bool). cond b (cond (ranking n rs) 0 16) 1) t ∙ ap (λ (b : Bool). cond {A = ℕ} b 0 16) (sym e ∙ y))
-
-  pub ask_wrong : ((leb 1 n && leb n 8) && leb items 128) ≡ false → 1 ≡ open_asked n rs items
-  ask_wrong f = sym (ap (λ (b : Bool). cond b (cond (ranking n rs) 0 16) 1) f)
 
   -- both said yes
   asked_test : open_asked n rs items ≡ 0 → open_test ≡ true
@@ -190,40 +187,43 @@ module _ (n : ℕ) (rs items : List ℕ) where
         makers = replicate n [];
       }
 
-  abbrev opened_by : ℕ → Answer
+  abbrev opened_by : ℕ → questions.Answer Server
   opened_by r = given (store model.no_server) (answer r model.no_server next questions.no_report)
 
-  pub open_done : (r : ℕ) (places words : List ℕ) (total : ℕ) (k : Counts) → r ≡ open_asked n rs (length items) → r ≡ 0 → OpenWords items words
-      → places ≡ ranks.stored rs → total ≡ total_seconds (take (length items) items) → k ≡ fresh_counts n places (length items) total
-      → answer_of (record { refusal = 0; report = no_report; counts = k }) words ≡ opened n rs items
+  pub open_done : (places words : List ℕ) (total : ℕ) (lines : List Line) → 0 ≡ open_asked n rs (length items) → OpenWords items words
+      → places ≡ ranks.stored rs → total ≡ total_seconds (take (length items) items) → lines ≡ replicate max_lines (counts_of line.no_line)
+      → done_of (Ok tt) (server_of (record { n = n; initial = length items; len = length items; total = total; ranks = places; lines = lines }) words) ≡ opened n rs items
   unfolding model.open_server answer
-  open_done r places words total k e z w p summed ek =
-      ap (λ (c : Counts). record { refusal = 0; report = no_report; server = server_of c words }) ek
-      ∙ ap (λ (s : Server). record { refusal = 0; report = no_report; server = s }) (fresh_is n (asked_few n rs (length items) (sym e ∙ z)) rs places p items words w total (summed ∙ ap total_seconds (take_all (length items) items (omega arith))))
-      ∙ sym (ap opened_by (asked ∙ sym e ∙ z))
+  open_done places words total lines z w p summed el =
+      ap (λ (l : List Line). done_of (Ok tt) (server_of (record { n = n; initial = length items; len = length items; total = total; ranks = places; lines = l }) words)) el
+      ∙ ap (λ (s : Server). done_of (Ok tt) s) (fresh_is n (asked_few n rs (length items) (sym z)) rs places p items words w total (summed ∙ ap total_seconds (take_all (length items) items (omega arith))))
+      ∙ sym (ap opened_by (asked ∙ sym z))
 
   -- a refused server is all zeros
-  module _ (words : List ℕ) (blank : words ≡ replicate size 0) where
-    nothing : server_of (fresh_counts 0 (replicate max_lines 0) 0 0) words ≡ store model.no_server
-    unfolding initial_from total_seconds
-    nothing =
-        fresh_is 0 (omega arith) [] (replicate max_lines 0) refl [] words
-        (record {
-          items = zeros_part 0 max_items size words blank (omega arith);
-          origins = zeros_part origins max_items size words blank (omega arith);
-          slots = λ i h. zeros_part (base i) pending.size size words blank (omega arith);
-          makers = λ i h. zeros_part (makers_base i) max_pending size words blank (omega arith);
-          long = ap length blank ∙ length-replicate {A = ℕ} size 0;
-        })
-        0 refl
+  pub open_refused : (s : Server) (r : Refusal) → s ≡ store model.no_server → number r ≡ open_asked n rs (length items) → done_of (Err r) s ≡ opened n rs items
+  unfolding model.open_server answer
+  open_refused s r es e =
+      ap (λ (x : Server). done_of (Err r) x) es ∙ refused_by_lem (number r) (number_some r) ∙ sym (ap opened_by (asked ∙ sym e))
+    where
+      refused_by_lem : (q₀ : ℕ) → (q₀ ≡ 0 → ⊥) → record { refusal = q₀; end = store model.no_server; report = questions.no_report } ≡ opened_by q₀
+      refused_by_lem q₀ h = simp (ne_eqb q₀ 0 h)
 
-    pub open_refused : (r : ℕ) (c : Counts) (a : Changed) → r ≡ open_asked n rs (length items) → (r ≡ 0 → ⊥) → c ≡ fresh_counts 0 (replicate max_lines 0) 0 0
-        → a ≡ refused_counts r c → answer_of a words ≡ opened n rs items
-    unfolding model.open_server answer
-    open_refused r c a e n₀ ek ea =
-        ap (λ (x : Changed). answer_of x words) ea ∙ ap (λ (x : Counts). record { refusal = r; report = no_report; server = server_of x words }) ek
-        ∙ ap (λ (s : Server). record { refusal = r; report = no_report; server = s }) nothing
-        ∙ refused_by_lem r n₀ ∙ sym (ap opened_by (asked ∙ sym e))
-      where
-        refused_by_lem : (q₀ : ℕ) → (q₀ ≡ 0 → ⊥) → record { refusal = q₀; report = no_report; server = store model.no_server } ≡ opened_by q₀
-        refused_by_lem q₀ h = simp (ne_eqb q₀ 0 h)
+-- all zeros
+pub empty_is : (words : List ℕ) → words ≡ replicate size 0 → server_of (fresh 0 (replicate max_lines 0) 0 0) words ≡ store model.no_server
+unfolding initial_from total_seconds
+empty_is words blank =
+    fresh_is 0 (omega arith) [] (replicate max_lines 0) refl [] words
+    (record {
+      items = zeros_part 0 max_items size words blank (omega arith);
+      origins = zeros_part origins max_items size words blank (omega arith);
+      slots = λ i h. zeros_part (base i) pending.size size words blank (omega arith);
+      makers = λ i h. zeros_part (makers_base i) max_pending size words blank (omega arith);
+      long = ap length blank ∙ length-replicate {A = ℕ} size 0;
+    })
+    0 refl
+
+pub no_words_lem : (store model.no_server).words ≡ replicate size 0
+no_words_lem = sym (ap (λ (s : Server). s.words) (empty_is (replicate size 0) refl))
+
+pub no_lines_lem : (store model.no_server).counts.lines ≡ replicate max_lines (counts_of line.no_line)
+no_lines_lem = sym (ap (λ (s : Server). s.counts.lines) (empty_is (replicate size 0) refl))

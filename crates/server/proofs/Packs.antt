@@ -5,6 +5,10 @@ use mathlib.Core.Path.{◌≡◌, refl, ap, sym, ◌∙◌, subst}
 use mathlib.Core.Bool.{Bool, true, false, cond}
 use mathlib.Core.List.{List, [], ◌∷◌, map}
 use lib.ListN.{get_or}
+use Rattle.std.specs.Prelude.{Result, Err}
+use Rattle.refusal.specs.declared.Refusal.{Refusal}
+use Rattle.refusal.specs.declared.Refusal.TheVariants as refusal
+use Rattle.refusal.specs.Number.{number}
 use Rattle.limits.specs.Limits.{max_lines, max_pending}
 use Rattle.list.specs.Places.{origin_at}
 use Rattle.wire.specs.Bytes.{bytes_of}
@@ -19,8 +23,7 @@ use Rattle.model.proofs.SoundServer.{server_facts, line_fact}
 use Rattle.line.specs.declared.Line.{Line}
 use Rattle.line.specs.Line.{line_of}
 use Rattle.line.proofs.Parts.{then_none}
-use Rattle.line.specs.declared.sending.Sent.{Sent}
-use Rattle.line.specs.Sending.{answered, unwritten, IsPending}
+use Rattle.line.specs.Sending.{answered, IsPending}
 use Rattle.line.specs.Packet.{Packable, origin_of, messages}
 use Rattle.line.proofs.Packets.{messages_are, packed_yes, packed_no, written_small}
 use Rattle.server.proofs.Loops.{makers_long}
@@ -50,14 +53,14 @@ sound_asked s l y = in_parts s l y [] ∙ then_none (model.asks (line_asked s l)
 
 -- a sending of any kind at a server that is sound, or is not
 module _ (s : Server) (a : model.Sent) (lent : List ℕ) where
-  by_sound : (b : Bool) → sound s ≡ b → cond b a (answered (unwritten 2) lent) ≡ guarded_sending s a lent
+  by_sound : (b : Bool) → sound s ≡ b → cond b a (answered (Err refusal.Unsound) lent) ≡ guarded_sending s a lent
   unfolding guarded_sending
-  by_sound b e = ap (λ (x : Bool). cond x a (answered (unwritten 2) lent)) (sym e)
+  by_sound b e = ap (λ (x : Bool). cond x a (answered (Err refusal.Unsound) lent)) (sym e)
 
   sound_sending : sound s ≡ true → a ≡ guarded_sending s a lent
   sound_sending y = by_sound true y
 
-  unsound_sending : sound s ≡ false → answered (unwritten 2) lent ≡ guarded_sending s a lent
+  unsound_sending : sound s ≡ false → answered (Err refusal.Unsound) lent ≡ guarded_sending s a lent
   unsound_sending n = by_sound false n
 
 module _ (k : Counts) (words : List ℕ) (l : ℕ) where
@@ -69,20 +72,18 @@ module _ (k : Counts) (words : List ℕ) (l : ℕ) where
 
   -- ---- question 2 or 4 said no
 
-  pub pack_refused : (lent : List ℕ) (offset : ℕ) (t : Sent) (r : ℕ) → r ≡ model.asks (line_asked (server_of k words) l) → (r ≡ 0 → ⊥) → t ≡ unwritten r
-      → answered t lent ≡ packed_edits (server_of k words) l lent offset
+  pub pack_refused : (lent : List ℕ) (offset : ℕ) (r : Refusal) → number r ≡ model.asks (line_asked (server_of k words) l)
+      → answered (Err r) lent ≡ packed_edits (server_of k words) l lent offset
   unfolding pack_server
-  pack_refused lent offset t r e n et = ap (λ (q : Sent). answered q lent) et ∙ go (sound s) refl
+  pack_refused lent offset r e = go (sound s) refl
     where
-      go : (b : Bool) → sound s ≡ b → answered (unwritten r) lent ≡ packed_edits s l lent offset
+      go : (b : Bool) → sound s ≡ b → answered (Err r) lent ≡ packed_edits s l lent offset
       go true y =
-          let same : r ≡ model.asks (questions s l) = e ∙ sym (sound_asked s l y) in
-          ap (λ (q : ℕ). answered (unwritten q) lent) same
-          ∙ packed_no (questions s l) (written s l) offset lent (numbered s l) (λ z. n (same ∙ z))
+          packed_no (questions s l) (written s l) offset lent (numbered s l) r (e ∙ sym (sound_asked s l y))
           ∙ sound_sending s (pack_server (view s) l lent offset) lent y
       go false f =
-          let two : r ≡ 2 = e ∙ ap (λ (b : Bool). cond {A = ℕ} b (cond (model.between 1 k.n l) 0 4) 2) f in
-          ap (λ (q : ℕ). answered (unwritten q) lent) two ∙ unsound_sending s (pack_server (view s) l lent offset) lent f
+          let two : number r ≡ 2 = e ∙ ap (λ (b : Bool). cond {A = ℕ} b (cond (model.between 1 k.n l) 0 4) 2) f in
+          ap (λ (q : ℕ). record { refusal = q; written = 0; buffer = lent }) two ∙ unsound_sending s (pack_server (view s) l lent offset) lent f
 
   -- ---- both said yes
 
@@ -132,14 +133,14 @@ module _ (k : Counts) (words : List ℕ) (l : ℕ) where
       pub pack_able : Packable u xs os
       pack_able = subst (λ (x : Line). Packable x xs os) (sym eu) (subst (λ (x : List ℕ). Packable v x os) (sym ex) (subst (Packable v slots) (sym eo) able))
 
-      pub pack_done : (lent : List ℕ) (offset : ℕ) (r : ℕ) → r ≡ model.asks (line_asked (server_of k words) l) → r ≡ 0 → (t : Sent) (out : List ℕ)
+      pub pack_done : (lent : List ℕ) (offset : ℕ) → 0 ≡ model.asks (line_asked (server_of k words) l) → (t : Result ℕ Refusal) (out : List ℕ)
           → answered t out ≡ packed [] (messages l 1 u xs os) offset lent → answered t out ≡ packed_edits (server_of k words) l lent offset
       unfolding pack_server
-      pack_done lent offset r er z t out et =
+      pack_done lent offset z t out et =
           let read : messages l 1 u xs os ≡ messages l 1 v slots makers = λ i. messages l 1 (eu i) (ex i) (eo i) in
           et
           ∙ ap (λ (ms : List (List ℕ)). packed [] ms offset lent) (read ∙ all_messages)
-          ∙ packed_yes (questions s l) (written s l) offset lent (numbered s l) (sound_asked s l h.yes ∙ sym er ∙ z)
+          ∙ packed_yes (questions s l) (written s l) offset lent (numbered s l) (sound_asked s l h.yes ∙ sym z)
           ∙ sound_sending s (pack_server (view s) l lent offset) lent h.yes
 
 -- At most 64 messages of 17 bytes, so that the length of what is written fits 16 bits.

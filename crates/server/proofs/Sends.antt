@@ -9,6 +9,11 @@ use lib.Dec.{leb, eqb, lit<}
 use lib.ListN.{length, get_or, take, get_or-map}
 use lib.Seq.{get_or-take}
 use borrow.Author.Tests.{eqb-true, eqb-false}
+use Rattle.std.specs.Prelude.{Result, Ok, Err, OnOk, ⊤}
+use Rattle.refusal.specs.declared.Refusal.{Refusal}
+use Rattle.refusal.specs.declared.Refusal.TheVariants as refusal
+use Rattle.refusal.specs.Number.{number as number_of, refused_by}
+use Rattle.refusal.proofs.Some.{number_some}
 use Rattle.limits.specs.Limits.{max_edits}
 use Rattle.list.specs.declared.Origin.{Origin}
 use Rattle.list.specs.Places.{origin_at}
@@ -22,11 +27,10 @@ use Rattle.model.specs.Server as model
 use Rattle.model.proofs.Tests.{and_left, hold, yes_all, between_true}
 use Rattle.model.proofs.SoundServer.{maker_at_lem}
 use Rattle.line.specs.declared.Line.{Line}
-use Rattle.line.specs.Line.{line_of, Kept}
+use Rattle.line.specs.Line.{line_of}
 use Rattle.line.specs.Keeping.{then_asked}
 use Rattle.line.proofs.Parts.{then_yes, then_no, then_none, asks_append}
-use Rattle.line.specs.declared.sending.Sent.{Sent}
-use Rattle.line.specs.Sending.{answered, unwritten, number_asked, finished, IsPending}
+use Rattle.line.specs.Sending.{answered, number_asked, finished}
 use Rattle.line.proofs.Sends.{number_pending, send_asked_lem, refused_sent}
 use Rattle.server.specs.declared.Counts.{Counts}
 use Rattle.server.specs.declared.Server.{Server}
@@ -42,19 +46,6 @@ use Rattle.server.proofs.Facts.{sizes, lines_few, makers_view, at_makers}
 module _ (s : Server) (l : ℕ) where
   abbrev on : Bool
   on = between 1 s.counts.n l
-
-  asked : (a b : Bool) → sound s ≡ a → on ≡ b → cond a (cond b 0 4) 2 ≡ asks (line_asked s l)
-  asked a b ea eb = sym (ap₂ (λ (x y : Bool). cond {A = ℕ} x (cond y 0 4) 2) ea eb)
-
-  -- each way that the code ends
-  pub line_right : (r : Bool) → r ≡ sound s → r ≡ true → between 1 s.counts.n l ≡ true → 0 ≡ asks (line_asked s l)
-  line_right r e y t = asked true true (sym e ∙ y) t
-
-  pub line_off : (r : Bool) → r ≡ sound s → r ≡ true → between 1 s.counts.n l ≡ false → 4 ≡ asks (line_asked s l)
-  line_off r e y f = asked true false (sym e ∙ y) f
-
-  pub line_unsound : (r : Bool) → r ≡ sound s → r ≡ false → 2 ≡ asks (line_asked s l)
-  line_unsound r e n = asked false on (sym e ∙ n) refl
 
   -- both said yes
   pub line_yes : asks (line_asked s l) ≡ 0 → (sound s ≡ true) × (OnLine s.counts l)
@@ -79,22 +70,22 @@ module _ (s : Server) (l : ℕ) where
 module _ (s : Server) (q : ℕ) (bytes lent : List ℕ) where
   sound_sends : sound s ≡ true → sent q bytes lent ≡ guarded_sending s (sent q bytes lent) lent
   unfolding guarded_sending
-  sound_sends y = sym (ap (λ (b : Bool). cond b (sent q bytes lent) (answered (unwritten 2) lent)) y)
+  sound_sends y = sym (ap (λ (b : Bool). cond b (sent q bytes lent) (answered (Err refusal.Unsound) lent)) y)
 
-  unsound_sends : sound s ≡ false → answered (unwritten 2) lent ≡ guarded_sending s (sent q bytes lent) lent
+  unsound_sends : sound s ≡ false → answered (Err refusal.Unsound) lent ≡ guarded_sending s (sent q bytes lent) lent
   unfolding guarded_sending
-  unsound_sends f = sym (ap (λ (b : Bool). cond b (sent q bytes lent) (answered (unwritten 2) lent)) f)
+  unsound_sends f = sym (ap (λ (b : Bool). cond b (sent q bytes lent) (answered (Err refusal.Unsound) lent)) f)
 
   -- where the code's questions are the model's first
-  refused_sends : (l more last r : ℕ) (t : Sent) → r ≡ then_asked (asks (line_asked s l)) more → (r ≡ 0 → ⊥) → t ≡ unwritten r
-      → (sound s ≡ true → q ≡ then_asked r last) → answered t lent ≡ guarded_sending s (sent q bytes lent) lent
-  refused_sends l more last r t e n et eq = ap (λ (x : Sent). answered x lent) et ∙ go (sound s) refl
+  refused_sends : (l more last : ℕ) (r : Refusal) → number_of r ≡ then_asked (asks (line_asked s l)) more
+      → (sound s ≡ true → q ≡ then_asked (number_of r) last) → answered (Err r) lent ≡ guarded_sending s (sent q bytes lent) lent
+  refused_sends l more last r e eq = go (sound s) refl
     where
-      go : (b : Bool) → sound s ≡ b → answered (unwritten r) lent ≡ guarded_sending s (sent q bytes lent) lent
+      go : (b : Bool) → sound s ≡ b → answered (Err r) lent ≡ guarded_sending s (sent q bytes lent) lent
       go true y =
-          refused_sent r bytes lent n ∙ ap (λ (x : ℕ). sent x bytes lent) (sym (then_no r last n) ∙ sym (eq y)) ∙ sound_sends y
+          refused_sent r bytes lent ∙ ap (λ (x : ℕ). sent x bytes lent) (sym (then_no (number_of r) last (number_some r)) ∙ sym (eq y)) ∙ sound_sends y
       go false f =
-          ap (λ (x : ℕ). answered (unwritten x) lent)
+          ap (λ (x : ℕ). record { refusal = x; written = 0; buffer = lent })
           (e ∙ ap (λ (b : Bool). then_asked (cond b (cond (between 1 s.counts.n l) 0 4) 2) more) f)
           ∙ unsound_sends f
 
@@ -107,23 +98,15 @@ module _ (k : Counts) (words : List ℕ) (l number : ℕ) where
   abbrev v : Line
   v = counts_at k (l - 1)
 
-  -- each way that the code ends
-  pub asked_line : (r : ℕ) → r ≡ asks (line_asked (server_of k words) l) → (r ≡ 0 → ⊥) → r ≡ send_asked (server_of k words) l number
-  asked_line r e n = e ∙ sym (then_no (asks (line_asked s l)) (asks (number_asked v number)) (λ z. n (e ∙ z)))
-
-  pub asked_number : (q r : ℕ) (u : Line) → q ≡ asks (line_asked (server_of k words) l) → q ≡ 0 → u ≡ counts_at k (l - 1) → r ≡ asks (number_asked u number)
-      → r ≡ send_asked (server_of k words) l number
-  asked_number q r u e z eu er =
-      er ∙ ap (λ (w : Line). asks (number_asked w number)) eu ∙ sym (then_yes (asks (line_asked s l)) (asks (number_asked v number)) (sym e ∙ z))
-
-  pub sendable : (r : ℕ) (u : Line) → Sound (server_of k words) × OnLine k l → u ≡ counts_at k (l - 1) → r ≡ asks (number_asked u number) → r ≡ 0
-      → Sendable k words l number
-  sendable r u h eu er z =
+  pub sendable : (r : Result ⊤ Refusal) (u : Line) → Sound (server_of k words) × OnLine k l → u ≡ counts_at k (l - 1)
+      → refused_by r ≡ asks (number_asked u number) → OnOk r (Sendable k words l number)
+  sendable (Ok x) u h eu er =
       record {
         sound = h.0;
         on = h.1;
-        pending = number_pending v number (ap (λ (w : Line). asks (number_asked w number)) (sym eu) ∙ sym er ∙ z);
+        pending = number_pending v number (ap (λ (w : Line). asks (number_asked w number)) (sym eu) ∙ sym er);
       }
+  sendable (Err r) u h eu er = tt
 
 -- ---- the message of a pending edit
 
@@ -144,12 +127,6 @@ module _ (k : Counts) (words : List ℕ) (l : ℕ) where
 
     pub all_sizes : Sizes k words
     all_sizes = sizes k words h.sound
-
-    -- what the code of the message asks
-    pub ready : (u : Line) (ws : List ℕ) → u ≡ counts_at k (l - 1) → ws ≡ slots_at (l - 1) words → IsPending u number × Kept u ws
-    ready u ws eu ew =
-        subst (λ (x : Line). IsPending x number × Kept x ws) (sym eu)
-        (h.pending, subst (Kept (counts_at k (l - 1))) (sym ew) (h.sound.kept (l - 1) place_below))
 
     used : l - 1 < k.n
     used = omega (arith, h.on)
@@ -239,21 +216,21 @@ module _ (k : Counts) (words : List ℕ) (l number : ℕ) (lent : List ℕ) wher
       ap (λ (w : line.Line). asks (line.send_questions w number msg lent)) (own_line k words l (line_yes end l z).1)
       ∙ send_asked_lem (counts_at k (l - 1)) (slots_at (l - 1) words) number msg lent)
 
-  pub send_refused : (t : Sent) (r : ℕ) → r ≡ send_asked (server_of k words) l number → (r ≡ 0 → ⊥) → t ≡ unwritten r
-      → answered t lent ≡ sent_edit (server_of k words) l number lent
+  pub send_refused : (r : Refusal) → number_of r ≡ send_asked (server_of k words) l number
+      → answered (Err r) lent ≡ sent_edit (server_of k words) l number lent
   unfolding model.send_server
-  send_refused t r e n et =
-      refused_sends end (asks (model.send_server_questions mine l number lent)) (bytes_of msg) lent l (asks (number_asked (counts_at k (l - 1)) number)) (asks last) r t e n et
+  send_refused r e =
+      refused_sends end (asks (model.send_server_questions mine l number lent)) (bytes_of msg) lent l (asks (number_asked (counts_at k (l - 1)) number)) (asks last) r e
       (λ y. then_asked_lem y ∙ ap (λ (x : ℕ). then_asked x (asks last)) (sym e))
 
-  pub send_done : (t : Sent) (after : List ℕ) (w : Message) (r : ℕ) → r ≡ send_asked (server_of k words) l number → r ≡ 0 → Sendable k words l number
+  pub send_done : (t : Result ℕ Refusal) (after : List ℕ) (w : Message) → 0 ≡ send_asked (server_of k words) l number → Sendable k words l number
       → w ≡ model.server_message (view (server_of k words)) l number → answered t after ≡ finished w lent
       → answered t after ≡ sent_edit (server_of k words) l number lent
   unfolding model.send_server
-  send_done t after w r e z h ew et =
+  send_done t after w z h ew et =
       let y = h.sound.yes in
       et ∙ ap (λ (x : Message). finished x lent) ew
-      ∙ ap (λ (x : ℕ). sent x (bytes_of msg) lent) (sym (then_asked_lem y ∙ then_yes (send_asked end l number) (asks last) (sym e ∙ z)))
+      ∙ ap (λ (x : ℕ). sent x (bytes_of msg) lent) (sym (then_asked_lem y ∙ then_yes (send_asked end l number) (asks last) (sym z)))
       ∙ sound_sends end (asks (model.send_server_questions mine l number lent)) (bytes_of msg) lent y
 
 -- ---- an acknowledgement
@@ -274,20 +251,19 @@ module _ (k : Counts) (words : List ℕ) (l : ℕ) (lent : List ℕ) where
   tell_asks : sound end' ≡ true → asks (model.tell_server_questions (view end') l lent) ≡ then_asked (asks (line_asked end' l)) (asks room)
   tell_asks y = in_parts end' l y room
 
-  pub tell_refused : (t : Sent) (r : ℕ) → r ≡ asks (line_asked (server_of k words) l) → (r ≡ 0 → ⊥) → t ≡ unwritten r
-      → answered t lent ≡ sent_ack (server_of k words) l lent
+  pub tell_refused : (r : Refusal) → number_of r ≡ asks (line_asked (server_of k words) l) → answered (Err r) lent ≡ sent_ack (server_of k words) l lent
   unfolding model.tell_server
-  tell_refused t r e n et =
-      refused_sends end' (asks (model.tell_server_questions (view end') l lent)) (bytes_of (ack taken)) lent l 0 (asks room) r t
-      (e ∙ sym (then_none (asks (line_asked end' l)))) n et
+  tell_refused r e =
+      refused_sends end' (asks (model.tell_server_questions (view end') l lent)) (bytes_of (ack taken)) lent l 0 (asks room) r
+      (e ∙ sym (then_none (asks (line_asked end' l))))
       (λ y. tell_asks y ∙ ap (λ (x : ℕ). then_asked x (asks room)) (sym e))
 
-  pub tell_done : (t : Sent) (after : List ℕ) (r : ℕ) (u : Line) → r ≡ asks (line_asked (server_of k words) l) → r ≡ 0 → u ≡ counts_at k (l - 1)
+  pub tell_done : (t : Result ℕ Refusal) (after : List ℕ) (u : Line) → 0 ≡ asks (line_asked (server_of k words) l) → u ≡ counts_at k (l - 1)
       → answered t after ≡ finished (message.Ack l 1 u.taken) lent → answered t after ≡ sent_ack (server_of k words) l lent
   unfolding model.tell_server bytes_of
-  tell_done t after r u e z eu et =
-      let y = line_yes end' l (sym e ∙ z) in
+  tell_done t after u z eu et =
+      let y = line_yes end' l (sym z) in
       let same : u.taken ≡ taken = ap (λ (w : Line). w.taken) eu ∙ ap (λ (w : line.Line). w.taken) (sym (own_line k words l y.1)) in
       et ∙ ap (λ (x : ℕ). finished (ack x) lent) same
-      ∙ ap (λ (x : ℕ). sent x (bytes_of (ack taken)) lent) (sym (tell_asks y.0 ∙ then_yes (asks (line_asked end' l)) (asks room) (sym e ∙ z)))
+      ∙ ap (λ (x : ℕ). sent x (bytes_of (ack taken)) lent) (sym (tell_asks y.0 ∙ then_yes (asks (line_asked end' l)) (asks room) (sym z)))
       ∙ sound_sends end' (asks (model.tell_server_questions (view end') l lent)) (bytes_of (ack taken)) lent y.0

@@ -7,6 +7,10 @@ use mathlib.Core.List.{List, [], ◌∷◌}
 use lib.Dec.{leb, eqb}
 use lib.ListN.{take}
 use borrow.Author.Tests.{eqb-false}
+use Rattle.std.specs.Prelude.{Option, Some, None, Ok, Err}
+use Rattle.refusal.specs.declared.Refusal.{Refusal}
+use Rattle.refusal.specs.Number.{number}
+use Rattle.refusal.proofs.Some.{number_some}
 use Rattle.limits.specs.Limits.{max_inserts}
 use Rattle.ot.specs.declared.Form.{Form}
 use Rattle.ot.specs.declared.Form.TheVariants as form
@@ -14,8 +18,6 @@ use Rattle.ot.specs.Edit.{edit, form_of, item_of, applied_as}
 use Rattle.wire.specs.declared.Header.{Header}
 use Rattle.wire.specs.declared.Message.{Message}
 use Rattle.wire.specs.declared.Message.TheVariants as message
-use Rattle.wire.specs.declared.Read.{Read}
-use Rattle.wire.specs.declared.Read.TheVariants as read
 use Rattle.wire.specs.Bytes.{parsed}
 use Rattle.model.specs.Cross.{priority, inserts_of}
 use Rattle.model.specs.Ranks.{rank_of}
@@ -26,20 +28,19 @@ use Rattle.line.specs.Keeping.{then_asked}
 use Rattle.line.proofs.Parts.{then_none}
 use Rattle.line.specs.declared.taking.Arrival.{Arrival}
 use Rattle.line.specs.declared.taking.Decision.{Decision}
-use Rattle.line.specs.Taking.{carrying, arrival_of, refusal_of, edit_then, report_of, report_in}
+use Rattle.line.specs.Taking.{carrying, arrival_of, refusal_of, edit_then, report_of, report_in, answer_of}
 use Rattle.line.proofs.Asked.{edit_asked_lem, ack_asked}
 use Rattle.line.proofs.Decisions.{priority_form, then_item}
 use Rattle.server.specs.declared.Counts.{Counts}
 use Rattle.server.specs.declared.Server.{Server}
-use Rattle.server.specs.declared.Changed.{Changed}
 use Rattle.server.specs.View.{slots_at, counts_at, line_at, server_of, view, store, Sound}
-use Rattle.server.specs.Answers.{refused_with, refused_counts, answer_of, guarded, taken, taken_message}
-use Rattle.server.specs.Decides.{is_own, up_to, place_of, refusal_at, Decided}
+use Rattle.server.specs.Answers.{refused_with, guarded, taken, taken_message}
+use Rattle.server.specs.Decides.{is_own, up_to, place_of, refusal_at, refused, Decided}
 use Rattle.server.specs.Taking.{server_then}
 use Rattle.server.proofs.Answers as ends
 use Rattle.server.proofs.Facts.{facts, at_view}
 use Rattle.server.proofs.Asked.{up_line, own_rank_lem, roomy_model}
-use Rattle.server.proofs.Decided.{Accepted, told_refusal, accepts}
+use Rattle.server.proofs.Decided.{Accepted, accepts}
 
 -- the last of three tests may be changed where the second says yes
 where_so : (a b x y : Bool) → (b ≡ true → x ≡ y) → (a && b && x) ≡ (a && b && y)
@@ -52,7 +53,7 @@ module _ (k : Counts) (words : List ℕ) (h : Sound (server_of k words)) where
   m = view (server_of k words)
 
   abbrev pub refusal : Arrival → ℕ
-  refusal a = cond (up_to k a) (refusal_at k words a) 4
+  refusal a = refused k words a
 
   abbrev pub report : Arrival → Report
   report a = report_of (model.line_of (view (server_of k words)) a.line) a
@@ -142,17 +143,16 @@ module _ (k : Counts) (words : List ℕ) (h : Sound (server_of k words)) where
 
   -- ---- and was decided
 
-  module _ (t : Message) (a : Arrival) (ea : a ≡ arrival_of t) (d : Decision) (later : List ℕ) (r : Decided k words a d later) where
-    pub refuses : (c : Changed) → c ≡ refused_counts d.refusal k → (d.refusal ≡ 0 → ⊥) → answer_of c words ≡ taken_message (server_of k words) t
-    refuses c e n =
-        ap (λ (x : Changed). answer_of x words) e
-        ∙ ends.refused (server_of k words) d.refusal (report a) (server_then m a) h.yes n
-        ∙ ap (λ (q : ℕ). guarded (server_of k words) (answer q m (server_then m a) (report a))) (told_refusal k words a d later r)
+  module _ (t : Message) (a : Arrival) (ea : a ≡ arrival_of t) where
+    pub refuses : (r : Refusal) → number r ≡ refused k words a → answer_of (Err r) (server_of k words) ≡ taken_message (server_of k words) t
+    refuses r e =
+        ends.refused (server_of k words) (number r) (report a) (server_then m a) h.yes (number_some r)
+        ∙ ap (λ (q : ℕ). guarded (server_of k words) (answer q m (server_then m a) (report a))) e
         ∙ is_taken t a ea
 
-    module _ (z : d.refusal ≡ 0) where
+    module _ (later : List ℕ) (d : Decision) (r : Decided k words a (Ok d) later) where
       done_is : Accepted k words a d later
-      done_is = accepts k words a d later r h z
+      done_is = accepts k words a d later r h
 
       -- an item comes with an insert only
       pub item_right : a.item ≡ item_of (edit d.form a.item)
@@ -161,24 +161,24 @@ module _ (k : Counts) (words : List ℕ) (h : Sound (server_of k words)) where
           subst (λ (q : Arrival). q.item ≡ item_of (edit (form_of (edit_then w q)) q.item)) (sym ea) (then_item w t)
           ∙ ap (λ (x : Decision). item_of (edit x.form a.item)) (sym done_is.answer)
 
-      pub taken_done : (c : Counts) (after : List ℕ) → server_of c after ≡ store (server_then (view (server_of k words)) a)
-          → answer_of (record { refusal = 0; report = d.report; counts = c }) after ≡ taken_message (server_of k words) t
-      taken_done c after e =
+      pub taken_done : (new : Server) → new ≡ store (server_then (view (server_of k words)) a)
+          → answer_of (Ok d.report) new ≡ taken_message (server_of k words) t
+      taken_done new e =
           let count : d.report ≡ report_in (report a) =
           ap (λ (x : Decision). x.report) done_is.answer ∙ ap (λ (u : line.Line). report_in (report_of u a)) (sym (line_is a done_is.up)) in
-          (λ j. record { refusal = 0; report = count j; server = e j })
-          ∙ ends.done (server_of k words) (refusal a) (report a) (server_then m a) h.yes (sym (told_refusal k words a d later r) ∙ z)
+          (λ j. answer_of (Ok (count j)) (e j))
+          ∙ ends.done (server_of k words) (refusal a) (report a) (server_then m a) h.yes (sym r.refusal)
           ∙ is_taken t a ea
 
   -- ---- bytes
 
-  pub read_refused : (bytes : List ℕ) → parsed bytes ≡ read.Refused → refused_with 3 (server_of k words) ≡ taken (server_of k words) bytes
+  pub read_refused : (bytes : List ℕ) → parsed bytes ≡ None → refused_with 3 (server_of k words) ≡ taken (server_of k words) bytes
   unfolding model.take_server
   read_refused bytes p =
       ends.refused (server_of k words) 3 no_report m h.yes (eqb-false 3 0 refl)
       ∙ ap (λ (b : Bool). guarded (server_of k words) (answer (asks (ask 2 b ∷ ask 3 false ∷ [])) m m no_report)) (sym h.model)
-      ∙ ap (λ (r : Read). guarded (server_of k words) (model.server_reads m r)) (sym p)
+      ∙ ap (λ (r : Option Message). guarded (server_of k words) (model.server_reads m r)) (sym p)
 
-pub read_taken : (s : Server) (bytes : List ℕ) (t : Message) → parsed bytes ≡ read.Message t → taken_message s t ≡ taken s bytes
+pub read_taken : (s : Server) (bytes : List ℕ) (t : Message) → parsed bytes ≡ Some t → taken_message s t ≡ taken s bytes
 unfolding model.take_server
-read_taken s bytes t p = ap (λ (r : Read). guarded s (model.server_reads (view s) r)) (sym p)
+read_taken s bytes t p = ap (λ (r : Option Message). guarded s (model.server_reads (view s) r)) (sym p)

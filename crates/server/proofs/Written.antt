@@ -1,7 +1,7 @@
 -- What is written of the server's words, by parts: the words of a line, the origins of its pending edits, or the list.
 use Prim.Native.Nat.{ℕ, ◌+◌, ◌-◌, ◌*◌, ◌≤◌, ◌<◌}
 use native.Mathlib.Omega.{arith}
-use mathlib.Core.Path.{◌≡◌, refl, ap, sym, ◌∙◌, subst}
+use mathlib.Core.Path.{◌≡◌, refl, ap, ap₂, sym, ◌∙◌, subst}
 use mathlib.Core.Bool.{Bool, true, false, cond}
 use mathlib.Core.List.{List, [], ◌∷◌, ◌++◌}
 use lib.Dec.{ltb, eqb}
@@ -119,57 +119,55 @@ module _ (words os xs : List ℕ) (long : length words ≡ size) (eo : length os
         long = w.long ∙ first_long;
       }
 
--- ---- what the functions write
+-- ---- what the functions write, from one place up to another
 
-module _ (at : ℕ) (v : Line) (words : List ℕ) (h : at < max_lines) (long : length words ≡ size) where
-  -- the words of the line as they are lent
-  abbrev lent : List ℕ
-  lent = take (base at + pending.size - base at) (drop (base at) words)
+module _ (at : ℕ) (v : Line) (words : List ℕ) (h : at < max_lines) (long : length words ≡ size) (from to : ℕ) where
+  -- the words of the line
+  module _ (r : (from ≡ base at) × (to ≡ base at + pending.size)) where
+    lent_slots : take (to - from) (drop from words) ≡ slots_at at words
+    lent_slots = ap₂ (λ (a b : ℕ). take (b - a) (drop a words)) r.0 r.1 ∙ lent_is (base at) pending.size words
 
-  lent_slots : lent ≡ slots_at at words
-  lent_slots = lent_is (base at) pending.size words
+    put : (x y : List ℕ) → x ≡ y → length y ≡ pending.size → SlotsWrote at y words (put_mid from (to - from) words x)
+    put x y e n =
+        subst (SlotsWrote at y words) (λ i. put_mid (sym r.0 i) (sym r.1 i - sym r.0 i) words (sym e i)) (slots_wrote at y words h long n)
 
-  pub lent_kept : Kept v (slots_at at words) → Kept v (take (base at + pending.size - base at) (drop (base at) words))
-  lent_kept k = subst (Kept v) (sym lent_slots) k
+    -- one more edit is kept
+    pub keep_wrote : (e : Edit) (x : List ℕ) → Kept v (slots_at at words) → v.made - v.acked < max_pending
+        → x ≡ slots_kept e v (take (to - from) (drop from words)) → SlotsWrote at (slots_kept e v (slots_at at words)) words (put_mid from (to - from) words x)
+    keep_wrote e x k room ex =
+        let few : length (pending_in v (slots_at at words) ++ (e ∷ [])) ≤ max_pending =
+        omega (arith, length-append (pending_in v (slots_at at words)) (e ∷ []), pending_length v (slots_at at words) k) in
+        put x (slots_kept e v (slots_at at words)) (ex ∙ ap (slots_kept e v) lent_slots) (slots_length (pending_in v (slots_at at words) ++ (e ∷ [])) few)
 
-  -- one more edit is kept
-  pub keep_wrote : (e : Edit) (x : List ℕ) → Kept v (slots_at at words) → v.made - v.acked < max_pending
-      → x ≡ slots_kept e v (take (base at + pending.size - base at) (drop (base at) words)) → SlotsWrote at (slots_kept e v (slots_at at words)) words (put_slots at words x)
-  keep_wrote e x k room ex =
-      let new : x ≡ slots_kept e v (slots_at at words) = ex ∙ ap (slots_kept e v) lent_slots in
-      let few : length (pending_in v (slots_at at words) ++ (e ∷ [])) ≤ max_pending =
-      omega (arith, length-append (pending_in v (slots_at at words)) (e ∷ []), pending_length v (slots_at at words) k) in
-      subst (λ (y : List ℕ). SlotsWrote at y words (put_slots at words x)) new
-      (slots_wrote at x words h long (ap length new ∙ slots_length (pending_in v (slots_at at words) ++ (e ∷ [])) few))
-
-  -- what an accepted message leaves
-  pub accept_wrote : (seen : ℕ) (later x : List ℕ) → Kept v (slots_at at words) → Between v seen → length later ≡ max_pending
-      → x ≡ accepted v seen later (take (base at + pending.size - base at) (drop (base at) words))
-      → SlotsWrote at (accepted v seen later (slots_at at words)) words (put_slots at words x)
-  accept_wrote seen later x k between el ex =
-      let new : x ≡ accepted v seen later (slots_at at words) = ex ∙ ap (accepted v seen later) lent_slots in
-      let left : List ℕ = take (v.made - seen) (drop (max_pending + (seen - v.acked)) (slots_at at words)) in
-      let few : length left ≤ max_pending = omega (arith, length-take (v.made - seen) (drop (max_pending + (seen - v.acked)) (slots_at at words)), k.few, between) in
-      let size' : length (accepted v seen later (slots_at at words)) ≡ pending.size =
-      length-append later (padded 0 max_pending left) ∙ omega (arith, el, pad_length max_pending 0 left few) in
-      subst (λ (y : List ℕ). SlotsWrote at y words (put_slots at words x)) new (slots_wrote at x words h long (ap length new ∙ size'))
+    -- what an accepted message leaves
+    pub accept_wrote : (seen : ℕ) (later x : List ℕ) → Kept v (slots_at at words) → Between v seen → length later ≡ max_pending
+        → x ≡ accepted v seen later (take (to - from) (drop from words))
+        → SlotsWrote at (accepted v seen later (slots_at at words)) words (put_mid from (to - from) words x)
+    accept_wrote seen later x k between el ex =
+        let left : List ℕ = take (v.made - seen) (drop (max_pending + (seen - v.acked)) (slots_at at words)) in
+        let few : length left ≤ max_pending = omega (arith, length-take (v.made - seen) (drop (max_pending + (seen - v.acked)) (slots_at at words)), k.few, between) in
+        put x (accepted v seen later (slots_at at words)) (ex ∙ ap (accepted v seen later) lent_slots)
+        (length-append later (padded 0 max_pending left) ∙ omega (arith, el, pad_length max_pending 0 left few))
 
   -- the origins of acknowledged edits go
-  pub drop_wrote : (seen : ℕ) (x : List ℕ) → Between v seen → v.made - v.acked ≤ max_pending
-      → x ≡ makers_left v seen (take (makers_base at + max_pending - makers_base at) (drop (makers_base at) words))
-      → MakersWrote at (makers_left v seen (makers_at at words)) words (put_makers at words x)
-  drop_wrote seen x between few ex =
-      let new : x ≡ makers_left v seen (makers_at at words) = ex ∙ ap (makers_left v seen) (lent_is (makers_base at) max_pending words) in
+  pub drop_wrote : (from ≡ makers_base at) × (to ≡ makers_base at + max_pending) → (seen : ℕ) (x : List ℕ) → Between v seen → v.made - v.acked ≤ max_pending
+      → x ≡ makers_left v seen (take (to - from) (drop from words))
+      → MakersWrote at (makers_left v seen (makers_at at words)) words (put_mid from (to - from) words x)
+  drop_wrote r seen x between few ex =
+      let lent : take (to - from) (drop from words) ≡ makers_at at words =
+      ap₂ (λ (a b : ℕ). take (b - a) (drop a words)) r.0 r.1 ∙ lent_is (makers_base at) max_pending words in
+      let new : x ≡ makers_left v seen (makers_at at words) = ex ∙ ap (makers_left v seen) lent in
       let left : List ℕ = take (v.made - seen) (drop (seen - v.acked) (makers_at at words)) in
       let short : length left ≤ max_pending = omega (arith, length-take (v.made - seen) (drop (seen - v.acked) (makers_at at words)), few, between) in
-      subst (λ (y : List ℕ). MakersWrote at y words (put_makers at words x)) new (makers_wrote at x words h long (ap length new ∙ pad_length max_pending 0 left short))
+      subst (MakersWrote at (makers_left v seen (makers_at at words)) words) (λ i. put_mid (sym r.0 i) (sym r.1 i - sym r.0 i) words (sym new i))
+      (makers_wrote at (makers_left v seen (makers_at at words)) words h long (pad_length max_pending 0 left short))
 
-  -- an origin is put behind those of the line's pending edits
-  pub name_wrote : (word c : ℕ) → v.made - v.acked < max_pending → c ≡ v.made - v.acked
-      → MakersWrote at (makers_kept word v (makers_at at words)) words (set words (makers_base at + c) word)
-  name_wrote word c room ec =
-      subst (λ (y : ℕ). MakersWrote at (makers_kept word v (makers_at at words)) words (set words (makers_base at + y) word)) (sym ec)
-      (maker_wrote at (v.made - v.acked) word words h long room)
+-- an origin is put behind those of the line's pending edits
+pub name_wrote : (at : ℕ) (v : Line) (words : List ℕ) → at < max_lines → length words ≡ size → (word from c : ℕ) → v.made - v.acked < max_pending
+    → from ≡ makers_base at → c ≡ v.made - v.acked → MakersWrote at (makers_kept word v (makers_at at words)) words (set words (from + c) word)
+name_wrote at v words h long word from c room ef ec =
+    subst (λ (j : ℕ). MakersWrote at (makers_kept word v (makers_at at words)) words (set words j word)) (λ i. sym ef i + sym ec i)
+    (maker_wrote at (v.made - v.acked) word words h long room)
 
 -- an edit is applied to both parts of the list
 module _ (f : Form) (x : ℕ) (o : Origin) (len : ℕ) (words : List ℕ) (long : length words ≡ size) (room : Room (edit f x) len capacity) where

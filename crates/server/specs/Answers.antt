@@ -1,41 +1,30 @@
--- What each call of the server answers: the model's answer in structs. An end that is not sound is refused by question 2.
+-- What each call of the server answers: the model's answer about the struct. An end that is not sound is refused by question 2.
 use Rattle.std.specs.Prelude.{ℕ, cond, List, eqb}
 use Rattle.wire.specs.declared.Message.{Message}
 use Rattle.model.specs.Questions as model
 use Rattle.model.specs.Server as server
-use Rattle.line.specs.Taking.{no_report, report_in}
-use Rattle.server.specs.declared.Counts.{Counts}
 use Rattle.server.specs.declared.Server.{Server}
-use Rattle.server.specs.declared.Answer.{Answer}
-use Rattle.server.specs.declared.Changed.{Changed}
-use Rattle.server.specs.View.{server_of, view, store, sound}
+use Rattle.server.specs.View.{view, store, sound}
 
-abbrev pub refused_with : ℕ → Server → Answer
-refused_with r s = record { refusal = r; report = no_report; server = s }
+abbrev pub refused_with : ℕ → Server → model.Answer Server
+refused_with r s = record { refusal = r; end = s; report = model.no_report }
 
--- the answer of a call that was lent the words of the server, with what it left in them
-abbrev pub answer_of : Changed → List ℕ → Answer
-answer_of r words = record { refusal = r.refusal; report = r.report; server = server_of r.counts words }
+-- the model's answer in the struct: on a refusal the end is the one that came
+abbrev pub given : Server → model.Answer server.Server → model.Answer Server
+given s a = record { refusal = a.refusal; end = cond (eqb a.refusal 0) (store a.end) s; report = a.report }
 
-abbrev pub refused_counts : ℕ → Counts → Changed
-refused_counts r k = record { refusal = r; report = no_report; counts = k }
-
--- the model's answer in structs: on a refusal the end is the one that came
-abbrev pub given : Server → model.Answer server.Server → Answer
-given s a = record { refusal = a.refusal; report = report_in a.report; server = cond (eqb a.refusal 0) (store a.end) s }
-
-unfoldable pub guarded : Server → model.Answer server.Server → Answer
+unfoldable pub guarded : Server → model.Answer server.Server → model.Answer Server
 guarded s a = cond (sound s) (given s a) (refused_with 2 s)
 
--- a refused opening returns an end that is all zeros
-abbrev pub opened : ℕ → List ℕ → List ℕ → Answer
+-- a refused opening leaves an end that is all zeros
+abbrev pub opened : ℕ → List ℕ → List ℕ → model.Answer Server
 opened n ranks items = given (store server.no_server) (server.open_server n ranks items)
 
-abbrev pub taken : Server → List ℕ → Answer
+abbrev pub taken : Server → List ℕ → model.Answer Server
 taken s bytes = guarded s (server.take_server (view s) bytes)
 
 -- the same of a message that was read
-abbrev pub taken_message : Server → Message → Answer
+abbrev pub taken_message : Server → Message → model.Answer Server
 taken_message s m = guarded s (server.server_takes (view s) m)
 
 -- A sending changes no end: the answer, and the lent buffer.

@@ -1,5 +1,7 @@
 -- What the server decides about a message, by its numbers and words: the questions, and the decision of the line that it came on.
-use Rattle.std.specs.Prelude.{ℕ, ◌+◌, ◌-◌, ◌≡◌, Bool, ◌&&◌, ◌||◌, not, cond, List, [], ◌∷◌, leb, ltb, eqb}
+use Rattle.std.specs.Prelude.{Result, Ok, ℕ, ◌+◌, ◌-◌, ◌≡◌, Bool, ◌&&◌, ◌||◌, not, cond, List, [], ◌∷◌, leb, ltb, eqb}
+use Rattle.refusal.specs.declared.Refusal.{Refusal}
+use Rattle.refusal.specs.Number.{refused_by}
 use Rattle.limits.specs.Limits.{max_inserts, max_pending}
 use Rattle.ot.specs.declared.Form.{Form}
 use Rattle.ot.specs.Edit.{edit}
@@ -8,12 +10,11 @@ use Rattle.model.specs.Cross.{priority, inserts_of}
 use Rattle.model.specs.Ranks.{rank_of}
 use Rattle.model.specs.Line as model
 use Rattle.pending.specs.Slots.{all_from}
-use Rattle.line.specs.Line.{counts_of}
 use Rattle.line.specs.Keeping.{then_asked}
 use Rattle.line.specs.declared.taking.Arrival.{Arrival}
 use Rattle.line.specs.declared.taking.Decision.{Decision}
 use Rattle.line.specs.Taking as line
-use Rattle.line.specs.Taking.{edit_of, refusal_of, line_then, refusing, done, deciding, Later}
+use Rattle.line.specs.Taking.{edit_of, refusal_of, line_then, done, Later}
 use Rattle.server.specs.declared.Counts.{Counts}
 use Rattle.server.specs.View.{slots_at, counts_at, line_at}
 
@@ -52,17 +53,19 @@ abbrev pub refusal_at : Counts → List ℕ → Arrival → ℕ
 refusal_at k words a =
     then_asked (refusal_of (counts_at k (place_of a)) (line_at k words (place_of a)) k.len a) (last_refusal k a)
 
-abbrev pub decided : Counts → List ℕ → Arrival → Decision
-decided k words a =
-    cond (up_to k a)
-    (deciding (refusal_at k words a) (counts_of model.no_line) (done (line_at k words (place_of a)) (inserts_then k a) a))
-    (refusing 4 (counts_of model.no_line))
+-- what a message is refused by, or 0
+abbrev pub refused : Counts → List ℕ → Arrival → ℕ
+refused k words a = cond (up_to k a) (refusal_at k words a) 4
 
--- the decision of the line that the message came on
-abbrev pub LineDecided : Counts → List ℕ → Arrival → Decision → List ℕ → Type 0
+-- what it makes of the line that it came on
+abbrev pub then_line : Counts → List ℕ → Arrival → model.Line
+then_line k words a = line_then (line_at k words (place_of a)) (inserts_then k a) a
+
+-- the decision of that line
+abbrev pub LineDecided : Counts → List ℕ → Arrival → Result Decision Refusal → List ℕ → Type 0
 LineDecided k words a r later = line.Decided (counts_at k (place_of a)) (slots_at (place_of a) words) k.len (inserts_then k a) a r later
 
-pub record Decided (k : Counts) (words : List ℕ) (a : Arrival) (r : Decision) (later : List ℕ) : Type 0 where
-  pub answer : r ≡ decided k words a
-  pub stay : r.refusal ≡ 0 → Later (counts_at k (place_of a)) a.seen (slots_at (place_of a) words) later
-      (line_then (line_at k words (place_of a)) (inserts_then k a) a).pending
+pub record Decided (k : Counts) (words : List ℕ) (a : Arrival) (r : Result Decision Refusal) (later : List ℕ) : Type 0 where
+  pub refusal : refused_by r ≡ refused k words a
+  pub done : (d : Decision) → r ≡ Ok d → d ≡ done (line_at k words (place_of a)) (inserts_then k a) a
+  pub stay : (d : Decision) → r ≡ Ok d → Later (counts_at k (place_of a)) a.seen (slots_at (place_of a) words) later (then_line k words a).pending

@@ -1,23 +1,15 @@
--- Opening by its parts: the questions as one number, the numbers of a new server, its words.
+-- Opening by its parts: the questions as one number, and the words of a new server.
 use Rattle.std.specs.Prelude.{ℕ, ◌&&◌, cond, List, leb, replicate}
 use Rattle.limits.specs.Limits.{max_lines, max_initial, max_pending}
 use Rattle.list.specs.Items.{stored}
 use Rattle.list.specs.Places.{initial_places, origins_of}
 use Rattle.model.specs.Ranks.{ranking}
-use Rattle.model.specs.Line as line
 use Rattle.pending.specs.Slots as pending
-use Rattle.line.specs.Line.{counts_of}
-use Rattle.server.specs.declared.Counts.{Counts}
 use Rattle.server.specs.View.{Parts}
 
 -- questions 1 and 16 of an initial list of so many items
 abbrev pub open_asked : ℕ → List ℕ → ℕ → ℕ
 open_asked n ranks items = cond ((leb 1 n && leb n max_lines) && leb items max_initial) (cond (ranking n ranks) 0 16) 1
-
--- over whose lines nothing has come
-abbrev pub fresh_counts : ℕ → List ℕ → ℕ → ℕ → Counts
-fresh_counts n ranks len total =
-    record { n = n; initial = len; len = len; total = total; ranks = ranks; lines = replicate max_lines (counts_of line.no_line) }
 
 abbrev pub OpenWords : List ℕ → List ℕ → Type 0
 OpenWords items words =

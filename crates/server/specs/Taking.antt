@@ -47,9 +47,6 @@ pub record KeptBy (most at : ℕ) (e : Edit) (word : ℕ) (k : Counts) (before :
 abbrev pub makers_left : Line → ℕ → List ℕ → List ℕ
 makers_left v seen makers = padded 0 max_pending (take (v.made - seen) (drop (seen - v.acked) makers))
 
-abbrev pub with_line : Counts → ℕ → Line → ℕ → ℕ → Counts
-with_line k at v len total = record { n = k.n; initial = k.initial; len = len; total = total; ranks = k.ranks; lines = set k.lines at v }
-
 -- ---- the server
 
 -- the line that a message came on, and another, where the edit to keep is e

@@ -6,7 +6,7 @@ use Rattle.model.specs.Line as line
 use Rattle.model.specs.Server.{total}
 use Rattle.server.specs.Right.{sound_used, sound_makers, sound_either}
 use Rattle.server.specs.declared.Counts.{Counts}
-use Rattle.server.specs.declared.Totals.{Totals}
+use Rattle.server.specs.declared.soundness.Totals.{Totals}
 use Rattle.server.specs.View.{counts_at, lines_from}
 
 -- the numbers on which the other tests rest

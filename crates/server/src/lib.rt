@@ -1,26 +1,25 @@
-// The server's end of a sheet: its state, opening, and question 2.
-// The server is its numbers and one array of words. The calls get the numbers by value and change lent words in place; the methods, which
-// take the server by value and hand it back, are thin: they lend its words.
+// The server's end of a sheet: its state, and opening.
 #![tactic(auto)]
 
 mod deciding;
-pub mod packets;
+mod packets;
 mod parts;
-pub mod sending;
-pub mod taking;
+mod sending;
+mod soundness;
+mod taking;
+pub mod values;
 
-ghost use Rattle.std.specs.Prelude.{◌≡◌, true, ◌≤◌, ◌<◌, length, replicate};
-ghost use Rattle.limits.specs.Limits.{max_lines, max_initial};
-ghost use Rattle.ranks.specs.Stored.{sound_ranks};
-ghost use Rattle.pending.specs.Slots.{all_from};
-ghost use Rattle.server.specs.View.{size, counts_at, server_of, sound, Sound, Sizes};
-ghost use Rattle.server.specs.Answers.{opened, refused_counts, answer_of};
-ghost use Rattle.server.specs.Opening.{open_asked, fresh_counts, OpenWords};
-ghost use Rattle.server.specs.Totals.{in_limits, line_sound_at, Totaled};
+ghost use Rattle.std.specs.Prelude.{◌≡◌, ◌≤◌, length, replicate};
+ghost use Rattle.refusal.specs.Number.{refused_by};
+ghost use Rattle.limits.specs.Limits.{max_initial};
+ghost use Rattle.model.specs.Server as model;
+ghost use Rattle.line.specs.Taking.{done_of};
+ghost use Rattle.server.specs.View.{size, store};
+ghost use Rattle.server.specs.Answers.{opened};
+ghost use Rattle.server.specs.Opening.{open_asked, OpenWords};
 
-use crate::parts::{is_line_sound, list_sound};
 use line::Line;
-use line::taking::{Report, no_report};
+use refusal::Refusal;
 
 // The numbers of the server.
 #[derive(Clone, Copy)]
@@ -39,6 +38,7 @@ pub struct Counts {
 }
 
 // All state of the server. Unused places are zero.
+// Kept as arrays with their lengths beside them: the library has no heap, and C callers lend memory of this size.
 #[derive(Clone, Copy)]
 pub struct Server {
     pub counts: Counts,
@@ -47,186 +47,28 @@ pub struct Server {
     pub words: [u32; Server::WORDS],
 }
 
-// What a call on lent words answers: 0 or the number of the question that said no, what a taking reports, and the numbers.
-#[derive(Drop)]
-pub struct Changed {
-    pub refusal: u8,
-    pub report: Report,
-    pub counts: Counts,
-}
-
-// What a method answers: the same, with the server.
-#[derive(Drop)]
-pub struct Answer {
-    pub refusal: u8,
-    pub report: Report,
-    pub server: Server,
-}
-
-// The edits taken on all lines in use together, and how many of them are inserts.
-#[derive(Drop)]
-struct Totals {
-    taken: u32,
-    inserts: u32,
-}
-
-// A refusal leaves the numbers as they came.
-fn refused(refusal: u8, k: Counts) -> Changed
-    ensures { result ≡ refused_counts refusal k }
-{
-    Changed {
-        refusal,
-        report: no_report(),
-        counts: k,
-    }
-}
-
-// The answer of a method: the words that were lent, with their numbers again.
-fn joined(a: Changed, words: [u32; Server::WORDS]) -> Answer
-    ensures { result ≡ answer_of a words }
-{
-    let counts = a.counts;
-    let report = a.report;
-    let server = Server { counts, words };
-    Answer {
-        refusal: a.refusal,
-        report,
-        server,
-    }
-}
-
-// ---- one line
-
-// The counts of the line at a place, counted from 0.
-fn line_at(k: Counts, at: usize) -> Line
-    requires { at < max_lines }
-    ensures { result ≡ counts_at k at }
-{
-    k.lines[at]
-}
-
-// ---- question 2
-
-fn add_up(k: Counts) -> Totals
-    requires { k.n ≤ max_lines }
-    ensures { Totaled k result }
-{
-    let n = k.n as usize;
-    let mut taken = 0u32;
-    let mut inserts = 0u32;
-    for i in 0..n {
-        let v = line_at(k, i);
-        taken += v.taken as u32;
-        inserts += v.inserts as u32;
-    }
-    Totals { taken, inserts }
-}
-
-// All lines, where those in use took so many edits together.
-fn lines_sound(k: Counts, words: &[u32], taken: u32) -> bool
-    requires { (k.n ≤ max_lines) × Sizes k words.now }
-    ensures { result ≡ all_from (line_sound_at k taken words.now) 0 max_lines }
-{
-    let mut well = true;
-    for i in 0..Server::LINES {
-        let rank = ranks::of_line(&k.ranks, i as u8 + 1);
-        well = well & is_line_sound(k.lines[i], k.n, rank, words, i, taken);
-    }
-    well
-}
-
-fn ranks_sound(k: Counts) -> bool
-    requires { (k.n ≤ max_lines) × (length k.ranks ≡ max_lines) }
-    ensures { result ≡ sound_ranks k.n k.ranks }
-{
-    ranks::is_sound(k.n, &k.ranks)
-}
-
-// The numbers on which the other tests rest.
-fn in_limits(k: Counts) -> bool
-    ensures { result ≡ in_limits k }
-{
-    let lines = (1 <= k.n) & (k.n as usize <= Server::LINES);
-    lines & (k.initial as usize <= Server::INITIAL) & (k.len as usize <= Server::ITEMS)
-}
-
-// Every test is made whatever the others find.
-fn is_sound(k: Counts, words: &[u32]) -> bool
-    requires { Sizes k words.now }
-    ensures answer { result ≡ sound (server_of k words.now) }
-    ensures facts { result ≡ true → Sound (server_of k words.now) }
-{
-    if in_limits(k) {
-        let all = add_up(k);
-        let right = ranks_sound(k);
-        let few = k.len as u32 <= k.initial as u32 + all.inserts;
-        return right & few & list_sound(k.len, k.total, words) & lines_sound(k, words, all.taken);
-    }
-    false
-}
-
 // ---- opening
 
 // Questions 1 and 16.
-fn ask_open(n: u8, ranks: &[u8], items: usize) -> u8
-    ensures { result ≡ open_asked n ranks.now items }
+fn ask_open(n: u8, ranks: &[u8], items: usize) -> Result<(), Refusal>
+    ensures { refused_by result ≡ open_asked n ranks.now items }
 {
     if (1 <= n) & (n as usize <= Server::LINES) & (items <= Server::INITIAL) {
         if ranks::is_ranking(n, ranks) {
-            return 0;
+            return Ok(());
         }
-        return 16;
+        return Err(Refusal::Ranks);
     }
-    1
-}
-
-// The numbers of a server over whose lines nothing has come.
-fn fresh(n: u8, ranks: [u8; ranks::PLACES], len: u16, total: u32) -> Counts
-    ensures { result ≡ fresh_counts n ranks len total }
-{
-    let none = Line {
-        made: 0,
-        taken: 0,
-        acked: 0,
-        inserts: 0,
-    };
-    let lines = [none; Server::LINES];
-    Counts {
-        n,
-        initial: len,
-        len,
-        total,
-        ranks,
-        lines,
-    }
+    Err(Refusal::Opening)
 }
 
 // The initial list, with its origins, in words that are zero.
-fn open_list(items: &[u32], words: &mut [u32])
+fn open_list(items: &[u32], words: &mut [u32; Server::WORDS])
     requires { (length items.now ≤ max_initial) × (words.old ≡ replicate size 0) }
     ensures { OpenWords items.now words.new }
 {
     list::initial(items, &mut words[0..Server::ITEMS]);
     list::initial_origins(items.len(), &mut words[Server::ORIGINS..Server::MAKERS]);
-}
-
-// Opens the server in words that are zero. Refused, they stay zero, and so are the numbers.
-pub fn open_lent(n: u8, ranks: &[u8], items: &[u32], words: &mut [u32]) -> Changed
-    requires { words.old ≡ replicate size 0 }
-    ensures { answer_of result words.new ≡ opened n ranks.now items.now }
-{
-    let refusal = ask_open(n, ranks, items.len());
-    if refusal != 0 {
-        return refused(refusal, fresh(0, [0u8; ranks::PLACES], 0, 0));
-    }
-    open_list(items, words);
-    let total = list::total(items, items.len());
-    let counts = fresh(n, ranks::store(ranks), items.len() as u16, total);
-    Changed {
-        refusal: 0,
-        report: no_report(),
-        counts,
-    }
 }
 
 impl Server {
@@ -250,12 +92,36 @@ impl Server {
 
     pub const WORDS: usize = Server::MAKERS + Server::LINES * Server::PENDING;
 
-    // A server of n lines, with the initial list. Refused, it is all zeros.
-    pub fn open(n: u8, ranks: &[u8], items: &[u32]) -> Answer
-        ensures { result ≡ opened n ranks.now items.now }
+    // An end that is no sheet's: all zeros, as a refused opening leaves it.
+    pub fn empty() -> Server
+        ensures { result ≡ store model.no_server }
     {
-        let mut words = [0u32; Server::WORDS];
-        let a = open_lent(n, ranks, items, &mut words);
-        joined(a, words)
+        let counts = Counts {
+            n: 0,
+            initial: 0,
+            len: 0,
+            total: 0,
+            ranks: [0; ranks::PLACES],
+            lines: [Line::default(); Server::LINES],
+        };
+        Server {
+            counts,
+            words: [0; Server::WORDS],
+        }
+    }
+
+    // Opens the server of n lines, with the initial list. Refused, it is all zeros. What it held before does not matter.
+    pub fn open(&mut self, n: u8, ranks: &[u8], items: &[u32]) -> Result<(), Refusal>
+        ensures { done_of result self.new ≡ opened n ranks.now items.now }
+    {
+        *self = Server::empty();
+        ask_open(n, ranks, items.len())?;
+        open_list(items, &mut self.words);
+        self.counts.n = n;
+        self.counts.initial = items.len() as u16;
+        self.counts.len = items.len() as u16;
+        self.counts.total = list::total(items, items.len());
+        self.counts.ranks = ranks::store(ranks);
+        Ok(())
     }
 }

@@ -1,80 +1,62 @@
-// The words of the server in parts, and question 2 of them: the list, and one line by its counts.
-ghost use Rattle.std.specs.Prelude.{◌≡◌, ◌<◌, length};
-ghost use Rattle.limits.specs.Limits.{max_lines};
-ghost use Rattle.server.specs.Words.{size, slots_at, makers_at};
-ghost use Rattle.server.specs.Right.{list_right, sound_used, sound_makers, empty_unused, sound_either};
+// The numbers and words of the server in parts: one line's counts, its pending edits, and the origins of these.
+ghost use Rattle.std.specs.Prelude.{◌≡◌, ◌<◌, ◌+◌, ◌*◌};
+ghost use Rattle.limits.specs.Limits.{max_lines, max_items, max_pending};
+ghost use Rattle.model.specs.Ranks.{rank_of};
+ghost use Rattle.pending.specs.Slots as pending;
+ghost use Rattle.server.specs.View.{counts_at};
+ghost use Rattle.server.specs.Words.{makers, slots_at, makers_at};
 
-use crate::Server;
+use crate::{Counts, Server};
 use line::Line;
+use std::ops::Range;
 
-// ---- one line
-
-// The words of the pending edits of the line at a place, counted from 0, and the origins of these.
-pub fn slots_at(words: &[u32], at: usize) -> &[u32]
-    requires { (length words.now ≡ size) × (at < max_lines) }
-    ensures { result.now ≡ slots_at at words.now }
+// Where the words of the pending edits of the line at a place stand, counted from 0, and the origins of these.
+// A place is kept a plain index: a type of the numbers below 8 would be made from a loop's counter and opened again in every call.
+pub fn slots_range(at: usize) -> Range<usize>
+    requires { at < max_lines }
+    ensures { (result.start ≡ max_items + pending.size * at) × (result.end ≡ max_items + pending.size * at + pending.size) }
 {
     let from = Server::ITEMS + pending::WORDS * at;
-    let to = from + pending::WORDS;
-    &words[from..to]
+    from..from + pending::WORDS
 }
 
-pub fn makers_at(words: &[u32], at: usize) -> &[u32]
-    requires { (length words.now ≡ size) × (at < max_lines) }
-    ensures { result.now ≡ makers_at at words.now }
+pub fn makers_range(at: usize) -> Range<usize>
+    requires { at < max_lines }
+    ensures { (result.start ≡ makers + max_pending * at) × (result.end ≡ makers + max_pending * at + max_pending) }
 {
     let from = Server::MAKERS + Server::PENDING * at;
-    let to = from + Server::PENDING;
-    &words[from..to]
+    from..from + Server::PENDING
 }
 
-// ---- question 2
-
-// A line in use by its counts and pending edits, where all lines took so many edits. It is handed its own counts and rank: the server's, by value, would
-// be copied for each line.
-fn pending_sound(v: Line, n: u8, rank: u8, words: &[u32], at: usize, taken: u32) -> bool
-    requires { (length words.now ≡ size) × (at < max_lines) }
-    ensures { result ≡ sound_used n rank v taken words.now at }
-{
-    let others = v.made as u32 + v.taken as u32 == taken;
-    others & line::soundness::is_sound(v.taken, v, slots_at(words, at), n, rank, false)
-}
-
-// The origins of its pending edits.
-fn makers_sound(v: Line, n: u8, words: &[u32], at: usize) -> bool
-    requires { (length words.now ≡ size) × (at < max_lines) }
-    ensures { result ≡ sound_makers n v words.now at }
-{
-    let count = v.pending() as usize;
-    line::soundness::makers_sound(makers_at(words, at), count, n, at as u8 + 1)
-}
-
-// A line that is not in use.
-fn unused_empty(v: Line, words: &[u32], at: usize) -> bool
-    requires { (length words.now ≡ size) × (at < max_lines) }
-    ensures { result ≡ empty_unused v words.now at }
-{
-    line::soundness::is_empty(v, slots_at(words, at)) & list::zero_from(makers_at(words, at), 0)
-}
-
-pub fn is_line_sound(v: Line, n: u8, rank: u8, words: &[u32], at: usize, taken: u32) -> bool
-    requires { (length words.now ≡ size) × (at < max_lines) }
-    ensures { result ≡ sound_either n rank v taken words.now at }
-{
-    if at < n as usize {
-        return pending_sound(v, n, rank, words, at, taken) & makers_sound(v, n, words, at);
+impl Counts {
+    // The counts of the line at a place.
+    pub(crate) fn line_at(&self, at: usize) -> Line
+        requires { at < max_lines }
+        ensures { result ≡ counts_at self.now at }
+    {
+        self.lines[at]
     }
-    unused_empty(v, words, at)
+
+    // The rank of a line.
+    pub(crate) fn rank_of(&self, line: u8) -> u8
+        ensures { result ≡ rank_of self.now.ranks line }
+    {
+        ranks::of_line(&self.ranks, line)
+    }
 }
 
-// Behind the list all places are zero, items and origins, and the total is the sum over the items.
-pub fn list_sound(len: u16, total: u32, words: &[u32]) -> bool
-    requires { length words.now ≡ size }
-    ensures { result ≡ list_right len total words.now }
-{
-    let items = &words[0..Server::ITEMS];
-    let sum = list::total(items, len as usize);
-    let unused = list::zero_from(items, len as usize);
-    let origins = list::zero_from(&words[Server::ORIGINS..Server::MAKERS], len as usize);
-    unused & origins & (total == sum)
+impl Server {
+    pub(crate) fn slots_at(&self, at: usize) -> &[u32]
+        requires { at < max_lines }
+        ensures { result.now ≡ slots_at at self.now.words }
+    {
+        &self.words[slots_range(at)]
+    }
+
+    pub(crate) fn makers_at(&self, at: usize) -> &[u32]
+        requires { at < max_lines }
+        ensures { result.now ≡ makers_at at self.now.words }
+    {
+        &self.words[makers_range(at)]
+    }
 }

@@ -7,8 +7,7 @@ use native.Mathlib.Omega.{arith}
 use borrow.Author.Tests.{leb-true}
 use lib.Dec.{leb, eqb}
 use lib.ListN.{length, get_or, set, take, length-set}
-use Rattle.wire.specs.declared.Read.{Read}
-use Rattle.wire.specs.declared.Read.TheVariants as read
+use Rattle.std.specs.Prelude.{Option, Some, None}
 use Rattle.wire.specs.declared.Message.{Message}
 use Rattle.wire.specs.declared.Message.TheVariants as message
 use Rattle.wire.specs.Bytes.{parsed}
@@ -40,9 +39,9 @@ takes_n s (message.Delete h p) = ends (SameN s) _ _ _ _ refl refl
 takes_n s (message.Nothing h) = ends (SameN s) _ _ _ _ refl refl
 takes_n s (message.Ack l d k) = ends (SameN s) _ _ _ _ refl refl
 
-reads_n : (s : Server) (r : Read) → SameN s (server_reads s r).end
-reads_n s read.Refused = ends (SameN s) _ _ _ _ refl refl
-reads_n s (read.Message m) = takes_n s m
+reads_n : (s : Server) (r : Option Message) → SameN s (server_reads s r).end
+reads_n s None = ends (SameN s) _ _ _ _ refl refl
+reads_n s (Some m) = takes_n s m
 
 take_n : (s : Server) (bytes : List ℕ) → SameN s (take_server s bytes).end
 unfolding take_server

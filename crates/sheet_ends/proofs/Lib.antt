@@ -1,5 +1,4 @@
 pub mod Lists
-pub mod Places
 pub mod Benches
 pub mod Calls
 pub mod Wholes

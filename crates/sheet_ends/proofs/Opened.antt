@@ -1,94 +1,75 @@
 -- Opening the clients one after the other, and what stands there then.
-use Prim.Native.Nat.{ℕ, zero, suc, ◌+◌, ◌-◌, ◌*◌, ◌<◌, ◌≤◌}
+use Prim.Native.Nat.{ℕ, zero, suc, ◌+◌, ◌-◌, ◌<◌, ◌≤◌}
 use mathlib.Core.Path.{◌≡◌, refl, sym, ap, ap₂, ◌∙◌}
-use mathlib.Core.Bool.{Bool, true, false, ◌&&◌}
+use mathlib.Core.Bool.{Bool, true, false, ◌&&◌, cond}
 use mathlib.Core.List.{List, ◌∷◌, ◌++◌, map}
 use native.Mathlib.Nat.{add-zero, zero-add, add-suc, suc-add}
 use native.Mathlib.Omega.{arith}
-use borrow.Author.Tests.{lt-leb, eqb-true, eqb-false}
+use borrow.Author.Tests.{lt-leb, eqb-true, eqb-false, ne_eqb}
 use lib.Dec.{leb, eqb}
-use lib.ListN.{length, get_or, take, set, replicate, length-map, length-set, length-replicate}
+use lib.ListN.{length, get_or, set, replicate, length-map, length-set}
+use lib.Seq.{ext_get_or, get_or-set_same, get_or-set_other}
+use Rattle.std.specs.Prelude.{Result, Ok, Err, ⊤, IsErrAnd}
+use Rattle.refusal.specs.declared.Refusal.{Refusal}
+use Rattle.refusal.specs.Number.{number}
+use Rattle.refusal.proofs.Some.{number_some, passed_on}
 use Rattle.limits.specs.Limits.{max_lines}
 use Rattle.list.specs.Items.{padded}
-use Rattle.list.specs.Parts.{part}
-use Rattle.list.proofs.Parts.{Wrote}
 use Rattle.model.specs.Limits.{max_initial}
-use Rattle.model.specs.Questions.{between, answer}
+use Rattle.model.specs.Questions.{between, answer, Answer}
 use Rattle.model.specs.Ranks.{line_ranks}
 use Rattle.model.specs.Client.{no_client, open_client}
-use Rattle.client.specs.declared.Counts.{Counts}
+use Rattle.line.specs.Taking.{done_of}
 use Rattle.client.specs.declared.Client.{Client}
-use Rattle.client.specs.declared.Answer.{Answer}
-use Rattle.client.specs.declared.Changed.{Changed}
-use Rattle.client.specs.View.{size, store}
-use Rattle.client.specs.Answers.{answer_of, opened}
+use Rattle.client.specs.View.{store}
+use Rattle.client.specs.Answers.{opened}
+use Rattle.server.specs.declared.Server.{Server}
+use Rattle.server.specs.Answers as servers
+use Rattle.sheet_ends.specs.declared.Ends.{Ends}
 use Rattle.sheet_ends.specs.Bench.{open_clients}
-use Rattle.sheet_ends.specs.Ends.{all_size, client_at, clients_in, opening}
+use Rattle.sheet_ends.specs.Ends.{opening}
+use Rattle.sheet_ends.specs.Orders as orders
 use Rattle.sheet_ends.proofs.Calls.{end_stored, open_keeps}
-use Rattle.sheet_ends.proofs.Places.{others, written_here, written_other, clients_are}
-
--- a part of zeros is zeros
-take_zeros : (n m : ℕ) → n ≤ m → take {A = ℕ} n (replicate m 0) ≡ replicate n 0
-take_zeros zero m h = refl
-take_zeros (suc n) zero h = absurd (omega arith)
-take_zeros (suc n) (suc m) h = ap (λ (l : List ℕ). 0 ∷ l) (take_zeros n m (omega arith))
-
-part_zeros : (a n m : ℕ) → a + n ≤ m → part a n (replicate m 0) ≡ replicate n 0
-part_zeros zero n m h = take_zeros n m (omega arith)
-part_zeros (suc a) zero zero h = refl
-part_zeros (suc a) (suc n) zero h = absurd (omega arith)
-part_zeros (suc a) n (suc m) h = part_zeros a n m (omega arith)
 
 module _ (n : ℕ) (ranks items : List ℕ) where
   -- the client of line l
   abbrev at : ℕ → Client
   at l = store (open_client n l ranks items).end
 
-  -- ---- the loop: the clients of the first j lines are open, and the words of the others are zero
-
-  pub record Opening (ks : List Counts) (words : List ℕ) (j : ℕ) : Type 0 where
-    pub to : j ≤ max_lines
-    pub count : length ks ≡ max_lines
-    pub long : length words ≡ all_size
-    pub begun : (i : ℕ) → i < j → client_at ks words i ≡ at (suc i)
-    pub rest : (i : ℕ) → j ≤ i → i < max_lines → part (size * i) size words ≡ replicate size 0
-
-  pub opening_start : (ks : List Counts) (words : List ℕ) → length ks ≡ max_lines → words ≡ replicate all_size 0 → Opening ks words 0
-  opening_start ks words eight e =
-      record {
-        to = omega arith;
-        count = eight;
-        long = ap length e ∙ length-replicate {A = ℕ} all_size 0;
-        begun = λ i h. absurd (omega arith);
-        rest = λ i h small. ap (part (size * i) size) e ∙ part_zeros (size * i) size all_size (omega arith);
-      }
-
-  opens_as : (l : ℕ) → (opened n l ranks items).client ≡ at l
+  opens_as : (l : ℕ) → (opened n l ranks items).end ≡ at l
   opens_as l = end_stored store no_client (open_client n l ranks items) (open_keeps n l ranks items)
 
-  pub opening_turn : (ks : List Counts) (words : List ℕ) (j : ℕ) → j < max_lines → Opening ks words j → (r : Changed) (x words' : List ℕ)
-      → Wrote (size * j) size x words words' → answer_of r x ≡ opened n (j + 1) ranks items → Opening (set ks j r.counts) words' (j + 1)
-  opening_turn ks words j small g r x words' w p =
-      record {
-        to = omega arith;
-        count = length-set ks j r.counts ∙ g.count;
-        long = w.long ∙ g.long;
-        begun = λ i h. go i h (eqb i j) refl;
-        rest = λ i h few. others j i x words words' w (λ e. omega arith) ∙ g.rest i (omega arith) few;
-      }
+  -- what an opening leaves, whatever it answers
+  pub opened_end : (l : ℕ) (q : Result ⊤ Refusal) (c : Client) → done_of q c ≡ opened n l ranks items → c ≡ at l
+  opened_end l (Ok x) c p = ap (λ (a : Answer Client). a.end) p ∙ opens_as l
+  opened_end l (Err r) c p = ap (λ (a : Answer Client). a.end) p ∙ opens_as l
+
+  -- ---- the loop: the clients of the first j lines are open
+
+  pub record Opening (cs : List Client) (j : ℕ) : Type 0 where
+    pub to : j ≤ max_lines
+    pub count : length cs ≡ max_lines
+    pub begun : (i : ℕ) → i < j → get_or cs i (at 0) ≡ at (suc i)
+
+  pub opening_start : (cs : List Client) → length cs ≡ max_lines → Opening cs 0
+  opening_start cs eight = record { to = omega arith; count = eight; begun = λ i h. absurd (omega arith) }
+
+  pub opening_turn : (cs : List Client) (j : ℕ) → j < max_lines → Opening cs j → (q : Result ⊤ Refusal) (c : Client)
+      → done_of q c ≡ opened n (j + 1) ranks items → Opening (set cs j c) (j + 1)
+  opening_turn cs j small g q c p =
+      record { to = omega arith; count = length-set cs j c ∙ g.count; begun = λ i h. go i h (eqb i j) refl }
     where
-      inside : j < length ks
+      inside : j < length cs
       inside = omega (arith, g.count)
 
-      go : (i : ℕ) → i < j + 1 → (t : Bool) → eqb i j ≡ t → client_at (set ks j r.counts) words' i ≡ at (suc i)
+      go : (i : ℕ) → i < j + 1 → (t : Bool) → eqb i j ≡ t → get_or (set cs j c) i (at 0) ≡ at (suc i)
       go i h true e =
           let same = eqb-true i j e in
           let next : j + 1 ≡ suc i = omega arith in
-          ap (client_at (set ks j r.counts) words') same ∙ written_here j ks r.counts x words words' inside w
-          ∙ ap (λ (a : Answer). a.client) p ∙ opens_as (j + 1) ∙ ap at next
+          ap (λ (k : ℕ). get_or (set cs j c) k (at 0)) same ∙ get_or-set_same cs j c (at 0) inside ∙ opened_end (j + 1) q c p ∙ ap at next
       go i h false e =
           let apart = eqb-false i j e in
-          written_other j ks r.counts x words words' inside w i apart ∙ g.begun i (omega arith)
+          get_or-set_other cs j i c (at 0) apart ∙ g.begun i (omega arith)
 
   -- ---- its end
 
@@ -101,11 +82,12 @@ module _ (n : ℕ) (ranks items : List ℕ) where
   opening_at (suc k) l zero d h = ap at (sym (add-zero l))
   opening_at (suc k) l (suc i) d h = opening_at k (suc l) i d (omega arith) ∙ ap at (suc-add l i ∙ sym (add-suc l i))
 
-  pub opening_end : (ks : List Counts) (words : List ℕ) (j : ℕ) → max_lines ≤ j → Opening ks words j → clients_in ks words ≡ opening n ranks items 1 max_lines
-  opening_end ks words j h g =
-      clients_are ks words (opening n ranks items 1 max_lines) (at 0) (opening_length 1 max_lines) (λ (i : ℕ) small.
+  pub opening_end : (cs : List Client) (j : ℕ) → max_lines ≤ j → Opening cs j → cs ≡ opening n ranks items 1 max_lines
+  opening_end cs j h g =
+      ext_get_or (at 0) cs (opening n ranks items 1 max_lines) (g.count ∙ sym (opening_length 1 max_lines)) (λ (i : ℕ) small.
       let one : suc i ≡ 1 + i = omega arith in
-      g.begun i (omega arith) ∙ ap at one ∙ sym (opening_at max_lines 1 i (at 0) small))
+      let few : i < max_lines = omega (arith, g.count) in
+      g.begun i (omega arith) ∙ ap at one ∙ sym (opening_at max_lines 1 i (at 0) few))
 
   -- ---- a line past n stays zero
 
@@ -148,3 +130,22 @@ module _ (n : ℕ) (items : List ℕ) where
       let e : max_lines ≡ n + (max_lines - n) = omega arith in
       ap (opens 1) e ∙ opening_from n 1 (max_lines - n) (omega arith) (omega arith)
       ∙ ap (λ (k : ℕ). map store (open_clients n items n) ++ replicate (max_lines - k) (store no_client)) (sym (length-map (open_clients n items n) store ∙ clients_length n))
+
+-- ---- the server first, and then the clients
+
+module _ (e : Ends) (n : ℕ) (ranks items : List ℕ) (s : Server) where
+  by : (a : Answer Server) → a ≡ servers.opened n ranks items → (t : Bool) → eqb a.refusal 0 ≡ t
+      → orders.on_server (record { server = e.server; clients = cond t (opening n ranks items 1 max_lines) e.clients }) a ≡ orders.opened e n ranks items
+  by a p t q =
+      ap (λ (x : Bool). orders.on_server (record { server = e.server; clients = cond x (opening n ranks items 1 max_lines) e.clients }) a) (sym q)
+      ∙ ap (λ (b : Answer Server). orders.on_server (record { server = e.server; clients = cond (eqb b.refusal 0) (opening n ranks items 1 max_lines) e.clients }) b) p
+
+  pub not_opened : (r : Refusal) → done_of (Err r) s ≡ servers.opened n ranks items → (q : Result ⊤ Refusal) → IsErrAnd q (λ y. y ≡ r)
+      → orders.done_of q (record { server = s; clients = e.clients }) ≡ orders.opened e n ranks items
+  not_opened r p q h =
+      ap (λ (x : Result ⊤ Refusal). orders.done_of x (record { server = s; clients = e.clients })) (passed_on q r h)
+      ∙ by (done_of (Err r) s) p false (ne_eqb (number r) 0 (number_some r))
+
+  pub all_opened : (x : ⊤) → done_of (Ok x) s ≡ servers.opened n ranks items → (e' : Ends) → e' ≡ record { server = s; clients = opening n ranks items 1 max_lines }
+      → ◌≡◌ {A = orders.Done} (record { refusal = 0; ends = e' }) (orders.opened e n ranks items)
+  all_opened x p e' q = ap (λ (x : Ends). record { refusal = 0; ends = x }) q ∙ by (done_of (Ok x) s) p true refl

@@ -1,11 +1,10 @@
 -- What an order leaves of the structs is what its command leaves of the bench that they stand for, stored.
-use Prim.Native.Nat.{ℕ, ◌-◌, ◌<◌, ◌≤◌}
+use Prim.Native.Nat.{ℕ, ◌-◌, ◌≤◌}
 use mathlib.Core.Path.{◌≡◌, refl, sym, ap, ap₂, ◌∙◌}
 use mathlib.Core.Bool.{Bool, true, false, cond}
 use mathlib.Core.List.{List, map}
-use native.Mathlib.Omega.{arith}
-use borrow.Author.Tests.{eqb-true, eqb-false, eq-eqb, leb-true, leb-false}
-use lib.Dec.{leb, eqb}
+use borrow.Author.Tests.{eqb-true, eqb-false, eq-eqb}
+use lib.Dec.{eqb}
 use lib.ListN.{get_or, take, set}
 use Rattle.limits.specs.Limits.{max_lines}
 use Rattle.list.specs.Items.{padded}
@@ -13,19 +12,20 @@ use Rattle.model.specs.Questions.{Answer, Sent}
 use Rattle.model.specs.Client as models
 use Rattle.model.specs.Server as server_models
 use Rattle.client.specs.declared.Client.{Client}
-use Rattle.client.specs.declared.Answer.{Answer as ClientAnswer}
 use Rattle.client.specs.View as client
 use Rattle.client.specs.Answers as clients
 use Rattle.server.specs.declared.Server.{Server}
-use Rattle.server.specs.declared.Answer.{Answer as ServerAnswer}
 use Rattle.server.specs.View as server
 use Rattle.server.specs.Answers as servers
+use Rattle.std.proofs.Common.{Option, Some}
+use Rattle.sheet_text.specs.declared.Order.{Order}
 use Rattle.sheet_text.specs.Order.{coded}
 use Rattle.sheet_text.specs.Command.{Command, Bad, Insert, Delete, Up, Down, Ack, Told}
 use Rattle.sheet_ends.specs.Bench as bench
 use Rattle.sheet_ends.specs.Bench.{Bench, Step, client_of, room, step}
-use Rattle.sheet_ends.specs.Ends.{Ends, view_ends, store_ends, Whole}
-use Rattle.sheet_ends.specs.Orders.{Done, client_on, sent_by, changed_by, on_client, on_server, ordered}
+use Rattle.sheet_ends.specs.declared.Ends.{Ends}
+use Rattle.sheet_ends.specs.Ends.{view_ends, store_ends, Whole}
+use Rattle.sheet_ends.specs.Orders.{Done, sent_by, changed_by, on_client, on_server, ordered}
 use Rattle.sheet_ends.proofs.Lists.{pad_set, set_map}
 use Rattle.sheet_ends.proofs.Wholes.{server_is, clients_are, stored_within, client_sound, client_is}
 use Rattle.sheet_ends.proofs.Calls.{Keeps, edit_keeps, client_keeps, client_answers, client_sends, server_answers, server_sends}
@@ -56,7 +56,7 @@ module _ (e : Ends) (w : Whole e) where
   server_call : (bytes : List ℕ) → on_server e (servers.taken e.server bytes) ≡ store_step (bench.on_server B (server_models.take_server B.server bytes))
   server_call bytes =
       let q = ap (λ (s : Server). servers.taken s bytes) (server_is e w) ∙ server_answers B.server w.sound.server bytes in
-      done_path (ap (λ (x : ServerAnswer). x.refusal) q) (ap (λ (x : ServerAnswer). x.server) q) (clients_are e w)
+      done_path (ap (λ (x : Answer Server). x.refusal) q) (ap (λ (x : Answer Server). x.end) q) (clients_are e w)
 
   server_sent : (call : server_models.Server → Sent) → servers.guarded_sending e.server (call (server.view e.server)) room ≡ call B.server
   server_sent call =
@@ -73,8 +73,8 @@ module _ (e : Ends) (w : Whole e) where
     client_call call h =
         let m = client_of B l in
         let q = ap (λ (x : Client). clients.guarded x (call (client.view x))) (client_is e w l in_range) ∙ client_answers m (client_sound e w l in_range) call h in
-        done_path (ap (λ (x : ClientAnswer). x.refusal) q) (server_is e w)
-        (ap₂ (λ (x : List Client) (y : Client). set x (l - 1) y) (clients_are e w) (ap (λ (x : ClientAnswer). x.client) q)
+        done_path (ap (λ (x : Answer Client). x.refusal) q) (server_is e w)
+        (ap₂ (λ (x : List Client) (y : Client). set x (l - 1) y) (clients_are e w) (ap (λ (x : Answer Client). x.end) q)
         ∙ pad_set max_lines (client.store models.no_client) (map client.store B.clients) (l - 1) (client.store (call m).end) (stored_within e w l in_range)
         ∙ ap (padded (client.store models.no_client) max_lines) (set_map client.store B.clients (l - 1) (call m).end))
 
@@ -107,61 +107,40 @@ module _ (e : Ends) (w : Whole e) where
       go true f = absurd (h (ap (λ (y : Sent). y.refusal) p ∙ eqb-true m.refusal 0 f))
       go false f = ap (λ (x : Ends). record { refusal = m.refusal; ends = x }) w.whole
 
-  -- ---- a command
-
-  -- what the one end of a command writes
-  abbrev wrote : Command → Sent
-  wrote c = sent_by e.server (client_on e (coded c)) (coded c) room
-
-  abbrev bytes_of : Command → List ℕ
-  bytes_of c = take (wrote c).written (wrote c).buffer
-
-  -- a sending that is refused,
-  unsent_is : (c : Command) → Within e.server.counts.n c → 1 ≤ (coded c).verb → ((wrote c).refusal ≡ 0 → ⊥)
-      → ◌≡◌ {A = Done} (record { refusal = (wrote c).refusal; ends = e }) (store_step (step B c))
-  unfolding coded sent_by step
-  unsent_is Bad h low r = absurd (omega arith)
-  unsent_is (Insert l q y) h low r = absurd (r refl)
-  unsent_is (Delete l q) h low r = absurd (r refl)
-  unsent_is (Up l k) h low r = unsent _ _ (λ m. bench.on_server B (server_models.take_server B.server m)) (client_sent l h (λ v. models.send_client v l k room)) r
-  unsent_is (Down l k) h low r = unsent _ _ (λ m. bench.on_client B l (models.take_client (client_of B l) m)) (server_sent (λ v. server_models.send_server v l k room)) r
-  unsent_is (Ack l) h low r = unsent _ _ (λ m. bench.on_server B (server_models.take_server B.server m)) (client_sent l h (λ v. models.tell_client v l room)) r
-  unsent_is (Told l) h low r = unsent _ _ (λ m. bench.on_client B l (models.take_client (client_of B l) m)) (server_sent (λ v. server_models.tell_server v l room)) r
-
-  -- what the server takes,
-  up_is : (c : Command) → Within e.server.counts.n c → 5 ≤ (coded c).verb → (wrote c).refusal ≡ 0
-      → on_server e (servers.taken e.server (bytes_of c)) ≡ store_step (step B c)
-  unfolding coded sent_by step
-  up_is Bad h low z = absurd (omega arith)
-  up_is (Insert l q y) h low z = absurd (omega arith)
-  up_is (Delete l q) h low z = absurd (omega arith)
-  up_is (Up l k) h low z = server_gets _ _ (client_sent l h (λ v. models.send_client v l k room)) z
-  up_is (Down l k) h low z = absurd (omega arith)
-  up_is (Ack l) h low z = server_gets _ _ (client_sent l h (λ v. models.tell_client v l room)) z
-  up_is (Told l) h low z = absurd (omega arith)
-
-  -- what the client edits or takes,
-  changed_is : (c : Command) → Within e.server.counts.n c → 1 ≤ (coded c).verb → (coded c).verb < 5 → (wrote c).refusal ≡ 0
-      → on_client e ((coded c).line - 1) (changed_by (client_on e (coded c)) (coded c) (bytes_of c)) ≡ store_step (step B c)
-  unfolding coded sent_by changed_by step
-  changed_is Bad h low high z = absurd (omega arith)
-  changed_is (Insert l q y) h low high z = client_call l h (λ m. models.insert_client m q y) (edit_keeps (client_of B l) _)
-  changed_is (Delete l q) h low high z = client_call l h (λ m. models.delete_client m q) (edit_keeps (client_of B l) _)
-  changed_is (Up l k) h low high z = absurd (omega arith)
-  changed_is (Down l k) h low high z = client_gets l h _ _ (server_sent (λ v. server_models.send_server v l k room)) z
-  changed_is (Ack l) h low high z = absurd (omega arith)
-  changed_is (Told l) h low high z = client_gets l h _ _ (server_sent (λ v. server_models.tell_server v l room)) z
-
-  -- and so an order whole.
-  pub ordered_is : (c : Command) → Within e.server.counts.n c → 1 ≤ (coded c).verb → ordered e (coded c) ≡ store_step (step B c)
-  unfolding ordered
-  ordered_is c h low = go (eqb (wrote c).refusal 0) refl (leb 5 (coded c).verb) refl
+  -- what was sent, or its refusal
+  up_is : (x m : Sent) → x ≡ m
+      → cond (eqb x.refusal 0) (on_server e (servers.taken e.server (take x.written x.buffer))) (record { refusal = x.refusal; ends = e })
+      ≡ store_step (bench.delivered B m (λ bytes. bench.on_server B (server_models.take_server B.server bytes)))
+  up_is x m p = go (eqb x.refusal 0) refl
     where
-      go : (t : Bool) → eqb (wrote c).refusal 0 ≡ t → (u : Bool) → leb 5 (coded c).verb ≡ u
-          → cond t
-          (cond u (on_server e (servers.taken e.server (bytes_of c))) (on_client e ((coded c).line - 1) (changed_by (client_on e (coded c)) (coded c) (bytes_of c))))
-          (record { refusal = (wrote c).refusal; ends = e })
-          ≡ store_step (step B c)
-      go false q u v = unsent_is c h low (eqb-false (wrote c).refusal 0 q)
-      go true q true v = up_is c h (leb-true 5 (coded c).verb v) (eqb-true (wrote c).refusal 0 q)
-      go true q false v = changed_is c h low (leb-false 5 (coded c).verb v) (eqb-true (wrote c).refusal 0 q)
+      go : (t : Bool) → eqb x.refusal 0 ≡ t
+          → cond t (on_server e (servers.taken e.server (take x.written x.buffer))) (record { refusal = x.refusal; ends = e })
+          ≡ store_step (bench.delivered B m (λ bytes. bench.on_server B (server_models.take_server B.server bytes)))
+      go true q = server_gets x m p (eqb-true x.refusal 0 q)
+      go false q = unsent x m (λ bytes. bench.on_server B (server_models.take_server B.server bytes)) p (eqb-false x.refusal 0 q)
+
+  down_is : (l : ℕ) → (1 ≤ l) × (l ≤ e.server.counts.n) → (x m : Sent) → x ≡ m
+      → cond (eqb x.refusal 0) (on_client e (l - 1) (clients.taken (get_or e.clients (l - 1) (client.store models.no_client)) (take x.written x.buffer))) (record { refusal = x.refusal; ends = e })
+      ≡ store_step (bench.delivered B m (λ bytes. bench.on_client B l (models.take_client (client_of B l) bytes)))
+  down_is l h x m p = go (eqb x.refusal 0) refl
+    where
+      go : (t : Bool) → eqb x.refusal 0 ≡ t
+          → cond t (on_client e (l - 1) (clients.taken (get_or e.clients (l - 1) (client.store models.no_client)) (take x.written x.buffer))) (record { refusal = x.refusal; ends = e })
+          ≡ store_step (bench.delivered B m (λ bytes. bench.on_client B l (models.take_client (client_of B l) bytes)))
+      go true q = client_gets l h x m p (eqb-true x.refusal 0 q)
+      go false q = unsent x m (λ bytes. bench.on_client B l (models.take_client (client_of B l) bytes)) p (eqb-false x.refusal 0 q)
+
+  -- ---- a command, by its one order
+
+  by_order : (a o : Order) (z : Done) → ◌≡◌ {A = Option Order} (Some a) (Some o) → ordered e a ≡ z → ordered e o ≡ z
+  by_order a o z p h = let q : a ≡ o = cc in rw q at h
+
+  pub ordered_is : (c : Command) (o : Order) → coded c ≡ Some o → Within e.server.counts.n c → ordered e o ≡ store_step (step B c)
+  unfolding coded ordered sent_by changed_by step
+  ordered_is Bad o p h = cc
+  ordered_is (Insert l q y) o p h = by_order _ o _ p (client_call l h (λ m. models.insert_client m q y) (edit_keeps (client_of B l) _))
+  ordered_is (Delete l q) o p h = by_order _ o _ p (client_call l h (λ m. models.delete_client m q) (edit_keeps (client_of B l) _))
+  ordered_is (Up l k) o p h = by_order _ o _ p (up_is _ _ (client_sent l h (λ v. models.send_client v l k room)))
+  ordered_is (Down l k) o p h = by_order _ o _ p (down_is l h _ _ (server_sent (λ v. server_models.send_server v l k room)))
+  ordered_is (Ack l) o p h = by_order _ o _ p (up_is _ _ (client_sent l h (λ v. models.tell_client v l room)))
+  ordered_is (Told l) o p h = by_order _ o _ p (down_is l h _ _ (server_sent (λ v. server_models.tell_server v l room)))

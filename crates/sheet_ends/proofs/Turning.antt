@@ -1,38 +1,36 @@
 -- An order at the ends, from what the calls answered: what was sent, and what the server or the client made of it.
-use Prim.Native.Nat.{ℕ, ◌-◌, ◌*◌, ◌+◌, ◌<◌, ◌≤◌}
+use Prim.Native.Nat.{ℕ, ◌-◌, ◌<◌, ◌≤◌}
 use mathlib.Core.Path.{◌≡◌, refl, sym, ap, ap₂, ◌∙◌, subst}
 use mathlib.Core.Bool.{Bool, true, false, cond}
 use mathlib.Core.List.{List, ◌++◌}
 use native.Mathlib.Omega.{arith}
-use borrow.Author.Tests.{eq-eqb, ne_eqb, le-leb, lt-leb}
-use borrow.Rule.Slice.PartMut.{put_mid}
-use lib.Dec.{leb, eqb}
+use borrow.Author.Tests.{ne_eqb}
+use lib.Dec.{eqb}
 use lib.ListN.{length, get_or, take, drop, set, length-append}
-use Rattle.limits.specs.Limits.{max_lines}
+use Rattle.std.proofs.lemmas.List.{get_or_default}
+use Rattle.std.specs.Prelude.{Result, Ok, Err, ⊤, IsErrAnd}
+use Rattle.refusal.specs.declared.Refusal.{Refusal}
+use Rattle.refusal.specs.Number.{number}
+use Rattle.refusal.proofs.Some.{number_some, passed_on}
 use Rattle.model.specs.Questions as model
 use Rattle.model.specs.Client as models
 use Rattle.model.specs.Server as server_models
-use Rattle.line.specs.declared.sending.Sent.{Sent}
+use Rattle.line.specs.declared.taking.Report.{Report}
 use Rattle.line.specs.Sending.{answered}
-use Rattle.client.specs.declared.Counts.{Counts}
+use Rattle.line.specs.Taking.{answer_of}
 use Rattle.client.specs.declared.Client.{Client}
-use Rattle.client.specs.declared.Answer.{Answer as ClientAnswer}
-use Rattle.client.specs.declared.Changed.{Changed as ClientChanged}
 use Rattle.client.specs.View as client
-use Rattle.client.specs.View.{size, client_of, store}
 use Rattle.client.specs.Answers as clients
-use Rattle.server.specs.declared.Counts.{Counts as ServerCounts}
 use Rattle.server.specs.declared.Server.{Server}
-use Rattle.server.specs.declared.Changed.{Changed as ServerChanged}
 use Rattle.server.specs.View as server
-use Rattle.server.specs.View.{server_of}
 use Rattle.server.specs.Answers as servers
 use Rattle.sheet_text.specs.declared.Order.{Order}
+use Rattle.sheet_text.specs.declared.Verb.{Verb}
+use Rattle.sheet_text.specs.declared.Verb.TheVariants as verb
 use Rattle.sheet_print.proofs.Sinks.{both}
+use Rattle.sheet_ends.specs.declared.Ends.{Ends}
 use Rattle.sheet_ends.specs.Bench.{room}
-use Rattle.sheet_ends.specs.Ends.{Ends, ends_of, no_counts}
-use Rattle.sheet_ends.specs.Orders.{Placed, Done, client_on, sent_by, changed_by, on_client, on_server, delivered, ordered}
-use Rattle.sheet_ends.proofs.Places.{lent_is, lent_wrote, client_in_lem, clients_written}
+use Rattle.sheet_ends.specs.Orders.{Done, Answers, done_of, client_on, goes_up, sent_by, changed_by, on_client, on_server, delivered, ordered}
 
 -- ---- any sending writes within its buffer
 
@@ -53,102 +51,61 @@ server_within : (s : Server) (a : model.Sent) (lent : List ℕ) → Written a �
 unfolding servers.guarded_sending
 server_within s a lent h = both Written (server.sound s) a (record { refusal = 2; written = 0; buffer = lent }) h (omega arith)
 
-wrote_within : (s : Server) (c : Client) (o : Order) (lent : List ℕ) → Written (sent_by s c o lent)
+wrote_within : (s : Server) (c : Client) (l : ℕ) (v : Verb) (lent : List ℕ) → Written (sent_by s c l v lent)
 unfolding sent_by models.send_client models.tell_client server_models.send_server server_models.tell_server
-wrote_within s c o lent =
-    both Written (eqb o.verb 5) _ _ (client_within c (models.send_client (client.view c) o.line o.number lent) lent (sending_within _ _ lent))
-    (both Written (eqb o.verb 6) _ _ (client_within c (models.tell_client (client.view c) o.line lent) lent (sending_within _ _ lent))
-    (both Written (eqb o.verb 3) _ _ (server_within s (server_models.send_server (server.view s) o.line o.number lent) lent (sending_within _ _ lent))
-    (both Written (eqb o.verb 4) _ _ (server_within s (server_models.tell_server (server.view s) o.line lent) lent (sending_within _ _ lent)) (omega arith))))
+wrote_within s c l (verb.Up k) lent = client_within c (models.send_client (client.view c) l k lent) lent (sending_within _ _ lent)
+wrote_within s c l verb.Ack lent = client_within c (models.tell_client (client.view c) l lent) lent (sending_within _ _ lent)
+wrote_within s c l (verb.Down k) lent = server_within s (server_models.send_server (server.view s) l k lent) lent (sending_within _ _ lent)
+wrote_within s c l verb.Told lent = server_within s (server_models.tell_server (server.view s) l lent) lent (sending_within _ _ lent)
+wrote_within s c l (verb.Insert p x) lent = omega arith
+wrote_within s c l (verb.Delete p) lent = omega arith
 
--- ---- an order at the client, by its verb
+-- ---- an order whole
 
-module _ (c : Client) (o : Order) (bytes : List ℕ) (a : ClientAnswer) where
-  pub changed_insert : o.verb ≡ 1 → a ≡ clients.inserted c o.number o.item → a ≡ changed_by c o bytes
-  unfolding changed_by
-  changed_insert e p = p ∙ rw (eq-eqb o.verb 1 e)
+module _ (e : Ends) (o : Order) where
+  -- by what was sent, and by the verb
+  by : (r n : ℕ) (m : List ℕ) → ◌≡◌ {A = model.Sent} (record { refusal = r; written = n; buffer = m }) (sent_by e.server (client_on e o) o.line o.verb room)
+      → (t u : Bool) → eqb r 0 ≡ t → goes_up o.verb ≡ u
+      → cond t
+      (cond u (on_server e (servers.taken e.server (take n m))) (on_client e (o.line - 1) (changed_by (client_on e o) o.verb (take n m))))
+      (record { refusal = r; ends = e })
+      ≡ ordered e o
+  unfolding ordered
+  by r n m pb t u p q =
+      ap₂
+      (λ (x y : Bool). cond x
+      (cond y (on_server e (servers.taken e.server (take n m))) (on_client e (o.line - 1) (changed_by (client_on e o) o.verb (take n m))))
+      (record { refusal = r; ends = e }))
+      (sym p) (sym q)
+      ∙ ap (delivered e o) pb
 
-  pub changed_delete : (o.verb ≡ 1 → ⊥) → o.verb ≡ 2 → a ≡ clients.deleted c o.number → a ≡ changed_by c o bytes
-  unfolding changed_by
-  changed_delete n e p = p ∙ rw (ne_eqb o.verb 1 n, eq-eqb o.verb 2 e)
+  -- what cannot be sent
+  pub turned_unsent : (r : Refusal) (m : List ℕ) → answered (Err r) m ≡ sent_by e.server (client_on e o) o.line o.verb room
+      → (q : Result ⊤ Refusal) → IsErrAnd q (λ y. y ≡ r) → done_of q e ≡ ordered e o
+  turned_unsent r m pb q h =
+      ap (λ (x : Result ⊤ Refusal). done_of x e) (passed_on q r h)
+      ∙ by (number r) 0 m pb false (goes_up o.verb) (ne_eqb (number r) 0 (number_some r)) refl
 
-  pub changed_take : (o.verb ≡ 1 → ⊥) → (o.verb ≡ 2 → ⊥) → a ≡ clients.taken c bytes → a ≡ changed_by c o bytes
-  unfolding changed_by
-  changed_take n m p = p ∙ rw (ne_eqb o.verb 1 n, ne_eqb o.verb 2 m)
+  module _ (n : ℕ) (m : List ℕ) (pb : answered (Ok n) m ≡ sent_by e.server (client_on e o) o.line o.verb room) where
+    pub sent_within : n ≤ length m
+    sent_within = subst Written (sym pb) (wrote_within e.server (client_on e o) o.line o.verb room)
 
--- ---- what an order sends, by its verb
+    module _ (h : goes_up o.verb ≡ true) (s : Server) where
+      pub turned_server : (k : Report) → answer_of (Ok k) s ≡ servers.taken e.server (take n m)
+          → ◌≡◌ {A = Done} (record { refusal = 0; ends = record { server = s; clients = e.clients } }) (ordered e o)
+      turned_server k p = ap (on_server e) p ∙ by 0 n m pb true true refl h
 
-module _ (s : Server) (c : Client) (o : Order) (lent : List ℕ) (x : model.Sent) where
-  pub sent_up : o.verb ≡ 5 → x ≡ clients.sent_edit c o.line o.number lent → x ≡ sent_by s c o lent
-  unfolding sent_by
-  sent_up e p = p ∙ rw (eq-eqb o.verb 5 e)
+      pub turned_server_no : (r : Refusal) → answer_of (Err r) s ≡ servers.taken e.server (take n m)
+          → (q : Result ⊤ Refusal) → IsErrAnd q (λ y. y ≡ r) → done_of q (record { server = s; clients = e.clients }) ≡ ordered e o
+      turned_server_no r p q i =
+          ap (λ (x : Result ⊤ Refusal). done_of x (record { server = s; clients = e.clients })) (passed_on q r i)
+          ∙ ap (on_server e) p ∙ by 0 n m pb true true refl h
 
-  pub sent_ack_lem : (o.verb ≡ 5 → ⊥) → o.verb ≡ 6 → x ≡ clients.sent_ack c o.line lent → x ≡ sent_by s c o lent
-  unfolding sent_by
-  sent_ack_lem n e p = p ∙ rw (ne_eqb o.verb 5 n, eq-eqb o.verb 6 e)
-
-  module _ (n : o.verb ≡ 5 → ⊥) (m : o.verb ≡ 6 → ⊥) where
-    pub sent_down : o.verb ≡ 3 → x ≡ servers.sent_edit s o.line o.number lent → x ≡ sent_by s c o lent
-    unfolding sent_by
-    sent_down e p = p ∙ rw (ne_eqb o.verb 5 n, ne_eqb o.verb 6 m, eq-eqb o.verb 3 e)
-
-    module _ (k : o.verb ≡ 3 → ⊥) where
-      pub sent_told : o.verb ≡ 4 → x ≡ servers.sent_ack s o.line lent → x ≡ sent_by s c o lent
-      unfolding sent_by
-      sent_told e p = p ∙ rw (ne_eqb o.verb 5 n, ne_eqb o.verb 6 m, ne_eqb o.verb 3 k, eq-eqb o.verb 4 e)
-
-      pub sent_none : (o.verb ≡ 4 → ⊥) → x ≡ record { refusal = 0; written = 0; buffer = lent } → x ≡ sent_by s c o lent
-      unfolding sent_by
-      sent_none e p = p ∙ rw (ne_eqb o.verb 5 n, ne_eqb o.verb 6 m, ne_eqb o.verb 3 k, ne_eqb o.verb 4 e)
-
--- ---- an order whole, with the words of its client lent from one place up to another
-
-module _ (s : ServerCounts) (words : List ℕ) (ks : List Counts) (own : List ℕ) (o : Order) (here : Placed o)
-    (lo hi : ℕ) (from : lo ≡ size * (o.line - 1)) (to : hi ≡ lo + size) where
-  abbrev e : Ends
-  e = ends_of s words ks own
-
-  abbrev c : Client
-  c = client_of (get_or ks (o.line - 1) no_counts) (take (hi - lo) (drop lo own))
-
-  client_on_lem : c ≡ client_on e o
-  client_on_lem =
-      ap (client_of (get_or ks (o.line - 1) no_counts)) (lent_is (o.line - 1) own lo hi from to)
-      ∙ sym (client_in_lem ks own (o.line - 1) (store models.no_client) (let h = here in omega arith))
-
-  module _ (b : Sent) (m : List ℕ) (pb : answered b m ≡ sent_by (server_of s words) c o room) where
-    pub sent_within : b.written ≤ length m
-    sent_within = subst Written (sym pb) (wrote_within (server_of s words) c o room)
-
-    -- by what was sent, and by the verb
-    by : (t u : Bool) → eqb b.refusal 0 ≡ t → leb 5 o.verb ≡ u
-        → cond t
-        (cond u (on_server e (servers.taken (server_of s words) (take b.written m))) (on_client e (o.line - 1) (changed_by (client_on e o) o (take b.written m))))
-        (record { refusal = b.refusal; ends = e })
-        ≡ ordered e o
-    unfolding ordered
-    by t u p q =
-        ap₂
-        (λ (x y : Bool). cond x
-        (cond y (on_server e (servers.taken (server_of s words) (take b.written m))) (on_client e (o.line - 1) (changed_by (client_on e o) o (take b.written m))))
-        (record { refusal = b.refusal; ends = e }))
-        (sym p) (sym q)
-        ∙ ap (delivered e o) (pb ∙ ap (λ (x : Client). sent_by (server_of s words) x o room) client_on_lem)
-
-    pub turned_unsent : (b.refusal ≡ 0 → ⊥) → ◌≡◌ {A = Done} (record { refusal = b.refusal; ends = e }) (ordered e o)
-    turned_unsent h = by false (leb 5 o.verb) (ne_eqb b.refusal 0 h) refl
-
-    module _ (z : b.refusal ≡ 0) where
-      pub turned_server : 5 ≤ o.verb → (a : ServerChanged) (words' : List ℕ) → servers.answer_of a words' ≡ servers.taken (server_of s words) (take b.written m)
-          → ◌≡◌ {A = Done} (record { refusal = a.refusal; ends = ends_of a.counts words' ks own }) (ordered e o)
-      turned_server h a words' p = ap (on_server e) p ∙ by true true (eq-eqb b.refusal 0 z) (le-leb 5 o.verb h)
-
-      pub turned_client : o.verb < 5 → length ks ≡ max_lines → hi ≤ length own → (a : ClientChanged) (x : List ℕ) → length x ≡ size
-          → clients.answer_of a x ≡ changed_by c o (take b.written m)
-          → ◌≡◌ {A = Done} (record { refusal = a.refusal; ends = ends_of s words (set ks (o.line - 1) a.counts) (put_mid lo (hi - lo) own x) }) (ordered e o)
-      turned_client h eight fits a x size p =
-          let small = here in
-          ap (λ (l : List Client). record { refusal = a.refusal; ends = record { server = server_of s words; clients = l } })
-          (clients_written (o.line - 1) ks a.counts x own _ (omega arith) (lent_wrote (o.line - 1) own lo hi from to fits x size) eight)
-          ∙ ap (on_client e (o.line - 1)) (p ∙ ap (λ (y : Client). changed_by y o (take b.written m)) client_on_lem)
-          ∙ by true false (eq-eqb b.refusal 0 z) (lt-leb 5 o.verb h)
+    -- the client of its line, at whatever default it was read
+    pub turned_client : goes_up o.verb ≡ false → (d : Client) → o.line - 1 < length e.clients → (q : Result ⊤ Refusal) (c : Client)
+        → Answers q c (changed_by (get_or e.clients (o.line - 1) d) o.verb (take n m))
+        → done_of q (record { server = e.server; clients = set e.clients (o.line - 1) c }) ≡ ordered e o
+    turned_client h d small q c p =
+        ap₂ (λ (r : ℕ) (x : Client). record { refusal = r; ends = record { server = e.server; clients = set e.clients (o.line - 1) x } }) p.0 p.1
+        ∙ ap (λ (x : Client). on_client e (o.line - 1) (changed_by x o.verb (take n m))) (get_or_default e.clients (o.line - 1) d (client.store models.no_client) small)
+        ∙ by 0 n m pb true false refl h

@@ -1,5 +1,5 @@
 -- The structs of a bench whose ends are sound: they stand for that bench, and each of them is the struct for its end.
-use Prim.Native.Nat.{ℕ, suc, ◌-◌, ◌<◌, ◌≤◌}
+use Prim.Native.Nat.{ℕ, ◌-◌, ◌<◌, ◌≤◌}
 use mathlib.Core.Path.{◌≡◌, refl, sym, ap, ap₂, ◌∙◌, subst}
 use mathlib.Core.Bool.{true}
 use mathlib.Core.List.{List, [], ◌∷◌, map}
@@ -7,24 +7,20 @@ use native.Mathlib.Omega.{arith}
 use lib.ListN.{length, get_or, take, length-map, get_or-append, get_or-map}
 use Rattle.limits.specs.Limits.{max_lines, max_items}
 use Rattle.list.specs.Items.{padded}
-use Rattle.list.proofs.Pad.{pad_take, pad_get_or}
+use Rattle.list.proofs.Pad.{pad_take}
 use Rattle.model.specs.Questions.{every}
 use Rattle.model.specs.Client as models
 use Rattle.model.specs.Server as server_models
-use Rattle.model.proofs.SoundClient.{client_facts}
 use Rattle.model.proofs.SoundServer.{server_facts}
-use Rattle.ranks.proofs.Laws.{stored_length}
-use Rattle.client.specs.declared.Counts.{Counts}
 use Rattle.client.specs.declared.Client.{Client}
 use Rattle.client.specs.View as client
 use Rattle.client.proofs.Stored.{client_view}
-use Rattle.server.specs.declared.Counts.{Counts as ServerCounts}
 use Rattle.server.specs.declared.Server.{Server}
 use Rattle.server.specs.View as server
 use Rattle.sheet_print.proofs.Sinks.{and_left, and_right}
 use Rattle.sheet_ends.specs.Bench.{Bench, SoundBench, client_of}
-use Rattle.sheet_ends.specs.Ends.{Ends, ends_of, view_ends, store_ends, Whole, Held, Sizes}
-use Rattle.sheet_ends.proofs.Places.{client_in_lem}
+use Rattle.sheet_ends.specs.declared.Ends.{Ends}
+use Rattle.sheet_ends.specs.Ends.{view_ends, store_ends, Whole}
 use Rattle.sheet_ends.proofs.Benches.{every_at}
 use Rattle.server.proofs.Stored.{view_store, store_sizes}
 
@@ -64,25 +60,22 @@ module _ (e : Ends) (w : Whole e) where
   pub clients_are : e.clients ≡ padded (client.store models.no_client) max_lines (map client.store B.clients)
   clients_are = ap (λ (x : Ends). x.clients) w.whole
 
+  -- those of lines 1 to n
+  pub clients_taken : take e.server.counts.n e.clients ≡ map client.store B.clients
+  unfolding server.view
+  clients_taken = ap (take e.server.counts.n) clients_are ∙ taken B w.sound
+
   pub lines_few : e.server.counts.n ≤ max_lines
   unfolding server.view
   lines_few = (server_facts B.server w.sound.server).n.1
 
-  pub server_sizes : server.Sizes e.server.counts e.server.words
-  server_sizes = subst (λ (s : Server). server.Sizes s.counts s.words) (sym server_is) (store_sizes B.server w.sound.server)
+  pub server_long : length e.server.words ≡ server.size
+  server_long = subst (λ (s : Server). length s.words ≡ server.size) (sym server_is) (store_sizes B.server w.sound.server).words
 
   pub server_short : e.server.counts.len ≤ max_items
   unfolding server.store
   server_short =
       subst (λ (s : Server). s.counts.len ≤ max_items) (sym server_is) (server_facts B.server w.sound.server).items
-
-  -- the ranks of each client, and of one that is not in use, fill their places
-  clients_ranked : (i : ℕ) → length (get_or e.clients i (client.store models.no_client)).counts.ranks ≡ max_lines
-  clients_ranked i =
-      ap (λ (x : List Client). length (get_or x i (client.store models.no_client)).counts.ranks) clients_are
-      ∙ ap (λ (c : Client). length c.counts.ranks)
-      (pad_get_or max_lines (client.store models.no_client) (map client.store B.clients) i ∙ get_or-map client.store B.clients i models.no_client)
-      ∙ stored_length (get_or B.clients i models.no_client).ranks
 
   -- the client of line l
   module _ (l : ℕ) (in_range : (1 ≤ l) × (l ≤ e.server.counts.n)) where
@@ -101,24 +94,3 @@ module _ (e : Ends) (w : Whole e) where
         ap (λ (x : List Client). get_or x (l - 1) (client.store models.no_client)) clients_are
         ∙ get_or-append (map client.store B.clients) _ (client.store models.no_client) (l - 1) stored_within
         ∙ get_or-map client.store B.clients (l - 1) models.no_client
-
-  -- by its place
-  pub client_short : (i : ℕ) → i < e.server.counts.n → (get_or e.clients i (client.store models.no_client)).counts.len ≤ max_items
-  client_short i small =
-      let in_range : (1 ≤ suc i) × (suc i ≤ e.server.counts.n) = (omega arith, small) in
-      let at : suc i - 1 ≡ i = omega arith in
-      let f = (client_facts (client_of B (suc i)) (client_sound (suc i) in_range)).items in
-      let p = ap (λ (c : Client). c.counts.len) (client_is (suc i) in_range) in
-      subst (λ (j : ℕ). (get_or e.clients j (client.store models.no_client)).counts.len ≤ max_items) at (subst (λ (n : ℕ). n ≤ max_items) (sym p) f)
-
--- ---- of numbers and words
-
-pub held_sizes : (s : ServerCounts) (words : List ℕ) (ks : List Counts) (own : List ℕ) → Held s words ks own → Sizes ks own
-held_sizes s words ks own g =
-    record {
-      words = g.size;
-      ranks =
-          λ i small.
-          sym (ap (λ (c : Client). length c.counts.ranks) (client_in_lem ks own i (client.store models.no_client) small))
-          ∙ clients_ranked (ends_of s words ks own) g.ends i;
-    }

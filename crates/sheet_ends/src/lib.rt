@@ -1,32 +1,23 @@
-// A server and its clients, as the run program holds them: opening the clients, and what an order does to the ends. An end is its numbers
-// and its words. The clients stand side by side, client j's words from 1,152 * j on in one array, so that each call changes its end in place.
+// A server and its clients, as the run program holds them: opening them, and what an order does to the ends, in place.
 #![tactic(auto)]
 
-ghost use Rattle.std.specs.Prelude.{◌≡◌, replicate};
+ghost use Rattle.std.specs.Prelude.{◌≡◌};
 ghost use Rattle.limits.specs.Limits.{max_lines};
 ghost use Rattle.model.specs.Ranks.{line_ranks};
 ghost use Rattle.line.specs.Sending.{answered};
-ghost use Rattle.client.specs.View.{client_of, Sizes as Client-as-Sizes};
-ghost use Rattle.client.specs.Answers.{answer_of};
-ghost use Rattle.server.specs.View.{server_of, Sizes as Server-as-Sizes};
-ghost use Rattle.sheet_ends.specs.Ends.{all_size, ends_of, clients_in, opening, Sizes};
-ghost use Rattle.sheet_ends.specs.Orders.{sent_by, changed_by, done_of, ordered, Placed};
+ghost use Rattle.sheet_ends.specs.Ends.{no_ends, opening};
+ghost use Rattle.sheet_ends.specs.Orders.{client_on, sent_by, changed_by, goes_up as Orders·goes_up, Answers, done_of, opened, ordered, Placed};
 
-use client::{Client, Counts, Inverse};
-use line::Line;
-use line::sending::Sent;
+use client::Client;
+use refusal::Refusal;
 use server::Server;
-use sheet_text::{ACK, DEL, DOWN, INS, Order, TOLD, UP};
+use sheet_text::{Order, Verb};
 
-// The words of all clients.
-pub const WORDS: usize = Server::LINES * Client::WORDS;
-
-// What an order leaves: 0 or the refusal, and the numbers of the server and of the clients.
+// The server, and the clients of lines 1 to n in the first n places. A place that is not in use holds zeros.
 #[derive(Drop)]
-pub struct Turned {
-    pub refusal: u8,
-    pub server: server::Counts,
-    pub clients: [Counts; Server::LINES],
+pub struct Ends {
+    pub server: Server,
+    pub clients: [Client; Server::LINES],
 }
 
 // Line numbers as ranks: those of n lines are the first n.
@@ -36,118 +27,89 @@ pub fn line_ranks() -> [u8; Server::LINES]
     [1, 2, 3, 4, 5, 6, 7, 8]
 }
 
-// The clients of lines 1 to n, with the ranks of these lines, in words that are zero. Opening refuses a line past n, and leaves its
-// numbers and words zero.
-pub fn open_clients(
-    n: u8,
-    ranks: &[u8],
-    items: &[u32],
-    words: &mut [u32],
-) -> [Counts; Server::LINES]
-    requires { words.old ≡ replicate all_size 0 }
-    ensures { clients_in result words.new ≡ opening n ranks.now items.now 1 max_lines }
+// Whether the server takes what is written; else the client takes it, or edits.
+fn goes_up(verb: Verb) -> bool
+    ensures { result ≡ Orders·goes_up verb }
 {
-    let own = Line {
-        made: 0,
-        taken: 0,
-        acked: 0,
-        inserts: 0,
-    };
-    let zeros = [0u8; Server::LINES];
-    let none = Counts {
-        own,
-        len: 0,
-        total: 0,
-        inverse: Inverse { place: 0, item: 0 },
-        n: 0,
-        line: 0,
-        ranks: zeros,
-    };
-    let mut counts = [none; Server::LINES];
-    for i in 0..Server::LINES {
-        let from = Client::WORDS * i;
-        let to = from + Client::WORDS;
-        let line = (i + 1) as u8;
-        let a = client::open_lent(n, line, ranks, items, &mut words[from..to]);
-        let k = a.counts;
-        counts[i] = k;
-    }
-    counts
-}
-
-// What the one end of an order writes for the other. An edit writes nothing.
-fn sent(s: server::Counts, words: &[u32], c: Counts, own: &[u32], o: Order, m: &mut [u8]) -> Sent
-    requires { Server-as-Sizes s words.now × Client-as-Sizes c own.now }
-    ensures { answered result m.new ≡ sent_by (server_of s words.now) (client_of c own.now) o m.old }
-{
-    if o.verb == UP {
-        return client::sending::send(c, own, o.line, o.number, m);
-    }
-    if o.verb == ACK {
-        return client::sending::tell(c, own, o.line, m);
-    }
-    if o.verb == DOWN {
-        return server::sending::send(s, words, o.line, o.number, m);
-    }
-    if o.verb == TOLD {
-        return server::sending::tell(s, words, o.line, m);
-    }
-    Sent {
-        refusal: 0,
-        written: 0,
+    match verb {
+        Verb::Up { .. } | Verb::Ack => true,
+        _ => false,
     }
 }
 
 // The client's own edit, or what it takes.
-fn at_client(c: Counts, words: &mut [u32], o: Order, bytes: &[u8]) -> client::Changed
-    requires { Client-as-Sizes c words.old }
-    ensures { answer_of result words.new ≡ changed_by (client_of c words.old) o bytes.now }
+#[tactic(auto, unfolding(crate::specs::Orders::changed_by))]
+fn at_client(c: &mut Client, verb: Verb, bytes: &[u8]) -> Result<(), Refusal>
+    ensures { Answers result c.new (changed_by c.old verb bytes.now) }
 {
-    if o.verb == INS {
-        return client::editing::insert(c, words, o.number, o.item);
+    match verb {
+        Verb::Insert { position, item } => c.insert(position, item)?,
+        Verb::Delete { position } => c.delete(position)?,
+        _ => {
+            c.take(bytes)?;
+        }
     }
-    if o.verb == DEL {
-        return client::editing::delete(c, words, o.number);
-    }
-    client::taking::take(c, words, bytes)
+    Ok(())
 }
 
-// An order at the server and at the client of its line, in place. What cannot be sent changes nothing.
-pub fn turn(
-    s: server::Counts,
-    words: &mut [u32],
-    clients: [Counts; Server::LINES],
-    own: &mut [u32],
-    o: Order,
-) -> Turned
-    requires { (Server-as-Sizes s words.old × Sizes clients own.old) × Placed o }
-    ensures { done_of result words.new own.new ≡ ordered (ends_of s words.old clients own.old) o }
-{
-    let at = (o.line - 1) as usize;
-    let c = clients[at];
-    let from = Client::WORDS * at;
-    let to = from + Client::WORDS;
-    let mut m = [0u8; 17];
-    let b = sent(s, words, c, &own[from..to], o, &mut m);
-    let mut t = Turned {
-        refusal: b.refusal,
-        server: s,
-        clients,
-    };
-    if b.refusal != 0 {
-        return t;
+impl Ends {
+    // The ends of no sheet: all zeros.
+    pub fn empty() -> Ends
+        ensures { result ≡ no_ends }
+    {
+        Ends {
+            server: Server::empty(),
+            clients: [Client::empty(); Server::LINES],
+        }
     }
-    let n = b.written;
-    if UP <= o.verb {
-        let a = server::taking::take(s, words, &m[..n]);
-        let k = a.counts;
-        t.refusal = a.refusal;
-        t.server = k;
-        return t;
+
+    // Opens the clients of lines 1 to n, with the ranks of these lines. Opening refuses a line past n, and leaves its client zero.
+    fn open_clients(&mut self, n: u8, ranks: &[u8], items: &[u32])
+        ensures { self.new ≡ record { server = self.old.server; clients = opening n ranks.now items.now 1 max_lines } }
+    {
+        for i in 0..Server::LINES {
+            let line = (i + 1) as u8;
+            let _ = self.clients[i].open(n, line, ranks, items);
+        }
     }
-    let a = at_client(c, &mut own[from..to], o, &m[..n]);
-    let k = a.counts;
-    t.refusal = a.refusal;
-    t.clients[at] = k;
-    t
+
+    // Opens the server of n lines, and then its clients. What is refused opens no clients.
+    pub fn open(&mut self, n: u8, ranks: &[u8], items: &[u32]) -> Result<(), Refusal>
+        ensures { done_of result self.new ≡ opened self.old n ranks.now items.now }
+    {
+        self.server.open(n, ranks, items)?;
+        self.open_clients(n, ranks, items);
+        Ok(())
+    }
+
+    // What the one end of an order writes for the other. An edit writes nothing.
+    #[tactic(auto, unfolding(crate::specs::Orders::sent_by))]
+    fn sent(&self, o: Order, m: &mut [u8]) -> Result<usize, Refusal>
+        requires { Placed o }
+        ensures { answered result m.new ≡ sent_by self.now.server (client_on self.now o) o.line o.verb m.old }
+    {
+        let at = (o.line - 1) as usize;
+        match o.verb {
+            Verb::Up { number } => self.clients[at].send(o.line, number, m),
+            Verb::Ack => self.clients[at].tell(o.line, m),
+            Verb::Down { number } => self.server.send(o.line, number, m),
+            Verb::Told => self.server.tell(o.line, m),
+            Verb::Insert { .. } | Verb::Delete { .. } => Ok(0),
+        }
+    }
+
+    // An order at the server and at the client of its line. What cannot be sent changes nothing.
+    pub fn turn(&mut self, o: Order) -> Result<(), Refusal>
+        requires { Placed o }
+        ensures { done_of result self.new ≡ ordered self.old o }
+    {
+        let mut m = [0u8; 17];
+        let n = self.sent(o, &mut m)?;
+        if goes_up(o.verb) {
+            self.server.take(&m[..n])?;
+            return Ok(());
+        }
+        let at = (o.line - 1) as usize;
+        at_client(&mut self.clients[at], o.verb, &m[..n])
+    }
 }

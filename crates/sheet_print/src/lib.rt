@@ -23,11 +23,9 @@ fn put(out: &mut [u8], at: usize, b: u8) -> usize
 pub fn puts(out: &mut [u8], at: usize, s: &[u8]) -> usize
     ensures { sink out.new result ≡ Sink·puts s.now (sink out.old at) }
 {
-    let mut i = 0;
     let mut to = at;
-    while i < s.len() {
-        to = put(out, to, s[i]);
-        i += 1;
+    for b in s {
+        to = put(out, to, *b);
     }
     to
 }
@@ -116,12 +114,10 @@ fn put_digits(out: &mut [u8], at: usize, n: u32, rest: u32, from: usize, to: usi
 {
     let mut next = at;
     let mut left = rest;
-    let mut k = from;
-    while to < k {
+    for k in (to + 1..from + 1).rev() {
         let d = put_digit(out, next, n, left, power(k));
         next = d.at;
         left = d.rest;
-        k -= 1;
     }
     Next {
         at: next,
@@ -140,6 +136,7 @@ fn put_front(out: &mut [u8], at: usize, n: u32) -> Next
 }
 
 // A number in decimal, from its highest power of ten down.
+// Kept by hand, and not by Display: printing neither divides nor takes a remainder (.ci/no-division), and writes into a lent buffer.
 fn decimal(out: &mut [u8], at: usize, n: u32) -> usize
     ensures { sink out.new result ≡ Sink·puts (Decimal·decimal n) (sink out.old at) }
 {
@@ -153,10 +150,8 @@ fn items(out: &mut [u8], at: usize, list: &[u32]) -> usize
     ensures { sink out.new result ≡ Sink·puts (listed list.now) (sink out.old at) }
 {
     let mut to = at;
-    let mut i = 0;
-    while i < list.len() {
-        to = item(out, to, list[i]);
-        i += 1;
+    for x in list {
+        to = item(out, to, *x);
     }
     put(out, to, b'\n')
 }

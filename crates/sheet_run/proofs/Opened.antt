@@ -1,24 +1,27 @@
 -- The first line: opening the ends, and the whole output by the place of its end.
 use Prim.Native.Nat.{ℕ, zero, suc, ◌+◌, ◌<◌, ◌≤◌}
 use mathlib.Core.Path.{◌≡◌, refl, sym, ap, ap₂, ◌∙◌, subst}
-use mathlib.Core.Bool.{Bool, true, false, ◌&&◌}
+use mathlib.Core.Bool.{Bool, true, false, ◌&&◌, cond}
 use mathlib.Core.List.{List, [], ◌∷◌, ◌++◌}
 use native.Mathlib.Omega.{arith}
 use borrow.Author.Tests.{lt-leb, leb-true, leb-false, eq-eqb, ne_eqb, lt-ltb, le-ltb, ltb-true, ltb-false}
-use lib.Dec.{leb, ltb}
+use lib.Dec.{leb, ltb, eqb}
 use lib.ListN.{length, take, drop}
 use lib.Seq.{take_all, length-take-le}
 use Rattle.limits.specs.Limits.{max_lines, max_initial}
-use Rattle.model.specs.Questions.{between, no_report, answer}
+use Rattle.model.specs.Questions.{between, no_report, answer, Answer}
 use Rattle.model.specs.Ranks.{count_from, line_ranks}
 use Rattle.model.specs.Server as models
-use Rattle.client.specs.declared.Counts.{Counts}
 use Rattle.client.specs.declared.Client.{Client}
 use Rattle.server.specs.declared.Server.{Server}
-use Rattle.server.specs.declared.Answer.{Answer}
-use Rattle.server.specs.declared.Changed.{Changed}
 use Rattle.server.specs.View.{store}
-use Rattle.server.specs.Answers.{answer_of, given, opened}
+use Rattle.server.specs.Answers.{given}
+use Rattle.server.specs.Answers as servers
+use Rattle.std.proofs.Common.{Option}
+use Rattle.std.specs.Prelude.{Ok, Err, ⊤}
+use Rattle.refusal.specs.declared.Refusal.{Refusal}
+use Rattle.refusal.specs.Number.{number}
+use Rattle.refusal.proofs.Some.{number_some}
 use Rattle.sheet_text.specs.declared.first.First.{First}
 use Rattle.sheet_text.specs.Text.{before, lines_of, parts, same}
 use Rattle.sheet_text.specs.Opening.{Opening, none, sheet, opening_of, held, cut, max_held, Reads}
@@ -27,7 +30,9 @@ use Rattle.sheet_print.specs.Sink.{Sink, puts}
 use Rattle.sheet_print.specs.Lines.{replied}
 use Rattle.sheet_print.proofs.Sinks.{then}
 use Rattle.sheet_ends.specs.Bench.{Bench, SoundBench, open_bench}
-use Rattle.sheet_ends.specs.Ends.{Ends, all_size, ends_of, clients_in, store_ends, view_ends, opening, Whole, Held}
+use Rattle.sheet_ends.specs.declared.Ends.{Ends}
+use Rattle.sheet_ends.specs.Ends.{store_ends, view_ends, opening, Whole}
+use Rattle.sheet_ends.specs.Orders.{Done, done_of, opened}
 use Rattle.sheet_ends.proofs.Benches as benches
 use Rattle.sheet_ends.proofs.Wholes.{store_whole, bench_view}
 use Rattle.sheet_ends.proofs.Opened.{opening_all}
@@ -65,43 +70,51 @@ module _ (n : ℕ) (all : List ℕ) (lent : ℕ) (numbers : all ≡ line_ranks m
 -- ---- what opening the ends leaves
 
 module _ (n : ℕ) (items all : List ℕ) (lent : ℕ) (numbers : all ≡ line_ranks max_lines) (few : n ≤ max_lines → lent ≡ n)
-    (a : Changed) (words : List ℕ) (lent_opened : answer_of a words ≡ opened n (take lent all) items) where
-  pa : answer_of a words ≡ opened n (line_ranks n) items
-  pa = lent_opened ∙ ap (given (store models.no_server)) (opens_same n all lent numbers few items)
+    (e₀ e : Ends) where
+  abbrev of_lines : Answer models.Server
+  of_lines = models.open_server n (line_ranks n) items
 
-  refusal_is : a.refusal ≡ (models.open_server n (line_ranks n) items).refusal
-  refusal_is = ap (λ (x : Answer). x.refusal) pa
+  same_refusal : (models.open_server n (take lent all) items).refusal ≡ of_lines.refusal
+  same_refusal = ap (λ (x : Answer models.Server). x.refusal) (opens_same n all lent numbers few items)
 
-  module _ (z : a.refusal ≡ 0) (ks : List Counts) (own : List ℕ) (size : length own ≡ all_size)
-      (pc : clients_in ks own ≡ opening n (take lent all) items 1 max_lines) where
-    abbrev E : Ends
-    E = ends_of a.counts words ks own
+  pub started_off : (r : Refusal) → done_of (Err r) e ≡ opened e₀ n (take lent all) items → (k : ℕ) → k ≡ number r → (ls : List (List ℕ)) (s₀ : Sink) {s₁ : Sink}
+      → s₁ ≡ puts (replied k) s₀ → s₁ ≡ puts (started (sheet n items) ls) s₀
+  started_off r p k pk ls s₀ q =
+      let is : number r ≡ of_lines.refusal = ap (λ (x : Done). x.refusal) p ∙ same_refusal in
+      q ∙ ap (λ (k : ℕ). puts (replied k) s₀) (pk ∙ is) ∙ rw (ne_eqb of_lines.refusal 0 (λ z. number_some r (is ∙ z)))
 
-    server_opened : E.server ≡ store (models.open_server n (line_ranks n) items).end
-    server_opened = ap (λ (x : Answer). x.server) pa ∙ rw (eq-eqb (models.open_server n (line_ranks n) items).refusal 0 (sym refusal_is ∙ z))
+  module _ (x : ⊤) (p : done_of (Ok x) e ≡ opened e₀ n (take lent all) items) where
+    z : of_lines.refusal ≡ 0
+    z = sym (ap (λ (x : Done). x.refusal) p ∙ same_refusal)
+
+    server_opened : (servers.opened n (take lent all) items).end ≡ store of_lines.end
+    server_opened =
+        ap (λ (a : Answer models.Server). (given (store models.no_server) a).end) (opens_same n all lent numbers few items) ∙ rw (eq-eqb of_lines.refusal 0 z)
 
     fine : (1 ≤ n) × (n ≤ max_lines) × (length items ≤ max_initial)
-    fine = benches.opened n (line_ranks n) items (sym refusal_is ∙ z)
+    fine = benches.opened n (line_ranks n) items z
 
     sound : SoundBench (open_bench n items)
     sound = benches.open_sound n items fine.0 fine.1 fine.2
 
-    stored : E ≡ store_ends (open_bench n items)
-    stored = ap₂ (λ (s : Server) (cs : List Client). record { server = s; clients = cs }) server_opened
-        (pc ∙ ap (λ (ranks : List ℕ). opening n ranks items 1 max_lines) (lent_is n all lent numbers few fine.1) ∙ opening_all n items fine.1)
+    clients_opened : cond (eqb (models.open_server n (take lent all) items).refusal 0) (opening n (take lent all) items 1 max_lines) e₀.clients
+        ≡ (store_ends (open_bench n items)).clients
+    clients_opened =
+        ap (λ (t : Bool). cond t (opening n (take lent all) items 1 max_lines) e₀.clients)
+        (eq-eqb (models.open_server n (take lent all) items).refusal 0 (same_refusal ∙ z))
+        ∙ ap (λ (ranks : List ℕ). opening n ranks items 1 max_lines) (lent_is n all lent numbers few fine.1) ∙ opening_all n items fine.1
 
-    pub opened_held : Held a.counts words ks own
-    opened_held = record { ends = subst Whole (sym stored) (store_whole (open_bench n items) sound); size = size }
+    stored : e ≡ store_ends (open_bench n items)
+    stored = ap (λ (x : Done). x.ends) p ∙ ap₂ (λ (s : Server) (cs : List Client). record { server = s; clients = cs }) server_opened clients_opened
 
-    pub started_on : (ls : List (List ℕ)) (s₀ : Sink) {s₁ s₂ : Sink} → s₁ ≡ puts (replied a.refusal) s₀ → s₂ ≡ puts (ran (view_ends E) ls) s₁ → s₂ ≡ puts (started (sheet n items) ls) s₀
+    pub opened_whole : Whole e
+    opened_whole = subst Whole (sym stored) (store_whole (open_bench n items) sound)
+
+    pub started_on : (ls : List (List ℕ)) (s₀ : Sink) {s₁ s₂ : Sink} → s₁ ≡ puts (replied 0) s₀ → s₂ ≡ puts (ran (view_ends e) ls) s₁ → s₂ ≡ puts (started (sheet n items) ls) s₀
     started_on ls s₀ q r =
-        then (replied a.refusal) (ran (view_ends E) ls) s₀ q r
-        ∙ ap₂ (λ (k : ℕ) (b : Bench). puts (replied k ++ ran b ls) s₀) z (ap view_ends stored ∙ bench_view (open_bench n items) sound)
-        ∙ rw (eq-eqb (models.open_server n (line_ranks n) items).refusal 0 (sym refusal_is ∙ z))
-
-  pub started_off : (a.refusal ≡ 0 → ⊥) → (ls : List (List ℕ)) (s₀ : Sink) {s₁ : Sink} → s₁ ≡ puts (replied a.refusal) s₀ → s₁ ≡ puts (started (sheet n items) ls) s₀
-  started_off h ls s₀ q =
-      q ∙ ap (λ (k : ℕ). puts (replied k) s₀) refusal_is ∙ rw (ne_eqb (models.open_server n (line_ranks n) items).refusal 0 (λ z. h (refusal_is ∙ z)))
+        then (replied 0) (ran (view_ends e) ls) s₀ q r
+        ∙ ap (λ (b : Bench). puts (replied 0 ++ ran b ls) s₀) (ap view_ends stored ∙ bench_view (open_bench n items) sound)
+        ∙ rw (eq-eqb of_lines.refusal 0 z)
 
 -- ---- the whole output, by the place of the first line's end
 
@@ -137,10 +150,10 @@ module _ (s : List ℕ) (e : ℕ) (p : e ≡ length (before 10 s)) where
       go true q = sym (ap printed (lines_first s e (ltb-true 0 (length s) q) p))
       go false q = printed_empty s e (ltb-false 0 (length s) q)
 
-  pub output_is : (f : First) → length s ≤ max_input → Reads (opening_of (take e s)) f → started (held f) (lines_of (drop (e + 1) s)) ≡ output s
+  pub output_is : (f : Option First) → length s ≤ max_input → Reads (opening_of (take e s)) f → started (held f) (lines_of (drop (e + 1) s)) ≡ output s
   unfolding output
   output_is f h r =
-      ap (λ o. started o (lines_of (drop (e + 1) s))) r.means ∙ cut_started (opening_of (take e s)) (lines_of (drop (e + 1) s)) ∙ printed_is
+      ap (λ o. started o (lines_of (drop (e + 1) s))) r ∙ cut_started (opening_of (take e s)) (lines_of (drop (e + 1) s)) ∙ printed_is
       ∙ rw (le-ltb max_input (length s) h)
 
 pub output_long : (s : List ℕ) → max_input < length s → long ≡ output s

@@ -8,10 +8,9 @@ use borrow.Author.Tests.{ltb-false, eqb-true, eqb-false, leb-true}
 use lib.Dec.{leb, ltb, eqb}
 use lib.ListN.{length, take, drop, length-append}
 use lib.Seq.{take_all, take_at}
+use Rattle.std.specs.Prelude.{Option, Some, None}
 use Rattle.list.specs.Places.{items_of}
 use Rattle.list.proofs.Places.{items_length}
-use Rattle.wire.specs.declared.Read.{Read}
-use Rattle.wire.specs.declared.Read.TheVariants as read
 use Rattle.wire.specs.declared.Message.{Message}
 use Rattle.wire.specs.declared.Message.TheVariants as message
 use Rattle.wire.specs.Bytes.{parsed}
@@ -114,10 +113,10 @@ client_message_small c (message.Delete h p) = answer_small _ _ _ _ (asks_length 
 client_message_small c (message.Nothing h) = answer_small _ _ _ _ (asks_length (client_edit_questions c h Nothing) refl)
 client_message_small c (message.Ack l d s) = answer_small _ _ _ _ (asks_length (client_ack_questions c l d s) refl)
 
-client_read_small : (c : Client) (r : Read) → (client_reads c r).refusal ≤ 16
+client_read_small : (c : Client) (r : Option Message) → (client_reads c r).refusal ≤ 16
 unfolding numbered
-client_read_small c read.Refused = answer_small _ _ _ _ (asks_length (ask 2 (sound_client c) ∷ ask 3 false ∷ []) refl)
-client_read_small c (read.Message m) = client_message_small c m
+client_read_small c None = answer_small _ _ _ _ (asks_length (ask 2 (sound_client c) ∷ ask 3 false ∷ []) refl)
+client_read_small c (Some m) = client_message_small c m
 
 server_message_small : (s : Server) (m : Message) → (server_takes s m).refusal ≤ 16
 unfolding server_takes_edit server_takes_ack numbered
@@ -126,10 +125,10 @@ server_message_small s (message.Delete h p) = answer_small _ _ _ _ (asks_length 
 server_message_small s (message.Nothing h) = answer_small _ _ _ _ (asks_length (server_edit_questions s h Nothing) refl)
 server_message_small s (message.Ack l d k) = answer_small _ _ _ _ (asks_length (server_ack_questions s l d k) refl)
 
-server_read_small : (s : Server) (r : Read) → (server_reads s r).refusal ≤ 16
+server_read_small : (s : Server) (r : Option Message) → (server_reads s r).refusal ≤ 16
 unfolding numbered
-server_read_small s read.Refused = answer_small _ _ _ _ (asks_length (ask 2 (sound_server s) ∷ ask 3 false ∷ []) refl)
-server_read_small s (read.Message m) = server_message_small s m
+server_read_small s None = answer_small _ _ _ _ (asks_length (ask 2 (sound_server s) ∷ ask 3 false ∷ []) refl)
+server_read_small s (Some m) = server_message_small s m
 
 module _ (b : Bench) where
   delivered_small : (m : Sent) (taking : List ℕ → Step) → m.refusal ≤ 16 → ((bytes : List ℕ) → (taking bytes).refusal ≤ 16) → (delivered b m taking).refusal ≤ 16

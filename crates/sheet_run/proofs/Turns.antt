@@ -1,5 +1,5 @@
--- One line of the run program, on the numbers and words of the ends.
-use Prim.Native.Nat.{ℕ, ◌<◌, ◌≤◌}
+-- One line of the run program, on the ends.
+use Prim.Native.Nat.{ℕ, ◌≤◌}
 use mathlib.Core.Path.{◌≡◌, refl, sym, ap, ◌∙◌, subst}
 use mathlib.Core.Bool.{Bool, true, false, ◌&&◌, cond}
 use mathlib.Core.List.{List, [], ◌∷◌, ◌++◌}
@@ -7,9 +7,11 @@ use native.Mathlib.Omega.{arith}
 use lib.ListN.{length, drop}
 use lib.Dec.{leb, ltb}
 use Rattle.model.proofs.Tests.{between_true}
-use Rattle.client.specs.declared.Counts.{Counts}
-use Rattle.server.specs.declared.Counts.{Counts as ServerCounts}
 use Rattle.server.specs.View as server
+use Rattle.std.proofs.Common.{Option, Some, None}
+use Rattle.std.specs.Prelude.{Result, ⊤}
+use Rattle.refusal.specs.declared.Refusal.{Refusal}
+use Rattle.refusal.specs.Number.{refused_by}
 use Rattle.sheet_text.specs.declared.Order.{Order}
 use Rattle.sheet_text.specs.declared.Line.{Line}
 use Rattle.sheet_text.specs.Order.{coded, Next}
@@ -20,12 +22,12 @@ use Rattle.sheet_print.specs.Sink.{Sink, sink, puts}
 use Rattle.sheet_print.specs.Decimal.{number_of, too_wide}
 use Rattle.sheet_print.specs.Lines.{unknown, replied}
 use Rattle.sheet_print.proofs.Sinks.{both, puts_append}
-use Rattle.sheet_ends.specs.declared.Turned.{Turned}
+use Rattle.sheet_ends.specs.declared.Ends.{Ends}
 use Rattle.sheet_ends.specs.Bench.{Bench, SoundBench, step}
-use Rattle.sheet_ends.specs.Ends.{Ends, ends_of, view_ends, store_ends, Whole, Held}
+use Rattle.sheet_ends.specs.Ends.{view_ends, store_ends, Whole}
 use Rattle.sheet_ends.specs.Orders.{Done, Placed, done_of, ordered}
 use Rattle.sheet_ends.proofs.Benches.{step_sound}
-use Rattle.sheet_ends.proofs.Wholes.{bench_view, store_whole, lines_few, server_sizes}
+use Rattle.sheet_ends.proofs.Wholes.{bench_view, store_whole, lines_few}
 use Rattle.sheet_ends.proofs.Steps.{Within, store_step, ordered_is}
 use Rattle.sheet_run.specs.Output.{understood, replies, lists, ran}
 
@@ -59,65 +61,61 @@ command_within : (n : ℕ) (line : List ℕ) → Within n (command_of n line)
 unfolding command_of
 command_within n line = spoken_within n (words_of line)
 
--- ---- an order by its verb
+-- ---- a command by its order, if it has one
 
-heard : (c : Command) → 1 ≤ (coded c).verb → understood c ≡ true
+heard : (c : Command) (o : Order) → coded c ≡ Some o → understood c ≡ true
 unfolding coded understood
-heard Bad h = absurd (omega arith)
-heard (Insert l p x) h = refl
-heard (Delete l p) h = refl
-heard (Up l k) h = refl
-heard (Down l k) h = refl
-heard (Ack l) h = refl
-heard (Told l) h = refl
+heard Bad o p = cc
+heard (Insert l q x) o p = refl
+heard (Delete l q) o p = refl
+heard (Up l k) o p = refl
+heard (Down l k) o p = refl
+heard (Ack l) o p = refl
+heard (Told l) o p = refl
 
-unheard : (c : Command) → (coded c).verb < 1 → c ≡ Bad
+unheard : (c : Command) → coded c ≡ None → c ≡ Bad
 unfolding coded
-unheard Bad h = refl
-unheard (Insert l p x) h = absurd (omega arith)
-unheard (Delete l p) h = absurd (omega arith)
-unheard (Up l k) h = absurd (omega arith)
-unheard (Down l k) h = absurd (omega arith)
-unheard (Ack l) h = absurd (omega arith)
-unheard (Told l) h = absurd (omega arith)
+unheard Bad p = refl
+unheard (Insert l q x) p = cc
+unheard (Delete l q) p = cc
+unheard (Up l k) p = cc
+unheard (Down l k) p = cc
+unheard (Ack l) p = cc
+unheard (Told l) p = cc
 
-line_few : (n : ℕ) (c : Command) → Within n c → 1 ≤ (coded c).verb → (1 ≤ (coded c).line) × ((coded c).line ≤ n)
+few_by : (n : ℕ) (a o : Order) → ◌≡◌ {A = Option Order} (Some a) (Some o) → (1 ≤ a.line) × (a.line ≤ n) → (1 ≤ o.line) × (o.line ≤ n)
+few_by n a o p h = let q : a ≡ o = cc in rw q at h
+
+line_few : (n : ℕ) (c : Command) (o : Order) → coded c ≡ Some o → Within n c → (1 ≤ o.line) × (o.line ≤ n)
 unfolding coded
-line_few n Bad h low = absurd (omega arith)
-line_few n (Insert l p x) h low = h
-line_few n (Delete l p) h low = h
-line_few n (Up l k) h low = h
-line_few n (Down l k) h low = h
-line_few n (Ack l) h low = h
-line_few n (Told l) h low = h
+line_few n Bad o p h = cc
+line_few n (Insert l q x) o p h = few_by n _ o p h
+line_few n (Delete l q) o p h = few_by n _ o p h
+line_few n (Up l k) o p h = few_by n _ o p h
+line_few n (Down l k) o p h = few_by n _ o p h
+line_few n (Ack l) o p h = few_by n _ o p h
+line_few n (Told l) o p h = few_by n _ o p h
 
 -- ---- one line
 
 -- the ends are whole, and what is left to print completes z
-pub record Running (input out : List ℕ) (i to : ℕ) (s : ServerCounts) (words : List ℕ) (ks : List Counts) (own : List ℕ) (z : Sink) : Type 0 where
-  pub held : Held s words ks own
-  pub rest : puts (ran (view_ends (ends_of s words ks own)) (lines_of (drop i input))) (sink out to) ≡ z
+pub record Running (input out : List ℕ) (i to : ℕ) (e : Ends) (z : Sink) : Type 0 where
+  pub whole : Whole e
+  pub rest : puts (ran (view_ends e) (lines_of (drop i input))) (sink out to) ≡ z
 
-module _ (input out : List ℕ) (i to : ℕ) (s : ServerCounts) (words : List ℕ) (ks : List Counts) (own : List ℕ) (z : Sink)
-    (g : Running input out i to s words ks own z) where
-  abbrev e : Ends
-  e = ends_of s words ks own
-
+module _ (input out : List ℕ) (i to : ℕ) (e : Ends) (z : Sink) (g : Running input out i to e z) where
   abbrev B : Bench
   B = view_ends e
 
   w : Whole e
-  w = g.held.ends
+  w = g.whole
 
-  pub words_size : server.Sizes s words
-  words_size = server_sizes e w
-
-  module _ (r : Line) (p : Next input i s.n r) where
+  module _ (r : Line) (p : Next input i e.server.counts.n r) where
     abbrev said : Command
-    said = command_of s.n (before 10 (drop i input))
+    said = command_of e.server.counts.n (before 10 (drop i input))
 
-    within : Within s.n said
-    within = command_within s.n (before 10 (drop i input))
+    within : Within e.server.counts.n said
+    within = command_within e.server.counts.n (before 10 (drop i input))
 
     ran_line : ran B (lines_of (drop i input)) ≡ replies said (step B said).refusal ++ ran (step B said).bench (lines_of (drop r.after input))
     unfolding ran server.view
@@ -135,43 +133,36 @@ module _ (input out : List ℕ) (i to : ℕ) (s : ServerCounts) (words : List �
         ∙ ap (λ (l : List ℕ). puts l (sink out to)) (sym ran_line) ∙ g.rest
 
     -- an unknown line leaves the ends as they were
-    pub running_bad : r.order.verb < 1 → (out' : List ℕ) (to' : ℕ) → sink out' to' ≡ puts unknown (sink out to) → Running input out' r.after to' s words ks own z
+    pub running_bad : r.order ≡ None → (out' : List ℕ) (to' : ℕ) → sink out' to' ≡ puts unknown (sink out to) → Running input out' r.after to' e z
     unfolding understood step
     running_bad h out' to' q =
-        let b : said ≡ Bad = unheard said (subst (λ (o : Order). o.verb < 1) p.order h) in
+        let b : said ≡ Bad = unheard said (sym p.order ∙ h) in
         record {
-          held = g.held;
+          whole = w;
           rest =
               ap (λ (c : Command). puts (ran (step B c).bench (lines_of (drop r.after input))) (sink out' to')) (sym b)
               ∙ stepped out' to' (q ∙ ap (λ (c : Command). puts (replies c (step B c).refusal) (sink out to)) (sym b));
         }
 
-    module _ (o : Order) (po : o ≡ r.order) (low : 1 ≤ o.verb) where
-      said_so : o ≡ coded said
-      said_so = po ∙ p.order
-
-      said_low : 1 ≤ (coded said).verb
-      said_low = subst (λ (y : Order). 1 ≤ y.verb) said_so low
+    module _ (o : Order) (po : r.order ≡ Some o) where
+      said_so : coded said ≡ Some o
+      said_so = sym p.order ∙ po
 
       pub order_placed : Placed o
-      order_placed =
-          let f = line_few s.n said within said_low in
-          let n = lines_few e w in
-          let q = ap (λ (y : Order). y.line) said_so in
-          (omega arith, omega arith)
+      order_placed = let f = line_few e.server.counts.n said o said_so within in let n = lines_few e w in (omega arith, omega arith)
 
-      pub running_turn : (t : Turned) (words' own' : List ℕ) → length own' ≡ length own → done_of t words' own' ≡ ordered e o
-          → (out' : List ℕ) (to' : ℕ) → sink out' to' ≡ puts (replied t.refusal) (sink out to)
-          → Running input out' r.after to' t.server words' t.clients own' z
-      running_turn t words' own' size pd out' to' q =
-          let done : done_of t words' own' ≡ store_step (step B said) = pd ∙ ap (ordered e) said_so ∙ ordered_is e w said within said_low in
-          let ends : ends_of t.server words' t.clients own' ≡ store_ends (step B said).bench = ap (λ (x : Done). x.ends) done in
+      pub running_turn : (t : Result ⊤ Refusal) (e' : Ends) → done_of t e' ≡ ordered e o
+          → (k : ℕ) → k ≡ refused_by t → (out' : List ℕ) (to' : ℕ) → sink out' to' ≡ puts (replied k) (sink out to) → Running input out' r.after to' e' z
+      running_turn t e' pd k pk out' to' q =
+          let done : done_of t e' ≡ store_step (step B said) = pd ∙ ordered_is e w said o said_so within in
+          let ends : e' ≡ store_ends (step B said).bench = ap (λ (x : Done). x.ends) done in
           record {
-            held = record { ends = subst Whole (sym ends) (store_whole (step B said).bench sound); size = size ∙ g.held.size };
+            whole = subst Whole (sym ends) (store_whole (step B said).bench sound);
             rest =
                 ap (λ (b : Bench). puts (ran b (lines_of (drop r.after input))) (sink out' to')) (ap view_ends ends ∙ bench_view (step B said).bench sound)
                 ∙ stepped out' to'
-                (q ∙ ap (λ (u : Bool). puts (cond u (replied t.refusal) unknown) (sink out to)) (sym (heard said said_low))
+                (q ∙ ap (λ (j : ℕ). puts (replied j) (sink out to)) pk
+                ∙ ap (λ (u : Bool). puts (cond u (replied (refused_by t)) unknown) (sink out to)) (sym (heard said o said_so))
                 ∙ ap (λ (x : Done). puts (replies said x.refusal) (sink out to)) done);
           }
 

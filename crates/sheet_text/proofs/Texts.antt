@@ -1,56 +1,32 @@
 -- Laws of words and lines.
 use Prim.Native.Nat.{ℕ, suc, ◌+◌, ◌-◌, ◌<◌, ◌≤◌}
 use mathlib.Core.Path.{◌≡◌, refl, sym, ap, ◌∙◌}
-use mathlib.Core.Bool.{Bool, true, false, ◌&&◌, cond}
+use mathlib.Core.Bool.{Bool, true, false, not, ◌&&◌, cond}
 use mathlib.Core.List.{List, [], ◌∷◌}
-use native.Mathlib.Numerals.{add-one}
 use native.Mathlib.Nat.{suc-add}
 use native.Mathlib.Omega.{arith}
-use borrow.Author.Tests.{eq-eqb, ne_eqb, ltb-true, ltb-false, le-leb, lt-leb}
-use lib.Dec.{eqb, leb, ltb}
-use lib.ListN.{length, get_or, take, drop, length-drop, drop_of_length-le}
-use lib.Seq.{drop-cons, drop-drop, length-take-le, take_all}
-use Rattle.sheet_text.specs.Text.{before, joined, parts, words_of, lines_of, same}
+use borrow.Author.Tests.{ltb-true, ltb-false}
+use lib.Dec.{eqb, ltb}
+use Rattle.std.specs.List.{position_or_len}
+use lib.ListN.{length, take, drop, length-drop, drop_of_length-le}
+use lib.Seq.{drop-drop, take_all}
+use Rattle.sheet_text.specs.Text.{before, joined, parts, words_of, lines_of}
 use Rattle.sheet_print.proofs.Sinks.{both}
 
--- One turn of the search for a separator: at i it is found, or it is not and the search goes on.
-module _ (s : List ℕ) (sep i : ℕ) (h : i < length s) where
-  pub before_here : get_or s i 0 ≡ sep → length (before sep (drop i s)) ≡ 0
-  unfolding before
-  before_here e = rw (drop-cons s i 0 h, eq-eqb (get_or s i 0) sep e)
-
-  pub before_on : (get_or s i 0 ≡ sep → ⊥) → length (before sep (drop i s)) ≡ suc (length (before sep (drop (i + 1) s)))
-  unfolding before
-  before_on e = rw (drop-cons s i 0 h, ne_eqb (get_or s i 0) sep e, add-one i)
-
-pub before_end : (s : List ℕ) (sep i : ℕ) → length s ≤ i → length (before sep (drop i s)) ≡ 0
+-- the first separator, found by position
+pub before_is : (sep : ℕ) (s : List ℕ) → length (before sep s) ≡ position_or_len (λ b. eqb b sep) s
 unfolding before
-before_end s sep i h = rw (drop_of_length-le s h)
+before_is sep [] = refl
+before_is sep (b ∷ s) = go (eqb b sep) (before_is sep s)
+  where
+    go : (t : Bool) → length (before sep s) ≡ position_or_len (λ x. eqb x sep) s
+        → length (cond t [] (b ∷ before sep s)) ≡ cond (not t) (1 + position_or_len (λ x. eqb x sep) s) 0
+    go true e = refl
+    go false e = omega arith
 
-and_false : (t : Bool) → (t && false) ≡ false
+pub and_false : (t : Bool) → (t && false) ≡ false
 and_false true = refl
 and_false false = refl
-
--- Comparing two texts byte by byte.
-pub same_longer : (a b : List ℕ) → (length a ≡ length b → ⊥) → same a b ≡ false
-unfolding same
-same_longer [] [] h = absurd (h refl)
-same_longer [] (y ∷ b) h = refl
-same_longer (x ∷ a) [] h = refl
-same_longer (x ∷ a) (y ∷ b) h = rw (same_longer a b (λ e. h (ap suc e))) (and_false (eqb x y))
-
-module _ (a b : List ℕ) (i : ℕ) (ha : i < length a) (hb : i < length b) where
-  pub same_differ : (get_or a i 0 ≡ get_or b i 0 → ⊥) → same (drop i a) (drop i b) ≡ false
-  unfolding same
-  same_differ e = rw (drop-cons a i 0 ha, drop-cons b i 0 hb, ne_eqb (get_or a i 0) (get_or b i 0) e)
-
-  pub same_on : get_or a i 0 ≡ get_or b i 0 → same (drop (i + 1) a) (drop (i + 1) b) ≡ same (drop i a) (drop i b)
-  unfolding same
-  same_on e = rw (drop-cons a i 0 ha, drop-cons b i 0 hb, eq-eqb (get_or a i 0) (get_or b i 0) e, add-one i)
-
-pub same_end : (a b : List ℕ) (i : ℕ) → length a ≤ i → length b ≤ i → same (drop i a) (drop i b) ≡ true
-unfolding same
-same_end a b i ha hb = rw (drop_of_length-le a ha, drop_of_length-le b hb)
 
 -- The parts of a text, by the place of the first separator.
 module _ (sep : ℕ) (rest : List (List ℕ)) where
@@ -115,52 +91,11 @@ before_le sep [] = omega arith
 before_le sep (b ∷ s) =
     both (λ (l : List ℕ). length l ≤ suc (length s)) (eqb b sep) [] (b ∷ before sep s) (omega arith) (let h = before_le sep s in omega arith)
 
-pub taken_length : (s : List ℕ) (e sep : ℕ) → e ≡ length (before sep s) → e ≡ length (take e s)
-taken_length s e sep p = sym (length-take-le e s (let h = before_le sep s in omega arith))
-
 pub take_before : (sep : ℕ) (s : List ℕ) → take (length (before sep s)) s ≡ before sep s
 unfolding before
 take_before sep [] = refl
 take_before sep (b ∷ s) =
     both (λ (l : List ℕ). take (length l) (b ∷ s) ≡ l) (eqb b sep) [] (b ∷ before sep s) refl (ap (λ l. b ∷ l) (take_before sep s))
-
--- The words of a text from a place on; past its end there are none.
-abbrev pub words_from : ℕ → List ℕ → List (List ℕ)
-words_from i s = cond (leb i (length s)) (words_of (drop i s)) []
-
--- the next of them, where the search for its end answered e
-module _ (s : List ℕ) (i e : ℕ) (h : i ≤ length s) (p : e ≡ length (before 32 (take (length s - i) (drop i s)))) where
-  long : length (drop i s) ≡ length s - i
-  long = length-drop i s
-
-  found : e ≡ length (before 32 (drop i s))
-  found = rw rest_part at p
-
-  pub next_within : i + e ≤ length s
-  next_within = let k = before_le 32 (drop i s) in let l = long in let f = found in omega arith
-
-  next_at : (t : Bool) → ltb e (length (drop i s)) ≡ t → words_of (drop i s) ≡ take (i + e - i) (drop i s) ∷ words_from (i + e + 1) s
-  next_at true q =
-      let l = long in
-      let small = ltb-true e (length (drop i s)) q in
-      let a : e ≡ i + e - i = omega arith in
-      let b : i + (e + 1) ≡ i + e + 1 = omega arith in
-      words_cut (drop i s) e found small ∙ ap (λ r. take e (drop i s) ∷ words_of r) (rest_part (drop i s) (e + 1) ∙ drop-drop (e + 1) i s)
-      ∙ rw (le-leb (i + e + 1) (length s) (omega arith)) (cc (a, b))
-  next_at false q =
-      let l = long in
-      let large = ltb-false e (length (drop i s)) q in
-      words_whole (drop i s) e found large
-      ∙ rw (lt-leb (i + e + 1) (length s) (omega arith)) (ap (λ l. l ∷ []) (sym (take_all (i + e - i) (drop i s) (omega arith))))
-
-  pub words_next : words_from i s ≡ take (i + e - i) (drop i s) ∷ words_from (i + e + 1) s
-  words_next = rw (le-leb i (length s) h) (next_at (ltb e (length (drop i s))) refl)
-
-pub words_all : (s : List ℕ) → words_from 0 s ≡ words_of s
-words_all s = rw (le-leb 0 (length s) (omega arith))
-
-pub words_none : (s : List ℕ) (i : ℕ) → length s < i → words_from i s ≡ []
-words_none s i h = rw (lt-leb i (length s) h)
 
 lines_cut : (s : List ℕ) (e : ℕ) → e ≡ length (before 10 s) → e < length s → lines_of s ≡ take e s ∷ lines_of (drop (e + 1) s)
 lines_cut s e p h = rw p (parts_more 10 [] s (omega arith))

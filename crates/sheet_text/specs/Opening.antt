@@ -1,5 +1,5 @@
 -- What the first line of the run program says.
-use Rattle.std.specs.Prelude.{ℕ, ◌+◌, ◌≤◌, ◌≡◌, Bool, true, false, ◌&&◌, cond, List, [], ◌∷◌, map, ltb, take, set, replicate}
+use Rattle.std.specs.Prelude.{ℕ, ◌≡◌, Bool, true, ◌&&◌, cond, List, [], ◌∷◌, map, ltb, take, Option, Some, None}
 use Rattle.sheet_text.specs.declared.first.First.{First}
 use Rattle.sheet_print.specs.Decimal.{number_of, too_wide}
 use Rattle.sheet_text.specs.Text.{words_of, same}
@@ -41,23 +41,13 @@ opening_of line = opens (words_of line)
 abbrev pub max_held : ℕ
 max_held = 129
 
-abbrev pub held : First → Opening
-held f = cond f.ok (sheet f.n (take f.count f.list)) none
+abbrev pub held : Option First → Opening
+held None = none
+held (Some f) = sheet f.n f.items.items
 
 abbrev pub cut : Opening → Opening
 cut none = none
 cut (sheet n items) = sheet n (take max_held items)
 
-pub record Reads (o : Opening) (f : First) : Type 0 where
-  pub means : held f ≡ cut o
-  pub within : f.count ≤ max_held
-
-abbrev pub begun : ℕ → First
-begun n = record { ok = true; n = n; count = 0; list = replicate max_held 0 }
-
--- one more item
-unfoldable pub push : First → ℕ → First
-push f x =
-    cond (ltb x too_wide)
-    (cond (ltb f.count max_held) (record { ok = f.ok; n = f.n; count = f.count + 1; list = set f.list f.count x }) f)
-    (record { ok = false; n = f.n; count = f.count; list = f.list })
+abbrev pub Reads : Opening → Option First → Type 0
+Reads o f = held f ≡ cut o

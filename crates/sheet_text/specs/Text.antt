@@ -1,5 +1,6 @@
 -- Lines and words of a text.
-use Rattle.std.specs.Prelude.{ℕ, Bool, true, false, ◌&&◌, cond, List, [], ◌∷◌, eqb}
+use Rattle.std.specs.Prelude.{ℕ, Bool, cond, List, [], ◌∷◌, eqb, Option, Some, None}
+use Rattle.std.specs.Str.{bytes_eq}
 
 -- the bytes before the first separator, or all of them
 unfoldable pub before : ℕ → List ℕ → List ℕ
@@ -24,8 +25,10 @@ lines_of = parts 10 []
 abbrev pub words_of : List ℕ → List (List ℕ)
 words_of = parts 32 ([] ∷ [])
 
+-- the words of what stands behind a word, if anything does
+abbrev pub words_in : Option (List ℕ) → List (List ℕ)
+words_in None = []
+words_in (Some s) = words_of s
+
 unfoldable pub same : List ℕ → List ℕ → Bool
-same [] [] = true
-same [] (b ∷ bs) = false
-same (a ∷ as') [] = false
-same (a ∷ as') (b ∷ bs) = eqb a b && same as' bs
+same = bytes_eq

@@ -1,43 +1,38 @@
 // What the run program reads, as bytes: words, numbers and commands.
 #![tactic(auto)]
 
-ghost use Rattle.std.specs.Prelude.{◌≡◌, ◌<◌, ◌≤◌, length};
-ghost use Rattle.sheet_text.specs.Text.{before, words_of, same as Text·same};
+ghost use Rattle.std.specs.Prelude.{◌≡◌, ◌<◌, ◌∷◌, length, SomeIff};
+ghost use Rattle.std.specs.Option.{option_copied};
+ghost use Rattle.sheet_text.specs.Text.{before, words_of, words_in};
 ghost use Rattle.sheet_print.specs.Decimal.{too_wide, with_digit, number_of};
-ghost use Rattle.sheet_text.specs.Command.{verb_of, command_of};
-ghost use Rattle.sheet_text.specs.Order.{bare as Order·bare, order, named as Order·named, ordered as Order·ordered, coded, SaysAfter, Next};
+ghost use Rattle.sheet_text.specs.Command.{plain, with_one, with_two, verb_of, command_of};
+ghost use Rattle.sheet_text.specs.Order.{coded, Says, Next};
 
 pub mod first;
 
-// What a line of the script orders. A client is named by its line (01: the bay), of 1 to the number of clients. What a verb has no use
-// for is 0, and so is all of a line that orders nothing.
+// What a line of the script orders. A client is named by its line (01: the bay), of 1 to the number of clients.
 #[derive(Clone, Copy)]
 pub struct Order {
-    pub verb: u8,
     pub line: u8,
-    // a position, or which message
-    pub number: u16,
-    pub item: u32,
+    pub verb: Verb,
 }
 
-// The verbs; 0 is none. From `DOWN` on one end writes a message and the other takes it: the client takes what the server sends or
-// acknowledges (`down`, `told`), the server what the client does (`up`, `ack`).
-pub const INS: u8 = 1;
+// What is ordered of the client on a line. From `Down` on one end writes a message and the other takes it: the client takes what the server
+// sends or acknowledges (`Down`, `Told`), the server what the client does (`Up`, `Ack`).
+#[derive(Clone, Copy)]
+pub enum Verb {
+    Insert { position: u16, item: u32 },
+    Delete { position: u16 },
+    Down { number: u16 },
+    Told,
+    Up { number: u16 },
+    Ack,
+}
 
-pub const DEL: u8 = 2;
-
-pub const DOWN: u8 = 3;
-
-pub const TOLD: u8 = 4;
-
-pub const UP: u8 = 5;
-
-pub const ACK: u8 = 6;
-
-// The line at a place of the input, and where the next one begins.
+// What the line at a place of the input orders, if anything, and where the next line begins.
 #[derive(Drop)]
 pub struct Line {
-    pub order: Order,
+    pub order: Option<Order>,
     pub after: usize,
 }
 
@@ -45,177 +40,120 @@ pub struct Line {
 pub fn end(s: &[u8], sep: u8) -> usize
     ensures { result ≡ length (before sep s.now) }
 {
-    let mut i = 0;
-    while i < s.len() {
-        if s[i] == sep {
-            return i;
-        }
-        i += 1;
-    }
-    i
+    s.iter().position(|b| *b == sep).unwrap_or(s.len())
 }
 
-// Whether two texts are the same.
-pub fn same(a: &[u8], b: &[u8]) -> bool
-    ensures { result ≡ Text·same a.now b.now }
+// The first word, and what stands behind the space after it.
+pub(crate) fn first_word(s: &[u8]) -> (&[u8], Option<&[u8]>)
+    ensures { words_of s.now ≡ result.0.now ∷ words_in (option_copied result.1) }
 {
-    if a.len() != b.len() {
-        return false;
+    let e = end(s, b' ');
+    if s.len() <= e {
+        return (s, None);
     }
-    let mut i = 0;
-    while i < a.len() {
-        if a[i] != b[i] {
-            return false;
-        }
-        i += 1;
-    }
-    true
+    (&s[..e], Some(&s[e + 1..]))
 }
 
-// What is no number, or needs more than 32 bits. It is no value of any field.
-pub const TOO_WIDE: u64 = 4_294_967_296;
-
-fn wide(x: u8) -> u64
-    ensures { result ≡ x }
+// A number so far, and one more digit. A number has at most 32 bits.
+fn with_digit(n: u32, b: u8) -> Option<u32>
+    ensures { SomeIff result (with_digit n b < too_wide) (with_digit n b) }
 {
-    x as u64
+    if !b.is_ascii_digit() {
+        return None;
+    }
+    let m = u64::from(n) * 10 + u64::from(b - b'0');
+    u32::try_from(m).ok()
 }
 
-fn with_digit(n: u64, b: u8) -> u64
-    requires { n ≤ too_wide }
-    ensures { result ≡ with_digit n b }
-{
-    if b < 48 {
-        return TOO_WIDE;
-    }
-    if 57 < b {
-        return TOO_WIDE;
-    }
-    let m = n * 10 + wide(b - 48);
-    if m < TOO_WIDE {
-        return m;
-    }
-    TOO_WIDE
-}
-
-// The number that a word says.
-pub fn number(w: &[u8]) -> u64
-    ensures { result ≡ number_of w.now }
+// The number that a word says, of at most 32 bits.
+pub fn number(w: &[u8]) -> Option<u32>
+    ensures { SomeIff result (number_of w.now < too_wide) (number_of w.now) }
 {
     if w.len() == 0 {
-        return TOO_WIDE;
+        return None;
     }
     let mut n = 0;
-    let mut i = 0;
-    while i < w.len() {
-        n = with_digit(n, w[i]);
-        i += 1;
+    for b in w {
+        n = with_digit(n, *b)?;
     }
-    n
+    Some(n)
 }
 
-// The verb with no number that a word names.
-fn bare(w: &[u8]) -> u8
-    ensures { result ≡ Order·bare w.now }
+// A verb that stands alone.
+#[tactic(auto, unfolding(crate::specs::Order::coded, crate::specs::Text::same))]
+fn bare(w: &[u8]) -> Option<Verb>
+    ensures { Says result (λ l. plain l w.now) }
 {
-    if same(w, b"ack") {
-        return ACK;
+    if w == b"ack".as_slice() {
+        return Some(Verb::Ack);
     }
-    if same(w, b"told") {
-        return TOLD;
+    if w == b"told".as_slice() {
+        return Some(Verb::Told);
     }
-    0
+    None
 }
 
-// The verb with a number or two that a word names.
-fn named(w: &[u8]) -> u8
-    ensures { result ≡ Order·named w.now }
+// A verb with one number.
+#[tactic(auto, unfolding(crate::specs::Order::coded, crate::specs::Text::same))]
+fn named(w: &[u8], k: u16) -> Option<Verb>
+    ensures { Says result (λ l. with_one l w.now k) }
 {
-    if same(w, b"ins") {
-        return INS;
+    if w == b"del".as_slice() {
+        return Some(Verb::Delete { position: k });
     }
-    if same(w, b"del") {
-        return DEL;
+    if w == b"up".as_slice() {
+        return Some(Verb::Up { number: k });
     }
-    if same(w, b"up") {
-        return UP;
+    if w == b"down".as_slice() {
+        return Some(Verb::Down { number: k });
     }
-    if same(w, b"down") {
-        return DOWN;
-    }
-    0
+    None
 }
 
-// An order of nothing.
-fn nothing() -> Order
-    ensures { result ≡ order 0 0 0 0 }
+// A verb with a position and an item.
+#[tactic(auto, unfolding(crate::specs::Order::coded, crate::specs::Text::same))]
+fn with_item(w: &[u8], position: u16, item: u32) -> Option<Verb>
+    ensures { Says result (λ l. with_two l w.now position item) }
 {
-    Order {
-        verb: 0,
-        line: 0,
-        number: 0,
-        item: 0,
+    if w == b"ins".as_slice() {
+        return Some(Verb::Insert { position, item });
     }
-}
-
-// The order, if the numbers are in their ranges and the verb goes with so many.
-fn ordered(l: u8, v: u8, p: u64, x: u64, right: bool) -> Order
-    ensures { result ≡ Order·ordered l v p x right }
-{
-    if 65536 <= p {
-        return nothing();
-    }
-    if TOO_WIDE <= x {
-        return nothing();
-    }
-    if right {
-        return Order {
-            verb: v,
-            line: l,
-            number: p as u16,
-            item: x as u32,
-        };
-    }
-    nothing()
+    None
 }
 
 // The words after a verb: one number, or two. A space in the second makes it none.
-fn after_verb(l: u8, v: u8, s: &[u8]) -> Order
-    ensures { SaysAfter l v s.now result }
+fn after_verb(w: &[u8], s: &[u8]) -> Option<Verb>
+    ensures { Says result (λ l. verb_of l (w.now ∷ words_of s.now)) }
 {
-    let e = end(s, 32);
-    let p = number(&s[..e]);
-    if s.len() <= e {
-        return ordered(l, v, p, 0, DEL <= v);
+    let (first, rest) = first_word(s);
+    let k = u16::try_from(number(first)?).ok()?;
+    match rest {
+        None => named(w, k),
+        Some(second) => with_item(w, k, number(second)?),
     }
-    let next = e + 1;
-    ordered(l, v, p, number(&s[next..]), v == INS)
 }
 
 // The words after the client's line.
-fn after_line(l: u8, s: &[u8]) -> Order
-    ensures { result ≡ coded (verb_of l (words_of s.now)) }
+fn after_line(s: &[u8]) -> Option<Verb>
+    ensures { Says result (λ l. verb_of l (words_of s.now)) }
 {
-    let e = end(s, 32);
-    if s.len() <= e {
-        let v = bare(s);
-        return ordered(l, v, 0, 0, DEL <= v);
+    match first_word(s) {
+        (word, None) => bare(word),
+        (word, Some(rest)) => after_verb(word, rest),
     }
-    let next = e + 1;
-    after_verb(l, named(&s[..e]), &s[next..])
 }
 
 // What a line orders, of a sheet with n clients.
-fn read_order(n: u8, line: &[u8]) -> Order
+fn read_order(n: u8, line: &[u8]) -> Option<Order>
     ensures { result ≡ coded (command_of n line.now) }
 {
-    let e = end(line, 32);
-    let l = number(&line[..e]);
-    if (e < line.len()) & (1 <= l) & (l <= wide(n)) {
-        let next = e + 1;
-        return after_line(l as u8, &line[next..]);
+    let (word, rest) = first_word(line);
+    let l = u8::try_from(number(word)?).ok()?;
+    if (1 <= l) & (l <= n) {
+        let verb = after_line(rest?)?;
+        return Some(Order { line: l, verb });
     }
-    nothing()
+    None
 }
 
 // What the line at a place orders.
@@ -223,7 +161,7 @@ pub fn line_at(input: &[u8], i: usize, n: u8) -> Line
     requires { i < length input.now }
     ensures { Next input.now i n result }
 {
-    let e = i + end(&input[i..], 10);
+    let e = i + end(&input[i..], b'\n');
     let order = read_order(n, &input[i..e]);
     Line {
         order,

@@ -8,7 +8,7 @@ ghost use Rattle.ot.specs.Form.{position_of};
 use list::Origin;
 use ot::Form;
 use std::io;
-use wire::{Header, Message, Read};
+use wire::{Header, Message};
 
 fn number(rt: &impl Print, n: u64) -> io::Result<()> {
     print!(rt; " {n}")
@@ -51,8 +51,8 @@ fn message(rt: &impl Print, n: u64, s: &[u8]) -> io::Result<()> {
     label(rt, n)?;
     bytes(rt, s)?;
     match wire::reading::parse(s) {
-        Read::Refused => number(rt, 0)?,
-        Read::Message(m) => number(rt, wire::writing::size(m) as u64)?,
+        None => number(rt, 0)?,
+        Some(m) => number(rt, wire::writing::size(m) as u64)?,
     }
     println!(rt)
 }

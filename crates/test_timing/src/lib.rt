@@ -1,4 +1,4 @@
-// For benchmarks alone: methods by value, each called again and again on the same end. The loops stand inside the library, so that what is
+// For benchmarks alone: methods called again and again, each time on a copy of the same end. The loops stand inside the library, so that what is
 // timed is the method with the copy of its end. Each function answers what one call of the method answers.
 #![tactic(auto)]
 
@@ -7,7 +7,7 @@ ghost use Rattle.client.specs.Answers as client;
 ghost use Rattle.server.specs.Answers as server;
 ghost use Rattle.test_timing.specs.Opened.{client_with, server_with, client_answered, server_answered};
 
-use c_layout::report;
+use c_layout::{done, reported};
 use client::Client;
 use server::Server;
 
@@ -17,8 +17,9 @@ fn client_with(count: u8) -> Client
 {
     let items = [0u32; 256];
     let n = count as usize;
-    let a = Client::open(2, 1, &[1u8, 2], &items[..n]);
-    a.client
+    let mut client = Client::empty();
+    let _ = client.open(2, 1, &[1u8, 2], &items[..n]);
+    client
 }
 
 fn server_with(count: u8) -> Server
@@ -26,8 +27,43 @@ fn server_with(count: u8) -> Server
 {
     let items = [0u32; 256];
     let n = count as usize;
-    let a = Server::open(2, &[1u8, 2], &items[..n]);
-    a.server
+    let mut server = Server::empty();
+    let _ = server.open(2, &[1u8, 2], &items[..n]);
+    server
+}
+
+// One call of each method that is timed, on a copy of the end.
+fn insert(c: Client, position: u16, item: u32) -> u64
+    ensures { result ≡ client_answered (client.inserted c position item) }
+{
+    let mut end = c;
+    done(end.insert(position, item))
+}
+
+fn client_take(c: Client, message: &[u8]) -> u64
+    ensures { result ≡ client_answered (client.taken c message.now) }
+{
+    let mut end = c;
+    reported(end.take(message))
+}
+
+fn server_take(s: Server, message: &[u8]) -> u64
+    ensures { result ≡ server_answered (server.taken s message.now) }
+{
+    let mut end = s;
+    reported(end.take(message))
+}
+
+// What the last of so many calls answers, at least one. Each answers the same, but none is left out.
+fn repeated<F: Fn() -> u64>(call: F, times: u32) -> u64
+    requires { F.IsAlwaysCallable call }
+    ensures { F.post call result }
+{
+    let mut answer = call();
+    for _ in 1..times {
+        answer = call();
+    }
+    answer
 }
 
 #[unsafe(no_mangle)]
@@ -35,14 +71,7 @@ pub extern "C" fn lub_time_client_insert(count: u8, position: u16, item: u32, ti
     ensures { result ≡ client_answered (client.inserted (client_with count) position item) }
 {
     let c = client_with(count);
-    let mut i = 1;
-    loop {
-        let a = c.insert(position, item);
-        if times <= i {
-            return report(a.refusal, a.report);
-        }
-        i += 1;
-    }
+    repeated(|| insert(c, position, item), times)
 }
 
 #[unsafe(no_mangle)]
@@ -50,14 +79,7 @@ pub extern "C" fn lub_time_client_take(count: u8, message: &[u8], times: u32) ->
     ensures { result ≡ client_answered (client.taken (client_with count) message.now) }
 {
     let c = client_with(count);
-    let mut i = 1;
-    loop {
-        let a = c.take(message);
-        if times <= i {
-            return report(a.refusal, a.report);
-        }
-        i += 1;
-    }
+    repeated(|| client_take(c, message), times)
 }
 
 #[unsafe(no_mangle)]
@@ -65,12 +87,5 @@ pub extern "C" fn lub_time_server_take(count: u8, message: &[u8], times: u32) ->
     ensures { result ≡ server_answered (server.taken (server_with count) message.now) }
 {
     let s = server_with(count);
-    let mut i = 1;
-    loop {
-        let a = s.take(message);
-        if times <= i {
-            return report(a.refusal, a.report);
-        }
-        i += 1;
-    }
+    repeated(|| server_take(s, message), times)
 }

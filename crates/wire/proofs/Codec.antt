@@ -8,12 +8,11 @@ use mathlib.Core.List.{List, [], ◌∷◌, ◌++◌}
 use lib.Dec.{leb, eqb, lit<}
 use lib.ListN.{length, get_or}
 use borrow.Author.Tests.{eq-eqb, eqb-true, leb-true}
+use Rattle.std.specs.Prelude.{Option, Some, None}
 use Rattle.list.proofs.Places.{high, low}
 use Rattle.wire.specs.declared.Header.{Header}
 use Rattle.wire.specs.declared.Message.{Message}
 use Rattle.wire.specs.declared.Message.TheVariants.{Insert, Delete, Nothing, Ack}
-use Rattle.wire.specs.declared.Read.{Read}
-use Rattle.wire.specs.declared.Read.TheVariants as read
 use Rattle.wire.specs.Message.{in_range, header_in_range}
 use Rattle.wire.specs.Bytes.{bytes_of, header, origin, size_of_kind, two_at, four_at, fields_of, parsed}
 use Rattle.wire.proofs.Ranges.{both, header_bounds, insert_bounds, delete_bounds, ack_bounds}
@@ -43,7 +42,7 @@ some (Delete h p) = refl
 some (Nothing h) = refl
 some (Ack l d s) = refl
 
-written_read : (m : Message) → in_range m ≡ true → parsed (bytes_of m) ≡ read.Message m
+written_read : (m : Message) → in_range m ≡ true → parsed (bytes_of m) ≡ Some m
 unfolding parsed
 written_read m h = simp (some m, eq-eqb _ _ (sized m), fields_of_bytes m, h)
 
@@ -106,11 +105,11 @@ module _ (s : List ℕ) (bytes : AreBytes s) where
   bytes_of_fields ack e n h = simp (high_of, low_of) (sym (rw e at (spread s 5 n)))
   bytes_of_fields (other k none) e n h = absurd (omega arith)
 
-chosen : (b : Bool) (x y : Message) → cond b (read.Message x) read.Refused ≡ read.Message y → (b ≡ true) × (x ≡ y)
+chosen : (b : Bool) (x y : Message) → cond b (Some x) None ≡ Some y → (b ≡ true) × (x ≡ y)
 chosen true x y e = (refl, cc)
 chosen false x y e = (cc, cc)
 
-module _ (s : List ℕ) (m : Message) (e : parsed s ≡ read.Message m) where
+module _ (s : List ℕ) (m : Message) (e : parsed s ≡ Some m) where
   -- what holds of bytes that read as a message
   parts : (1 ≤ length s) × (length s ≡ size_of_kind (get_or s 0 0)) × (in_range (fields_of (get_or s 0 0) s) ≡ true) × (fields_of (get_or s 0 0) s ≡ m)
   unfolding parsed
@@ -129,12 +128,12 @@ module _ (s : List ℕ) (m : Message) (e : parsed s ≡ read.Message m) where
   read_written : AreBytes s → bytes_of m ≡ s
   read_written bytes = rw (← parts.3) (bytes_of_fields s bytes (kind (get_or s 0 0)) refl parts.1 parts.0)
 
-others_refused : (s : List ℕ) → AreBytes s → ((m : Message) → in_range m ≡ true → bytes_of m ≡ s → ⊥) → parsed s ≡ read.Refused
+others_refused : (s : List ℕ) → AreBytes s → ((m : Message) → in_range m ≡ true → bytes_of m ≡ s → ⊥) → parsed s ≡ None
 others_refused s bytes none = found (parsed s) refl
   where
-    found : (r : Read) → parsed s ≡ r → parsed s ≡ read.Refused
-    found read.Refused e = e
-    found (read.Message m) e = absurd (none m (read_in_range s m e) (read_written s m e bytes))
+    found : (r : Option Message) → parsed s ≡ r → parsed s ≡ None
+    found None e = e
+    found (Some m) e = absurd (none m (read_in_range s m e) (read_written s m e bytes))
 
 -- ---- the numbers of a message in range are bytes
 

@@ -1,5 +1,3 @@
 pub mod Ranges
 pub mod Codec
 pub mod Cases
-pub mod Parsing
-pub mod Buffer

@@ -1,11 +1,9 @@
 -- The bytes of a message, high byte first, and what bytes read as (01: "Message bytes").
-use Rattle.std.specs.Prelude.{ℕ, ◌+◌, ◌*◌, ◌/◌, ◌%◌, ◌&&◌, cond, List, [], ◌∷◌, ◌++◌, leb, eqb, length, get_or}
+use Rattle.std.specs.Prelude.{ℕ, ◌+◌, ◌*◌, ◌/◌, ◌%◌, ◌&&◌, cond, Option, Some, None, List, [], ◌∷◌, ◌++◌, leb, eqb, length, get_or}
 use Rattle.list.specs.declared.Origin.{Origin}
 use Rattle.wire.specs.declared.Header.{Header}
 use Rattle.wire.specs.declared.Message.{Message}
 use Rattle.wire.specs.declared.Message.TheVariants.{Insert, Delete, Nothing, Ack}
-use Rattle.wire.specs.declared.Read.{Read}
-use Rattle.wire.specs.declared.Read.TheVariants as read
 use Rattle.wire.specs.Message.{in_range}
 
 abbrev pub two : ℕ → List ℕ
@@ -50,9 +48,9 @@ fields_of k s =
     cond (eqb k 5) (Insert (header_at s 14) (two_at s 7) (four_at s 9) (get_or s 13 0))
     (cond (eqb k 7) (Delete (header_at s 9) (two_at s 7)) (cond (eqb k 8) (Nothing (header_at s 7)) (Ack (get_or s 1 0) (get_or s 2 0) (two_at s 3))))
 
--- exactly one message, each field in its range; else refused
-unfoldable pub parsed : List ℕ → Read
+-- exactly one message, each field in its range; else none
+unfoldable pub parsed : List ℕ → Option Message
 parsed s =
     cond (leb 1 (length s) && eqb (length s) (size_of_kind (get_or s 0 0)) && in_range (fields_of (get_or s 0 0) s))
-    (read.Message (fields_of (get_or s 0 0) s))
-    read.Refused
+    (Some (fields_of (get_or s 0 0) s))
+    None

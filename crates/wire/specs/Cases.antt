@@ -1,8 +1,7 @@
 -- The marked cases of 01 that are about bytes, written and read.
-use Rattle.std.specs.Prelude.{ℕ, ◌≡◌, List, [], ◌∷◌}
+use Rattle.std.specs.Prelude.{ℕ, ◌≡◌, List, [], ◌∷◌, Some}
 use Rattle.wire.specs.declared.Message.{Message}
 use Rattle.wire.specs.declared.Message.TheVariants.{Insert, Ack}
-use Rattle.wire.specs.declared.Read.TheVariants as read
 use Rattle.wire.specs.Bytes.{bytes_of, parsed}
 
 -- insert, line 1, up, number 1, seen 0, position 1, item 30; its priority is its line, and its origin line 1, number 1
@@ -22,6 +21,6 @@ p10_bytes = 0x04 ∷ 0x02 ∷ 0x01 ∷ 0x00 ∷ 0x03 ∷ []
 
 pub record Cases : Type 0 where
   pub p9_written : bytes_of p9 ≡ p9_bytes
-  pub p9_read : parsed p9_bytes ≡ read.Message p9
+  pub p9_read : parsed p9_bytes ≡ Some p9
   pub p10_written : bytes_of p10 ≡ p10_bytes
-  pub p10_read : parsed p10_bytes ≡ read.Message p10
+  pub p10_read : parsed p10_bytes ≡ Some p10

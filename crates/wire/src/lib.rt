@@ -11,11 +11,11 @@ ghost use Rattle.wire.specs.Message.{message_of};
 use list::Origin;
 use ot::Form;
 
-// What every edit message has beside its edit. Direction 0 goes up to the server, 1 down to a client. The origin (02: N4) is the line of the
-// client that made the edit, and its number there.
+// What every edit message has beside its edit. The origin (02: N4) is the line of the client that made the edit, and its number there.
 #[derive(Clone, Copy)]
 pub struct Header {
     pub line: u8,
+    // 0 goes up to the server, 1 down to a client. Kept as a number: `of_edit`, `writing::size` and `writing::write` take every byte here.
     pub direction: u8,
     pub number: u16,
     pub seen: u16,
@@ -32,13 +32,6 @@ pub enum Message {
     Nothing(Header),
     // line, direction, seen
     Ack(u8, u8, u16),
-}
-
-// What reading some bytes finds.
-#[derive(Drop)]
-pub enum Read {
-    Refused,
-    Message(Message),
 }
 
 // The message of an edit, of form f and item x.

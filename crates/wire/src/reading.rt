@@ -1,41 +1,60 @@
 // The message that some bytes are.
-ghost use Rattle.std.specs.Prelude.{◌≡◌, ◌&&◌, ◌<◌, get_or};
+ghost use Rattle.std.specs.Prelude.{◌≡◌, ◌<◌, get_or};
 ghost use Rattle.limits.specs.Limits.{max_lines, max_items};
 ghost use Rattle.wire.specs.Message.{between, origin_in_range, header_in_range, in_range};
 ghost use Rattle.wire.specs.Bytes.{two_at, four_at, header_at, fields_of, parsed};
-ghost use Rattle.wire.specs.Size.{size_of, ack_header};
+ghost use Rattle.wire.specs.Size.{size_of};
 
-use crate::{Header, Message, Read};
+use crate::{Header, Message};
 use list::Origin;
 
 // ---- the ranges of the fields
 
+// Can it be the number of a client's line, or its rank?
+fn is_line(n: u8) -> bool
+    ensures { result ≡ between 1 max_lines n }
+{
+    (1..=limits::LINES).contains(&n)
+}
+
+fn is_position(p: u16) -> bool
+    ensures { result ≡ between 1 max_items p }
+{
+    (1..=limits::ITEMS).contains(&(p as usize))
+}
+
 fn origin_in_range(o: Origin) -> bool
     ensures { result ≡ origin_in_range o }
 {
-    let line = (1 <= o.line) & (o.line <= limits::LINES);
-    line & ((1 <= o.number) & (o.number <= limits::EDITS))
+    is_line(o.line) && (1..=limits::EDITS).contains(&o.number)
 }
 
-// The header of an edit message, its position p and its priority r.
-fn numbers_in_range(h: Header, p: u16, r: u8) -> bool
-    ensures { result ≡ (header_in_range h && between 1 max_items p && between 1 max_lines r) }
-{
-    let line = h.line;
-    let direction = h.direction;
-    let number = h.number;
-    let seen = h.seen;
-    let mut up = 1 <= number;
-    up &= number <= limits::EDITS;
-    up &= seen <= limits::OTHERS;
-    let mut down = 1 <= number;
-    down &= number <= limits::OTHERS;
-    down &= seen <= limits::EDITS;
-    let mut all = (1 <= line) & (line <= limits::LINES);
-    all &= (direction == 0) & up | (direction == 1) & down;
-    all &= origin_in_range(h.origin);
-    all &= (1 <= p) & (p as usize <= limits::ITEMS);
-    all & ((1 <= r) & (r <= limits::LINES))
+impl Header {
+    fn is_in_range(self) -> bool
+        ensures { result ≡ header_in_range self }
+    {
+        let counts = match self.direction {
+            0 => (1..=limits::EDITS).contains(&self.number) && self.seen <= limits::OTHERS,
+            1 => (1..=limits::OTHERS).contains(&self.number) && self.seen <= limits::EDITS,
+            _ => false,
+        };
+        is_line(self.line) && counts && origin_in_range(self.origin)
+    }
+}
+
+impl Message {
+    fn is_in_range(self) -> bool
+        ensures { result ≡ in_range self }
+    {
+        match self {
+            Message::Insert(h, p, _, r) => h.is_in_range() && is_position(p) && is_line(r),
+            Message::Delete(h, p) => h.is_in_range() && is_position(p),
+            Message::Nothing(h) => h.is_in_range(),
+            Message::Ack(line, 0, seen) => is_line(line) && seen <= limits::OTHERS,
+            Message::Ack(line, 1, seen) => is_line(line) && seen <= limits::EDITS,
+            Message::Ack(_, _, _) => false,
+        }
+    }
 }
 
 // ---- reading
@@ -44,7 +63,7 @@ fn numbers_in_range(h: Header, p: u16, r: u8) -> bool
 fn byte_at(s: &[u8], i: usize) -> u8
     ensures { result ≡ get_or s.now i 0 }
 {
-    if i < s.len() { s[i] } else { 0 }
+    s.get(i).copied().unwrap_or(0)
 }
 
 // Two bytes from i as one number, high byte first.
@@ -52,16 +71,19 @@ fn two_at(s: &[u8], i: usize) -> u16
     requires { i < 16 }
     ensures { result ≡ two_at s.now i }
 {
-    let first = byte_at(s, i);
-    let second = byte_at(s, i + 1);
-    first as u16 * 256 + second as u16
+    u16::from_be_bytes([byte_at(s, i), byte_at(s, i + 1)])
 }
 
 fn four_at(s: &[u8], i: usize) -> u32
     requires { i < 14 }
     ensures { result ≡ four_at s.now i }
 {
-    two_at(s, i) as u32 * 65536 + two_at(s, i + 2) as u32
+    u32::from_be_bytes([
+        byte_at(s, i),
+        byte_at(s, i + 1),
+        byte_at(s, i + 2),
+        byte_at(s, i + 3),
+    ])
 }
 
 // The header of an edit message whose origin stands from i on.
@@ -82,22 +104,17 @@ fn header_at(s: &[u8], i: usize) -> Header
     }
 }
 
-// What the kind byte alone decides: the length of the message, or the refusal of a byte that is no kind.
-#[derive(Drop)]
-pub enum Size {
-    Refused,
-    Bytes(usize),
-}
-
-pub fn size_of_kind(kind: u8) -> Size
+// What the kind byte alone decides: the length of the message, or none for a byte that is no kind. The kind is kept as a byte: callers have
+// any byte here, and the enum of the kinds is `Message`.
+pub fn size_of_kind(kind: u8) -> Option<usize>
     ensures { result ≡ size_of kind }
 {
     match kind {
-        4 => Size::Bytes(5),
-        5 => Size::Bytes(17),
-        7 => Size::Bytes(12),
-        8 => Size::Bytes(10),
-        _ => Size::Refused,
+        4 => Some(5),
+        5 => Some(17),
+        7 => Some(12),
+        8 => Some(10),
+        _ => None,
     }
 }
 
@@ -118,46 +135,14 @@ fn fields(kind: u8, s: &[u8]) -> Message
     }
 }
 
-// The header that an acknowledgement would have: what it has seen stands at the place of a number, and a number that it does not have is 1,
-// which is in every range.
-fn ack_header(s: &[u8]) -> Header
-    ensures { result ≡ ack_header s.now }
-{
-    let origin = Origin { line: 1, number: 1 };
-    Header {
-        line: byte_at(s, 1),
-        direction: byte_at(s, 2),
-        number: 1,
-        seen: two_at(s, 3),
-        origin,
-    }
-}
-
-// Whether they are. A number that a kind does not have is given as 1.
-fn in_range(kind: u8, s: &[u8]) -> bool
-    ensures { result ≡ in_range (fields_of kind s.now) }
-{
-    match kind {
-        5 => numbers_in_range(header_at(s, 14), two_at(s, 7), byte_at(s, 13)),
-        7 => numbers_in_range(header_at(s, 9), two_at(s, 7), 1),
-        8 => numbers_in_range(header_at(s, 7), 1, 1),
-        _ => numbers_in_range(ack_header(s), 1, 1),
-    }
-}
-
-// Exactly one message with every field in its range, or a refusal.
-pub fn parse(s: &[u8]) -> Read
+// Exactly one message with every field in its range.
+pub fn parse(s: &[u8]) -> Option<Message>
     ensures { result ≡ parsed s.now }
 {
-    let kind = byte_at(s, 0);
-    let size = size_of_kind(kind);
-    let Size::Bytes(n) = size else {
-        return Read::Refused;
-    };
-    if s.len() == n {
-        if in_range(kind, s) {
-            return Read::Message(fields(kind, s));
-        }
+    let kind = *s.first()?;
+    if s.len() != size_of_kind(kind)? {
+        return None;
     }
-    Read::Refused
+    let message = fields(kind, s);
+    message.is_in_range().then_some(message)
 }

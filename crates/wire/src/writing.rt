@@ -1,9 +1,10 @@
 // The bytes of a message, into a buffer that is lent.
-ghost use Rattle.std.specs.Prelude.{◌≡◌, ◌++◌, ◌/◌, ◌%◌, length, take, replicate};
-ghost use Rattle.wire.specs.Bytes.{bytes_of};
+ghost use Rattle.std.specs.Prelude.{◌≡◌, length};
+ghost use Rattle.wire.specs.Bytes.{header, origin, bytes_of};
 ghost use Rattle.wire.specs.Buffer.{Written};
 
 use crate::{Header, Message};
+use list::Origin;
 
 // How many bytes a message takes.
 pub fn size(m: Message) -> usize
@@ -17,118 +18,75 @@ pub fn size(m: Message) -> usize
     }
 }
 
-fn high(n: u16) -> u8
-    ensures { result ≡ n / 256 }
+// ---- the bytes of each kind. Numbers stand high byte first: n1 is the high byte of n, n0 the low one.
+
+fn header_bytes(h: Header) -> [u8; 6]
+    ensures { result ≡ header h }
 {
-    (n / 256) as u8
+    let [n1, n0] = h.number.to_be_bytes();
+    let [s1, s0] = h.seen.to_be_bytes();
+    [h.line, h.direction, n1, n0, s1, s0]
 }
 
-fn low(n: u16) -> u8
-    ensures { result ≡ n % 256 }
+fn origin_bytes(o: Origin) -> [u8; 3]
+    ensures { result ≡ origin o }
 {
-    (n % 256) as u8
+    let [n1, n0] = o.number.to_be_bytes();
+    [o.line, n1, n0]
 }
-
-// ---- the bytes of each kind, with zeros behind them
 
 fn insert_bytes(h: Header, p: u16, x: u32, r: u8) -> [u8; 17]
     ensures { result ≡ bytes_of (Message.Insert h p x r) }
 {
-    let upper = (x / 65536) as u16;
-    let lower = (x % 65536) as u16;
-    let made = h.origin.number;
+    let [l, d, n1, n0, s1, s0] = header_bytes(h);
+    let [p1, p0] = p.to_be_bytes();
+    let [x3, x2, x1, x0] = x.to_be_bytes();
+    let [m, m1, m0] = origin_bytes(h.origin);
     [
-        5,
-        h.line,
-        h.direction,
-        high(h.number),
-        low(h.number),
-        high(h.seen),
-        low(h.seen),
-        high(p),
-        low(p),
-        high(upper),
-        low(upper),
-        high(lower),
-        low(lower),
-        r,
-        h.origin.line,
-        high(made),
-        low(made),
+        5, l, d, n1, n0, s1, s0, p1, p0, x3, x2, x1, x0, r, m, m1, m0,
     ]
 }
 
-fn delete_bytes(h: Header, p: u16) -> [u8; 17]
-    ensures { result ≡ bytes_of (Message.Delete h p) ++ replicate 5 0 }
+fn delete_bytes(h: Header, p: u16) -> [u8; 12]
+    ensures { result ≡ bytes_of (Message.Delete h p) }
 {
-    [
-        7,
-        h.line,
-        h.direction,
-        high(h.number),
-        low(h.number),
-        high(h.seen),
-        low(h.seen),
-        high(p),
-        low(p),
-        h.origin.line,
-        high(h.origin.number),
-        low(h.origin.number),
-        0,
-        0,
-        0,
-        0,
-        0,
-    ]
+    let [l, d, n1, n0, s1, s0] = header_bytes(h);
+    let [p1, p0] = p.to_be_bytes();
+    let [m, m1, m0] = origin_bytes(h.origin);
+    [7, l, d, n1, n0, s1, s0, p1, p0, m, m1, m0]
 }
 
-fn nothing_bytes(h: Header) -> [u8; 17]
-    ensures { result ≡ bytes_of (Message.Nothing h) ++ replicate 7 0 }
+fn nothing_bytes(h: Header) -> [u8; 10]
+    ensures { result ≡ bytes_of (Message.Nothing h) }
 {
-    [
-        8,
-        h.line,
-        h.direction,
-        high(h.number),
-        low(h.number),
-        high(h.seen),
-        low(h.seen),
-        h.origin.line,
-        high(h.origin.number),
-        low(h.origin.number),
-        0,
-        0,
-        0,
-        0,
-        0,
-        0,
-        0,
-    ]
+    let [l, d, n1, n0, s1, s0] = header_bytes(h);
+    let [m, m1, m0] = origin_bytes(h.origin);
+    [8, l, d, n1, n0, s1, s0, m, m1, m0]
 }
 
-fn ack_bytes(line: u8, direction: u8, seen: u16) -> [u8; 17]
-    ensures { result ≡ bytes_of (Message.Ack line direction seen) ++ replicate 12 0 }
+fn ack_bytes(line: u8, direction: u8, seen: u16) -> [u8; 5]
+    ensures { result ≡ bytes_of (Message.Ack line direction seen) }
 {
-    let high = high(seen);
-    let low = low(seen);
-    [
-        4, line, direction, high, low, 0, 0, 0, 0, 0, 0, 0, 0, 0, 0, 0, 0,
-    ]
+    let [s1, s0] = seen.to_be_bytes();
+    [4, line, direction, s1, s0]
 }
 
-fn bytes(m: Message) -> [u8; 17]
-    ensures { take (length (bytes_of m)) result ≡ bytes_of m }
+// The bytes of a message into a buffer of just as many.
+fn fill(m: Message, out: &mut [u8])
+    requires { length out.old ≡ length (bytes_of m) }
+    ensures { out.new ≡ bytes_of m }
 {
     match m {
-        Message::Insert(h, p, x, r) => insert_bytes(h, p, x, r),
-        Message::Delete(h, p) => delete_bytes(h, p),
-        Message::Nothing(h) => nothing_bytes(h),
-        Message::Ack(line, direction, seen) => ack_bytes(line, direction, seen),
+        Message::Insert(h, p, x, r) => out.copy_from_slice(&insert_bytes(h, p, x, r)),
+        Message::Delete(h, p) => out.copy_from_slice(&delete_bytes(h, p)),
+        Message::Nothing(h) => out.copy_from_slice(&nothing_bytes(h)),
+        Message::Ack(line, direction, seen) => {
+            out.copy_from_slice(&ack_bytes(line, direction, seen))
+        }
     }
 }
 
-// The message at the front of the buffer, and its length; a buffer that is too short stays as it is, and the answer is 0. The loop has a
-// fixed length, so that the compiler lays it out and writes each byte where it goes: the packed bytes are never stored and read again.
+// The message at the front of the buffer, and its length; a buffer that is too short stays as it is, and the answer is 0.
 pub fn write(m: Message, out: &mut [u8]) -> usize
     ensures { Written m out.old result out.new }
 {
@@ -136,12 +94,6 @@ pub fn write(m: Message, out: &mut [u8]) -> usize
     if out.len() < n {
         return 0;
     }
-    let b = bytes(m);
-    for i in 0..17 {
-        if n <= i {
-            continue;
-        }
-        out[i] = b[i];
-    }
+    fill(m, &mut out[..n]);
     n
 }

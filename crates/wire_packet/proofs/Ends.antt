@@ -3,14 +3,15 @@ use Prim.Native.Nat.{ℕ, zero, suc, ◌+◌, ◌-◌, ◌≤◌, ◌<◌}
 use native.Mathlib.Omega.{arith}
 use native.Mathlib.Nat.{add-zero}
 use mathlib.Core.Path.{◌≡◌, refl, ap, sym, ◌∙◌}
-use mathlib.Core.Bool.{Bool, true, false, ◌&&◌, cond, and-false}
+use mathlib.Core.Bool.{Bool, true, false, ◌&&◌, cond}
 use mathlib.Core.List.{List}
 use lib.Dec.{leb, ltb, eqb}
 use lib.ListN.{length, get_or, take, drop, length-drop, drop_of_length-le}
 use lib.Seq.{take-nil, drop-nil, drop-drop, drop-length, get_or-drop}
-use borrow.Author.Tests.{lt-ltb, le-ltb, ltb-true, ltb-false, le-leb, lt-leb, leb-true, leb-false, ne_eqb}
+use borrow.Author.Tests.{lt-ltb, le-ltb, ltb-true, ltb-false, le-leb, lt-leb, leb-true, leb-false}
+use Rattle.std.specs.Prelude.{min, Some, None, unwrap_or}
+use Rattle.std.proofs.lemmas.Grind.{common_steps}
 use Rattle.wire.specs.Bytes.{size_of_kind}
-use Rattle.wire.specs.declared.reading.Size.TheVariants.{Refused, Bytes}
 use Rattle.wire.specs.Size.{size_of}
 use Rattle.model.specs.Packets.{next_size}
 use Rattle.model.proofs.Tests.{and_left, and_right}
@@ -122,41 +123,17 @@ module _ (bytes : List ℕ) (at : ℕ) where
       (λ h. ap (λ (n : ℕ). drop n bytes) (sym (start_at h)))
       (λ h. ap (λ (n : ℕ). drop n bytes) (sym (start_past h)) ∙ drop-length bytes ∙ sym (drop_of_length-le bytes {i = at} (omega arith)))
 
--- ---- what the kind says
-
--- the kind's size, by the answer that the code has; a refusal stands for 0
-of_refused : (m : ℕ) → cond (eqb m 0) Refused (Bytes m) ≡ Refused → m ≡ 0
-of_refused zero e = refl
-of_refused (suc m) e = let z : Bytes (suc m) ≡ Refused = simp (ne_eqb (suc m) 0 (λ z. omega (arith, z))) at e in cc
-
-of_bytes : (m n : ℕ) → cond (eqb m 0) Refused (Bytes m) ≡ Bytes n → (m ≡ n) × (1 ≤ n)
-of_bytes zero n e = let z : Refused ≡ Bytes n = e in let no : ◌≡◌ {A = ℕ} 0 1 = cc in absurd (omega arith)
-of_bytes (suc m) n e =
-    let z : Bytes (suc m) ≡ Bytes n = simp (ne_eqb (suc m) 0 (λ z. omega (arith, z))) at e in
-    let same : suc m ≡ n = cc in
-    (same, omega arith)
-
 -- ---- what the code finds
+
+-- the kind's size, or all that is left, and no more than that
+size_lem : (size left : ℕ) → min (unwrap_or (cond (eqb size 0) None (Some size)) left) left ≡ size_in size left
+size_lem zero left = omega arith
+size_lem (suc size) left = grind (arith, common_steps)
 
 module _ (bytes : List ℕ) (at : ℕ) (inside : at < length bytes) where
   -- the size of the next message, by the byte at its place and the bytes that are left
   next_at : next_size (drop at bytes) ≡ size_in (size_of_kind (get_or bytes at 0)) (length bytes - at)
   next_at = rw (get_or-drop, length-drop, add-zero) refl
 
-  pub no_kind : size_of (get_or bytes at 0) ≡ Refused → length bytes ≡ message_end bytes at
-  no_kind e =
-      let size : next_size (drop at bytes) ≡ length bytes - at = next_at ∙ rw (of_refused (size_of_kind (get_or bytes at 0)) e) refl in
-      omega (arith, end_is bytes at inside)
-
-  module _ (n : ℕ) (kind : size_of (get_or bytes at 0) ≡ Bytes n) where
-    pub whole : n ≤ length bytes - at → at + n ≡ message_end bytes at
-    whole h =
-        let of = of_bytes (size_of_kind (get_or bytes at 0)) n kind in
-        let size : next_size (drop at bytes) ≡ n = next_at ∙ simp (of.0, le-leb 1 n of.1, le-leb n (length bytes - at) h) in
-        omega (arith, end_is bytes at inside)
-
-    pub cut_off : length bytes - at < n → length bytes ≡ message_end bytes at
-    cut_off h =
-        let of = of_bytes (size_of_kind (get_or bytes at 0)) n kind in
-        let size : next_size (drop at bytes) ≡ length bytes - at = next_at ∙ simp (of.0, lt-leb n (length bytes - at) h, and-false) in
-        omega (arith, end_is bytes at inside)
+  pub found : at + min (unwrap_or (size_of (get_or bytes at 0)) (length bytes - at)) (length bytes - at) ≡ message_end bytes at
+  found = omega (arith, end_is bytes at inside, next_at, size_lem (size_of_kind (get_or bytes at 0)) (length bytes - at))

@@ -1,22 +1,27 @@
-use native.Mathlib.Omega.{arith}
+use mathlib.Core.Path.{refl}
 use Rattle.model.specs.Client.{take_client}
-use Rattle.client.specs.View.{client_of}
-use Rattle.client.specs.Answers.{answer_of}
-use Rattle.c_layout.proofs.Called.{too_short, call_answered}
+use Rattle.c_layout.specs.Called.{reported}
+use Rattle.c_layout.proofs.Called.{call_refused, call_done, said, short}
 use Rattle.c_client.specs.Layout.{size}
-use Rattle.c_client.specs.Calls.{taken_in}
+use Rattle.c_client.specs.Calls.{answered, taken_in}
 use Rattle.c_client.proofs.Calls.{clients}
 use Rattle.c_client.proofs.take.Goals as goal
 
-pub returns-then-end-lt-SIZE : goal.returns-then-end-lt-SIZE
+pub returns-in_err-check_length : goal.returns-in_err-check_length
 unfolding taken_in
-returns-then-end-lt-SIZE c =
-    let a = c.args in
-    too_short size a.end.now a.end.now _ c.answer.result (omega (arith, c.if-end-lt-SIZE.true)) c.answer.ensures
+returns-in_err-check_length c =
+    short reported (λ r. refl) c.from_residual.result c.in_err-check_length.field-0.0 c.from_residual.ensures.1 size c.args.end.now c.args.end.now _ c.in_err-check_length.ensures
+
+pub returns-in_err-report : goal.returns-in_err-report
+unfolding taken_in answered
+returns-in_err-report c =
+    let q = c.from_residual-in_err-report in
+    let r = c.in_err-report.field-0.0 in
+    call_refused clients c.args.end.now c.read-client.result (c.in_ok-check_length.ensures, c.read-client.ensures) (λ m. take_client m c.args.message.now) r c.take.new.self (reported q.result)
+    c.in_err-report.ensures (said reported (λ x. refl) q.result r q.ensures.1)
 
 pub returns : goal.returns
-unfolding taken_in
+unfolding taken_in answered
 returns c =
-    let a = c.args in
-    call_answered clients a.end.now (omega (arith, c.if-end-lt-SIZE.false)) (client_of c.read-k.result c.read-k.new.words) c.read-k.ensures
-    (λ m. take_client m a.message.now) (answer_of c.take-a.result c.take-a.new.words) c.finish.result c.finish.new.end c.take-a.ensures c.finish.ensures
+    call_done clients c.args.end.now c.read-client.result (c.in_ok-check_length.ensures, c.read-client.ensures) (λ m. take_client m c.args.message.now) c.take.new.self _ _ c.write.new.end
+    c.in_ok-report.ensures refl c.write.ensures

@@ -1,31 +1,33 @@
-use Rattle.server.proofs.Counted.{counted}
 use native.Mathlib.Omega.{arith}
+use mathlib.Core.Path.{◌≡◌, refl, ap, ◌∙◌}
+use Prim.Native.Nat.{ℕ}
+use Rattle.std.specs.Prelude.{Ok, Err, Result}
+use Rattle.refusal.specs.declared.Refusal.{Refusal}
 use Rattle.model.specs.Server.{send_server}
-use Rattle.server.specs.View.{server_of}
-use Rattle.c_layout.proofs.Called.{too_short, call_sent}
+use Rattle.c_layout.specs.Called.{written, returned}
+use Rattle.c_layout.proofs.Called.{call_sent, short}
+use Rattle.refusal.proofs.Some.{passed_on}
 use Rattle.c_server.specs.Layout.{size}
 use Rattle.c_server.specs.Calls.{sent_in}
-use Rattle.c_server.proofs.Ends.{end_read}
 use Rattle.c_server.proofs.Calls.{servers, edit_fits}
-use borrow.Author.Rules.{rules}
 use Rattle.c_server.proofs.send.Goals as goal
 
-pub returns-then-end-lt-SIZE : goal.returns-then-end-lt-SIZE
+pub returns-in_err-check_length : goal.returns-in_err-check_length
 unfolding sent_in
-returns-then-end-lt-SIZE c =
-    let a = c.args in
-    too_short size a.end.now a.out.now _ c.answer.result (omega (arith, c.if-end-lt-SIZE.true)) c.answer.ensures
+returns-in_err-check_length c =
+    short written (λ r. refl) c.from_residual.result c.in_err-check_length.field-0.0 c.from_residual.ensures.1 size c.args.end.now c.args.out.now _ c.in_err-check_length.ensures
 
-pub send-sent-requires : goal.send-sent-requires
-send-sent-requires c = record { words = search rules; lines = search (rules, counted); ranks = search rules }
+pub returns-in_err-bytes : goal.returns-in_err-bytes
+unfolding sent_in
+returns-in_err-bytes c =
+    let q = c.from_residual-in_err-bytes in
+    ap (λ (s : Result ℕ Refusal). returned (written s) c.send.new.out) (passed_on q.result c.in_err-bytes.field-0.0 q.ensures.1)
+    ∙ call_sent servers c.args.end.now c.read-server.result (c.in_ok-check_length.ensures, c.read-server.ensures) c.args.out.now (λ m. send_server m c.args.line c.args.number c.args.out.now) (Err c.in_err-bytes.field-0.0) c.send.new.out c.in_err-bytes.ensures
 
-pub overflow_cast-sent : goal.overflow_cast-sent
-overflow_cast-sent c =
-    omega (arith, edit_fits _ _ _ c.send-sent.result _ _ c.send-sent.ensures)
+pub overflow_cast-result : goal.overflow_cast-result
+overflow_cast-result c = omega (arith, edit_fits _ _ _ _ _ _ c.in_ok-bytes.ensures)
 
 pub returns : goal.returns
 unfolding sent_in
 returns c =
-    let a = c.args in
-    call_sent servers a.end.now (omega (arith, c.if-end-lt-SIZE.false)) (server_of c.counts-k.result c.get.new.words) (end_read a.end.now c.get.new.words c.counts-k.result c.get.ensures c.counts-k.ensures)
-    a.out.now (λ m. send_server m a.line a.number a.out.now) c.send-sent.result c.answer-2.result c.send-sent.new.out c.send-sent.ensures c.answer-2.ensures
+    call_sent servers c.args.end.now c.read-server.result (c.in_ok-check_length.ensures, c.read-server.ensures) c.args.out.now (λ m. send_server m c.args.line c.args.number c.args.out.now) (Ok c.in_ok-bytes.bytes) c.send.new.out c.in_ok-bytes.ensures

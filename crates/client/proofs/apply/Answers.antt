@@ -6,11 +6,11 @@ use Rattle.client.proofs.apply.Goals as goal
 
 pub apply-requires : goal.apply-requires
 apply-requires c =
-    (search rules, room_form c.args.f c.args.x c.word_of-word.result c.requires.1)
+    (search rules, room_form c.args.f c.args.x c.word_of-word.result c.requires)
 
 pub returns : goal.returns
 returns c =
     let a = c.args in
-    applied_both a.words.now c.requires.0 a.f a.x a.len a.origin c.word_of-word.result c.word_of-word.ensures
+    applied_both a.words.now (search rules) a.f a.x a.len a.origin c.word_of-word.result c.word_of-word.ensures
     c.apply.new.items c.apply-2.new.items c.apply.result c.apply-2.result c.apply.auto.items c.apply-2.auto.items
     c.apply.ensures c.apply-2.ensures

@@ -1,15 +1,8 @@
--- `ot::delete_after` meets its contract: a return for each move.
-use Rattle.ot.specs.Form.{shifted}
+-- `ot::delete_after` meets its contract.
+use mathlib.Core.Path.{ap, ◌∙◌}
+use Rattle.ot.specs.declared.Form.TheVariants.{Delete}
+use Rattle.ot.proofs.Moves.{delete_shifted}
 use Rattle.ot.proofs.delete_after.Goals as goal
 
-pub returns-in-Still : goal.returns-in-Still
-unfolding shifted
-returns-in-Still c = simp (c.in-Still.is, c.shift-at.ensures)
-
-pub returns-in-Down : goal.returns-in-Down
-unfolding shifted
-returns-in-Down c = simp (c.in-Down.is, c.shift-at.ensures)
-
-pub returns-in-Up : goal.returns-in-Up
-unfolding shifted
-returns-in-Up c = simp (c.in-Up.is, c.shift-at.ensures)
+pub returns-in_default : goal.returns-in_default
+returns-in_default c = ap Delete c.shift.ensures ∙ delete_shifted c.args.p c.args.how c.in_default.not-Gone

@@ -1,28 +1,41 @@
 -- `ot::delete_moves` meets its contract: each return is a clause of the table, by the tests that led there.
+use Prim.Native.Nat.{◌≤◌, ◌<◌}
 use borrow.Author.Tests.{lt-ltb, le-ltb}
-use Rattle.ot.specs.Form.{how}
+use native.Mathlib.Omega.{arith}
+use mathlib.Core.Path.{◌≡◌, ap, sym, ◌∙◌}
+use Rattle.ot.specs.Form.{position_of, how}
 use Rattle.ot.proofs.delete_moves.Goals as goal
 
-pub returns-then-p-q : goal.returns-then-p-q
+pub returns-in-Delete : goal.returns-in-Delete
 unfolding how
-returns-then-p-q c = simp (c.in-Delete.is, lt-ltb _ _ c.if-p-q.true)
+returns-in-Delete c =
+    let p = c.args.p in
+    let q = c.in-Delete.q in
+    let same : p ≤ q = omega (arith, c.if-p-q.true) in
+    let also : q ≤ p = omega (arith, c.if-p-q.true) in
+    simp (c.in-Delete.is, le-ltb p q also, le-ltb q p same)
 
-pub returns-then-q-p : goal.returns-then-q-p
+pub returns-in-Delete-2 : goal.returns-in-Delete-2
 unfolding how
-returns-then-q-p c = simp (c.in-Delete.is, le-ltb _ _ c.if-p-q.false, lt-ltb _ _ c.if-q-p.true)
+returns-in-Delete-2 c =
+    let behind : c.in-Delete-2.q ≤ c.args.p = omega (arith, c.if-p-q-2.true) in
+    simp (c.in-Delete-2.is, le-ltb _ _ behind, lt-ltb _ _ c.if-p-q-2.true)
 
-pub returns-then-p-q-2 : goal.returns-then-p-q-2
+pub returns-in-Insert : goal.returns-in-Insert
 unfolding how
-returns-then-p-q-2 c = simp (c.in-Insert.is, lt-ltb _ _ c.if-p-q-2.true)
+returns-in-Insert c = simp (c.in-Insert.is, le-ltb _ _ c.if-p-q-3.true)
 
-pub returns-in-Nothing : goal.returns-in-Nothing
+pub returns-in_default : goal.returns-in_default
 unfolding how
-returns-in-Nothing c = simp c.in-Nothing.is
+returns-in_default c =
+    let same : c.in-Delete.q ≡ c.in-Delete-2.q = ap position_of (sym c.in-Delete.is ∙ c.in-Delete-2.is) in
+    let before : c.args.p < c.in-Delete-2.q = omega (arith, c.if-p-q-2.false, c.if-p-q.false) in
+    simp (c.in-Delete-2.is, lt-ltb _ _ before)
 
-pub returns-else-q-p : goal.returns-else-q-p
+pub returns-in_default-2 : goal.returns-in_default-2
 unfolding how
-returns-else-q-p c = simp (c.in-Delete.is, le-ltb _ _ c.if-p-q.false, le-ltb _ _ c.if-q-p.false)
+returns-in_default-2 c = simp (c.in-Insert.is, lt-ltb _ _ c.if-p-q-3.false)
 
-pub returns-else-p-q-2 : goal.returns-else-p-q-2
+pub returns-in_default-3 : goal.returns-in_default-3
 unfolding how
-returns-else-p-q-2 c = simp (c.in-Insert.is, le-ltb _ _ c.if-p-q-2.false)
+returns-in_default-3 c = simp c.in_default.is

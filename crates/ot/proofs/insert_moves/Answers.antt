@@ -1,23 +1,23 @@
--- `ot::insert_moves` meets its contract: each return is a law of proofs/Moves.antt.
-use Rattle.ot.proofs.Moves.{past_nothing, before_delete, behind_delete, before_insert, behind_insert, stays_at_insert}
+-- `ot::insert_moves` meets its contract: each return is a clause of the table, by the tests that led there.
+use borrow.Author.Tests.{lt-leb, le-leb}
+use Rattle.ot.specs.Form.{how}
+use Rattle.ot.proofs.Moves.{insert_insert}
 use Rattle.ot.proofs.insert_moves.Goals as goal
 
-pub returns-then-p-q : goal.returns-then-p-q
-returns-then-p-q c = before_delete c.args.p c.args.r c.in-Delete.is c.if-p-q.true
+pub returns-in-Delete : goal.returns-in-Delete
+unfolding how
+returns-in-Delete c = simp (c.in-Delete.is, lt-leb _ _ c.if-q-p.true)
 
-pub returns-then-p-q-2 : goal.returns-then-p-q-2
-returns-then-p-q-2 c = before_insert c.args.p c.args.r c.in-Insert.is c.if-p-q-2.true
+pub returns-in-Insert : goal.returns-in-Insert
+returns-in-Insert c = simp (c.in-Insert.is, insert_insert, c.if-q-p-2.true)
 
-pub returns-then-q-p : goal.returns-then-q-p
-returns-then-q-p c =
-    behind_insert c.args.p c.args.r c.in-Insert.is c.if-p-q-2.false c.if-q-p.true
+pub returns-in_default : goal.returns-in_default
+unfolding how
+returns-in_default c = simp (c.in-Delete.is, le-leb _ _ c.if-q-p.false)
 
-pub returns-in-Nothing : goal.returns-in-Nothing
-returns-in-Nothing c = past_nothing c.args.p c.args.r c.in-Nothing.is
+pub returns-in_default-2 : goal.returns-in_default-2
+returns-in_default-2 c = simp (c.in-Insert.is, insert_insert, c.if-q-p-2.false)
 
-pub returns-else-p-q : goal.returns-else-p-q
-returns-else-p-q c = behind_delete c.args.p c.args.r c.in-Delete.is c.if-p-q.false
-
-pub returns-else-q-p : goal.returns-else-q-p
-returns-else-q-p c =
-    stays_at_insert c.args.p c.args.r c.in-Insert.is c.if-p-q-2.false c.if-q-p.false
+pub returns-in_default-3 : goal.returns-in_default-3
+unfolding how
+returns-in_default-3 c = simp c.in_default.is

@@ -2,17 +2,13 @@
 use Rattle.ot.specs.Form.{shifted}
 use Rattle.ot.proofs.shift.Goals as goal
 
-pub returns-then-p-eq0 : goal.returns-then-p-eq0
-unfolding shifted
-returns-then-p-eq0 c = simp (c.in-Down.is, c.if-p-eq0.true)
-
 pub returns-in-Still : goal.returns-in-Still
 unfolding shifted
 returns-in-Still c = simp c.in-Still.is
 
-pub returns-else-p-eq0 : goal.returns-else-p-eq0
+pub returns-in-Down : goal.returns-in-Down
 unfolding shifted
-returns-else-p-eq0 c = simp c.in-Down.is
+returns-in-Down c = simp (c.in-Down.is, c.saturating_sub.ensures)
 
 pub returns-in-Up : goal.returns-in-Up
 unfolding shifted

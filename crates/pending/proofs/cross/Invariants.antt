@@ -1,10 +1,7 @@
 -- The invariants and measures of the loops.
-use Prim.Native.Nat.{◌-◌}
+use mathlib.Core.Path.{◌≡◌}
 use Rattle.pending.proofs.Crossing.{Crossing}
 use Rattle.pending.proofs.cross.Given as goal
 
-abbrev pub invariant-loop-passed : goal.invariant-loop-passed
-invariant-loop-passed l = Crossing l.words l.from l.count l.initial.current l.passed l.later l.current l.good
-
-abbrev pub decreases-loop-passed : goal.decreases-loop-passed
-decreases-loop-passed l = l.count - l.passed
+abbrev pub invariant-loop-i : goal.invariant-loop-i
+invariant-loop-i l = Crossing l.fn.words l.fn.from l.fn.count l.fn.f l.i l.later l.current l.placed × (l.passed ≡ l.i)

@@ -1,4 +1,5 @@
 -- `pending::is_placed` meets its contract.
+use mathlib.Core.Logic.{inl, inr}
 use Rattle.ot.specs.Laws.{within}
 use Rattle.pending.proofs.is_placed.Goals as goal
 
@@ -8,8 +9,4 @@ returns-in-Nothing c = simp c.in-Nothing.is
 
 pub returns-in-Delete : goal.returns-in-Delete
 unfolding within
-returns-in-Delete c = rw c.in-Delete.is
-
-pub returns-in-Insert : goal.returns-in-Insert
-unfolding within
-returns-in-Insert c = rw c.in-Insert.is
+returns-in-Delete c = elim c.in-Delete.is [ inl e ↦ rw e | inr e ↦ rw e.1 ]

@@ -1,28 +1,19 @@
 -- `ranks::is_sound` meets its contract.
-use Prim.Native.Nat.{◌≤◌}
 use native.Mathlib.Omega.{arith}
-use mathlib.Core.Path.{sym, ◌∙◌}
-use lib.ListN.{length}
-use lib.Seq.{length-take-le}
-use Rattle.list.proofs.Items.{zero_turn}
-use Rattle.ranks.proofs.Scan.{sound_end_lem}
+use mathlib.Core.Path.{ap, ◌∙◌}
+use lib.Dec.{eqb}
+use lib.ListN.{drop}
+use lib.Bits.{bit_or}
+use Rattle.std.proofs.Common.{rules}
+use Rattle.std.proofs.lemmas.Iterator.{YieldsList-from_slice}
+use Rattle.std.proofs.lemmas.Iterator.Consumers.{fold_from_yields_List}
+use Rattle.list.proofs.Items.{zero_fold}
+use Rattle.model.specs.Ranks.{each_once}
+use Rattle.ranks.proofs.Scan.{sound_parts}
 use Rattle.ranks.proofs.is_sound.Goals as goal
-use Rattle.ranks.proofs.is_sound.Goals.{At-loop-i}
-
-room : (c : At-loop-i) → c.args.n ≤ length c.args.ranks.now
-room c = omega (arith, c.requires)
-
-pub bounds-ranks-i : goal.bounds-ranks-i
-bounds-ranks-i c = omega (arith, c.requires.1)
-
-pub loop-i-preserved : goal.loop-i-preserved
-loop-i-preserved c =
-    zero_turn c.args.ranks.now c.loop-i.i c.loop-i.all (omega (arith, c.requires.1)) ∙ c.loop-i.invariant
-
-pub slice_bounds-each_once-end : goal.slice_bounds-each_once-end
-slice_bounds-each_once-end c = sym (length-take-le c.args.n c.args.ranks.now (room (goal.at.slice_bounds-each_once-end c).At-loop-i))
 
 pub returns : goal.returns
 returns c =
-    sound_end_lem c.args.n c.args.ranks.now c.each_once.result c.loop-i.all c.loop-i.i (room (goal.at.returns c).At-loop-i)
-    (omega (arith, c.requires.1)) c.each_once.ensures c.loop-i.invariant
+    let unused = drop c.args.n c.args.ranks.now in
+    sound_parts c.args.n c.args.ranks.now _ _ (omega (arith, c.requires)) (c.each_once.ensures ∙ ap (each_once c.args.n) c.split_at.ensures.front)
+    (ap (λ k. eqb k 0) (fold_from_yields_List _ bit_or 0 c.fold.result c.fold.ensures.ran (YieldsList-from_slice unused (c.iter.ensures.rest ∙ c.split_at.ensures.back)) (λ a x b q k. search rules)) ∙ zero_fold unused 0)

@@ -3,20 +3,12 @@ use native.Mathlib.Omega.{arith}
 use mathlib.Core.Path.{refl}
 use Rattle.limits.specs.Limits.{max_items}
 use Rattle.server.specs.View.{size}
-use Rattle.server.proofs.Opening.{zeros_part, words_long, filled_long, origins_blank, open_words}
+use Rattle.server.proofs.Opening.{zeros_part, origins_blank, open_words}
 use Rattle.server.proofs.open_list.Goals as goal
-
-pub slice_bounds-initial-end : goal.slice_bounds-initial-end
-slice_bounds-initial-end c =
-    omega (arith, words_long c.args.items.now c.args.words.now c.requires.0 c.requires.1)
 
 pub initial-requires : goal.initial-requires
 initial-requires c =
     zeros_part 0 max_items size c.args.words.now c.requires.1 (omega arith)
-
-pub slice_bounds-initial_origins-end : goal.slice_bounds-initial_origins-end
-slice_bounds-initial_origins-end c =
-    omega (arith, filled_long c.args.items.now c.args.words.now c.requires.0 c.requires.1 _ c.initial.ensures)
 
 pub initial_origins-requires : goal.initial_origins-requires
 initial_origins-requires c =

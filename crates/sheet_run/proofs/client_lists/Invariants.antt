@@ -1,5 +1,4 @@
--- The invariants and measures of the loops.
-use Prim.Native.Nat.{◌-◌, ◌≤◌}
+-- The lists of the clients from place i on complete those of all.
 use mathlib.Core.Path.{◌≡◌}
 use lib.ListN.{length}
 use Rattle.sheet_print.specs.Sink.{sink, puts}
@@ -8,7 +7,4 @@ use Rattle.sheet_run.proofs.client_lists.Given as goal
 
 abbrev pub invariant-loop-i : goal.invariant-loop-i
 invariant-loop-i l =
-    (l.i ≤ l.n) × (length l.out ≡ length l.initial.out) × (puts (lists_from l.clients l.own l.i (l.n - l.i)) (sink l.out l.to) ≡ puts (lists_from l.clients l.own 0 l.n) (sink l.initial.out l.at))
-
-abbrev pub decreases-loop-i : goal.decreases-loop-i
-decreases-loop-i l = l.n - l.i
+    (length l.out ≡ length l.initial.out) × (puts (lists_from l.clients l.i) (sink l.out l.to) ≡ puts (lists_from l.clients 0) (sink l.initial.out l.at))

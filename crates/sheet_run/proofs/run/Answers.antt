@@ -27,9 +27,6 @@ slice_bounds-read_first-end c =
 pub overflow_add-e : goal.overflow_add-e
 overflow_add-e c = omega (arith, within (goal.at.overflow_add-e c).After-end-e)
 
-pub started-requires : goal.started-requires
-started-requires c = c.read_first-f.ensures.within
-
 pub returns : goal.returns
 returns c =
     printed _ _ _ _

@@ -1,22 +1,21 @@
-use mathlib.Core.Path.{refl, sym, ◌∙◌}
+use mathlib.Core.Path.{sym, ap, ◌∙◌}
 use native.Mathlib.Omega.{arith}
-use lib.ListN.{get_or}
-use Rattle.sheet_print.proofs.Numbers.{number_none, number_some, number_on, number_end, with_digit_le}
+use Prim.Native.Nat.{◌+◌}
+use lib.ListN.{drop}
+use Rattle.sheet_print.specs.Decimal.{number_from}
+use Rattle.sheet_print.proofs.Numbers.{number_none, number_some, number_on, number_end}
+use Rattle.sheet_text.proofs.Orders.{number_stops}
 use Rattle.sheet_text.proofs.number.Goals as goal
 
 pub returns-then-w-eq0 : goal.returns-then-w-eq0
-returns-then-w-eq0 c = sym (number_none _ c.if-w-eq0.true)
+returns-then-w-eq0 c = λ small. let e = number_none _ c.if-w-eq0.true in omega arith
 
-pub loop-i-init : goal.loop-i-init
-loop-i-init c = (omega arith, omega arith, refl)
+pub returns-in_err-n : goal.returns-in_err-n
+returns-in_err-n c =
+    rw c.from_residual.ensures (number_stops c.args.w.now c.loop-b.n c.loop-b.b-index c.if-w-eq0.false c.loop-b-test.true c.loop-b.invariant.1 c.in_err-n.ensures)
 
-pub loop-i-preserved : goal.loop-i-preserved
-loop-i-preserved c =
-    let e = c.with_digit-n.ensures in (
-      omega arith,
-      omega (arith, with_digit_le c.loop-i.n (get_or c.args.w.now c.loop-i.i 0)),
-      rw e (number_on _ _ _ c.loop-i-test.true ∙ c.loop-i.invariant.2),
-    )
+pub loop-b-preserved : goal.loop-b-preserved
+loop-b-preserved c = (omega arith, ap (λ n. number_from n (drop (c.loop-b.b-index + 1) c.args.w.now)) c.in_ok-n.ensures.1 ∙ number_on _ _ _ c.loop-b-test.true ∙ c.loop-b.invariant.1)
 
 pub returns : goal.returns
-returns c = sym (number_end _ _ _ c.loop-i-test.false) ∙ c.loop-i.invariant.2 ∙ sym (number_some _ c.if-w-eq0.false)
+returns c = let e = sym (number_end _ c.loop-b.n _ c.loop-b-test.false) ∙ c.loop-b.invariant.1 ∙ sym (number_some _ c.if-w-eq0.false) in (omega arith, e)

@@ -1,47 +1,36 @@
-use Prim.Native.Nat.{ℕ, ◌<◌, ◌≤◌}
-use mathlib.Core.Path.{sym, ap, ◌∙◌}
-use mathlib.Core.Bool.{◌&&◌}
+use mathlib.Core.Path.{◌≡◌}
 use native.Mathlib.Omega.{arith}
-use lib.Dec.{leb, ltb}
-use lib.ListN.{length}
-use Rattle.sheet_text.specs.Order.{coded}
-use Rattle.sheet_text.proofs.Texts.{taken_length}
-use Rattle.sheet_text.proofs.Orders.{inside, command_inside, command_outside}
 use borrow.Author.Rules.{rules}
+use Rattle.std.proofs.Common.{None, Some}
+use Rattle.sheet_print.specs.Decimal.{number_of}
+use Rattle.sheet_text.proofs.Orders.{unfit, command_past, command_out, command_ends, command_goes}
 use Rattle.sheet_text.proofs.read_order.Goals as goal
-use Rattle.sheet_text.proofs.read_order.Goals.{Then-e-line}
+use Rattle.sheet_text.proofs.read_order.Goals.{In_ok-l}
 
--- the first word ends in a space, and its number is one of 1 to n
-among : (c : Then-e-line) → (c.end-e.result < length c.args.line.now) × (1 ≤ c.number-l.result) × (c.number-l.result ≤ c.wide.result)
-among c =
-    inside c.end-e.result (length c.args.line.now) c.number-l.result c.wide.result c.if-e-line.true
+number : (c : In_ok-l) → c.in_ok-l.l ≡ number_of c.first_word.result.0.now
+number c = search rules
 
-pub slice_bounds-number-end : goal.slice_bounds-number-end
-slice_bounds-number-end c = taken_length _ _ 32 c.end-e.ensures
+pub returns-in_err-number : goal.returns-in_err-number
+returns-in_err-number c = rw c.from_residual.ensures (command_past _ _ _ _ c.first_word.ensures (let h = c.in_err-number.ensures in omega arith))
 
-pub overflow_add-next : goal.overflow_add-next
-overflow_add-next c = let h = (among c).0 in search rules
+pub returns-in_err-l : goal.returns-in_err-l
+returns-in_err-l c =
+    rw c.from_residual-in_err-l.ensures
+    (command_past _ _ _ _ c.first_word.ensures (let h = unfit _ _ c.try_from.ensures c.in_err-l.ensures.value in let e = c.in_ok-number.ensures in omega arith))
 
-pub overflow_cast-l : goal.overflow_cast-l
-overflow_cast-l c = let h = (among c).2 in let e = c.wide.ensures in search rules
+pub returns-in_err-rest : goal.returns-in_err-rest
+returns-in_err-rest c =
+    rw c.from_residual-in_err-rest.ensures
+    (command_ends _ _ _ _ c.first_word.ensures _ (number (goal.at.returns-in_err-rest c).In_ok-l) c.if-l-n.true c.in_err-rest.was)
 
-pub slice_bounds-after_line-count : goal.slice_bounds-after_line-count
-slice_bounds-after_line-count c = let h = (among c).0 in search rules
+pub returns-in_err-verb : goal.returns-in_err-verb
+returns-in_err-verb c =
+    rw c.from_residual-in_err-verb.ensures
+    (command_goes _ _ _ _ c.first_word.ensures _ (number (goal.at.returns-in_err-verb c).In_ok-l) c.if-l-n.true _ c.in_ok-rest.was None c.in_err-verb.ensures)
 
-pub slice_bounds-after_line-start : goal.slice_bounds-after_line-start
-slice_bounds-after_line-start c = let h = (among c).0 in search rules
-
-pub returns-then-e-line : goal.returns-then-e-line
-returns-then-e-line c =
-    let h = among (goal.at.returns-then-e-line c).Then-e-line in
-    c.after_line.ensures
-    ∙ ap coded
-    (command_inside c.args.n _ _ c.end-e.ensures _ c.number-l.ensures h.0 h.1 (omega (arith, h.2, c.wide.ensures)))
+pub returns-then-l-n : goal.returns-then-l-n
+returns-then-l-n c =
+    command_goes _ _ _ _ c.first_word.ensures _ (number (goal.at.returns-then-l-n c).In_ok-l) c.if-l-n.true _ c.in_ok-rest.was (Some c.in_ok-verb.verb) c.in_ok-verb.ensures
 
 pub returns : goal.returns
-unfolding coded
-returns c =
-    c.nothing.ensures
-    ∙ ap coded
-    (command_outside c.args.n _ _ c.end-e.ensures _ c.number-l.ensures
-    (ap (λ (m : ℕ). ltb c.end-e.result (length c.args.line.now) && leb 1 c.number-l.result && leb c.number-l.result m) (sym c.wide.ensures) ∙ c.if-e-line.false))
+returns c = command_out _ _ _ _ c.first_word.ensures _ (number (goal.at.returns c).In_ok-l) c.if-l-n.false

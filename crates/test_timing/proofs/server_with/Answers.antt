@@ -1,8 +1,16 @@
-use mathlib.Core.Path.{ap}
-use Rattle.server.specs.declared.Answer.{Answer}
+use mathlib.Core.Path.{◌≡◌, refl, ap, sym, ◌∙◌}
+use Rattle.std.specs.Prelude.{Result, Ok, Err, ⊤}
+use Rattle.refusal.specs.declared.Refusal.{Refusal}
+use Rattle.model.specs.Questions.{Answer}
+use Rattle.line.specs.Taking.{done_of}
+use Rattle.server.specs.declared.Server.{Server}
 use Rattle.test_timing.specs.Opened.{server_with}
 use Rattle.test_timing.proofs.server_with.Goals as goal
 
+end_is : (q : Result ⊤ Refusal) (e : Server) → e ≡ (done_of q e).end
+end_is (Ok x) e = refl
+end_is (Err r) e = refl
+
 pub returns : goal.returns
 unfolding server_with
-returns c = ap (λ (a : Answer). a.server) c.open-a.ensures
+returns c = end_is c.open.result c.open.new.self ∙ ap (λ (a : Answer Server). a.end) c.open.ensures

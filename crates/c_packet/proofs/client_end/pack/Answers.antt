@@ -1,27 +1,34 @@
--- `pack` meets its contract: the bytes are too few, or the packet is that of the client that they are.
 use native.Mathlib.Omega.{arith}
+use mathlib.Core.Path.{◌≡◌, refl, ap, ◌∙◌}
+use Prim.Native.Nat.{ℕ}
+use Rattle.std.specs.Prelude.{Ok, Err, Result}
+use Rattle.refusal.specs.declared.Refusal.{Refusal}
 use Rattle.model.specs.Client.{pack_client}
-use Rattle.client.specs.View.{client_of}
-use Rattle.c_layout.proofs.Called.{too_short, call_sent}
+use Rattle.c_layout.specs.Called.{written, returned}
+use Rattle.c_layout.proofs.Called.{call_sent, short}
+use Rattle.refusal.proofs.Some.{passed_on}
 use Rattle.c_client.specs.Layout.{size}
-use Rattle.c_client.proofs.Calls.{clients}
 use Rattle.c_packet.specs.Calls.{client_packed_in}
+use Rattle.c_client.proofs.Calls.{clients}
 use Rattle.c_packet.proofs.ClientCalls.{pack_fits}
 use Rattle.c_packet.proofs.client_end.pack.Goals as goal
 
-pub returns-then-end-lt-SIZE : goal.returns-then-end-lt-SIZE
+pub returns-in_err-check_length : goal.returns-in_err-check_length
 unfolding client_packed_in
-returns-then-end-lt-SIZE c =
-    let a = c.args in
-    too_short size a.end.now a.out.now _ c.answer.result (omega (arith, c.if-end-lt-SIZE.true)) c.answer.ensures
+returns-in_err-check_length c =
+    short written (λ r. refl) c.from_residual.result c.in_err-check_length.field-0.0 c.from_residual.ensures.1 size c.args.end.now c.args.out.now _ c.in_err-check_length.ensures
 
-pub overflow_cast-sent : goal.overflow_cast-sent
-overflow_cast-sent c =
-    omega (arith, pack_fits _ _ _ _ c.pack-sent.result _ c.pack-sent.ensures)
+pub returns-in_err-bytes : goal.returns-in_err-bytes
+unfolding client_packed_in
+returns-in_err-bytes c =
+    let q = c.from_residual-in_err-bytes in
+    ap (λ (s : Result ℕ Refusal). returned (written s) c.pack.new.out) (passed_on q.result c.in_err-bytes.field-0.0 q.ensures.1)
+    ∙ call_sent clients c.args.end.now c.read-client.result (c.in_ok-check_length.ensures, c.read-client.ensures) c.args.out.now (λ m. pack_client m c.args.line c.args.out.now c.args.offset) (Err c.in_err-bytes.field-0.0) c.pack.new.out c.in_err-bytes.ensures
+
+pub overflow_cast-result : goal.overflow_cast-result
+overflow_cast-result c = omega (arith, pack_fits _ _ _ _ _ _ c.in_ok-bytes.ensures)
 
 pub returns : goal.returns
 unfolding client_packed_in
 returns c =
-    let a = c.args in
-    call_sent clients a.end.now (omega (arith, c.if-end-lt-SIZE.false)) (client_of c.read-k.result c.read-k.new.words) c.read-k.ensures
-    a.out.now (λ m. pack_client m a.line a.out.now a.offset) c.pack-sent.result c.answer-2.result c.pack-sent.new.out c.pack-sent.ensures c.answer-2.ensures
+    call_sent clients c.args.end.now c.read-client.result (c.in_ok-check_length.ensures, c.read-client.ensures) c.args.out.now (λ m. pack_client m c.args.line c.args.out.now c.args.offset) (Ok c.in_ok-bytes.bytes) c.pack.new.out c.in_ok-bytes.ensures

@@ -1,29 +1,28 @@
--- `take_at` meets its contract: the bytes are too few, or the message is taken by the server that they are.
-use native.Mathlib.Omega.{arith}
-use Rattle.server.proofs.Counted.{counted}
-use Rattle.server.specs.View.{server_of}
-use Rattle.server.specs.Answers.{answer_of}
-use Rattle.c_layout.proofs.Called.{too_short}
+use mathlib.Core.Path.{refl}
+use Rattle.server.specs.Answers.{taken}
+use Rattle.c_layout.proofs.Called.{said, short}
 use Rattle.c_server.specs.Layout.{size}
-use Rattle.c_server.proofs.Ends.{end_read}
-use Rattle.c_packet.specs.Calls.{server_taken_at_in}
-use Rattle.c_packet.proofs.ServerCalls.{message_answered}
-use borrow.Author.Rules.{rules}
+use Rattle.c_server.proofs.Calls.{servers}
+use Rattle.c_packet.specs.Calls.{reported, server_one, server_taken_at_in}
+use Rattle.c_packet.proofs.Calls.{message_refused, message_done}
+use Rattle.c_packet.proofs.ServerCalls.{long_message}
 use Rattle.c_packet.proofs.server_end.take_at.Goals as goal
 
-pub returns-then-end-lt-SIZE : goal.returns-then-end-lt-SIZE
+pub returns-in_err-check_length : goal.returns-in_err-check_length
 unfolding server_taken_at_in
-returns-then-end-lt-SIZE c =
-    let a = c.args in
-    too_short size a.end.now a.end.now _ c.answer.result (omega (arith, c.if-end-lt-SIZE.true)) c.answer.ensures
+returns-in_err-check_length c =
+    short reported (λ r. refl) c.from_residual.result c.in_err-check_length.field-0.0 c.from_residual.ensures.1 size c.args.end.now c.args.end.now _ c.in_err-check_length.ensures
 
-pub take_at-a-requires : goal.take_at-a-requires
-take_at-a-requires c = record { words = search rules; lines = search (rules, counted); ranks = search rules }
+pub returns-in_err-report : goal.returns-in_err-report
+unfolding server_taken_at_in server_one
+returns-in_err-report c =
+    let q = c.from_residual-in_err-report in
+    let r = c.in_err-report.field-0.0 in
+    message_refused servers taken c.args.end.now c.read-server.result (c.in_ok-check_length.ensures, c.read-server.ensures) c.args.packet.now c.args.offset long_message r c.take_at.new.self (reported q.result)
+    c.in_err-report.ensures (said reported (λ x. refl) q.result r q.ensures.1)
 
 pub returns : goal.returns
+unfolding server_taken_at_in server_one
 returns c =
-    let a = c.args in
-    message_answered a.end.now (omega (arith, c.if-end-lt-SIZE.false)) (server_of c.counts-k.result c.get.new.words)
-    (end_read a.end.now c.get.new.words c.counts-k.result c.get.ensures c.counts-k.ensures) a.packet.now
-    (answer_of c.take_at-a.result c.take_at-a.new.words) c.finish_one.result c.finish_one.new.end a.offset c.size_at-read.result c.take_at-a.ensures
-    c.size_at-read.ensures c.finish_one.ensures
+    message_done servers taken c.args.end.now c.read-server.result (c.in_ok-check_length.ensures, c.read-server.ensures) c.args.packet.now c.args.offset long_message c.take_at.new.self _ c.size_at-bytes.result
+    c.write.new.end c.in_ok-report.ensures c.size_at-bytes.ensures c.write.ensures

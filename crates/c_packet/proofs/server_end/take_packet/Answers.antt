@@ -1,28 +1,24 @@
--- `take_packet` meets its contract: the bytes are too few, or the packet is taken by the server that they are.
 use native.Mathlib.Omega.{arith}
-use Rattle.server.proofs.Counted.{counted}
-use Rattle.server.specs.View.{server_of}
-use Rattle.server.specs.Answers.{answer_of}
-use Rattle.c_layout.proofs.Called.{too_short}
+use mathlib.Core.Path.{sym, ◌∙◌}
+use Rattle.server.specs.Answers.{taken}
 use Rattle.c_server.specs.Layout.{size}
-use Rattle.c_server.proofs.Ends.{end_read}
-use Rattle.c_packet.specs.Calls.{server_packet_in}
-use Rattle.c_packet.proofs.ServerCalls.{packet_answered}
-use borrow.Author.Rules.{rules}
+use Rattle.c_server.proofs.Calls.{servers}
+use Rattle.c_packet.specs.Calls.{server_some, server_packet_in}
+use Rattle.c_packet.proofs.Calls.{packet_short, packet_kept, packet_written}
 use Rattle.c_packet.proofs.server_end.take_packet.Goals as goal
 
-pub returns-then-end-lt-SIZE : goal.returns-then-end-lt-SIZE
+pub returns-in_err-check_length : goal.returns-in_err-check_length
 unfolding server_packet_in
-returns-then-end-lt-SIZE c =
-    let a = c.args in
-    too_short size a.end.now a.end.now _ c.answer.result (omega (arith, c.if-end-lt-SIZE.true)) c.answer.ensures
+returns-in_err-check_length c = packet_short size c.args.end.now _ c.in_err-check_length.field-0.0 c.in_err-check_length.ensures c.from_residual.result c.from_residual.ensures.1
 
-pub take-a-requires : goal.take-a-requires
-take-a-requires c = record { words = search rules; lines = search (rules, counted); ranks = search rules }
+pub returns-then-taken_by-ne0 : goal.returns-then-taken_by-ne0
+unfolding server_packet_in server_some
+returns-then-taken_by-ne0 c =
+    packet_written servers taken c.args.end.now c.read-server.result (c.in_ok-check_length.ensures, c.read-server.ensures) c.args.packet.now c.take_packet-taken.result c.take_packet-taken.new.self
+    c.write.new.end c.take_packet-taken.ensures (λ z. c.if-taken_by-ne0.true (omega (arith, z, c.taken_by.ensures))) c.write.ensures
 
-pub returns : goal.returns
-returns c =
-    let a = c.args in
-    packet_answered a.end.now (omega (arith, c.if-end-lt-SIZE.false)) (server_of c.counts-k.result c.get.new.words)
-    (end_read a.end.now c.get.new.words c.counts-k.result c.get.ensures c.counts-k.ensures) a.packet.now
-    (answer_of c.take-a.result c.take-a.new.words) c.finish.result c.finish.new.end c.take-a.ensures c.finish.ensures
+pub returns-else-taken_by-ne0 : goal.returns-else-taken_by-ne0
+unfolding server_packet_in server_some
+returns-else-taken_by-ne0 c =
+    packet_kept servers taken c.args.end.now c.read-server.result (c.in_ok-check_length.ensures, c.read-server.ensures) c.args.packet.now c.take_packet-taken.result c.take_packet-taken.new.self
+    c.take_packet-taken.ensures (sym c.taken_by.ensures ∙ omega (arith, c.if-taken_by-ne0.false))

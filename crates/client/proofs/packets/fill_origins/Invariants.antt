@@ -1,10 +1,6 @@
--- The invariants and measures of the loops.
-use Prim.Native.Nat.{◌-◌}
+-- The invariant of the loop.
 use Rattle.client.proofs.Origins.{OriginsTo}
 use Rattle.client.proofs.packets.fill_origins.Given as goal
 
-abbrev pub invariant-loop-number : goal.invariant-loop-number
-invariant-loop-number l = OriginsTo l.line l.acked l.initial.origins l.origins l.number l.i
-
-abbrev pub decreases-loop-number : goal.decreases-loop-number
-decreases-loop-number l = l.made - l.number
+abbrev pub invariant-loop-before : goal.invariant-loop-before
+invariant-loop-before l = OriginsTo l.line l.acked l.initial.origins l.origins l.before

@@ -15,7 +15,7 @@ pub returns-then-written-eq0 : goal.returns-then-written-eq0
 returns-then-written-eq0 c =
     let a = c.args in
     first_too_long a.line a.direction a.v a.words.now a.origins.now a.offset a.out.now (omega (arith, c.if-v.false)) c.fill-written.result c.fill-written.new.out
-    c.fill-written.ensures c.refused.result c.refused.ensures (omega (arith, c.if-written-eq0.true))
+    c.fill-written.ensures (omega (arith, c.if-written-eq0.true))
 
 pub returns : goal.returns
 returns c =

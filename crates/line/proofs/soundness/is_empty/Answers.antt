@@ -3,6 +3,5 @@ use Rattle.line.proofs.soundness.is_empty.Goals as goal
 
 pub returns : goal.returns
 returns c =
-    let told =
-    empty_answers c.args.v c.args.words.now c.all_zero.result c.requires c.all_zero.ensures
+    let told = empty_answers c.args.v c.args.words.now c.zero_from.result c.requires c.zero_from.ensures
     in record { answer = told.0; facts = told.1 }

@@ -1,32 +1,23 @@
-use Rattle.line.proofs.Makers.{makers_many, makers_none, makers_parted}
-use Rattle.line.proofs.Tests.{eights, eights_hold}
+use Prim.Native.Nat.{ℕ, ◌≤◌}
 use native.Mathlib.Omega.{arith}
-use Prim.Native.Nat.{◌≤◌}
+use mathlib.Core.Path.{◌≡◌, ap, ◌∙◌}
+use lib.ListN.{length, take}
+use lib.Seq.{length-take-le}
+use Rattle.limits.specs.Limits.{max_pending}
+use Rattle.pending.specs.Slots.{all_from}
+use Rattle.line.specs.Sound.{maker_at}
+use Rattle.line.proofs.Makers.{makers_many, makers_parted}
 use Rattle.line.proofs.soundness.makers_sound.Goals as goal
-use Rattle.line.proofs.soundness.makers_sound.Goals.{Else-count-gt-PENDING}
-
-looked_at : (c : Else-count-gt-PENDING) → (c.args.count ≤ eights c.args.count) × (eights c.args.count ≤ 64)
-looked_at c = (eights_hold c.args.count (omega (arith, c.if-count-gt-PENDING.false))).1
 
 pub returns-then-count-gt-PENDING : goal.returns-then-count-gt-PENDING
 returns-then-count-gt-PENDING c =
-    makers_many c.args.n c.args.line (c.args.words.now) c.args.count c.requires (omega (arith, c.if-count-gt-PENDING.true))
-
-pub returns-then-count-eq0 : goal.returns-then-count-eq0
-returns-then-count-eq0 c =
-    makers_none c.args.n c.args.line (c.args.words.now) c.args.count c.requires c.zero_from.result c.if-count-eq0.true c.zero_from.ensures
-
-pub overflow_mul-slots : goal.overflow_mul-slots
-overflow_mul-slots c = omega (arith, looked_at (goal.at.overflow_mul-slots c).Else-count-gt-PENDING)
-
-pub overflow_cast-slots : goal.overflow_cast-slots
-overflow_cast-slots c = omega (arith, looked_at (goal.at.overflow_cast-slots c).Else-count-gt-PENDING)
-
-pub makers_kept-requires : goal.makers_kept-requires
-makers_kept-requires c = let p = c.requires in omega (arith, looked_at (goal.at.makers_kept-requires c).Else-count-gt-PENDING)
+    let a = c.args in
+    makers_many a.n a.line a.words.now a.count c.requires (omega (arith, c.if-count-gt-PENDING.true))
 
 pub returns : goal.returns
 returns c =
-    let e = looked_at (goal.at.returns c).Else-count-gt-PENDING in
-    makers_parted c.args.n c.args.line (c.args.words.now) c.args.count c.requires (eights c.args.count) c.makers_kept.result c.zero_from-2.result
-    e.0 e.1 c.makers_kept.ensures c.zero_from-2.ensures
+    let a = c.args in
+    let few : a.count ≤ max_pending = omega (arith, c.if-count-gt-PENDING.false) in
+    let cut : length (take a.count a.words.now) ≡ a.count = length-take-le a.count a.words.now (omega (arith, few, c.requires)) in
+    makers_parted a.n a.line a.words.now a.count c.requires c.makers_right.result c.zero_from.result few
+    (c.makers_right.ensures ∙ ap (λ (k : ℕ). all_from (maker_at a.n a.line (take a.count a.words.now)) 0 k) cut) c.zero_from.ensures

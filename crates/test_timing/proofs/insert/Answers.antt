@@ -1,0 +1,7 @@
+use mathlib.Core.Path.{ap, ◌∙◌}
+use Rattle.test_timing.specs.Opened.{client_answered}
+use Rattle.test_timing.proofs.Answered.{done_answered}
+use Rattle.test_timing.proofs.insert.Goals as goal
+
+pub returns : goal.returns
+returns c = c.done.ensures ∙ done_answered c.insert.new.self c.insert.result ∙ ap client_answered c.insert.ensures
