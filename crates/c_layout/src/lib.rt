@@ -7,7 +7,7 @@ pub mod ranks;
 ghost use Rattle.std.specs.Prelude.{ℕ, ◌≡◌, ◌+◌, ◌*◌, ◌≤◌, List, length};
 ghost use Rattle.list.specs.Parts.{part};
 ghost use Rattle.c_layout.specs.Words.{Order, high_first, word_at, words_by, words_of, items_of, bytes_of, put_at};
-ghost use Rattle.c_layout.specs.Called.{packed, done, written, reported, counted};
+ghost use Rattle.c_layout.specs.Called.{packed, packed_report, report_of, done, written, reported, counted};
 
 use line::taking::{Report, Stopped};
 use refusal::Refusal;
@@ -105,14 +105,19 @@ pub fn written(r: Result<u16, Refusal>) -> u64
     }
 }
 
-// Of a taking, the positions in which the edit arrived and was applied stand above the count.
+// The refusal and a report: the count as `answer` has it, and above it the positions in which the edit arrived and was applied.
+pub fn report(refusal: u8, k: Report) -> u64
+    ensures { result ≡ packed_report refusal (report_of k) }
+{
+    answer(refusal, k.passed) + 16777216 * k.arrived as u64 + 1099511627776 * k.applied as u64
+}
+
+// Of a taking, its report.
 pub fn reported(r: Result<Report, Refusal>) -> u64
     ensures { result ≡ reported r }
 {
     match r {
-        Ok(k) => {
-            answer(0, k.passed) + 16777216 * k.arrived as u64 + 1099511627776 * k.applied as u64
-        }
+        Ok(k) => report(0, k),
         Err(refusal) => answer(refusal.number(), 0),
     }
 }

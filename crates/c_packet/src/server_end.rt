@@ -7,6 +7,7 @@ use crate::{Taken, size_at, taken_by};
 use c_server::layout;
 use line::taking::Stopped;
 use refusal::Refusal;
+use server::Server;
 
 // Writes the pending edits of a line into `out` from an offset on, in number order, as many as fit before its end. Answers how many
 // bytes were written. Refusals: 18 2 4 14.
@@ -14,7 +15,8 @@ pub fn pack(end: &[u8], line: u8, out: &mut [u8], offset: usize) -> Result<u16, 
     ensures { returned (written result) out.new ≡ server_packed_in end.now line out.old offset }
 {
     layout::check_length(end)?;
-    let server = layout::read(end);
+    let mut server = Server::empty();
+    layout::read(end, &mut server);
     let bytes = server.pack(line, out, offset)?;
     Ok(bytes as u16)
 }
@@ -25,7 +27,8 @@ pub fn take_packet(end: &mut [u8], packet: &[u8]) -> Result<u16, Stopped>
     ensures { returned (counted result) end.new ≡ server_packet_in end.old packet.now }
 {
     layout::check_length(end)?;
-    let mut server = layout::read(end);
+    let mut server = Server::empty();
+    layout::read(end, &mut server);
     let taken = server.take_packet(packet);
     if taken_by(taken) != 0 {
         layout::write(end, &server);
@@ -39,7 +42,8 @@ pub fn take_at(end: &mut [u8], packet: &[u8], offset: usize) -> Result<Taken, Re
     ensures { returned (reported result) end.new ≡ server_taken_at_in end.old packet.now offset }
 {
     layout::check_length(end)?;
-    let mut server = layout::read(end);
+    let mut server = Server::empty();
+    layout::read(end, &mut server);
     let report = server.take_at(packet, offset)?;
     layout::write(end, &server);
     let bytes = size_at(packet, offset);

@@ -23,13 +23,15 @@ const LINES: usize = RANKS + ranks::WORDS;
 
 const TOTAL: usize = LINES + LINE * Server::LINES;
 
-const WORDS: usize = TOTAL + 1;
+pub const WORDS: usize = TOTAL + 1;
 
 // The bytes of the server.
 pub const SIZE: usize = 4 * (WORDS + Server::WORDS);
 
-// The numbers that the bytes hold.
-fn counts(bytes: &[u8]) -> Counts
+// The numbers that the bytes hold. They are read and written by calls of their own, and the words where a call is made: there they are a copy of
+// memory.
+#[inline(never)]
+pub fn counts(bytes: &[u8]) -> Counts
     requires { size ≤ length bytes.now }
     ensures { result ≡ capped_counts (counts_in bytes.now) }
 {
@@ -73,7 +75,8 @@ fn put_counts(k: Counts, words: &mut [u32])
 }
 
 // The numbers go to the bytes, and the ranks over the two words of them that are left zero.
-fn write_counts(bytes: &mut [u8], k: Counts)
+#[inline(never)]
+pub fn write_counts(bytes: &mut [u8], k: Counts)
     requires { size ≤ length bytes.old }
     ensures { bytes.new ≡ front_in k ++ drop (4 * numbers) bytes.old }
 {
@@ -83,15 +86,14 @@ fn write_counts(bytes: &mut [u8], k: Counts)
     ranks::write(bytes, &k.ranks);
 }
 
-// The server that the bytes hold.
-pub fn read(bytes: &[u8]) -> Server
+// The server that the bytes hold, into one that the caller has: by value its 10 KB would be copied once more.
+#[inline(always)]
+pub fn read(bytes: &[u8], s: &mut Server)
     requires { size ≤ length bytes.now }
-    ensures { result ≡ capped_end (end_in bytes.now) }
+    ensures { s.new ≡ capped_end (end_in bytes.now) }
 {
-    let mut server = Server::empty();
-    get(bytes, WORDS, &mut server.words);
-    server.counts = counts(bytes);
-    server
+    get(bytes, WORDS, &mut s.words);
+    s.counts = counts(bytes);
 }
 
 // Are the lent bytes enough for the server? That is question 18.
@@ -105,6 +107,7 @@ pub fn check_length(end: &[u8]) -> Result<(), Refusal>
 }
 
 // The same back.
+#[inline(always)]
 pub fn write(end: &mut [u8], s: &Server)
     requires { size ≤ length end.old }
     ensures { end.new ≡ bytes_in s.now ++ drop size end.old }

@@ -44,7 +44,8 @@ pub fn send(end: &[u8], line: u8, number: u16, out: &mut [u8]) -> Result<u16, Re
     ensures { returned (written result) out.new ≡ sent_in end.now line number out.old }
 {
     layout::check_length(end)?;
-    let server = layout::read(end);
+    let mut server = Server::empty();
+    layout::read(end, &mut server);
     let bytes = server.send(line, number, out)?;
     Ok(bytes as u16)
 }
@@ -54,7 +55,8 @@ pub fn acknowledge(end: &[u8], line: u8, out: &mut [u8]) -> Result<u16, Refusal>
     ensures { returned (written result) out.new ≡ acknowledged_in end.now line out.old }
 {
     layout::check_length(end)?;
-    let server = layout::read(end);
+    let mut server = Server::empty();
+    layout::read(end, &mut server);
     let bytes = server.tell(line, out)?;
     Ok(bytes as u16)
 }
@@ -64,7 +66,8 @@ pub fn take(end: &mut [u8], message: &[u8]) -> Result<Report, Refusal>
     ensures { returned (reported result) end.new ≡ taken_in end.old message.now }
 {
     layout::check_length(end)?;
-    let mut server = layout::read(end);
+    let mut server = Server::empty();
+    layout::read(end, &mut server);
     let report = server.take(message)?;
     layout::write(end, &server);
     Ok(report)

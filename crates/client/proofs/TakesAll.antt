@@ -46,8 +46,12 @@ sound_after c s bytes = go (sound c) (eqb a.refusal 0)
 
 -- ---- the loop
 
-pub sound_taken : {c : Client} → Sound c → (bytes : List ℕ) (k : Report) (after : Client) → answer_of (Ok k) after ≡ taken c bytes → Sound after
-sound_taken {c} s bytes k after e = subst (λ (r : model.Answer Client). Sound r.end) (sym e) (sound_after c s bytes)
+pub sound_taken : {c : Client} → Sound c → (bytes : List ℕ) (r : Result Report Refusal) (after : Client) → answer_of r after ≡ taken c bytes → Sound after
+sound_taken {c} s bytes r after e = subst Sound (end_is r) (subst (λ (a : model.Answer Client). Sound a.end) (sym e) (sound_after c s bytes))
+  where
+    end_is : (q : Result Report Refusal) → (answer_of q after).end ≡ after
+    end_is (Ok k) = refl
+    end_is (Err k) = refl
 
 module _ (start : Client) (bytes : List ℕ) {at count : ℕ} {c : Client} (h : Handing taken bytes start at count c) where
   pub all_end : length bytes ≤ at → packet_of (Ok count) c ≡ messages_taken start bytes

@@ -15,7 +15,7 @@ use wire::Message;
 
 impl Server {
     // Questions 2 and 4.
-    pub(crate) fn ask_line(&self, line: u8) -> Result<(), Refusal>
+    pub fn ask_line(&self, line: u8) -> Result<(), Refusal>
         ensures answer { refused_by result ≡ asks (line_asked self.now line) }
         ensures facts { OnOk result (Sound self.now × OnLine self.now.counts line) }
     {

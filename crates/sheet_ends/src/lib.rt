@@ -13,6 +13,9 @@ use refusal::Refusal;
 use server::Server;
 use sheet_text::{Order, Verb};
 
+// The words of all clients together.
+pub const WORDS: usize = Server::LINES * Client::WORDS;
+
 // The server, and the clients of lines 1 to n in the first n places. A place that is not in use holds zeros.
 #[derive(Drop)]
 pub struct Ends {

@@ -3,12 +3,14 @@
 #![tactic(auto)]
 
 ghost use Rattle.std.specs.Prelude.{◌≡◌};
+ghost use Rattle.line.specs.Taking.{done_of};
 ghost use Rattle.client.specs.Answers as client;
 ghost use Rattle.server.specs.Answers as server;
 ghost use Rattle.test_timing.specs.Opened.{client_with, server_with, client_answered, server_answered};
 
 use c_layout::{done, reported};
 use client::Client;
+use refusal::Refusal;
 use server::Server;
 
 // Client 1 of 2, opened with line numbers as ranks and so many items; more than opening lets through leave an end that is all zeros.
@@ -32,25 +34,33 @@ fn server_with(count: u8) -> Server
     server
 }
 
-// One call of each method that is timed, on a copy of the end.
-fn insert(c: Client, position: u16, item: u32) -> u64
-    ensures { result ≡ client_answered (client.inserted c position item) }
+// An insert that is not inlined: inside its loop the compiler saw that each gives the same, and made one for all of them.
+#[inline(never)]
+fn insert_apart(end: &mut Client, position: u16, item: u32) -> Result<(), Refusal>
+    ensures { done_of result end.new ≡ client.inserted end.old position item }
 {
-    let mut end = c;
-    done(end.insert(position, item))
+    end.insert(position, item)
 }
 
-fn client_take(c: Client, message: &[u8]) -> u64
-    ensures { result ≡ client_answered (client.taken c message.now) }
+// One call of each method that is timed, on a copy of the end. The end is lent: by value it would be copied twice.
+fn insert(c: &Client, position: u16, item: u32) -> u64
+    ensures { result ≡ client_answered (client.inserted c.now position item) }
 {
-    let mut end = c;
+    let mut end = *c;
+    done(insert_apart(&mut end, position, item))
+}
+
+fn client_take(c: &Client, message: &[u8]) -> u64
+    ensures { result ≡ client_answered (client.taken c.now message.now) }
+{
+    let mut end = *c;
     reported(end.take(message))
 }
 
-fn server_take(s: Server, message: &[u8]) -> u64
-    ensures { result ≡ server_answered (server.taken s message.now) }
+fn server_take(s: &Server, message: &[u8]) -> u64
+    ensures { result ≡ server_answered (server.taken s.now message.now) }
 {
-    let mut end = s;
+    let mut end = *s;
     reported(end.take(message))
 }
 
@@ -71,7 +81,7 @@ pub extern "C" fn lub_time_client_insert(count: u8, position: u16, item: u32, ti
     ensures { result ≡ client_answered (client.inserted (client_with count) position item) }
 {
     let c = client_with(count);
-    repeated(|| insert(c, position, item), times)
+    repeated(|| insert(&c, position, item), times)
 }
 
 #[unsafe(no_mangle)]
@@ -79,7 +89,7 @@ pub extern "C" fn lub_time_client_take(count: u8, message: &[u8], times: u32) ->
     ensures { result ≡ client_answered (client.taken (client_with count) message.now) }
 {
     let c = client_with(count);
-    repeated(|| client_take(c, message), times)
+    repeated(|| client_take(&c, message), times)
 }
 
 #[unsafe(no_mangle)]
@@ -87,5 +97,5 @@ pub extern "C" fn lub_time_server_take(count: u8, message: &[u8], times: u32) ->
     ensures { result ≡ server_answered (server.taken (server_with count) message.now) }
 {
     let s = server_with(count);
-    repeated(|| server_take(s, message), times)
+    repeated(|| server_take(&s, message), times)
 }

@@ -22,7 +22,7 @@ unfolding acknowledged_in
 returns-in_err-bytes c =
     let q = c.from_residual-in_err-bytes in
     ap (λ (s : Result ℕ Refusal). returned (written s) c.tell.new.out) (passed_on q.result c.in_err-bytes.field-0.0 q.ensures.1)
-    ∙ call_sent servers c.args.end.now c.read-server.result (c.in_ok-check_length.ensures, c.read-server.ensures) c.args.out.now (λ m. tell_server m c.args.line c.args.out.now) (Err c.in_err-bytes.field-0.0) c.tell.new.out c.in_err-bytes.ensures
+    ∙ call_sent servers c.args.end.now c.read.new.s (c.in_ok-check_length.ensures, c.read.ensures) c.args.out.now (λ m. tell_server m c.args.line c.args.out.now) (Err c.in_err-bytes.field-0.0) c.tell.new.out c.in_err-bytes.ensures
 
 pub overflow_cast-result : goal.overflow_cast-result
 overflow_cast-result c = omega (arith, ack_fits _ _ _ _ _ c.in_ok-bytes.ensures)
@@ -30,4 +30,4 @@ overflow_cast-result c = omega (arith, ack_fits _ _ _ _ _ c.in_ok-bytes.ensures)
 pub returns : goal.returns
 unfolding acknowledged_in
 returns c =
-    call_sent servers c.args.end.now c.read-server.result (c.in_ok-check_length.ensures, c.read-server.ensures) c.args.out.now (λ m. tell_server m c.args.line c.args.out.now) (Ok c.in_ok-bytes.bytes) c.tell.new.out c.in_ok-bytes.ensures
+    call_sent servers c.args.end.now c.read.new.s (c.in_ok-check_length.ensures, c.read.ensures) c.args.out.now (λ m. tell_server m c.args.line c.args.out.now) (Ok c.in_ok-bytes.bytes) c.tell.new.out c.in_ok-bytes.ensures

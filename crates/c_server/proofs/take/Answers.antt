@@ -17,11 +17,11 @@ unfolding taken_in answered
 returns-in_err-report c =
     let q = c.from_residual-in_err-report in
     let r = c.in_err-report.field-0.0 in
-    call_refused servers c.args.end.now c.read-server.result (c.in_ok-check_length.ensures, c.read-server.ensures) (λ m. take_server m c.args.message.now) r c.take.new.self (reported q.result)
+    call_refused servers c.args.end.now c.read.new.s (c.in_ok-check_length.ensures, c.read.ensures) (λ m. take_server m c.args.message.now) r c.take.new.self (reported q.result)
     c.in_err-report.ensures (said reported (λ x. refl) q.result r q.ensures.1)
 
 pub returns : goal.returns
 unfolding taken_in answered
 returns c =
-    call_done servers c.args.end.now c.read-server.result (c.in_ok-check_length.ensures, c.read-server.ensures) (λ m. take_server m c.args.message.now) c.take.new.self _ _ c.write.new.end
+    call_done servers c.args.end.now c.read.new.s (c.in_ok-check_length.ensures, c.read.ensures) (λ m. take_server m c.args.message.now) c.take.new.self _ _ c.write.new.end
     c.in_ok-report.ensures refl c.write.ensures

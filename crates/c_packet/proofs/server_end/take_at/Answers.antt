@@ -18,11 +18,11 @@ unfolding server_taken_at_in server_one
 returns-in_err-report c =
     let q = c.from_residual-in_err-report in
     let r = c.in_err-report.field-0.0 in
-    message_refused servers taken c.args.end.now c.read-server.result (c.in_ok-check_length.ensures, c.read-server.ensures) c.args.packet.now c.args.offset long_message r c.take_at.new.self (reported q.result)
+    message_refused servers taken c.args.end.now c.read.new.s (c.in_ok-check_length.ensures, c.read.ensures) c.args.packet.now c.args.offset long_message r c.take_at.new.self (reported q.result)
     c.in_err-report.ensures (said reported (λ x. refl) q.result r q.ensures.1)
 
 pub returns : goal.returns
 unfolding server_taken_at_in server_one
 returns c =
-    message_done servers taken c.args.end.now c.read-server.result (c.in_ok-check_length.ensures, c.read-server.ensures) c.args.packet.now c.args.offset long_message c.take_at.new.self _ c.size_at-bytes.result
+    message_done servers taken c.args.end.now c.read.new.s (c.in_ok-check_length.ensures, c.read.ensures) c.args.packet.now c.args.offset long_message c.take_at.new.self _ c.size_at-bytes.result
     c.write.new.end c.in_ok-report.ensures c.size_at-bytes.ensures c.write.ensures

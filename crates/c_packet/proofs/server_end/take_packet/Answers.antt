@@ -14,11 +14,11 @@ returns-in_err-check_length c = packet_short size c.args.end.now _ c.in_err-chec
 pub returns-then-taken_by-ne0 : goal.returns-then-taken_by-ne0
 unfolding server_packet_in server_some
 returns-then-taken_by-ne0 c =
-    packet_written servers taken c.args.end.now c.read-server.result (c.in_ok-check_length.ensures, c.read-server.ensures) c.args.packet.now c.take_packet-taken.result c.take_packet-taken.new.self
+    packet_written servers taken c.args.end.now c.read.new.s (c.in_ok-check_length.ensures, c.read.ensures) c.args.packet.now c.take_packet-taken.result c.take_packet-taken.new.self
     c.write.new.end c.take_packet-taken.ensures (λ z. c.if-taken_by-ne0.true (omega (arith, z, c.taken_by.ensures))) c.write.ensures
 
 pub returns-else-taken_by-ne0 : goal.returns-else-taken_by-ne0
 unfolding server_packet_in server_some
 returns-else-taken_by-ne0 c =
-    packet_kept servers taken c.args.end.now c.read-server.result (c.in_ok-check_length.ensures, c.read-server.ensures) c.args.packet.now c.take_packet-taken.result c.take_packet-taken.new.self
+    packet_kept servers taken c.args.end.now c.read.new.s (c.in_ok-check_length.ensures, c.read.ensures) c.args.packet.now c.take_packet-taken.result c.take_packet-taken.new.self
     c.take_packet-taken.ensures (sym c.taken_by.ensures ∙ omega (arith, c.if-taken_by-ne0.false))

@@ -11,6 +11,6 @@ use Rattle.c_server.proofs.layout.read.Goals as goal
 
 pub returns : goal.returns
 returns c =
-    let long : length c.empty-server.result.words ≡ server.size = search rules in
-    end_read c.args.bytes.now c.get.new.words c.counts-server.result
-    (c.get.ensures ∙ ap (λ (n : ℕ). part numbers n (words_of c.args.bytes.now)) long) c.counts-server.ensures
+    let long : length c.args.s.now.words ≡ server.size = search rules in
+    end_read c.args.bytes.now c.get.new.words c.counts-s.result
+    (c.get.ensures ∙ ap (λ (n : ℕ). part numbers n (words_of c.args.bytes.now)) long) c.counts-s.ensures

@@ -2,6 +2,7 @@
 use Prim.Native.Nat.{◌-◌, ◌≤◌, ◌<◌}
 use native.Mathlib.Omega.{arith}
 use lib.ListN.{length, take, drop}
+use Rattle.std.specs.Prelude.{Ok}
 use Rattle.wire_packet.proofs.Ends.{end_after, end_within}
 use Rattle.client.proofs.TakesAll.{sound_taken, all_end, all_stop, all_turn}
 use Rattle.client.proofs.Client.take_all.Goals as goal
@@ -40,7 +41,7 @@ loop-at-smaller c =
 pub loop-at-preserved : goal.loop-at-preserved
 loop-at-preserved c =
     let e = c.message_end-end.result in (
-      sound_taken c.loop-at.invariant.0 (take (e - c.loop-at.at) (drop c.loop-at.at c.args.packet.now)) c.in_default.field-0 c.take_sound.new.self c.in_default.ensures,
+      sound_taken c.loop-at.invariant.0 (take (e - c.loop-at.at) (drop c.loop-at.at c.args.packet.now)) (Ok c.in_default.field-0) c.take_sound.new.self c.in_default.ensures,
       all_turn c.args.self.now c.args.packet.now c.loop-at.invariant.1 c.loop-at-test.true e c.message_end-end.ensures
           c.take_sound.new.self c.in_default.field-0 c.in_default.ensures,
     )
