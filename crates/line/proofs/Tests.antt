@@ -112,6 +112,15 @@ zero_words words long =
     ∙ ap (λ (b : Bool). all_from (is_zero words) 0 max_pending && b) (sym (all_shifted (is_zero words) max_pending 0 max_pending))
     ∙ sym (all_both (is_zero words) (λ i. is_zero words (max_pending + i)) 0 max_pending)
 
+-- of a line with nothing pending the slots are those words
+pub slots_none : (good : ℕ → Bool) (words : List ℕ) → length words ≡ size
+    → all_zero (drop 0 words) ≡ sound_slots good 0 (places_in words) (items_in words)
+unfolding sound_slots
+slots_none good words long =
+    zero_words words long
+    ∙ all_same (empty_at words) (kept_at good 0 (places_in words) (items_in words)) 0 max_pending
+    (λ i h. sym (ap (slot_is good (places_in words) (items_in words) 0 (0 + i)) (le-ltb (0 + i) 0 (omega arith)) ∙ zero_lent words (0 + i) (omega arith)))
+
 swap : (a b c p q r : Bool) → ((a && (b && c)) && (p && (q && r))) ≡ ((a && p) && ((b && q) && (c && r)))
 swap false b c p q r = refl
 swap true false c false q r = refl

@@ -99,6 +99,10 @@ pub fn is_sound(edits: u16, v: Line, words: &[u32], n: u8, rank: u8, own: bool) 
     ensures facts { result ≡ true → Kept v words.now }
 {
     let count = v.pending() as usize;
+    // Nothing pending: a loop of fixed length, which the compiler unrolls.
+    if count == 0 {
+        return counts_sound(edits, v) & list::zero_from(&words[..pending::WORDS], 0);
+    }
     counts_sound(edits, v)
         & slots_sound(
             &words[0..PENDING],
@@ -136,6 +140,10 @@ pub fn makers_sound(words: &[u32], count: usize, n: u8, line: u8) -> bool
 {
     if count > PENDING {
         return false;
+    }
+    // Nothing pending: a loop of fixed length here too.
+    if count == 0 {
+        return list::zero_from(&words[..PENDING], 0);
     }
     makers_right(&words[..count], n as u32, line as u32) & list::zero_from(words, count)
 }
